@@ -1,0 +1,12 @@
+-- When a fault may be told: only where the count of faults of the object that was handed in rose in the call.
+use Rattle.std.specs.Prelude.{ℕ, ◌+◌, ◌-◌, ◌^◌, ◌≤◌, min, IsErrOf}
+use Rattle.std.specs.Prelude.{Result}
+
+-- a count that stops at its type's end rose: it is greater, or stands at that end
+abbrev pub Rose : ℕ → ℕ → Type 0
+Rose before now = min (before + 1) (2 ^ 64 - 1) ≤ now
+
+-- the count has not fallen, and rose where the answer is this error
+pub record HasCauseOf {T E : Type 0} (before now : ℕ) (result : Result T E) (error : E) : Type 0 where
+  pub later : before ≤ now
+  pub rose : IsErrOf result error → Rose before now

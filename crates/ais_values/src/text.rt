@@ -1,0 +1,105 @@
+//! Bounded byte strings.
+ghost use Rattle.std.specs.Prelude.{◌≡◌, ◌<◌, ◌≤◌, ◌↔◌, length, IfOk, IsErrOf};
+ghost use Rattle.ais_values.specs.declared.text.TextAnswer.TheVariants.{Refused};
+
+use crate::Duplicate;
+use std::alloc::{AllocError, Global};
+use std::marker::Model;
+
+/// The most bytes that a text holds.
+pub const MAX_TEXT: usize = 16_384;
+
+/// Why no text was made.
+#[derive(Clone, Copy, Debug, PartialEq, Eq)]
+pub enum TextAnswer {
+    /// Memory ran out.
+    Memory,
+    /// There are more than 16,384 bytes.
+    Refused,
+}
+
+impl From<AllocError> for TextAnswer {
+    ghost use Rattle.std.specs.Prelude.{◌≡◌};
+    ghost use Rattle.ais_values.specs.declared.text.TextAnswer.TheVariants.{Memory};
+
+    ghost from_gives = { λ _ e. e ≡ Memory };
+
+    fn from(_: AllocError) -> Self {
+        TextAnswer::Memory
+    }
+}
+
+/// A byte string of 0 to 16,384 bytes. Contracts see the list of its bytes.
+#[derive(Drop)]
+pub struct Text {
+    bytes: Vec<u8>,
+}
+
+impl Model for Text {
+    ghost use Rattle.std.specs.Prelude.{List, ℕ, ◌≤◌, length};
+
+    ghost Value = { List ℕ };
+
+    ghost view = { λ text. text.bytes.items };
+
+    ghost invariant = { λ text. length text.bytes.items ≤ 16384 };
+}
+
+impl Text {
+    /// The text of these bytes.
+    ///
+    /// `Refused` comes exactly where there are more than 16,384 bytes.
+    pub fn new(alloc: Global, bytes: &[u8]) -> Result<Text, TextAnswer>
+        ensures ok { IfOk result (λ text. text ≡ bytes.now) }
+        ensures refused { IsErrOf result Refused ↔ (16384 < length bytes.now) }
+    {
+        if bytes.len() > MAX_TEXT {
+            return Err(TextAnswer::Refused);
+        }
+        let bytes = bytes.to_vec(alloc)?;
+        Ok(Text { bytes })
+    }
+
+    /// The text of these bytes. It takes no memory.
+    pub fn from_vec(bytes: Vec<u8>) -> Text
+        requires { length bytes.items ≤ 16384 }
+        ensures { result ≡ bytes.items }
+    {
+        Text { bytes }
+    }
+
+    /// The bytes, of which there are at most 16,384.
+    pub fn as_slice(&self) -> &[u8]
+        ensures bytes { result.now ≡ self.now }
+        ensures bound { length self.now ≤ 16384 }
+    {
+        self.bytes.as_slice()
+    }
+}
+
+impl Duplicate for Text {
+    fn copy(&self, alloc: Global) -> Result<Self, AllocError> {
+        let bytes = self.bytes.to_vec(alloc)?;
+        Ok(Text { bytes })
+    }
+}
+
+impl PartialEq for Text {
+    ghost use Rattle.std.specs.Prelude.{nat_eq};
+    ghost use Rattle.std.specs.Cmp.{partial_equiv_from_equiv};
+    ghost use Rattle.std.specs.Cmp.Lexicographic.{pointwise, nat_list_eq_equiv};
+
+    ghost eq = { λ one other. pointwise nat_eq one other };
+
+    ghost laws = { partial_equiv_from_equiv nat_list_eq_equiv };
+
+    fn eq(&self, other: &Self) -> bool {
+        self.bytes.as_slice() == other.bytes.as_slice()
+    }
+}
+
+impl Eq for Text {
+    ghost use Rattle.std.specs.Cmp.Lexicographic.{nat_list_eq_equiv};
+
+    ghost laws = { nat_list_eq_equiv };
+}
