@@ -1,14 +1,53 @@
 //! Readers and writers of std as sources and sinks, among them the standard streams.
-ghost use Rattle.std.specs.Prelude.{◌≡◌, ℕ, ◌<◌, ◌≤◌, length, IfOk, OnErr};
+ghost use Rattle.std.specs.Prelude.{◌≡◌, ◌<◌, ◌≤◌, length, IfOk, IsErrOf, MatchResult};
 ghost use Rattle.std.specs.Io.{ReadsAtMost, WritesAtMost};
 ghost use Rattle.std.specs.Io.KnownBytes.{ReadConsumes, WriteAppends};
+ghost use Rattle.ais_values.specs.Causes.{HasCauseOf};
+ghost use Rattle.io_edge.specs.Plans.{one_more};
 
 use crate::{IoFault, Sink, SinkAnswer, Source};
+use std::io;
 use std::io::{ErrorKind, Read, Stdin, Stdout, Write};
 use std::marker::Model;
 
-/// How often a call that a signal interrupts is made before that is a fault.
-const TRIES: u64 = 1024;
+/// How often a call is made that a signal interrupts each time.
+const TRIES: u32 = 1024;
+
+// One read, made again where a signal interrupts it.
+fn read_through_signals<R: Read>(reader: &mut R, buf: &mut [u8]) -> io::Result<usize>
+    ensures bound { ReadsAtMost result buf.new }
+    ensures bytes { ReadConsumes (R.remaining reader.old) (R.remaining reader.new) result buf.new }
+{
+    for _ in 0..TRIES {
+        match reader.read(buf) {
+            Ok(count) => return Ok(count),
+            Err(error) => {
+                if error.kind() != ErrorKind::Interrupted {
+                    return Err(error);
+                }
+            }
+        }
+    }
+    Err(ErrorKind::Interrupted.into())
+}
+
+// One write, made again where a signal interrupts it.
+fn write_through_signals<W: Write>(writer: &mut W, bytes: &[u8]) -> io::Result<usize>
+    ensures bound { WritesAtMost result bytes.now }
+    ensures bytes { WriteAppends (W.contents writer.old) (W.contents writer.new) result bytes.now }
+{
+    for _ in 0..TRIES {
+        match writer.write(bytes) {
+            Ok(count) => return Ok(count),
+            Err(error) => {
+                if error.kind() != ErrorKind::Interrupted {
+                    return Err(error);
+                }
+            }
+        }
+    }
+    Err(ErrorKind::Interrupted.into())
+}
 
 /// A reader of std as a source. Contracts see the bytes that the reader tells, and a count of the faults.
 #[derive(Drop)]
@@ -43,8 +82,15 @@ impl<R: Read> Source for Reading<R> {
 
     ghost faults = { λ stream. stream.faults };
 
-    fn read(&mut self, buf: &mut [u8]) -> Result<usize, IoFault> {
-        match self.inner.read(buf) {
+    /// A read that a signal interrupts is made again.
+    fn read(&mut self, buf: &mut [u8]) -> Result<usize, IoFault>
+        ensures bound { ReadsAtMost result buf.new }
+        ensures bytes { ReadConsumes self.old.bytes self.new.bytes result buf.new }
+        ensures cause { HasCauseOf self.old.faults self.new.faults result IoFault.Failed }
+        ensures faults { MatchResult result (λ _. self.new.faults ≡ self.old.faults)
+            (λ _. self.new.faults ≡ one_more self.old.faults) }
+    {
+        match read_through_signals(&mut self.inner, buf) {
             Ok(count) => Ok(count),
             Err(_) => {
                 self.faults = self.faults.saturating_add(1);
@@ -87,8 +133,18 @@ impl<W: Write> Sink for Writing<W> {
 
     ghost faults = { λ stream. stream.faults };
 
-    fn write(&mut self, bytes: &[u8]) -> Result<usize, SinkAnswer> {
-        match self.inner.write(bytes) {
+    /// A write that a signal interrupts is made again. A writer that takes nothing of a piece that is not
+    /// empty has failed. `Memory` never comes.
+    fn write(&mut self, bytes: &[u8]) -> Result<usize, SinkAnswer>
+        ensures bound { WritesAtMost result bytes.now }
+        ensures some { IfOk result (λ count. 0 < length bytes.now → 1 ≤ count) }
+        ensures bytes { WriteAppends self.old.bytes self.new.bytes result bytes.now }
+        ensures cause { HasCauseOf self.old.faults self.new.faults result SinkAnswer.Failed }
+        ensures faults { MatchResult result (λ _. self.new.faults ≡ self.old.faults)
+            (λ _. self.new.faults ≡ one_more self.old.faults) }
+        ensures no_memory { IsErrOf result SinkAnswer.Memory → ⊥ }
+    {
+        match write_through_signals(&mut self.inner, bytes) {
             Ok(count) if count > 0 || bytes.is_empty() => Ok(count),
             _ => {
                 self.faults = self.faults.saturating_add(1);
