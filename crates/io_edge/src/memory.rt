@@ -38,11 +38,8 @@ impl MemSource {
         ensures faults { ⟦<MemSource as Source>⟧.faults result ≡ 0 }
         ensures plan { result.plan ≡ first_plan failing.items }
     {
-        MemSource {
-            bytes,
-            at: 0,
-            plan: CallPlan::new(failing),
-        }
+        let plan = CallPlan::new(failing);
+        MemSource { bytes, at: 0, plan }
     }
 
     /// The bytes that are left to read.
