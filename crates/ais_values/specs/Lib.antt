@@ -1,2 +1,4 @@
 pub mod Causes
+pub mod Codes
 pub mod Names
+pub mod Statuses
