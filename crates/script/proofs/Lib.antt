@@ -1,0 +1,10 @@
+pub mod Rules
+pub mod Numbers
+pub mod Texts
+pub mod ControlRules
+pub mod Tests
+pub mod Digits
+pub mod Inner
+pub mod Judging
+pub mod Lines
+pub mod Answering

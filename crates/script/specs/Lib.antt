@@ -1,0 +1,10 @@
+pub mod Answers
+pub mod Control
+pub mod ControlReading
+pub mod Gives
+pub mod Grammar
+pub mod Reading
+pub mod Refusals
+pub mod ScriptReading
+pub mod Scripts
+pub mod Values

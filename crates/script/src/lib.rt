@@ -1,0 +1,11 @@
+//! The script language: lines of a script, read from bytes and written again.
+#![tactic(auto)]
+
+mod control;
+mod line;
+mod reader;
+mod reading;
+mod text;
+mod trouble;
+
+pub use line::{Line, ScriptAnswer, ScriptWhy, Server};
