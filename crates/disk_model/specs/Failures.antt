@@ -1,0 +1,59 @@
+-- What a changing call that failed may have left.
+use Rattle.std.specs.Prelude.{◌≡◌, ℕ, ◌+◌, ◌<◌, ◌≤◌, Bool, true, false, ◌&&◌, ◌||◌, ◌⊎◌, nat_le, nat_lt, List, [], ◌∷◌, length, slice_get, Option, Some, None, MatchOption, ⊤}
+use Rattle.std.specs.FinMap as map
+use Rattle.disk_model.specs.Disk.{File, Files, file_written, created, renamed, removed}
+
+-- whether a place lies in one of these ranges (place, length)
+abbrev pub is_within : List (ℕ × ℕ) → ℕ → Bool
+is_within [] place = false
+is_within (range ∷ ranges) place = (nat_le range.0 place && nat_lt place (range.0 + range.1)) || is_within ranges place
+
+-- these ranges hold any bytes, and all else stays; the length is any from the least to the most
+pub record Torn (ranges : List (ℕ × ℕ)) (least most : ℕ) (old new : List ℕ) : Type 0 where
+  pub no_shorter : least ≤ length new
+  pub no_longer : length new ≤ most
+  pub kept : (place : ℕ) → place < length new → is_within ranges place ≡ false → slice_get new place ≡ slice_get old place
+
+-- a file after a write that failed: its range holds any bytes and stays loose,
+-- and the length is any from the old one to that of the write done
+pub record FileLeftByWrite (at : ℕ) (bytes : List ℕ) (old new : File) : Type 0 where
+  pub torn : Torn ((at, length bytes) ∷ []) (length old.bytes) (length (file_written at bytes old).bytes) old.bytes new.bytes
+  pub loose : new.loose ≡ (file_written at bytes old).loose
+  pub settled : new.settled ≡ old.settled
+
+-- a file after a sync that failed: its loose ranges hold any bytes and stay loose,
+-- and the length is any from the one when nothing was loose to the present one
+pub record FileLeftBySync (old new : File) : Type 0 where
+  pub torn : Torn old.loose old.settled (length old.bytes) old.bytes new.bytes
+  pub loose : new.loose ≡ old.loose
+  pub settled : new.settled ≡ old.settled
+
+-- the file of that name is left by a relation, and the others stay; where it does not stand, nothing changes
+abbrev pub LeftAt : (File → File → Type 0) → List ℕ → Files → Files → Type 0
+LeftAt Left name old new =
+    MatchOption (map.get old name) (new ≡ old) (λ file. (left : File) × Left file left × (new ≡ map.insert old name left))
+
+-- a call is done wholly or not at all
+abbrev pub WhollyOrNot : Files → Files → Files → Type 0
+WhollyOrNot done old new = (new ≡ old) ⊎ (new ≡ done)
+
+abbrev pub LeftByCreate : List ℕ → Files → Files → Type 0
+LeftByCreate name old new = WhollyOrNot (created old name) old new
+
+abbrev pub LeftByWrite : List ℕ → ℕ → List ℕ → Files → Files → Type 0
+LeftByWrite name at bytes = LeftAt (FileLeftByWrite at bytes) name
+
+abbrev pub LeftBySync : List ℕ → Files → Files → Type 0
+LeftBySync name = LeftAt FileLeftBySync name
+
+abbrev pub LeftByRename : List ℕ → List ℕ → Files → Files → Type 0
+LeftByRename from to old new = WhollyOrNot (renamed old from to) old new
+
+abbrev pub LeftByRemove : List ℕ → Files → Files → Type 0
+LeftByRemove name old new = WhollyOrNot (removed old name) old new
+
+-- what is said of the files before and after, where the disk tells them; it tells both or none
+abbrev pub WhereTold : (Files → Files → Type 0) → Option Files → Option Files → Type 0
+WhereTold P None None = ⊤
+WhereTold P (Some old) (Some new) = P old new
+WhereTold P _ _ = ⊥

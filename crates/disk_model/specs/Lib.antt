@@ -1,0 +1,3 @@
+pub mod Disk
+pub mod Failures
+pub use Rattle.ais_values.specs.Causes

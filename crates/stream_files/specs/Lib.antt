@@ -1,0 +1,4 @@
+pub mod Deeds
+pub use Rattle.disk_model.specs.Disk
+pub use Rattle.disk_model.specs.Failures
+pub use Rattle.disk_model.specs.Causes

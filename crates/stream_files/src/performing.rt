@@ -1,0 +1,59 @@
+//! Deeds performed on a disk, call by call.
+ghost use Rattle.std.specs.Prelude.{◌≡◌, option_map, OnOk, IsErrOf};
+ghost use Rattle.ais_values.specs.Causes.{HasCauseOf};
+ghost use Rattle.disk_model.specs.Failures.{WhereTold};
+ghost use Rattle.disk_model.specs.declared.answers.DiskAnswer.{DiskAnswer};
+ghost use Rattle.stream_files.specs.Deeds.{calls_of, calls_of_all, all_applied, StopsIn, StopsBefore};
+
+use crate::Deed;
+use ais_values::{Seq, Text};
+use disk_model::{DiskAnswer, SharedDisk};
+
+/// Makes the device calls of the deeds, in order and no others, up to the first that is not done.
+///
+/// `Ok`: all are done. `Failed`, which comes only where the disk's count of faults rose: calls from the front
+/// were done, the next one failed and left what such a failure may leave, and no later one was made.
+/// `Memory`: calls from the front were done, the next one changed nothing, and no later one was made.
+pub fn perform<D: SharedDisk>(disk: &mut D, deeds: &Seq<Deed>) -> Result<(), DiskAnswer>
+    ensures done { OnOk result (D.files disk.new ≡ option_map (all_applied (calls_of_all deeds.now)) (D.files disk.old)) }
+    ensures memory { IsErrOf result DiskAnswer.Memory →
+        WhereTold (StopsBefore (calls_of_all deeds.now)) (D.files disk.old) (D.files disk.new) }
+    ensures failed { IsErrOf result DiskAnswer.Failed →
+        WhereTold (StopsIn (calls_of_all deeds.now)) (D.files disk.old) (D.files disk.new) }
+    ensures cause { HasCauseOf (D.faults disk.old) (D.faults disk.new) result DiskAnswer.Failed }
+{
+    for deed in deeds.as_slice() {
+        perform_one(disk, deed)?;
+    }
+    Ok(())
+}
+
+fn perform_one<D: SharedDisk>(disk: &mut D, deed: &Deed) -> Result<(), DiskAnswer>
+    ensures done { OnOk result (D.files disk.new ≡ option_map (all_applied (calls_of deed.now)) (D.files disk.old)) }
+    ensures memory { IsErrOf result DiskAnswer.Memory →
+        WhereTold (StopsBefore (calls_of deed.now)) (D.files disk.old) (D.files disk.new) }
+    ensures failed { IsErrOf result DiskAnswer.Failed →
+        WhereTold (StopsIn (calls_of deed.now)) (D.files disk.old) (D.files disk.new) }
+    ensures cause { HasCauseOf (D.faults disk.old) (D.faults disk.new) result DiskAnswer.Failed }
+{
+    match deed {
+        Deed::Put { name, bytes } => {
+            disk.create(name.as_slice())?;
+            write_and_sync(disk, name, 0, bytes)
+        }
+        Deed::Create { name } => disk.create(name.as_slice()),
+        Deed::Write { name, at, bytes } => write_and_sync(disk, name, *at, bytes),
+        Deed::Rename { from, to } => disk.rename(from.as_slice(), to.as_slice()),
+        Deed::Remove { name } => disk.remove(name.as_slice()),
+    }
+}
+
+fn write_and_sync<D: SharedDisk>(
+    disk: &mut D,
+    name: &Text,
+    at: u64,
+    bytes: &Text,
+) -> Result<(), DiskAnswer> {
+    disk.write_at(name.as_slice(), at, bytes.as_slice())?;
+    disk.sync(name.as_slice())
+}
