@@ -5,7 +5,7 @@ use Rattle.std.specs.Ordering.{nat_cmp}
 use Rattle.std.specs.Cmp.Lexicographic.{slice_cmp}
 use Rattle.std.specs.FinMap as map
 
--- a file: its bytes, the ranges (place, length) that were changed since its last sync, the latest first,
+-- a file: its bytes, the ranges (place, length) that were changed since its last sync, in order,
 -- and its length when no range was loose
 pub record File : Type 0 where
   pub bytes : List ℕ
@@ -32,7 +32,7 @@ overwritten old at bytes = take at old ++ bytes ++ drop (at + length bytes) old
 abbrev pub file_written : ℕ → List ℕ → File → File
 file_written at bytes file = record {
   bytes = if nat_le at (length file.bytes) then overwritten file.bytes at bytes else file.bytes;
-  loose = if nat_le at (length file.bytes) then (at, length bytes) ∷ file.loose else file.loose;
+  loose = if nat_le at (length file.bytes) then file.loose ++ (at, length bytes) ∷ [] else file.loose;
   settled = file.settled;
 }
 

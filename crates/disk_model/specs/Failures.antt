@@ -1,5 +1,5 @@
 -- What a changing call that failed may have left.
-use Rattle.std.specs.Prelude.{◌≡◌, ℕ, ◌+◌, ◌<◌, ◌≤◌, Bool, true, false, ◌&&◌, ◌||◌, ◌⊎◌, nat_le, nat_lt, List, [], ◌∷◌, length, slice_get, Option, Some, None, MatchOption, ⊤}
+use Rattle.std.specs.Prelude.{◌≡◌, ℕ, ◌+◌, ◌<◌, ◌≤◌, Bool, true, false, ◌&&◌, ◌||◌, ◌⊎◌, nat_le, nat_lt, List, [], ◌∷◌, length, slice_index, Option, Some, None, MatchOption, ⊤}
 use Rattle.std.specs.FinMap as map
 use Rattle.disk_model.specs.Disk.{File, Files, file_written, created, renamed, removed}
 
@@ -12,7 +12,7 @@ is_within (range ∷ ranges) place = (nat_le range.0 place && nat_lt place (rang
 pub record Torn (ranges : List (ℕ × ℕ)) (least most : ℕ) (old new : List ℕ) : Type 0 where
   pub no_shorter : least ≤ length new
   pub no_longer : length new ≤ most
-  pub kept : (place : ℕ) → place < length new → is_within ranges place ≡ false → slice_get new place ≡ slice_get old place
+  pub kept : (place : ℕ) → place < length new → is_within ranges place ≡ false → slice_index new place ≡ slice_index old place
 
 -- a file after a write that failed: its range holds any bytes and stays loose,
 -- and the length is any from the old one to that of the write done

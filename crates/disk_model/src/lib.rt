@@ -2,7 +2,10 @@
 #![tactic(auto)]
 
 mod answers;
+mod bytes;
+mod entries;
 mod shared_disk;
+mod stored_file;
 
 pub use answers::{DiskAnswer, DiskFault};
 pub use shared_disk::SharedDisk;
