@@ -1,5 +1,6 @@
 pub mod Maps
 pub mod Overwriting
 pub mod Places
+pub mod Renaming
 pub mod Shelving
 pub mod Tearing

@@ -1,13 +1,14 @@
 -- A list of entries whose names rise, seen as the map of those entries.
-use Rattle.std.proofs.Common.{◌≡◌, Bool, true, false, cond, not, T, Option, Some, None, List, [], ◌∷◌, map, refl, sym, ap, subst, ◌∙◌}
+use Rattle.std.proofs.Common.{◌≡◌, Bool, true, false, cond, not, T, Option, Some, None, List, [], ◌∷◌, map, length, Result, Ok, Err, OnOk, OnErr, refl, sym, ap, subst, ◌∙◌}
 use Rattle.std.specs.declared.cmp.Ordering.{Ordering}
 use Rattle.std.specs.declared.cmp.Ordering.TheVariants.{Equal}
 use Rattle.std.specs.Ordering.{is_eq, eq_by_cmp, nat_cmp}
 use Rattle.std.specs.Cmp.{IsTotalOrder, alike_right, eq_by_cmp_equiv}
 use Rattle.std.specs.Cmp.Lexicographic.{slice_cmp, nat_list_cmp_total}
-use Rattle.std.specs.FinMap.{FinMap, IsAntisymmetric, slice_cmp-IsAntisymmetric, nat_cmp-IsAntisymmetric, get, insert, remove, from_sorted, entries, same_entries_map, entries-insert, entries-from_sorted, get-from_sorted, get-remove, same_map, keys}
+use Rattle.std.specs.FinMap.{FinMap, IsAntisymmetric, slice_cmp-IsAntisymmetric, nat_cmp-IsAntisymmetric, get, insert, remove, from_sorted, entries, same_entries_map, entries-insert, entries-from_sorted, get-from_sorted, get-remove, same_map, keys, empty, empty_of_len, len-entries}
+use Rattle.std.specs.Option.{option_map_or}
 use Rattle.std.specs.FinMap.Entries.{put, find, is_sorted, is_sorted-put, is_sorted-where_key, find-where_key}
-use Rattle.disk_model.specs.Shelf.{without}
+use Rattle.disk_model.specs.Shelf.{without, adjusted_in}
 use Rattle.disk_model.proofs.Places.{passes, passed}
 
 -- names tie only where they are equal
@@ -53,3 +54,31 @@ module _ {K X : Type 0} {R : K → K → Ordering} (o : IsTotalOrder R) (same : 
   -- the keys of the map are those of the list
   pub keys_shelved : (es : List (K × X)) → is_sorted R es ≡ true → keys (from_sorted {R = R} es) ≡ map (λ e. e.0) es
   keys_shelved es sorted = ap (map (λ e. e.0)) (entries-from_sorted R es (passes _ sorted))
+
+  -- the value at a key changed in the list is changed in the map
+  pub sorted_adjusted : (change : X → X) (k : K) (es : List (K × X)) → is_sorted R es ≡ true → is_sorted R (adjusted_in R change k es) ≡ true
+  sorted_adjusted change k es sorted =
+      elim (find R k es) as (λ v. is_sorted R (option_map_or (λ v. put R k (change v) es) v es) ≡ true) [
+        | None ↦ sorted
+        | Some v ↦ sorted_put k (change v) es sorted
+      ]
+
+  pub adjusted_shelved : (change : X → X) (k : K) (es : List (K × X)) → is_sorted R es ≡ true
+      → from_sorted {R = R} (adjusted_in R change k es)
+        ≡ option_map_or (λ v. insert (from_sorted {R = R} es) k (change v)) (get (from_sorted {R = R} es) k) (from_sorted {R = R} es)
+  adjusted_shelved change k es sorted =
+      elim (find R k es) as (λ f. from_sorted {R = R} (option_map_or (λ v. put R k (change v) es) f es)
+          ≡ option_map_or (λ v. insert (from_sorted {R = R} es) k (change v)) f (from_sorted {R = R} es)) [
+        | None ↦ refl
+        | Some v ↦ put_shelved k (change v) es sorted
+      ]
+      ∙ ap (λ f. option_map_or (λ v. insert (from_sorted {R = R} es) k (change v)) f (from_sorted {R = R} es)) (sym (find_shelved k es sorted))
+
+-- no entries are no files
+pub no_entries : {K X : Type 0} (R : K → K → Ordering) → from_sorted {X = X} {R = R} [] ≡ empty
+no_entries R = empty_of_len (from_sorted []) (len-entries (from_sorted []) ∙ ap length (entries-from_sorted R [] tt))
+
+-- what follows from both outcomes of a call
+pub either_way : {V E A B C : Type 0} (r : Result V E) → OnOk r A → OnErr r B → (A → C) → (B → C) → C
+either_way (Ok v) a b f g = f a
+either_way (Err e) a b f g = g b

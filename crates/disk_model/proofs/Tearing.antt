@@ -3,8 +3,11 @@ use Rattle.std.proofs.Common.{◌≡◌, ◌⊎◌, inl, inr, ℕ, zero, suc, �
 use Rattle.std.proofs.lemmas.List.{take_all, drop_all, append-nil, take-append-le, drop_at, take_at, places, same_lists, get_or-take, get_or-drop, get_or_append_left, get_or-append_right, take-append-drop}
 use Rattle.std.proofs.lemmas.Bool.{leb-true, leb-false, ltb-true, ltb-false, le-leb}
 use Rattle.std.proofs.lemmas.Bool.Decides.{nat_tests}
-use Rattle.disk_model.specs.Disk.{File, overwritten, file_written}
-use Rattle.disk_model.specs.Failures.{Torn, is_within, FileLeftByWrite, FileLeftBySync}
+use Rattle.std.specs.Prelude.{Some, None, MatchOption}
+use Rattle.std.specs.Option.{option_map_or}
+use Rattle.std.specs.FinMap as map
+use Rattle.disk_model.specs.Disk.{File, Files, overwritten, file_written, adjusted}
+use Rattle.disk_model.specs.Failures.{Torn, is_within, FileLeftByWrite, FileLeftBySync, LeftByWrite}
 use Rattle.disk_model.specs.Memory.{torn_bytes, half_grown, torn_end, file_torn_by_write, file_torn_by_sync, range_torn, ranges_torn}
 use Rattle.disk_model.proofs.Overwriting.{length-torn_bytes, overwritten_past, append_none}
 
@@ -190,3 +193,13 @@ torn_write_is torn at bytes file inside kept grown now loose within inside-is ke
         then overwritten file.bytes at (torn_bytes torn (torn_end (length file.bytes) (at + length bytes) - at)) else file.bytes) = rw fits all in
     let loose-are : loose ≡ (if nat_le at (length file.bytes) then file.loose ++ (at, length bytes) ∷ [] else file.loose) = rw fits loose-is in
     λ i. record { bytes = bytes-are i; loose = loose-are i; settled = file.settled }
+
+-- a file torn by a broken write is what a failed write may leave of the files
+pub left_where_torn : (torn : List ℕ) (name : List ℕ) (at : ℕ) (bytes : List ℕ) (old new : Files)
+    → new ≡ adjusted (file_torn_by_write torn at bytes) old name → LeftByWrite name at bytes old new
+left_where_torn torn name at bytes old new is =
+    elim (map.get old name) as (λ f. new ≡ option_map_or (λ file. map.insert old name (file_torn_by_write torn at bytes file)) f old
+        → MatchOption f (new ≡ old) (λ file. (left : File) × FileLeftByWrite at bytes file left × (new ≡ map.insert old name left))) [
+      | None ↦ λ e. e
+      | Some file ↦ λ e. (file_torn_by_write torn at bytes file, left_by_torn_write torn at bytes file, e)
+    ] is

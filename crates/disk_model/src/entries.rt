@@ -1,5 +1,6 @@
 //! Files in a vector, in byte order of their names.
 ghost use Rattle.std.specs.Prelude.{◌≡◌, ◌≤◌, ℕ, List, length, IsTrue, IsSome, IsOk, IfSome, IfOk, map, MatchResult, OnOk, OnErr};
+ghost use Rattle.std.specs.Option.{option_copied};
 ghost use Rattle.std.specs.Ordering.{nat_cmp};
 ghost use Rattle.std.specs.Cmp.Lexicographic.{slice_cmp};
 ghost use Rattle.std.specs.FinMap.Entries.{is_sorted, put, find};
@@ -33,6 +34,20 @@ pub fn find_in(entries: &[(Text, StoredFile)], name: &[u8]) -> Result<usize, usi
         }
     }
     Err(place)
+}
+
+/// The file of that name.
+pub fn get_in<'a>(entries: &'a [(Text, StoredFile)], name: &[u8]) -> Option<&'a StoredFile>
+    requires { IsTrue (is_sorted (slice_cmp nat_cmp) entries.now) }
+    ensures { option_copied result ≡ find (slice_cmp nat_cmp) name.now entries.now }
+{
+    match find_in(entries, name) {
+        Ok(place) => {
+            let entry = &entries[place];
+            Some(&entry.1)
+        }
+        Err(_) => None,
+    }
 }
 
 /// Puts a file under a name. Where memory runs out the vector stays as it was; no memory is taken where the

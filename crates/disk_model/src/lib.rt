@@ -4,8 +4,11 @@
 mod answers;
 mod bytes;
 mod entries;
+mod mem_disk;
 mod shared_disk;
+mod shelf;
 mod stored_file;
 
 pub use answers::{DiskAnswer, DiskFault};
+pub use mem_disk::MemDisk;
 pub use shared_disk::SharedDisk;
