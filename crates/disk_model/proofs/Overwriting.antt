@@ -27,10 +27,10 @@ overwritten_more d s at y within =
     let all : length t ≡ length s + 1 = length_push s y in
     let whole : take (length s + 1) t ≡ t = take_all (length s + 1) t (omega arith) in
     let step : set (paste d at t (length s)) (at + length s) (get_or t (length s) 0) ≡ paste d at t (length s + 1) =
-        paste_more d at t (length s) 0 within (omega arith) in
+    paste_more d at t (length s) 0 within (omega arith) in
     let now : overwritten d at s ≡ paste d at t (length s) = ap (λ u. take at d ++ u ++ drop (at + length s) d) (sym front) in
     let after : paste d at t (length s + 1) ≡ overwritten d at t =
-        ap (λ u. take at d ++ u ++ drop (at + (length s + 1)) d) whole ∙ ap (λ n. take at d ++ t ++ drop (at + n) d) (sym all) in
+    ap (λ u. take at d ++ u ++ drop (at + (length s + 1)) d) whole ∙ ap (λ n. take at d ++ t ++ drop (at + n) d) (sym all) in
     ap (λ u. set u (at + length s) y) now ∙ ap (λ v. set (paste d at t (length s)) (at + length s) v) (sym last) ∙ step ∙ after
 
 -- so many torn bytes are so many
@@ -44,7 +44,7 @@ pub tear_more : (d torn : List ℕ) (at i y : ℕ) (now : List ℕ) → now ≡ 
 tear_more d torn at i y now e within is =
     let n = length-torn_bytes torn i in
     let step : set (overwritten d at (torn_bytes torn i)) (at + length (torn_bytes torn i)) y ≡ overwritten d at (torn_bytes torn i ++ y ∷ []) =
-        overwritten_more d (torn_bytes torn i) at y (omega arith) in
+    overwritten_more d (torn_bytes torn i) at y (omega arith) in
     ap (λ u. set u (at + i) y) e
     ∙ ap (λ m. set (overwritten d at (torn_bytes torn i)) (at + m) y) (sym n)
     ∙ step ∙ ap (λ z. overwritten d at (torn_bytes torn i ++ z ∷ [])) is

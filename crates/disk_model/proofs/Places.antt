@@ -88,24 +88,24 @@ module _ {K X : Type 0} {R : K → K → Ordering} (o : IsTotalOrder R) (same : 
       let parts = both_parts (below_all R e.0 es) (is_sorted R es) sorted in
       against o e.0 k (Stands k v d (e ∷ es))
       (λ p q.
-        let within' : suc (place_of R k es) < suc (length es) = rw p at within in
-        let at' : (get_or es (place_of R k es) d).0 ≡ k = rw p at at in
-        let rest = stands k v d es parts.1 (omega arith) at' in
-        record {
-          found = rw (p, q) rest.found;
-          put_is = rw (p, q) (ap (λ t. e ∷ t) rest.put_is);
-          without_is = rw (p, q) (ap (λ t. e ∷ t) rest.without_is)
-        })
+      let within' : suc (place_of R k es) < suc (length es) = rw p at within in
+      let at' : (get_or es (place_of R k es) d).0 ≡ k = rw p at at in
+      let rest = stands k v d es parts.1 (omega arith) at' in
+      record {
+        found = rw (p, q) rest.found;
+        put_is = rw (p, q) (ap (λ t. e ∷ t) rest.put_is);
+        without_is = rw (p, q) (ap (λ t. e ∷ t) rest.without_is);
+      })
       (λ p q.
-        let below : below_all R k es ≡ true = subst (λ x. below_all R x es ≡ true) (sym (same k e.0 q)) parts.0 in
-        record {
-          found = rw (p, q) refl;
-          put_is = rw (p, q) refl;
-          without_is = rw (p, q) (without_below k es below)
-        })
+      let below : below_all R k es ≡ true = subst (λ x. below_all R x es ≡ true) (sym (same k e.0 q)) parts.0 in
+      record {
+        found = rw (p, q) refl;
+        put_is = rw (p, q) refl;
+        without_is = rw (p, q) (without_below k es below);
+      })
       (λ p q.
-        let at' : e.0 ≡ k = rw p at at in
-        absurd (not_both (sym p ∙ ap (λ x. R x k) at' ∙ tied_itself o k)))
+      let at' : e.0 ≡ k = rw p at at in
+      absurd (not_both (sym p ∙ ap (λ x. R x k) at' ∙ tied_itself o k)))
 
   -- what is done at a key's place, where another key or none stands there
   lacks : (k : K) (es : List (K × X)) → is_sorted R es ≡ true
@@ -115,23 +115,23 @@ module _ {K X : Type 0} {R : K → K → Ordering} (o : IsTotalOrder R) (same : 
       let parts = both_parts (below_all R e.0 es) (is_sorted R es) sorted in
       against o e.0 k (Lacks k (e ∷ es))
       (λ p q.
-        let other' : (d : K × X) → suc (place_of R k es) < suc (length es) → (get_or es (place_of R k es) d).0 ≢ k = rw p at other in
-        let rest = lacks k es parts.1 (λ d within. other' d (omega arith)) in
-        record {
-          missing = rw q rest.missing;
-          put_is = λ v. rw (p, q) (ap (λ t. e ∷ t) (rest.put_is v));
-          without_is = rw q (ap (λ t. e ∷ t) rest.without_is)
-        })
+      let other' : (d : K × X) → suc (place_of R k es) < suc (length es) → (get_or es (place_of R k es) d).0 ≢ k = rw p at other in
+      let rest = lacks k es parts.1 (λ d within. other' d (omega arith)) in
+      record {
+        missing = rw q rest.missing;
+        put_is = λ v. rw (p, q) (ap (λ t. e ∷ t) (rest.put_is v));
+        without_is = rw q (ap (λ t. e ∷ t) rest.without_is);
+      })
       (λ p q.
-        let other' : (d : K × X) → 0 < suc (length es) → (get_or (e ∷ es) 0 d).0 ≢ k = rw p at other in
-        absurd (other' e (omega arith) (same e.0 k p)))
+      let other' : (d : K × X) → 0 < suc (length es) → (get_or (e ∷ es) 0 d).0 ≢ k = rw p at other in
+      absurd (other' e (omega arith) (same e.0 k p)))
       (λ p q.
-        let below = below_rest k e.0 es q parts.0 in
-        record {
-          missing = rw q (find_below k es below);
-          put_is = λ v. rw (p, q) refl;
-          without_is = rw q (ap (λ t. e ∷ t) (without_below k es below))
-        })
+      let below = below_rest k e.0 es q parts.0 in
+      record {
+        missing = rw q (find_below k es below);
+        put_is = λ v. rw (p, q) refl;
+        without_is = rw q (ap (λ t. e ∷ t) (without_below k es below));
+      })
 
   -- a key below all entries is below each
   below_each : (k : K) (es : List (K × X)) (n : ℕ) (d : K × X) → below_all R k es ≡ true → n < length es → R k (get_or es n d).0 ≡ Less
@@ -161,7 +161,7 @@ module _ {K X : Type 0} {R : K → K → Ordering} (o : IsTotalOrder R) (same : 
   place_is k (e ∷ es) (suc i) le part =
       let below : is_lt (R e.0 k) ≡ true = part.0 0 e (omega arith) (omega arith) in
       let rest = place_is k es i (omega arith)
-        ((λ n d low high. part.0 (suc n) d (omega arith) (omega arith)), (λ n d low high. part.1 (suc n) d (omega arith) (omega arith))) in
+      ((λ n d low high. part.0 (suc n) d (omega arith) (omega arith)), (λ n d low high. part.1 (suc n) d (omega arith) (omega arith))) in
       rw below (ap suc rest)
 
   -- what is told of a key that stands at its place
@@ -169,13 +169,13 @@ module _ {K X : Type 0} {R : K → K → Ordering} (o : IsTotalOrder R) (same : 
       → x ≡ get_or es i x → x.0 ≡ k → StandsAt R k es i
   stands_at k es i x sorted is within read key =
       let at : (d : K × X) → (get_or es (place_of R k es) d).0 ≡ k =
-        λ d. ap (λ n. (get_or es n d).0) (sym is) ∙ ap (λ e. e.0) (sym (get_or_read es i x within read d)) ∙ key in
+      λ d. ap (λ n. (get_or es n d).0) (sym is) ∙ ap (λ e. e.0) (sym (get_or_read es i x within read d)) ∙ key in
       let within' : place_of R k es < length es = omega arith in
       record {
         within = within;
         found = λ d. rw is (stands k d.1 d es sorted within' (at d)).found;
         put_is = λ v d. rw is (stands k v d es sorted within' (at d)).put_is;
-        without_is = rw is (stands k x.1 x es sorted within' (at x)).without_is
+        without_is = rw is (stands k x.1 x es sorted within' (at x)).without_is;
       }
 
   -- what is told of a key that does not stand at its place
@@ -187,5 +187,5 @@ module _ {K X : Type 0} {R : K → K → Ordering} (o : IsTotalOrder R) (same : 
         within = within;
         missing = (lacks k es sorted other').missing;
         put_is = λ v. rw is ((lacks k es sorted other').put_is v);
-        without_is = (lacks k es sorted other').without_is
+        without_is = (lacks k es sorted other').without_is;
       }

@@ -42,7 +42,7 @@ renamed_is m from to v file n found =
 pub place_stands : (m : Files) (from to : List ℕ) (v : File) → from ≢ to → IsSome (get (remove (insert m to v) from) to)
 place_stands m from to v n =
     ap is_some (get-remove_other nat_list_cmp_total names_differ (insert m to v) from to (λ e. n (sym e))
-      ∙ get-insert_same nat_list_cmp_total names_differ m to v)
+    ∙ get-insert_same nat_list_cmp_total names_differ m to v)
 
 -- a file that stands is not lost where a place is made
 pub not_lost : (m : Files) (from to : List ℕ) (v : File) → from ≢ to → is_none (get m from) ≡ false → get (insert m to v) from ≢ None

@@ -65,10 +65,10 @@ module _ {K X : Type 0} {R : K → K → Ordering} (o : IsTotalOrder R) (same : 
 
   pub adjusted_shelved : (change : X → X) (k : K) (es : List (K × X)) → is_sorted R es ≡ true
       → from_sorted {R = R} (adjusted_in R change k es)
-        ≡ option_map_or (λ v. insert (from_sorted {R = R} es) k (change v)) (get (from_sorted {R = R} es) k) (from_sorted {R = R} es)
+      ≡ option_map_or (λ v. insert (from_sorted {R = R} es) k (change v)) (get (from_sorted {R = R} es) k) (from_sorted {R = R} es)
   adjusted_shelved change k es sorted =
       elim (find R k es) as (λ f. from_sorted {R = R} (option_map_or (λ v. put R k (change v) es) f es)
-          ≡ option_map_or (λ v. insert (from_sorted {R = R} es) k (change v)) f (from_sorted {R = R} es)) [
+      ≡ option_map_or (λ v. insert (from_sorted {R = R} es) k (change v)) f (from_sorted {R = R} es)) [
         | None ↦ refl
         | Some v ↦ put_shelved k (change v) es sorted
       ]

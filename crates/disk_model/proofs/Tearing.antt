@@ -52,7 +52,7 @@ torn_overwritten d s b at within shorter =
       no_shorter = omega arith;
       no_longer = omega arith;
       kept = λ place before free. overwritten_outside d s at place within
-        (elim (outside at (length b) place false free).0 as (λ _. (place < at) ⊎ (at + length s ≤ place)) [ inl x ↦ inl x | inr y ↦ inr (omega arith) ])
+          (elim (outside at (length b) place false free).0 as (λ _. (place < at) ⊎ (at + length s ≤ place)) [ inl x ↦ inl x | inr y ↦ inr (omega arith) ]);
     }
 
 -- bytes that stay are torn in no way that a write may not leave
@@ -71,18 +71,18 @@ pub left_by_torn_write : (torn : List ℕ) (at : ℕ) (bytes : List ℕ) (file :
 left_by_torn_write torn at bytes file =
     record {
       torn =
-        let n = torn_end (length file.bytes) (at + length bytes) - at in
-        elim (nat_le at (length file.bytes)) as (λ b. nat_le at (length file.bytes) ≡ b →
-            Torn ((at, length bytes) ∷ []) (length file.bytes) (length (if b then overwritten file.bytes at bytes else file.bytes)) file.bytes
-            (if b then overwritten file.bytes at (torn_bytes torn (torn_end (length file.bytes) (at + length bytes) - at)) else file.bytes)) [
-          | true ↦ λ e.
-              let within = leb-true at (length file.bytes) e in
-              let short = torn_end_within (length file.bytes) at (length bytes) within in
-              torn_overwritten file.bytes (torn_bytes torn n) bytes at within (omega (arith, length-torn_bytes torn n))
-          | false ↦ λ e. torn_same _ file.bytes
-        ] refl;
+          let n = torn_end (length file.bytes) (at + length bytes) - at in
+          elim (nat_le at (length file.bytes)) as (λ b. nat_le at (length file.bytes) ≡ b →
+          Torn ((at, length bytes) ∷ []) (length file.bytes) (length (if b then overwritten file.bytes at bytes else file.bytes)) file.bytes
+          (if b then overwritten file.bytes at (torn_bytes torn (torn_end (length file.bytes) (at + length bytes) - at)) else file.bytes)) [
+            | true ↦ λ e.
+                let within = leb-true at (length file.bytes) e in
+                let short = torn_end_within (length file.bytes) at (length bytes) within in
+                torn_overwritten file.bytes (torn_bytes torn n) bytes at within (omega (arith, length-torn_bytes torn n))
+            | false ↦ λ e. torn_same _ file.bytes
+          ] refl;
       loose = refl;
-      settled = refl
+      settled = refl;
     }
 
 -- a range that is torn keeps the length
@@ -112,7 +112,7 @@ range_torn_outside torn range bytes place within where' =
     elim (leb_cases range.0 (length bytes)) [
       | inl le ↦ overwritten_outside bytes (torn_bytes torn n) range.0 place le
           (elim where' as (λ _. (place < range.0) ⊎ (range.0 + length (torn_bytes torn n) ≤ place)) [ inl x ↦ inl x | inr y ↦ inr (omega arith) ])
-      | inr gt ↦ 
+      | inr gt ↦
           let none : n ≡ 0 = omega arith in
           ap (λ m. get_or (overwritten bytes range.0 (torn_bytes torn m)) place 0) none ∙ grind (arith, places)
     ]
@@ -135,11 +135,11 @@ left_by_torn_sync torn file settled =
         no_shorter = omega arith;
         no_longer = omega arith;
         kept = λ place before free.
-          get_or-take (half_grown file.settled (length file.bytes)) (ranges_torn torn file.loose file.bytes) place 0 (omega arith)
-          ∙ ranges_torn_outside torn file.loose file.bytes place (omega arith) free
+            get_or-take (half_grown file.settled (length file.bytes)) (ranges_torn torn file.loose file.bytes) place 0 (omega arith)
+            ∙ ranges_torn_outside torn file.loose file.bytes place (omega arith) free;
       };
       loose = refl;
-      settled = refl
+      settled = refl;
     }
 
 -- what a broken sync does step by step is a torn sync
@@ -148,14 +148,14 @@ pub torn_sync_is : (torn : List ℕ) (file : File) (len : ℕ) (now : List ℕ) 
     → ◌≡◌ {A = File} (record { bytes = now; loose = file.loose; settled = file.settled }) (file_torn_by_sync torn file)
 torn_sync_is torn file len now is e =
     let whole : now ≡ take (half_grown file.settled (length file.bytes)) (ranges_torn torn file.loose file.bytes) =
-        e ∙ ap (λ n. take (half_grown file.settled n) (ranges_torn torn file.loose file.bytes)) is in
+    e ∙ ap (λ n. take (half_grown file.settled n) (ranges_torn torn file.loose file.bytes)) is in
     λ i. record { bytes = whole i; loose = file.loose; settled = file.settled }
 
 -- a broken write keeps what lies within the file and half of what lies past its end
 torn_size : (len at size : ℕ) → at ≤ len → torn_end len (at + size) - at ≡ min size (len - at) + (size - min size (len - at)) / 2
 torn_size len at size within =
     elim (nat_le (at + size) len) as (λ b. nat_le (at + size) len ≡ b
-        → (if b then at + size else half_grown len (at + size)) - at ≡ min size (len - at) + (size - min size (len - at)) / 2) [
+    → (if b then at + size else half_grown len (at + size)) - at ≡ min size (len - at) + (size - min size (len - at)) / 2) [
       | true ↦ λ e.
           let inside = leb-true (at + size) len e in
           let all : min size (len - at) ≡ size = omega arith in
@@ -179,18 +179,18 @@ torn_write_is torn at bytes file inside kept grown now loose within inside-is ke
     let size = length-torn_bytes torn kept in
     let tail_size : length tail ≡ kept - inside = simp (length-take, length-drop) (omega arith) in
     let same : kept ≡ torn_end (length file.bytes) (at + length bytes) - at =
-        kept-is ∙ ap (λ n. n + (length bytes - n) / 2) inside-is ∙ sym (torn_size (length file.bytes) at (length bytes) within) in
+    kept-is ∙ ap (λ n. n + (length bytes - n) / 2) inside-is ∙ sym (torn_size (length file.bytes) at (length bytes) within) in
     let put : overwritten grown at (torn_bytes torn kept) ≡ overwritten file.bytes at (torn_bytes torn kept) =
-        ap (λ g. overwritten g at (torn_bytes torn kept)) grown-is
-        ∙ elim (leb_cases (length bytes) inside) [
-          | inl none ↦ ap (λ g. overwritten g at (torn_bytes torn kept)) (append_none file.bytes tail (omega arith))
-          | inr some ↦ overwritten_past file.bytes tail (torn_bytes torn kept) at within (omega arith)
-        ] in
+    ap (λ g. overwritten g at (torn_bytes torn kept)) grown-is
+    ∙ elim (leb_cases (length bytes) inside) [
+      | inl none ↦ ap (λ g. overwritten g at (torn_bytes torn kept)) (append_none file.bytes tail (omega arith))
+      | inr some ↦ overwritten_past file.bytes tail (torn_bytes torn kept) at within (omega arith)
+    ] in
     let all : now ≡ overwritten file.bytes at (torn_bytes torn (torn_end (length file.bytes) (at + length bytes) - at)) =
-        now-is ∙ put ∙ ap (λ n. overwritten file.bytes at (torn_bytes torn n)) same in
+    now-is ∙ put ∙ ap (λ n. overwritten file.bytes at (torn_bytes torn n)) same in
     let fits : nat_le at (length file.bytes) ≡ true = le-leb at (length file.bytes) within in
     let bytes-are : now ≡ (if nat_le at (length file.bytes)
-        then overwritten file.bytes at (torn_bytes torn (torn_end (length file.bytes) (at + length bytes) - at)) else file.bytes) = rw fits all in
+    then overwritten file.bytes at (torn_bytes torn (torn_end (length file.bytes) (at + length bytes) - at)) else file.bytes) = rw fits all in
     let loose-are : loose ≡ (if nat_le at (length file.bytes) then file.loose ++ (at, length bytes) ∷ [] else file.loose) = rw fits loose-is in
     λ i. record { bytes = bytes-are i; loose = loose-are i; settled = file.settled }
 
@@ -199,7 +199,7 @@ pub left_where_torn : (torn : List ℕ) (name : List ℕ) (at : ℕ) (bytes : Li
     → new ≡ adjusted (file_torn_by_write torn at bytes) old name → LeftByWrite name at bytes old new
 left_where_torn torn name at bytes old new is =
     elim (map.get old name) as (λ f. new ≡ option_map_or (λ file. map.insert old name (file_torn_by_write torn at bytes file)) f old
-        → MatchOption f (new ≡ old) (λ file. (left : File) × FileLeftByWrite at bytes file left × (new ≡ map.insert old name left))) [
+    → MatchOption f (new ≡ old) (λ file. (left : File) × FileLeftByWrite at bytes file left × (new ≡ map.insert old name left))) [
       | None ↦ λ e. e
       | Some file ↦ λ e. (file_torn_by_write torn at bytes file, left_by_torn_write torn at bytes file, e)
     ] is

@@ -34,7 +34,7 @@ file_torn_by_write torn at bytes file = record {
       then overwritten file.bytes at (torn_bytes torn (torn_end (length file.bytes) (at + length bytes) - at))
       else file.bytes;
   loose = (file_written at bytes file).loose;
-  settled = file.settled
+  settled = file.settled;
 }
 
 -- bytes of which one range (place, length) is torn, as far as they reach
@@ -51,7 +51,7 @@ abbrev pub file_torn_by_sync : List ℕ → File → File
 file_torn_by_sync torn file = record {
   bytes = take (half_grown file.settled (length file.bytes)) (ranges_torn torn file.loose file.bytes);
   loose = file.loose;
-  settled = file.settled
+  settled = file.settled;
 }
 
 -- a file with these bytes, of which nothing is loose
@@ -105,11 +105,16 @@ abbrev pub state_code : Coded MemState
 state_code =
     code_by (Files × (ℕ × (ℕ × (ℕ × (List ℕ × (List ℕ × List ℕ))))))
     (coded× (map.code (coded_list coded_ℕ) file_code) (coded× coded_ℕ (coded× coded_ℕ (coded× coded_ℕ
-      (coded× (coded_list coded_ℕ) (coded× (coded_list coded_ℕ) (coded_list coded_ℕ)))))))
+    (coded× (coded_list coded_ℕ) (coded× (coded_list coded_ℕ) (coded_list coded_ℕ)))))))
     (λ d. (d.files, (d.changes, (d.reads, (d.faults, (d.failing, (d.failing_reads, d.torn)))))))
     (λ p. record {
-      files = p.0; changes = p.1.0; reads = p.1.1.0; faults = p.1.1.1.0;
-      failing = p.1.1.1.1.0; failing_reads = p.1.1.1.1.1.0; torn = p.1.1.1.1.1.1
+      files = p.0;
+      changes = p.1.0;
+      reads = p.1.1.0;
+      faults = p.1.1.1.0;
+      failing = p.1.1.1.1.0;
+      failing_reads = p.1.1.1.1.1.0;
+      torn = p.1.1.1.1.1.1;
     })
     (λ _. refl)
 

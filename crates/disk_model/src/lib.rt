@@ -1,14 +1,18 @@
-//! A disk that servers share: the trait with its meaning.
+//! A disk that servers share: the trait with its meaning, a disk in memory, and one on folders.
 #![tactic(auto)]
 
 mod answers;
 mod bytes;
+mod dir_disk;
 mod entries;
+mod folders;
 mod mem_disk;
 mod shared_disk;
 mod shelf;
 mod stored_file;
+mod walk;
 
 pub use answers::{DiskAnswer, DiskFault};
+pub use dir_disk::DirDisk;
 pub use mem_disk::MemDisk;
 pub use shared_disk::SharedDisk;

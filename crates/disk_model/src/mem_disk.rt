@@ -45,33 +45,28 @@ impl Model for MemDisk {
     ghost coded = { state_code };
 
     ghost view = { λ disk. record {
-        files = disk.shelf;
-        changes = disk.changes;
-        reads = disk.reads;
-        faults = disk.faults;
-        failing = disk.failing.items;
-        failing_reads = disk.failing_reads.items;
-        torn = disk.torn.items
+      files = disk.shelf;
+      changes = disk.changes;
+      reads = disk.reads;
+      faults = disk.faults;
+      failing = disk.failing.items;
+      failing_reads = disk.failing_reads.items;
+      torn = disk.torn.items;
     } };
 }
 
 impl MemDisk {
     /// A disk without files, of which these changing calls and these reading calls fail, and whose torn
     /// ranges hold these bytes in turn.
-    pub fn new(
-        alloc: Global,
-        failing: Vec<u64>,
-        failing_reads: Vec<u64>,
-        torn: Vec<u8>,
-    ) -> MemDisk
+    pub fn new(alloc: Global, failing: Vec<u64>, failing_reads: Vec<u64>, torn: Vec<u8>) -> MemDisk
         ensures { result ≡ record {
-            files = no_files;
-            changes = 0;
-            reads = 0;
-            faults = 0;
-            failing = failing.items;
-            failing_reads = failing_reads.items;
-            torn = torn.items
+          files = no_files;
+          changes = 0;
+          reads = 0;
+          faults = 0;
+          failing = failing.items;
+          failing_reads = failing_reads.items;
+          torn = torn.items;
         } }
     {
         MemDisk {

@@ -114,7 +114,12 @@ impl StoredFile {
         let within = overlap(len, at_byte, bytes.len());
         let kept = within + (bytes.len() - within) / 2;
         let range = (at, bytes.len() as u64);
-        grow(&mut self.bytes, &mut self.loose, range, &bytes[within..kept])?;
+        grow(
+            &mut self.bytes,
+            &mut self.loose,
+            range,
+            &bytes[within..kept],
+        )?;
         overwrite_torn(&mut self.bytes, at_byte, kept, torn);
         Ok(())
     }

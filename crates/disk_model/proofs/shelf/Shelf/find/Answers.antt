@@ -12,4 +12,4 @@ use Rattle.disk_model.proofs.shelf.Shelf.find.Goals as goal
 pub returns : goal.returns
 returns c =
     rw (← c.self.view_is) (c.get_in.ensures ∙ ap (find (slice_cmp nat_cmp) c.args.name.now) c.as_slice.ensures.value
-      ∙ sym (find_shelved nat_list_cmp_total names_differ c.args.name.now _ c.self.invariant))
+    ∙ sym (find_shelved nat_list_cmp_total names_differ c.args.name.now _ c.self.invariant))

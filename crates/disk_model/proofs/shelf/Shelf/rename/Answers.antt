@@ -21,17 +21,17 @@ returns-in-None-clause-ok c =
     let other = other_text c.args.from.now c.args.to.now c.if-eq.ensures in
     let stands = copied_some _ _ c.if-is_none.ensures c.find.ensures in
     let gone : get (insert c.args.self.now c.args.to.now c.new.result) c.args.from.now ≡ None =
-        ap (λ m. get m c.args.from.now) (sym c.in_ok-put.ensures.ok) ∙ sym c.in-None.ensures.found in
+    ap (λ m. get m c.args.from.now) (sym c.in_ok-put.ensures.ok) ∙ sym c.in-None.ensures.found in
     absurd (not_lost c.args.self.now c.args.from.now c.args.to.now c.new.result other stands gone)
 
 pub returns-in-Some-clause-ok : goal.returns-in-Some-clause-ok
 returns-in-Some-clause-ok c =
     let other = other_text c.args.from.now c.args.to.now c.if-eq.ensures in
     let found : get (insert c.args.self.now c.args.to.now c.new.result) c.args.from.now ≡ Some c.in-Some.file =
-        ap (λ m. get m c.args.from.now) (sym c.in_ok-put.ensures.ok) ∙ sym c.in-Some.ensures.found in
-    on_ok_weaker c.put-in-Some.result 
+    ap (λ m. get m c.args.from.now) (sym c.in_ok-put.ensures.ok) ∙ sym c.in-Some.ensures.found in
+    on_ok_weaker c.put-in-Some.result
     (λ e. e ∙ ap (λ m. insert m c.args.to.now c.in-Some.file) (c.take.ensures.left ∙ ap (λ m. remove m c.args.from.now) c.in_ok-put.ensures.ok)
-      ∙ renamed_is c.args.self.now c.args.from.now c.args.to.now c.new.result c.in-Some.file other found) c.put-in-Some.ensures.ok
+    ∙ renamed_is c.args.self.now c.args.from.now c.args.to.now c.new.result c.in-Some.file other found) c.put-in-Some.ensures.ok
 
 pub returns-in-Some-clause-err : goal.returns-in-Some-clause-err
 returns-in-Some-clause-err c =

@@ -18,4 +18,4 @@ invariant_of-self c =
 pub returns-clause-ok : goal.returns-clause-ok
 returns-clause-ok c =
     rw (← c.self.view_is) (on_ok_weaker c.tear_write_in.result
-      (λ e. ap from_sorted e ∙ adjusted_shelved nat_list_cmp_total names_differ (file_torn_by_write c.args.torn.now c.args.at c.args.bytes.now) c.args.name.now _ c.self.invariant) c.tear_write_in.ensures.ok)
+    (λ e. ap from_sorted e ∙ adjusted_shelved nat_list_cmp_total names_differ (file_torn_by_write c.args.torn.now c.args.at c.args.bytes.now) c.args.name.now _ c.self.invariant) c.tear_write_in.ensures.ok)

@@ -1,0 +1,130 @@
+//! The names of all files below the folder of the logs.
+use crate::DiskAnswer;
+use crate::folders::{ROOT, is_plain, make_folders};
+use ais_values::{Seq, Text, TextAnswer};
+use std::alloc::{AllocError, Global};
+use std::fs::DirEntry;
+use std::io::ErrorKind;
+use std::rt::Files;
+use std::{fs, io};
+
+// What a walk came upon: names, and folders that are still to be listed.
+#[derive(Drop)]
+struct Found {
+    names: Vec<Vec<u8>>,
+    folders: Vec<String>,
+}
+
+fn answer(error: io::Error) -> DiskAnswer {
+    if error.kind() == ErrorKind::OutOfMemory {
+        DiskAnswer::Memory
+    } else {
+        DiskAnswer::Failed
+    }
+}
+
+// The name of a path, which is what follows the root and its slash.
+fn name_of(alloc: Global, path: &str) -> Result<Vec<u8>, DiskAnswer> {
+    let bytes = path.as_bytes();
+    let before = ROOT.len() + 1;
+    if bytes.len() <= before {
+        return Err(DiskAnswer::Failed);
+    }
+    let name = &bytes[before..];
+    if !is_plain(name) {
+        return Err(DiskAnswer::Failed);
+    }
+    Ok(name.to_vec(alloc)?)
+}
+
+fn note<R: Files>(
+    alloc: Global,
+    entry: &DirEntry<R, Global>,
+    found: &mut Found,
+) -> Result<(), DiskAnswer> {
+    let path = entry.path();
+    let path = path.as_str();
+    let kind = match entry.file_type() {
+        Ok(kind) => kind,
+        Err(error) => return Err(answer(error)),
+    };
+    if kind.is_dir() {
+        let folder = String::from_str(alloc, path)?;
+        found.folders.push(folder).map_err(AllocError::from)?;
+        return Ok(());
+    }
+    if !kind.is_file() {
+        return Err(DiskAnswer::Failed);
+    }
+    let name = name_of(alloc, path)?;
+    found.names.push(name).map_err(AllocError::from)?;
+    Ok(())
+}
+
+fn list<R: Files + AllocGlobal + Clone + Drop>(
+    rt: &R,
+    alloc: Global,
+    folder: &str,
+    found: &mut Found,
+) -> Result<(), DiskAnswer> {
+    let entries = match fs::read_dir(rt, folder) {
+        Ok(entries) => entries,
+        Err(error) => return Err(answer(error)),
+    };
+    for entry in entries {
+        match entry {
+            Ok(entry) => note(alloc, &entry, found)?,
+            Err(error) => return Err(answer(error)),
+        }
+    }
+    Ok(())
+}
+
+fn walk<R: Files + AllocGlobal + Clone + Drop>(
+    rt: &R,
+    alloc: Global,
+) -> Result<Vec<Vec<u8>>, DiskAnswer> {
+    let mut found = Found {
+        names: Vec::new(alloc),
+        folders: Vec::new(alloc),
+    };
+    list(rt, alloc, ROOT, &mut found)?;
+    for _ in 0..u64::MAX {
+        let Some(folder) = found.folders.pop() else {
+            return Ok(found.names);
+        };
+        list(rt, alloc, folder.as_str(), &mut found)?;
+    }
+    Err(DiskAnswer::Failed)
+}
+
+// The list of these names as texts.
+fn texts(alloc: Global, names: &[Vec<u8>]) -> Result<Seq<Text>, DiskAnswer> {
+    let mut texts = Seq::new(alloc);
+    for name in names {
+        match Text::new(alloc, name.as_slice()) {
+            Ok(text) => texts.push(text)?,
+            Err(TextAnswer::Memory) => return Err(DiskAnswer::Memory),
+            Err(TextAnswer::Refused) => return Err(DiskAnswer::Failed),
+        }
+    }
+    Ok(texts)
+}
+
+/// The names of all files below the root, which is made where it is missing, in byte order of the whole
+/// names. Folders are no names.
+///
+/// A fault is a root that is no folder, a thing that is neither a file nor a folder, a name that is not
+/// plain, and what the system refuses.
+pub fn all_names<R: Files + AllocGlobal + Clone + Drop>(
+    rt: &R,
+    alloc: Global,
+) -> Result<Seq<Text>, DiskAnswer> {
+    match make_folders(rt, ROOT) {
+        Ok(()) => {}
+        Err(error) => return Err(answer(error)),
+    }
+    let mut names = walk(rt, alloc)?;
+    names.sort()?;
+    texts(alloc, names.as_slice())
+}
