@@ -1,7 +1,9 @@
 -- The device calls of deeds, what they make of the files, and what is left where they break off.
-use Rattle.std.specs.Prelude.{◌≡◌, ℕ, List, [], ◌∷◌, ◌++◌}
+use Rattle.std.specs.Prelude.{◌≡◌, ℕ, List, [], ◌∷◌, ◌++◌, Option, option_map, Result, Ok, Err}
+use Rattle.disk_model.specs.declared.answers.DiskAnswer.{DiskAnswer}
+use Rattle.disk_model.specs.declared.answers.DiskAnswer.TheVariants.{Memory, Failed}
 use Rattle.disk_model.specs.Disk.{Files, created, written_at, synced, renamed, removed}
-use Rattle.disk_model.specs.Failures.{LeftByCreate, LeftByWrite, LeftBySync, LeftByRename, LeftByRemove}
+use Rattle.disk_model.specs.Failures.{LeftByCreate, LeftByWrite, LeftBySync, LeftByRename, LeftByRemove, WhereTold}
 use Rattle.stream_files.specs.declared.deed.Deed.{Deed}
 use Rattle.stream_files.specs.declared.deed.Deed.TheVariants as deed
 
@@ -66,3 +68,13 @@ StopsIn = BreaksOff LeftBy
 -- calls from the front were done, the next one changed nothing, and no later one was made
 abbrev pub StopsBefore : List DeviceCall → Files → Files → Type 0
 StopsBefore = BreaksOff LeftAlone
+
+-- calls from the front were done, up to one that answered this
+abbrev pub Breaks : DiskAnswer → List DeviceCall → Option Files → Option Files → Type 0
+Breaks Memory calls old new = WhereTold (StopsBefore calls) old new
+Breaks Failed calls old new = WhereTold (StopsIn calls) old new
+
+-- calls in order and no others, up to the first that is not done
+abbrev pub Performs : {T : Type 0} → List DeviceCall → Result T DiskAnswer → Option Files → Option Files → Type 0
+Performs calls (Ok done) old new = new ≡ option_map (all_applied calls) old
+Performs calls (Err answer) old new = Breaks answer calls old new

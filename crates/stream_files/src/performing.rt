@@ -1,9 +1,9 @@
 //! Deeds performed on a disk, call by call.
-ghost use Rattle.std.specs.Prelude.{◌≡◌, option_map, OnOk, IsErrOf};
+ghost use Rattle.std.specs.Prelude.{◌≡◌, [], ◌∷◌, option_map, OnOk, IsErrOf};
 ghost use Rattle.ais_values.specs.Causes.{HasCauseOf};
 ghost use Rattle.disk_model.specs.Failures.{WhereTold};
 ghost use Rattle.disk_model.specs.declared.answers.DiskAnswer.{DiskAnswer};
-ghost use Rattle.stream_files.specs.Deeds.{calls_of, calls_of_all, all_applied, StopsIn, StopsBefore};
+ghost use Rattle.stream_files.specs.Deeds.{CallCreate, CallWrite, CallSync, CallRename, CallRemove, calls_of, calls_of_all, all_applied, StopsIn, StopsBefore, Performs};
 
 use crate::Deed;
 use ais_values::{Seq, Text};
@@ -23,29 +23,43 @@ pub fn perform<D: SharedDisk>(disk: &mut D, deeds: &Seq<Deed>) -> Result<(), Dis
     ensures cause { HasCauseOf (D.faults disk.old) (D.faults disk.new) result DiskAnswer.Failed }
 {
     for deed in deeds.as_slice() {
-        perform_one(disk, deed)?;
+        match perform_one(disk, deed) {
+            Ok(()) => {}
+            Err(answer) => return Err(answer),
+        }
     }
     Ok(())
 }
 
 fn perform_one<D: SharedDisk>(disk: &mut D, deed: &Deed) -> Result<(), DiskAnswer>
-    ensures done { OnOk result (D.files disk.new ≡ option_map (all_applied (calls_of deed.now)) (D.files disk.old)) }
-    ensures memory { IsErrOf result DiskAnswer.Memory →
-        WhereTold (StopsBefore (calls_of deed.now)) (D.files disk.old) (D.files disk.new) }
-    ensures failed { IsErrOf result DiskAnswer.Failed →
-        WhereTold (StopsIn (calls_of deed.now)) (D.files disk.old) (D.files disk.new) }
+    ensures performs { Performs (calls_of deed.now) result (D.files disk.old) (D.files disk.new) }
     ensures cause { HasCauseOf (D.faults disk.old) (D.faults disk.new) result DiskAnswer.Failed }
 {
     match deed {
-        Deed::Put { name, bytes } => {
-            disk.create(name.as_slice())?;
-            write_and_sync(disk, name, 0, bytes)
-        }
-        Deed::Create { name } => disk.create(name.as_slice()),
+        Deed::Put { name, bytes } => put(disk, name, bytes),
+        Deed::Create { name } => create(disk, name),
         Deed::Write { name, at, bytes } => write_and_sync(disk, name, *at, bytes),
-        Deed::Rename { from, to } => disk.rename(from.as_slice(), to.as_slice()),
-        Deed::Remove { name } => disk.remove(name.as_slice()),
+        Deed::Rename { from, to } => rename(disk, from, to),
+        Deed::Remove { name } => remove(disk, name),
     }
+}
+
+fn put<D: SharedDisk>(disk: &mut D, name: &Text, bytes: &Text) -> Result<(), DiskAnswer>
+    ensures performs { Performs (CallCreate name.now ∷ CallWrite name.now 0 bytes.now ∷ CallSync name.now ∷ [])
+        result (D.files disk.old) (D.files disk.new) }
+    ensures cause { HasCauseOf (D.faults disk.old) (D.faults disk.new) result DiskAnswer.Failed }
+{
+    match disk.create(name.as_slice()) {
+        Ok(()) => write_and_sync(disk, name, 0, bytes),
+        Err(answer) => Err(answer),
+    }
+}
+
+fn create<D: SharedDisk>(disk: &mut D, name: &Text) -> Result<(), DiskAnswer>
+    ensures performs { Performs (CallCreate name.now ∷ []) result (D.files disk.old) (D.files disk.new) }
+    ensures cause { HasCauseOf (D.faults disk.old) (D.faults disk.new) result DiskAnswer.Failed }
+{
+    disk.create(name.as_slice())
 }
 
 fn write_and_sync<D: SharedDisk>(
@@ -53,7 +67,27 @@ fn write_and_sync<D: SharedDisk>(
     name: &Text,
     at: u64,
     bytes: &Text,
-) -> Result<(), DiskAnswer> {
-    disk.write_at(name.as_slice(), at, bytes.as_slice())?;
-    disk.sync(name.as_slice())
+) -> Result<(), DiskAnswer>
+    ensures performs { Performs (CallWrite name.now at bytes.now ∷ CallSync name.now ∷ [])
+        result (D.files disk.old) (D.files disk.new) }
+    ensures cause { HasCauseOf (D.faults disk.old) (D.faults disk.new) result DiskAnswer.Failed }
+{
+    match disk.write_at(name.as_slice(), at, bytes.as_slice()) {
+        Ok(()) => disk.sync(name.as_slice()),
+        Err(answer) => Err(answer),
+    }
+}
+
+fn rename<D: SharedDisk>(disk: &mut D, from: &Text, to: &Text) -> Result<(), DiskAnswer>
+    ensures performs { Performs (CallRename from.now to.now ∷ []) result (D.files disk.old) (D.files disk.new) }
+    ensures cause { HasCauseOf (D.faults disk.old) (D.faults disk.new) result DiskAnswer.Failed }
+{
+    disk.rename(from.as_slice(), to.as_slice())
+}
+
+fn remove<D: SharedDisk>(disk: &mut D, name: &Text) -> Result<(), DiskAnswer>
+    ensures performs { Performs (CallRemove name.now ∷ []) result (D.files disk.old) (D.files disk.new) }
+    ensures cause { HasCauseOf (D.faults disk.old) (D.faults disk.new) result DiskAnswer.Failed }
+{
+    disk.remove(name.as_slice())
 }

@@ -1,0 +1,8 @@
+use Rattle.std.proofs.Common.{◌≡◌, [], ◌∷◌, ◌++◌, sym, ◌∙◌, ap, subst, arith, refl, Err, OnOk}
+use Rattle.stream_files.specs.Deeds.{DeviceCall, CallCreate, CallWrite, CallSync, CallRename, CallRemove, calls_of, calls_of_all, all_applied, StopsIn, StopsBefore, Performs}
+use Rattle.stream_files.proofs.Calls.{performs_one}
+use Rattle.stream_files.proofs.performing.create.Goals as goal
+
+pub returns-clause-performs : goal.returns-clause-performs
+returns-clause-performs g c =
+    rw (← c.as_slice.ensures.bytes) (performs_one (CallCreate _) c.create.result _ _ c.create.ensures.done c.create.ensures.memory c.create.ensures.failed)

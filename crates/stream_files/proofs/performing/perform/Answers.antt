@@ -1,0 +1,29 @@
+use Rattle.std.proofs.Common.{◌≡◌, ◌<◌, ◌≤◌, length, arith, option_map}
+use Rattle.stream_files.specs.Deeds.{calls_of, calls_of_all, all_applied, Breaks}
+use Rattle.stream_files.proofs.Calls.{breaks_memory, breaks_failed, breaks_deed, done_more}
+use Rattle.stream_files.proofs.performing.perform.Goals as goal
+
+-- a deed that is not done breaks the list off
+broken : (g : _) (c : goal.In-Err g) → Breaks c.in-Err.answer (calls_of_all c.args.deeds.now) (g.D.SharedDisk.files c.args.disk.now) (g.D.SharedDisk.files c.perform_one.new.disk)
+broken g c =
+    let within : c.loop-deed.deed-index < length c.as_slice-deed-items.result.now = omega arith in
+    rw (← c.as_slice-deed-items.ensures)
+    (breaks_deed c.as_slice-deed-items.result.now c.loop-deed.deed-index c.deed-item.result c.in-Err.answer _ _ _ within c.deed-item.is
+    c.loop-deed.invariant.done c.in-Err.ensures.performs)
+
+pub returns-in-Err-clause-memory : goal.returns-in-Err-clause-memory
+returns-in-Err-clause-memory g c = breaks_memory c.in-Err.answer _ _ _ (broken g c)
+
+pub returns-in-Err-clause-failed : goal.returns-in-Err-clause-failed
+returns-in-Err-clause-failed g c = breaks_failed c.in-Err.answer _ _ _ (broken g c)
+
+pub loop-deed-preserved : goal.loop-deed-preserved
+loop-deed-preserved g c =
+    let within : c.loop-deed.deed-index < length c.as_slice-deed-items.result.now = omega arith in
+    let before = c.loop-deed.invariant.later in
+    let after = c.in-Ok.ensures.cause.later in
+    record {
+      done = done_more c.as_slice-deed-items.result.now c.loop-deed.deed-index c.deed-item.result _ _ _ within c.deed-item.is
+          c.loop-deed.invariant.done c.in-Ok.ensures.performs;
+      later = omega (arith, before, after);
+    }

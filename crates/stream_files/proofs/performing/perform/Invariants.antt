@@ -1,0 +1,9 @@
+use Rattle.std.proofs.Common.{◌≡◌, ◌≤◌, take, option_map}
+use Rattle.stream_files.specs.Deeds.{calls_of_all, all_applied}
+use Rattle.stream_files.proofs.performing.perform.Given as goal
+
+abbrev pub invariant-loop-deed : goal.invariant-loop-deed
+invariant-loop-deed g l = record {
+  done : g.D.SharedDisk.files l.disk ≡ option_map (all_applied (calls_of_all (take l.deed-index l.deed-items))) (g.D.SharedDisk.files l.initial.disk);
+  later : g.D.SharedDisk.faults l.initial.disk ≤ g.D.SharedDisk.faults l.disk;
+}

@@ -1,0 +1,20 @@
+use Rattle.std.proofs.Common.{◌≡◌, [], ◌∷◌, ◌++◌, sym, ◌∙◌, ap, subst, arith, refl, Err, OnOk, option_map}
+use Rattle.stream_files.specs.Deeds.{DeviceCall, CallCreate, CallWrite, CallSync, CallRename, CallRemove, calls_of, calls_of_all, all_applied, StopsIn, StopsBefore, Breaks, Performs}
+use Rattle.stream_files.proofs.Calls.{performs_one, performs_after, breaks_one, breaks_within, none_applied}
+use Rattle.stream_files.proofs.performing.put.Goals as goal
+
+pub returns-in-Ok-clause-performs : goal.returns-in-Ok-clause-performs
+returns-in-Ok-clause-performs g c =
+    let done : g.D.SharedDisk.files c.create.new.self
+    ≡ option_map (all_applied (CallCreate c.args.name.now ∷ [])) (g.D.SharedDisk.files c.args.disk.now) =
+    rw (← c.as_slice.ensures.bytes) c.in-Ok.ensures.done in
+    performs_after (CallCreate c.args.name.now ∷ []) (CallWrite c.args.name.now 0 c.args.bytes.now ∷ CallSync c.args.name.now ∷ [])
+    c.write_and_sync.result _ _ _ done c.write_and_sync.ensures.performs
+
+pub returns-in-Err-clause-performs : goal.returns-in-Err-clause-performs
+returns-in-Err-clause-performs g c =
+    let first : Breaks c.in-Err.answer (CallCreate c.args.name.now ∷ [])
+    (g.D.SharedDisk.files c.args.disk.now) (g.D.SharedDisk.files c.create.new.self) =
+    rw (← c.as_slice.ensures.bytes) (breaks_one (CallCreate _) c.in-Err.answer _ _ c.in-Err.ensures.memory c.in-Err.ensures.failed) in
+    breaks_within [] (CallCreate c.args.name.now ∷ []) (CallWrite c.args.name.now 0 c.args.bytes.now ∷ CallSync c.args.name.now ∷ [])
+    c.in-Err.answer _ _ _ (none_applied _) first

@@ -1,0 +1,22 @@
+use Rattle.std.proofs.Common.{◌≡◌, [], ◌∷◌, ◌++◌, sym, ◌∙◌, ap, subst, arith, refl, Err, OnOk, option_map}
+use Rattle.stream_files.specs.Deeds.{DeviceCall, CallCreate, CallWrite, CallSync, CallRename, CallRemove, calls_of, calls_of_all, all_applied, StopsIn, StopsBefore, Breaks, Performs}
+use Rattle.stream_files.proofs.Calls.{performs_one, performs_after, breaks_one, breaks_within, none_applied}
+use Rattle.stream_files.proofs.performing.write_and_sync.Goals as goal
+
+pub returns-in-Ok-clause-performs : goal.returns-in-Ok-clause-performs
+returns-in-Ok-clause-performs g c =
+    let last : Performs (CallSync c.args.name.now ∷ []) c.sync.result (g.D.SharedDisk.files c.write_at.new.self) (g.D.SharedDisk.files c.sync.new.self) =
+    rw (← c.as_slice-in-Ok.ensures.bytes) (performs_one (CallSync _) c.sync.result _ _ c.sync.ensures.done c.sync.ensures.memory c.sync.ensures.failed) in
+    let done : g.D.SharedDisk.files c.write_at.new.self
+    ≡ option_map (all_applied (CallWrite c.args.name.now c.args.at c.args.bytes.now ∷ [])) (g.D.SharedDisk.files c.args.disk.now) =
+    rw (← c.as_slice.ensures.bytes, ← c.as_slice-2.ensures.bytes) c.in-Ok.ensures.done in
+    performs_after (CallWrite c.args.name.now c.args.at c.args.bytes.now ∷ []) (CallSync c.args.name.now ∷ []) c.sync.result _ _ _ done last
+
+pub returns-in-Err-clause-performs : goal.returns-in-Err-clause-performs
+returns-in-Err-clause-performs g c =
+    let first : Breaks c.in-Err.answer (CallWrite c.args.name.now c.args.at c.args.bytes.now ∷ [])
+    (g.D.SharedDisk.files c.args.disk.now) (g.D.SharedDisk.files c.write_at.new.self) =
+    rw (← c.as_slice.ensures.bytes, ← c.as_slice-2.ensures.bytes)
+    (breaks_one (CallWrite _ _ _) c.in-Err.answer _ _ c.in-Err.ensures.memory c.in-Err.ensures.failed) in
+    breaks_within [] (CallWrite c.args.name.now c.args.at c.args.bytes.now ∷ []) (CallSync c.args.name.now ∷ []) c.in-Err.answer _ _ _
+    (none_applied _) first
