@@ -1,7 +1,7 @@
 -- What is put over bytes in place, one byte after another and in parts.
-use Rattle.std.proofs.Common.{◌≡◌, ℕ, zero, suc, ◌+◌, ◌-◌, ◌<◌, ◌≤◌, min, List, [], ◌∷◌, ◌++◌, length, get_or, set, take, drop, refl, sym, ap, subst, ◌∙◌, arith, add-one, zero-add, append_assoc, length-append, length-take, length-drop}
+use Rattle.std.proofs.Common.{◌≡◌, ℕ, zero, suc, ◌+◌, ◌<◌, ◌≤◌, List, [], ◌∷◌, ◌++◌, length, get_or, set, take, drop, refl, sym, ap, ◌∙◌, arith, add-one, zero-add, length-append}
 use lib.Seq.{paste}
-use Rattle.std.proofs.lemmas.List.{take_all, take_at, drop_all, drop_at, append-nil, take-append-le, drop-append-le, length-set, get_or_push, length_push, same_lists, places, take-append-drop, drop-drop}
+use Rattle.std.proofs.lemmas.List.{take_all, take_at, drop_all, append-nil, take-append-le, get_or_push, length_push}
 use Rattle.std.proofs.lemmas.List.Edits.{paste_more}
 use Rattle.disk_model.specs.Disk.{overwritten}
 use Rattle.disk_model.specs.Memory.{torn_byte, torn_bytes}

@@ -1,8 +1,7 @@
 -- A file that is given another name.
-use Rattle.std.proofs.Common.{◌≡◌, ◌≢◌, Bool, true, false, Option, Some, None, Result, Ok, Err, OnErr, IsOk, IsSome, is_some, is_none, List, ℕ, Bor, refl, sym, ap, subst, ◌∙◌}
+use Rattle.std.proofs.Common.{◌≡◌, ◌≢◌, true, false, Option, Some, None, Result, Ok, Err, OnErr, IsOk, IsSome, is_some, is_none, List, ℕ, Bor, refl, sym, ap, ◌∙◌}
 use Rattle.std.specs.Option.{option_copied}
-use Rattle.std.specs.Ordering.{nat_cmp}
-use Rattle.std.specs.Cmp.Lexicographic.{slice_cmp, nat_list_cmp_total}
+use Rattle.std.specs.Cmp.Lexicographic.{nat_list_cmp_total}
 use Rattle.std.specs.FinMap.{get, insert, remove}
 use Rattle.disk_model.specs.Disk.{File, Files, renamed}
 use Rattle.disk_model.proofs.Maps.{get-insert_same, get-insert_other, get-remove_other, insert_standing, insert-remove, insert_twice, remove-insert_other}

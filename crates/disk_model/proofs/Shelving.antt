@@ -1,11 +1,10 @@
 -- A list of entries whose names rise, seen as the map of those entries.
-use Rattle.std.proofs.Common.{◌≡◌, Bool, true, false, cond, not, T, Option, Some, None, List, [], ◌∷◌, map, length, Result, Ok, Err, OnOk, OnErr, refl, sym, ap, subst, ◌∙◌}
+use Rattle.std.proofs.Common.{◌≡◌, Bool, true, false, cond, not, Some, None, List, [], map, length, Result, Ok, Err, OnOk, OnErr, refl, sym, ap, ◌∙◌}
 use Rattle.std.specs.declared.cmp.Ordering.{Ordering}
-use Rattle.std.specs.declared.cmp.Ordering.TheVariants.{Equal}
 use Rattle.std.specs.Ordering.{is_eq, eq_by_cmp, nat_cmp}
 use Rattle.std.specs.Cmp.{IsTotalOrder, alike_right, eq_by_cmp_equiv}
-use Rattle.std.specs.Cmp.Lexicographic.{slice_cmp, nat_list_cmp_total}
-use Rattle.std.specs.FinMap.{FinMap, IsAntisymmetric, slice_cmp-IsAntisymmetric, nat_cmp-IsAntisymmetric, get, insert, remove, from_sorted, entries, same_entries_map, entries-insert, entries-from_sorted, get-from_sorted, get-remove, same_map, keys, empty, empty_of_len, len-entries}
+use Rattle.std.specs.Cmp.Lexicographic.{slice_cmp}
+use Rattle.std.specs.FinMap.{IsAntisymmetric, slice_cmp-IsAntisymmetric, nat_cmp-IsAntisymmetric, get, insert, remove, from_sorted, same_entries_map, entries-insert, entries-from_sorted, get-from_sorted, get-remove, same_map, keys, empty, empty_of_len, len-entries}
 use Rattle.std.specs.Option.{option_map_or}
 use Rattle.std.specs.FinMap.Entries.{put, find, is_sorted, is_sorted-put, is_sorted-where_key, find-where_key}
 use Rattle.disk_model.specs.Shelf.{without, adjusted_in}

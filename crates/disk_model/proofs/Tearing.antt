@@ -1,12 +1,11 @@
 -- What torn writes and syncs leave is what a failed write or sync may leave.
-use Rattle.std.proofs.Common.{◌≡◌, ◌⊎◌, inl, inr, ℕ, zero, suc, ◌+◌, ◌-◌, ◌/◌, ◌<◌, ◌≤◌, min, max, Bool, true, false, cond, ◌&&◌, ◌||◌, List, [], ◌∷◌, ◌++◌, length, get_or, take, drop, refl, sym, ap, subst, ◌∙◌, arith, length-append, length-take, length-drop, nat_le, nat_lt, if◌then◌else◌}
-use Rattle.std.proofs.lemmas.List.{take_all, drop_all, append-nil, take-append-le, drop_at, take_at, places, same_lists, get_or-take, get_or-drop, get_or_append_left, get_or-append_right, take-append-drop}
-use Rattle.std.proofs.lemmas.Bool.{leb-true, leb-false, ltb-true, ltb-false, le-leb}
-use Rattle.std.proofs.lemmas.Bool.Decides.{nat_tests}
+use Rattle.std.proofs.Common.{◌≡◌, ◌⊎◌, inl, inr, ℕ, ◌+◌, ◌-◌, ◌/◌, ◌<◌, ◌≤◌, min, max, Bool, true, false, ◌&&◌, ◌||◌, List, [], ◌∷◌, ◌++◌, length, get_or, take, drop, refl, sym, ap, ◌∙◌, arith, length-append, length-take, length-drop, nat_le, nat_lt, if◌then◌else◌}
+use Rattle.std.proofs.lemmas.List.{places, get_or-take}
+use Rattle.std.proofs.lemmas.Bool.{leb-true, leb-false, ltb-false, le-leb}
 use Rattle.std.specs.Prelude.{Some, None, MatchOption}
 use Rattle.std.specs.Option.{option_map_or}
 use Rattle.std.specs.FinMap as map
-use Rattle.disk_model.specs.Disk.{File, Files, overwritten, file_written, adjusted}
+use Rattle.disk_model.specs.Disk.{File, Files, overwritten, adjusted}
 use Rattle.disk_model.specs.Failures.{Torn, is_within, FileLeftByWrite, FileLeftBySync, LeftByWrite}
 use Rattle.disk_model.specs.Memory.{torn_bytes, half_grown, torn_end, file_torn_by_write, file_torn_by_sync, range_torn, ranges_torn}
 use Rattle.disk_model.proofs.Overwriting.{length-torn_bytes, overwritten_past, append_none}

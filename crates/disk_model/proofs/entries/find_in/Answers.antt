@@ -1,6 +1,5 @@
-use Rattle.std.proofs.Common.{rules, ◌≡◌, ◌≢◌, arith, sym, ◌∙◌, ap}
-use Rattle.std.specs.Ordering.{nat_cmp}
-use Rattle.std.specs.Cmp.Lexicographic.{slice_cmp, nat_list_cmp_total, same_text, other_text}
+use Rattle.std.proofs.Common.{◌≡◌, ◌≢◌, arith, sym, ◌∙◌, ap}
+use Rattle.std.specs.Cmp.Lexicographic.{nat_list_cmp_total, same_text, other_text}
 use Rattle.std.proofs.lemmas.List.{get_or_read}
 use Rattle.disk_model.proofs.Places.{stands_at, lacks_at}
 use Rattle.disk_model.proofs.Shelving.{names_differ}

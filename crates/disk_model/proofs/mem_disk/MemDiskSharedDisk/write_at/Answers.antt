@@ -1,4 +1,4 @@
-use Rattle.std.proofs.Common.{◌≡◌, ◌∙◌, ap}
+use Rattle.std.proofs.Common.{◌∙◌, ap}
 use Rattle.disk_model.specs.Disk.{adjusted}
 use Rattle.disk_model.specs.Memory.{MemState, file_torn_by_write}
 use Rattle.disk_model.proofs.Tearing.{left_where_torn}

@@ -1,7 +1,4 @@
-use Rattle.std.proofs.Common.{◌≡◌, ◌≤◌, ℕ, length, arith, subst, sym, ◌∙◌, rules, ap}
-use Rattle.disk_model.specs.Disk.{File}
-use Rattle.disk_model.specs.Failures.{FileLeftBySync}
-use Rattle.disk_model.specs.Memory.{file_torn_by_sync}
+use Rattle.std.proofs.Common.{◌≡◌, ◌≤◌, length, rules}
 use Rattle.disk_model.proofs.Tearing.{torn_sync_is, left_by_torn_sync}
 use Rattle.disk_model.proofs.stored_file.StoredFile.tear_sync.Goals as goal
 

@@ -1,6 +1,4 @@
-use Rattle.std.proofs.Common.{◌≡◌, ◌≤◌, refl, min, ◌-◌, length, arith, subst, sym, ◌∙◌, rules}
-use Rattle.disk_model.specs.Disk.{File}
-use Rattle.disk_model.specs.Memory.{file_torn_by_write}
+use Rattle.std.proofs.Common.{◌≡◌, ◌≤◌, refl, min, ◌-◌, length, arith, rules}
 use Rattle.disk_model.proofs.Tearing.{torn_write_is}
 use Rattle.disk_model.proofs.stored_file.StoredFile.tear_write.Goals as goal
 
