@@ -5,6 +5,7 @@ use Rattle.std.proofs.lemmas.Bool.{leb-true, leb-false, ltb-false, le-leb}
 use Rattle.std.specs.Prelude.{Some, None, MatchOption}
 use Rattle.std.specs.Option.{option_map_or}
 use Rattle.std.specs.FinMap as map
+use Rattle.std.proofs.lemmas.Bool.Decides.{nat_tests}
 use Rattle.disk_model.specs.Disk.{File, Files, overwritten, adjusted}
 use Rattle.disk_model.specs.Failures.{Torn, is_within, FileLeftByWrite, FileLeftBySync, LeftByWrite}
 use Rattle.disk_model.specs.Memory.{torn_bytes, half_grown, torn_end, file_torn_by_write, file_torn_by_sync, range_torn, ranges_torn}
@@ -34,6 +35,11 @@ outside at size place more e =
           ] refl
       | false ↦ λ p f. (inl (omega (arith, leb-false at place p)), f)
     ] refl e
+
+-- what lies before a range or behind it does not lie in it
+pub is_outside : (at size place : ℕ) → (place < at) ⊎ (at + size ≤ place) → is_within ((at, size) ∷ []) place ≡ false
+is_outside at size place (inl before) = grind (arith, nat_tests)
+is_outside at size place (inr behind) = grind (arith, nat_tests)
 
 -- what is put over bytes leaves those outside its range
 pub overwritten_outside : (d s : List ℕ) (at place : ℕ) → at ≤ length d → (place < at) ⊎ (at + length s ≤ place)
@@ -95,7 +101,8 @@ pub length-ranges_torn : (torn : List ℕ) (ranges : List (ℕ × ℕ)) (bytes :
 length-ranges_torn torn [] bytes = refl
 length-ranges_torn torn (range ∷ ranges) bytes = length-ranges_torn torn ranges (range_torn torn range bytes) ∙ length-range_torn torn range bytes
 
-leb_cases : (a b : ℕ) → (a ≤ b) ⊎ (b < a)
+-- one number is at most another, or above it
+pub leb_cases : (a b : ℕ) → (a ≤ b) ⊎ (b < a)
 leb_cases a b =
     elim (nat_le a b) as (λ t. nat_le a b ≡ t → (a ≤ b) ⊎ (b < a)) [
       | true ↦ λ e. inl (leb-true a b e)

@@ -6,3 +6,6 @@ mod performing;
 
 pub use deed::Deed;
 pub use performing::perform;
+
+#[cfg(test)]
+mod tests;
