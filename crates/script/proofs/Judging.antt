@@ -20,7 +20,7 @@ use Rattle.script.proofs.Rules.Start.{Ends, Word}
 use Rattle.script.proofs.Rules.{Start, Rule, begins, begins_by, or_cases, and_true}
 use Rattle.script.proofs.ControlRules.{control_line, control_starts}
 
-line_rule : Rule line_at Spells control_starts
+pub line_rule : Rule line_at Spells control_starts
 unfolding line_at Spells
 line_rule = control_line
 

@@ -8,3 +8,6 @@ pub mod Inner
 pub mod Judging
 pub mod Lines
 pub mod Answering
+pub mod Written
+pub mod Again
+pub mod Appended

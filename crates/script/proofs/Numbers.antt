@@ -7,7 +7,7 @@ use Rattle.std.specs.Fmt.{decimal}
 use Rattle.std.specs.List.{prefix_len}
 use Rattle.std.specs.Str.{all_ascii_digits}
 use Rattle.std.specs.Str.Parse.{digits_value}
-use Rattle.std.proofs.lemmas.Bool.Decides.{Decides-eqb}
+use Rattle.std.proofs.lemmas.Bool.Decides.{Decides-eqb, nat_tests}
 use Rattle.std.proofs.lemmas.Bool.{not-true, ltb-true, lt-ltb, leb-true, le-leb}
 use Rattle.std.proofs.lemmas.List.{take-append-drop}
 use Rattle.std.proofs.lemmas.Option.{cond_some}
@@ -18,7 +18,7 @@ use Rattle.std.proofs.lemmas.Fmt.{digits_decimal, digits_value-decimal, decimal-
 use Rattle.script.specs.Reading.{is_plain, magnitude_of, magnitude_at, in_range, number_at, in_signed_range, signed_at, skipped}
 use Rattle.script.specs.Values.{IsNumber, IsSigned}
 use Rattle.script.proofs.Digits.{own, front_digits}
-use Rattle.script.proofs.Rules.{ValueRule, stops, and_true, and_then_some, skipped-sound}
+use Rattle.script.proofs.Rules.{ValueRule, stops, and_true, and_then_some, skipped-sound, one_line}
 
 -- digits before a text that does not begin with one are the whole front of digits
 prefix-digits : (digits rest : List ℕ) → all_ascii_digits digits ≡ true → stops is_ascii_digit rest ≡ true → prefix_len is_ascii_digit (digits ++ rest) ≡ length digits
@@ -51,6 +51,19 @@ decimal-plain (suc n) h =
     let high = first_decimal (suc n) (omega arith) h in
     plain-from (decimal (suc n)) (decimal_nonempty (suc n) h) (λ zero_first. absurd (omega arith))
 
+digit-whole : (b : ℕ) → is_ascii_digit b ≡ true → not (b == 10) ≡ true
+digit-whole b h = grind (arith, nat_tests)
+
+-- digits have no LF
+digits-whole : (ds : List ℕ) → all_ascii_digits ds ≡ true → one_line ds ≡ true
+digits-whole [] h = refl
+digits-whole (d ∷ ds) h =
+    let parts = and_true (is_ascii_digit d) (all_ascii_digits ds) h in
+    rw (digit-whole d parts.0) (digits-whole ds parts.1)
+
+decimal-whole : (n : ℕ) → n < 2 ^ 64 → one_line (decimal n) ≡ true
+decimal-whole n h = digits-whole (decimal n) (digits_decimal own n h)
+
 -- a number below 2 ^ 64, in decimal
 abbrev pub IsMagnitude : ℕ → List ℕ → Type 0
 IsMagnitude n text = (n < 2 ^ 64) × (text ≡ decimal n)
@@ -75,6 +88,7 @@ magnitude_rule = record {
       let at : magnitude_of (length (decimal n)) (decimal n ++ rest) ≡ Some (n, rest) =
       rw (take-append_seam (decimal n) rest, drop-append_seam (decimal n) rest, decimal-plain n h.0, digits_value-decimal own n h.0, lt-ltb n (2 ^ 64) h.0) refl in
       rw (h.1, len) at;
+  whole = λ n text h. rw h.1 (decimal-whole n h.0);
 }
 
 -- a number in a range of a machine's word
@@ -92,6 +106,7 @@ number_rule low high fits = record {
       let small = ltb-true high (2 ^ 64) fits in
       let below : n < 2 ^ 64 = omega arith in
       rw (magnitude_rule.complete n text rest (below, h.2) stop, le-leb low n h.0, le-leb n high h.1) refl;
+  whole = λ n text h. let small = ltb-true high (2 ^ 64) fits in magnitude_rule.whole n text (omega arith, h.2);
 }
 
 -- digits do not begin with a minus sign
@@ -164,5 +179,11 @@ signed_rule low high fits_low fits_high =
           (λ p.
           let below : n < 2 ^ 64 = small_neg low n fits_low (subst (λ x. low ≤ℤ x) p.0 h.0) in
           rw (p.1, magnitude_rule.complete n (decimal n) rest (below, refl) stop, p.0) (ranged_again low high (neg_ℤ (pos n)) rest (subst (λ x. low ≤ℤ x) p.0 h.0) (subst (λ x. x ≤ℤ high) p.0 h.1)))
+          h.2.1;
+      whole = λ z text h.
+          let n = h.2.0 in
+          ⊎_elim
+          (λ p. rw p.1 (decimal-whole n (small_pos high n fits_high (subst (λ x. x ≤ℤ high) p.0 h.1))))
+          (λ p. rw p.1 (decimal-whole n (small_neg low n fits_low (subst (λ x. low ≤ℤ x) p.0 h.0))))
           h.2.1;
     }

@@ -49,16 +49,32 @@ start_stops goes_on Ends = true
 start_stops goes_on (Word []) = false
 start_stops goes_on (Word (w ∷ word)) = not (goes_on w)
 
--- reading gives a value exactly where the grammar relates it to the bytes, and such bytes begin in one of these ways
+pub and_true : (a b : Bool) → (a && b) ≡ true → (a ≡ true) × (b ≡ true)
+and_true true b h = (refl, h)
+and_true false b h = cc
+
+-- bytes without LF
+abbrev pub one_line : List ℕ → Bool
+one_line bytes = list_all (λ byte. not (byte == 10)) bytes
+
+pub one_line-append : (xs ys : List ℕ) → one_line xs ≡ true → one_line ys ≡ true → one_line (xs ++ ys) ≡ true
+one_line-append [] ys h k = k
+one_line-append (x ∷ xs) ys h k =
+    let parts = and_true (not (x == 10)) (one_line xs) h in
+    rw parts.0 (one_line-append xs ys parts.1 k)
+
+-- reading gives a value exactly where the grammar relates it to the bytes; such bytes begin in one of these ways and have no LF
 pub record Rule {L : Type 0} (read : List ℕ → Option L) (P : L → List ℕ → Type 0) (starts : List Start) : Type 0 where
   pub sound : (bytes : List ℕ) (line : L) → read bytes ≡ Some line → P line bytes
   pub complete : (bytes : List ℕ) (line : L) → P line bytes → read bytes ≡ Some line
   pub first : (bytes : List ℕ) (line : L) → P line bytes → begins_by starts bytes ≡ true
+  pub whole : (bytes : List ℕ) (line : L) → P line bytes → one_line bytes ≡ true
 
 -- reading gives a value at the front exactly where a text of it stands there, and nothing follows that would go on it
 pub record ValueRule {X : Type 0} (at : List ℕ → Option (X × List ℕ)) (S : X → List ℕ → Type 0) (goes_on : ℕ → Bool) : Type 0 where
   pub sound : (bytes : List ℕ) (x : X) (rest : List ℕ) → at bytes ≡ Some (x, rest) → (text : List ℕ) × (bytes ≡ text ++ rest) × S x text
   pub complete : (x : X) (text rest : List ℕ) → S x text → stops goes_on rest ≡ true → at (text ++ rest) ≡ Some (x, rest)
+  pub whole : (x : X) (text : List ℕ) → S x text → one_line text ≡ true
 
 -- what is skipped stood there
 pub skipped-sound : (word bytes rest : List ℕ) → skipped word bytes ≡ Some rest → bytes ≡ word ++ rest
@@ -105,10 +121,6 @@ apart-begins (Word (v ∷ other)) Ends [] h p q = cc
 apart-begins (Word (v ∷ other)) Ends (b ∷ bytes) h p q = cc
 apart-begins (Word []) (Word word) bytes h p q = cc
 apart-begins (Word (v ∷ other)) (Word word) bytes h p q = clash-skipped (v ∷ other) word bytes h p q
-
-pub and_true : (a b : Bool) → (a && b) ≡ true → (a ≡ true) × (b ≡ true)
-and_true true b h = (refl, h)
-and_true false b h = cc
 
 pub or_cases : (a b : Bool) → (a || b) ≡ true → (a ≡ true) ⊎ (b ≡ true)
 or_cases true b h = inl refl
@@ -173,16 +185,18 @@ is_rule {L} made =
       sound = sound;
       complete = λ bytes line p. rw (p.1, p.0) refl;
       first = λ bytes line p. rw p.1 refl;
+      whole = λ bytes line p. rw p.1 refl;
     }
 
 -- a word in front
-pub skip_rule : {L : Type 0} {read : List ℕ → Option L} {P : L → List ℕ → Type 0} {starts : List Start} (word : List ℕ) → Rule read P starts → Rule (skip word read) (Skip word P) (Word word ∷ [])
-skip_rule {L} {read} {P} {starts} word rule = record {
+pub skip_rule : {L : Type 0} {read : List ℕ → Option L} {P : L → List ℕ → Type 0} {starts : List Start} (word : List ℕ) → one_line word ≡ true → Rule read P starts → Rule (skip word read) (Skip word P) (Word word ∷ [])
+skip_rule {L} {read} {P} {starts} word clean rule = record {
   sound = λ bytes line h.
       let parts = and_then_some read (skipped word bytes) line h in
       (parts.0, skipped-sound word bytes parts.0 parts.1, rule.sound parts.0 line parts.2);
   complete = λ bytes line p. rw (p.1, skipped-append word p.0) (rule.complete p.0 line p.2);
   first = λ bytes line p. rw (p.1, skipped-append word p.0) refl;
+  whole = λ bytes line p. rw p.1 (one_line-append word p.0 clean (rule.whole p.0 line p.2));
 }
 
 -- a value in front, which nothing that may follow goes on
@@ -197,6 +211,7 @@ value_rule {X} {L} {at} {S} {goes_on} {read} {P} {starts} rule next stop = recor
       let after = all_stop-stops goes_on starts p.2 stop ((next p.0).first p.2 line p.5) in
       rw (p.3, rule.complete p.0 p.1 p.2 p.4 after) ((next p.0).complete p.2 line p.5);
   first = λ bytes line p. refl;
+  whole = λ bytes line p. rw p.3 (one_line-append p.1 p.2 (rule.whole p.0 p.1 p.4) ((next p.0).whole p.2 line p.5));
 }
 
 -- one of two forms that begin differently
@@ -215,4 +230,5 @@ either_rule {L} {read} {P} {starts} {other} {Q} {others} one two differ =
       sound = λ bytes line h. sound_at bytes line (read bytes) refl h;
       complete = λ bytes line. ⊎_elim (λ p. rw (one.complete bytes line p) refl) (λ q. none_at bytes line (read bytes) refl q);
       first = λ bytes line. ⊎_elim (λ p. begins_by-append_left starts others bytes (one.first bytes line p)) (λ q. begins_by-append_right starts others bytes (two.first bytes line q));
+      whole = λ bytes line. ⊎_elim (λ p. one.whole bytes line p) (λ q. two.whole bytes line q);
     }

@@ -10,14 +10,14 @@ use Rattle.script.specs.declared.line.Server.TheVariants.{A, B}
 use Rattle.script.specs.Reading.{skipped, server_at, is_hex, hex_value, hex_at, escape_at, part_at, with_front, inner_at, fitting, quoted_at}
 use Rattle.script.specs.Values.{IsServer, hex_digit, Stands, StandAll, IsQuoted}
 use Rattle.script.specs.Values.Stands.{plain, quote, backslash, hex}
-use Rattle.script.proofs.Rules.{ValueRule, stops, and_true, or_cases, or_right, and_then_some, eqb_self, skipped-sound}
+use Rattle.script.proofs.Rules.{ValueRule, stops, and_true, or_cases, or_right, and_then_some, eqb_self, skipped-sound, one_line, one_line-append}
 
 -- any byte may follow
 abbrev pub nothing : ℕ → Bool
 nothing b = false
 
 -- a choice whose first test did not pass
-by_test : {X : Type 0} (t : Bool) (a b : X) (P : X → Type 0) → (t ≡ true → P a) → (t ≡ false → P b) → P (cond t a b)
+pub by_test : {X : Type 0} (t : Bool) (a b : X) (P : X → Type 0) → (t ≡ true → P a) → (t ≡ false → P b) → P (cond t a b)
 by_test true a b P passed failed = passed refl
 by_test false a b P passed failed = failed refl
 
@@ -51,7 +51,11 @@ server_rule =
       | A ↦ λ text rest h stop. rw h refl
       | B ↦ λ text rest h stop. rw h refl
     ] in
-    record { sound = sound; complete = complete }
+    let whole : (x : Server) (text : List ℕ) → IsServer x text → one_line text ≡ true = elim [
+      | A ↦ λ text h. rw h refl
+      | B ↦ λ text h. rw h refl
+    ] in
+    record { sound = sound; complete = complete; whole = whole }
 
 -- a hexadecimal digit is the digit of its value, which is below 16
 hex_digit-value : (c : ℕ) → is_hex c ≡ true → (hex_digit (hex_value c) ≡ c) × (hex_value c < 16)
@@ -127,7 +131,7 @@ part-sound (b ∷ bytes) byte rest =
     (b ∷ [], cons_same refl same.1, subst (λ x. Stands x (b ∷ [])) same.0 shown))
     (λ _ h. cc))
 
-eqb_ne : (a b : ℕ) → a ≢ b → (a == b) ≡ false
+pub eqb_ne : (a b : ℕ) → a ≢ b → (a == b) ≡ false
 eqb_ne a b h =
     let at : (t : Bool) → (a == b) ≡ t → t ≡ false = elim [
       | true ↦ λ test. absurd (h ((Decides-eqb a b).0 test))
@@ -201,6 +205,23 @@ length-StandAll (b ∷ content) inner h =
     let whole : length inner ≡ length h.0 + length h.1 = ap length h.2 ∙ length-append h.0 h.1 in
     omega arith
 
+hex_digit-whole : (n : ℕ) → not (hex_digit n == 10) ≡ true
+hex_digit-whole n = grind (arith, nat_tests)
+
+shown-whole : (byte : ℕ) → 32 ≤ byte → not (byte == 10) ≡ true
+shown-whole byte h = grind (arith, nat_tests)
+
+part-whole : (byte : ℕ) (part : List ℕ) → Stands byte part → one_line part ≡ true
+part-whole byte part (plain low high not_quote not_slash) = rw (shown-whole byte low) refl
+part-whole byte part quote = refl
+part-whole byte part backslash = refl
+part-whole byte part (hex small) = rw (hex_digit-whole (byte / 16), hex_digit-whole (byte % 16)) refl
+
+-- a text between quotation marks has no LF
+all-whole : (content inner : List ℕ) → StandAll content inner → one_line inner ≡ true
+all-whole [] inner h = rw h refl
+all-whole (b ∷ content) inner h = rw h.2 (one_line-append h.0 h.1 (part-whole b h.0 h.3) (all-whole content h.1 h.4))
+
 pub quoted_rule : ValueRule quoted_at IsQuoted nothing
 unfolding quoted_at
 quoted_rule =
@@ -223,4 +244,5 @@ quoted_rule =
           let whole : length (inner ++ 34 ∷ rest) ≡ length inner + suc (length rest) = length-append inner (34 ∷ rest) in
           let below : length content < length (inner ++ 34 ∷ rest) = omega arith in
           rw (h.1.1, regrouped, inner-complete (length (inner ++ 34 ∷ rest)) content inner rest h.1.2 below, le-leb (length content) 16384 h.0) refl;
+      whole = λ content text h. rw h.1.1 (one_line-append h.1.0 (34 ∷ []) (all-whole content h.1.0 h.1.2) refl);
     }

@@ -3,6 +3,7 @@ pub mod Control
 pub mod ControlReading
 pub mod Gives
 pub mod Grammar
+pub mod Printing
 pub mod Reading
 pub mod Refusals
 pub mod ScriptReading

@@ -3,9 +3,12 @@
 
 mod control;
 mod line;
+mod printer;
 mod reader;
 mod reading;
 mod text;
 mod trouble;
 
 pub use line::{Line, ScriptAnswer, ScriptWhy, Server};
+pub use printer::print_script;
+pub use reader::parse_script;
