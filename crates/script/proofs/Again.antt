@@ -1,10 +1,9 @@
 -- That what is written of a script's lines spells them again.
-use Rattle.std.proofs.Common.{◌≡◌, ℕ, Bool, true, false, not, cond, ◌==◌, List, [], ◌∷◌, ◌++◌, refl, sym, ap, subst, ◌∙◌, append_assoc}
-use Rattle.std.specs.List.{flat_map}
+use Rattle.std.proofs.Common.{◌≡◌, ℕ, true, not, ◌==◌, List, [], ◌∷◌, ◌++◌, refl, sym, ap, subst, ◌∙◌, append_assoc}
 use Rattle.std.proofs.lemmas.Bool.{not-true}
 use Rattle.script.specs.declared.line.Line.{Line}
 use Rattle.script.specs.Printing.{line_text, script_text}
-use Rattle.script.specs.Scripts.{Spells, SpellAll, raw_lines, with_first, IsScriptOf}
+use Rattle.script.specs.Scripts.{SpellAll, raw_lines, IsScriptOf}
 use Rattle.script.specs.Scripts.SpellAll.{done, skipped, spelled}
 use Rattle.script.proofs.Rules.{one_line, and_true}
 use Rattle.script.proofs.Judging.{line_rule}

@@ -1,5 +1,5 @@
 -- From reading on lists to what is answered.
-use Rattle.std.proofs.Common.{◌≡◌, ◌⊎◌, ℕ, ◌+◌, ◌∙◌, List, [], ◌∷◌, ◌++◌, Option, Some, None, Result, Ok, Err, Bool, true, false, refl, sym, ap, inl, inr}
+use Rattle.std.proofs.Common.{◌≡◌, ◌⊎◌, ℕ, ◌∙◌, List, [], Option, Some, None, Result, Ok, Err, true, false, refl, sym, ap, inl, inr}
 use Rattle.std.specs.Prelude.{ℤ, is_some, IfOk, IfErr, MatchResult, IsErrAnd}
 use Rattle.std.proofs.lemmas.List.{append-nil}
 use Rattle.script.specs.declared.line.Line.{Line}
@@ -9,7 +9,7 @@ use Rattle.script.specs.declared.line.ScriptAnswer.{ScriptAnswer}
 use Rattle.script.specs.declared.line.ScriptAnswer.TheVariants as answer
 use Rattle.script.specs.Scripts.{raw_lines, IsScriptOf, IsBadAt}
 use Rattle.script.specs.ScriptReading.{behind, judged}
-use Rattle.script.specs.Answers.{Tells, Refuses, Judges}
+use Rattle.script.specs.Answers.{Tells, Judges}
 use Rattle.script.proofs.Judging.{judged_ends, judged-script, judged-complete, judged-bad, bad-complete}
 
 -- where nothing is left

@@ -7,10 +7,10 @@ use Rattle.script.specs.declared.line.Line.TheVariants.{Cluster, Time, Deliver, 
 use Rattle.script.specs.Reading.{signed_at, number_at}
 use Rattle.script.specs.Control.{last_time, IsTime, IsClient, IsLength, IsCount, IsCluster, IsTimeLine, IsDeliver, IsResend, IsWord, IsBareWord, IsCrash, IsArm, IsRestart, IsDispatch, IsCat, IsControl}
 use Rattle.script.specs.ControlReading.{cluster_at, time_at, deliver_at, resend_at, word_at, bare_word_at, crash_at, arm_at, restart_at, dispatch_at, cat_at, plain_control_at, control_at}
-use Rattle.script.proofs.Rules.Start.{Ends, Word}
+use Rattle.script.proofs.Rules.Start.{Word}
 use Rattle.script.proofs.Rules.{Start, Rule, ValueRule, is_rule, skip_rule, value_rule, either_rule, one_line}
 use Rattle.script.proofs.Numbers.{number_rule, signed_rule}
-use Rattle.script.proofs.Texts.{nothing, server_rule, quoted_rule}
+use Rattle.script.proofs.Texts.{server_rule, quoted_rule}
 
 time_rule : ValueRule (signed_at (pos 0) (pos last_time)) IsTime is_ascii_digit
 time_rule = signed_rule (pos 0) (pos last_time) (omega arith) (omega arith)

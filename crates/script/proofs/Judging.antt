@@ -1,8 +1,7 @@
 -- That reading of whole scripts is exact: the lines exactly where the bytes spell them, else the least bad line.
-use Rattle.std.proofs.Common.{◌≡◌, ◌⊎◌, ℕ, suc, ◌+◌, ◌<◌, Bool, true, false, not, cond, ◌||◌, ◌==◌, List, [], ◌∷◌, ◌++◌, length, Option, Some, None, Result, Ok, Err, refl, sym, ap, subst, ◌∙◌, inl, inr, ⊎_elim, arith, append_assoc, add-zero}
-use Rattle.std.specs.Prelude.{ℤ, int_lt, is_some}
-use Rattle.std.specs.List.{list_any, list_all}
-use Rattle.std.specs.Option.{option_map_or}
+use Rattle.std.proofs.Common.{◌≡◌, ◌⊎◌, ℕ, suc, ◌+◌, ◌<◌, Bool, true, false, not, cond, ◌==◌, List, [], ◌∷◌, ◌++◌, length, Option, Some, None, Result, Ok, Err, refl, sym, ap, subst, ◌∙◌, inl, inr, ⊎_elim, arith, append_assoc, add-zero}
+use Rattle.std.specs.Prelude.{ℤ, is_some}
+use Rattle.std.specs.List.{list_all}
 use Rattle.std.proofs.lemmas.Bool.{not-true}
 use Rattle.std.proofs.lemmas.Bool.Decides.{Decides-eqb}
 use Rattle.std.proofs.lemmas.List.{append-nil}
@@ -10,7 +9,6 @@ use Rattle.script.specs.declared.line.Line.{Line}
 use Rattle.script.specs.declared.line.Line.TheVariants as line
 use Rattle.script.specs.declared.line.ScriptWhy.{ScriptWhy}
 use Rattle.script.specs.declared.line.ScriptWhy.TheVariants as why
-use Rattle.script.specs.Control.{IsControl}
 use Rattle.script.specs.Reading.{skipped as skipped_word}
 use Rattle.script.specs.Scripts.{Spells, IsSkipped, SpellAll, time_after, time_in_force, misplaced, AreInOrder, IsReason, IsBadLine, LacksCluster, IsBadAt, IsScriptOf, raw_lines}
 use Rattle.script.specs.Scripts.SpellAll.{done, skipped, spelled}

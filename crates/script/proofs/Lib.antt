@@ -2,7 +2,7 @@ pub mod Rules
 pub mod Numbers
 pub mod Texts
 pub mod ControlRules
-pub mod Tests
+pub mod Words
 pub mod Digits
 pub mod Inner
 pub mod Judging

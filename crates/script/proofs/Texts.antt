@@ -1,8 +1,8 @@
 -- That reading of letters and of texts between quotation marks is exact.
-use Rattle.std.proofs.Common.{◌≡◌, ◌≢◌, ◌<◌, ◌≤◌, ◌+◌, ◌-◌, ◌*◌, ◌/◌, ◌%◌, ℕ, zero, suc, Bool, true, false, not, cond, ◌&&◌, ◌||◌, ◌==◌, List, [], ◌∷◌, ◌++◌, length, Option, Some, None, refl, sym, ap, subst, ◌∙◌, ◌⊎◌, inl, inr, ⊎_elim, arith, append_assoc, length-append}
-use Rattle.std.specs.Prelude.{option_and_then, option_map, is_some, nat_le, nat_lt, codes}
+use Rattle.std.proofs.Common.{◌≡◌, ◌≢◌, ◌<◌, ◌≤◌, ◌+◌, ◌*◌, ◌/◌, ◌%◌, ℕ, zero, suc, Bool, true, false, not, cond, ◌&&◌, ◌||◌, ◌==◌, List, [], ◌∷◌, ◌++◌, length, Option, Some, None, refl, sym, ap, subst, ◌∙◌, ⊎_elim, arith, append_assoc, length-append}
+use Rattle.std.specs.Prelude.{option_and_then, option_map, nat_le}
 use Rattle.std.specs.Option.{option_map_or}
-use Rattle.std.proofs.lemmas.Bool.{not-true, not_from_false, leb-true, le-leb, lt-ltb, ltb-true}
+use Rattle.std.proofs.lemmas.Bool.{not-true, leb-true, le-leb}
 use Rattle.std.proofs.lemmas.Bool.Decides.{Decides-eqb, nat_tests}
 use Rattle.std.proofs.lemmas.Option.{cond_some}
 use Rattle.script.specs.declared.line.Server.{Server}
@@ -10,7 +10,7 @@ use Rattle.script.specs.declared.line.Server.TheVariants.{A, B}
 use Rattle.script.specs.Reading.{skipped, server_at, is_hex, hex_value, hex_at, escape_at, part_at, with_front, inner_at, fitting, quoted_at}
 use Rattle.script.specs.Values.{IsServer, hex_digit, Stands, StandAll, IsQuoted}
 use Rattle.script.specs.Values.Stands.{plain, quote, backslash, hex}
-use Rattle.script.proofs.Rules.{ValueRule, stops, and_true, or_cases, or_right, and_then_some, eqb_self, skipped-sound, one_line, one_line-append}
+use Rattle.script.proofs.Rules.{ValueRule, stops, and_true, or_cases, and_then_some, skipped-sound, one_line, one_line-append}
 
 -- any byte may follow
 abbrev pub nothing : ℕ → Bool

@@ -1,19 +1,19 @@
 -- That lines are written as they are spelled.
-use Rattle.std.proofs.Common.{◌≡◌, ◌⊎◌, ◌+◌, ◌<◌, ◌≤◌, ◌/◌, ◌%◌, ◌-◌, ◌^◌, ℕ, zero, suc, Bool, true, false, cond, ◌&&◌, ◌||◌, ◌==◌, List, [], ◌∷◌, ◌++◌, refl, sym, ap, subst, ◌∙◌, inl, inr, ⊎_elim, arith, append_assoc}
-use Rattle.std.specs.Prelude.{ℤ, pos, negsuc, neg_ℤ, ◌≤ℤ◌, codes, nat_le}
+use Rattle.std.proofs.Common.{◌≡◌, ◌<◌, ◌/◌, ◌%◌, ◌-◌, ◌^◌, ℕ, suc, cond, ◌&&◌, ◌||◌, ◌==◌, List, [], ◌∷◌, ◌++◌, refl, sym, ap, subst, ◌∙◌, inl, inr, ⊎_elim, arith}
+use Rattle.std.specs.Prelude.{ℤ, pos, negsuc, codes, nat_le}
 use Rattle.std.specs.Fmt.{decimal, signed_decimal}
 use Rattle.std.specs.List.{flat_map}
 use Rattle.std.proofs.lemmas.Bool.{leb-true}
-use Rattle.std.proofs.lemmas.Bool.Decides.{Decides-eqb, nat_tests}
+use Rattle.std.proofs.lemmas.Bool.Decides.{Decides-eqb}
 use Rattle.std.proofs.lemmas.List.{append-nil}
 use Rattle.script.specs.declared.line.Server.{Server}
 use Rattle.script.specs.declared.line.Server.TheVariants.{A, B}
 use Rattle.script.specs.declared.line.Line.{Line}
 use Rattle.script.specs.declared.line.Line.TheVariants.{Cluster, Time, Deliver, Resend, Mirror, Ack, Work, Push, Settle, Crash, Arm, Disarm, Restart, DispatchOne, DispatchAll, Servers, Files, Cat}
-use Rattle.script.specs.Grammar.{Skip, Value, Is, Either}
+use Rattle.script.specs.Grammar.{Either}
 use Rattle.script.specs.Values.{IsNumber, IsSigned, IsServer, Stands, StandAll, IsQuoted, hex_digit}
 use Rattle.script.specs.Values.Stands.{plain, quote, backslash, hex}
-use Rattle.script.specs.Control.{last_time, IsTime, IsClient, IsLength, IsCount, IsWord, IsCluster, IsTimeLine, IsDeliver, IsResend, IsBareWord, IsCrash, IsArm, IsRestart, IsDispatch, IsCat, IsControl}
+use Rattle.script.specs.Control.{last_time, IsWord, IsCluster, IsTimeLine, IsDeliver, IsResend, IsBareWord, IsCrash, IsArm, IsRestart, IsDispatch, IsCat, IsControl}
 use Rattle.script.specs.Printing.{byte_text, quoted_text, server_text, line_text}
 use Rattle.script.specs.Scripts.{Spells}
 use Rattle.script.proofs.Rules.{and_true, or_cases, or_right}

@@ -1,5 +1,5 @@
 -- Reading of the control lines, in the shape of their grammar.
-use Rattle.std.specs.Prelude.{ℕ, ◌-◌, ◌^◌, ℤ, pos, Option, List, codes}
+use Rattle.std.specs.Prelude.{ℕ, ◌-◌, ◌^◌, pos, Option, List, codes}
 use Rattle.script.specs.declared.line.Line.{Line}
 use Rattle.script.specs.declared.line.Line.TheVariants.{Cluster, Time, Deliver, Resend, Mirror, Ack, Work, Push, Settle, Crash, Arm, Disarm, Restart, DispatchOne, DispatchAll, Servers, Files, Cat}
 use Rattle.script.specs.Reading.{skip, value, is, either, number_at, signed_at, server_at, quoted_at}

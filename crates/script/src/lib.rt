@@ -12,3 +12,6 @@ mod trouble;
 pub use line::{Line, ScriptAnswer, ScriptWhy, Server};
 pub use printer::print_script;
 pub use reader::parse_script;
+
+#[cfg(test)]
+mod tests;

@@ -9,7 +9,7 @@ ghost use Rattle.script.specs.Reading.{skipped, is_plain, magnitude_at, number_a
 use crate::Server;
 
 /// What follows the word, where the bytes begin with it.
-#[tactic(auto, using(crate::proofs::Tests::skipped_is))]
+#[tactic(auto, using(crate::proofs::Words::skipped_is))]
 pub(crate) fn skip<'a>(bytes: &'a [u8], word: &[u8]) -> Option<&'a [u8]>
     ensures { skipped word.now bytes.now ≡ option_map (λ rest. rest.now) result }
 {

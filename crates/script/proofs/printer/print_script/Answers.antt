@@ -1,4 +1,4 @@
-use Rattle.std.proofs.Common.{subst, sym, ◌∙◌, ap, List, ℕ}
+use Rattle.std.proofs.Common.{subst, sym, ◌∙◌, ap}
 use Rattle.script.specs.Scripts.{IsScriptOf}
 use Rattle.script.specs.Printing.{script_text}
 use Rattle.script.proofs.Written.{line_written}

@@ -1,5 +1,4 @@
-use Rattle.std.proofs.Common.{◌≡◌, arith}
-use Rattle.std.specs.Str.{all_ascii_digits}
+use Rattle.std.proofs.Common.{arith}
 use Rattle.script.proofs.Digits.{front_digits, front_length}
 use Rattle.script.proofs.reading.magnitude.Goals as goal
 

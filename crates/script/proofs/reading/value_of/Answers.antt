@@ -1,4 +1,4 @@
-use Rattle.std.proofs.Common.{◌≡◌, ◌+◌, ◌∙◌, ap, subst, ◌<◌, ◌^◌, take, arith}
+use Rattle.std.proofs.Common.{◌+◌, ◌∙◌, ap, subst, ◌<◌, ◌^◌, arith}
 use Rattle.std.specs.Str.Parse.{digits_value}
 use Rattle.std.proofs.lemmas.List.{take_all}
 use Rattle.script.proofs.Digits.{value_step, value_front}

@@ -1,4 +1,4 @@
-use Rattle.std.proofs.Common.{◌≡◌, ◌+◌, ◌∙◌, ◌++◌, [], ◌∷◌, ap, sym, None, Some}
+use Rattle.std.proofs.Common.{◌≡◌, ◌+◌, ◌∙◌, [], ◌∷◌, ap, sym, None, Some}
 use Rattle.script.specs.ScriptReading.{line_at, behind, judged}
 use Rattle.script.specs.Scripts.{misplaced, time_after}
 use Rattle.script.proofs.Judging.{judged_skips, judged_formless, judged_misplaced, judged_more, behind-behind}
