@@ -33,6 +33,7 @@ fn word(bytes: &[u8], word: &[u8], line: Line) -> Option<Line>
     end(line, skip(bytes, word)?)
 }
 
+/// `cluster start=TIME queue=N callbacks=N`
 #[tactic(auto, unfolding(crate::specs::ControlReading::cluster_at))]
 fn cluster(bytes: &[u8]) -> Option<Line>
     ensures { cluster_at bytes.now ≡ result }
@@ -50,6 +51,7 @@ fn cluster(bytes: &[u8]) -> Option<Line>
     )
 }
 
+/// `time TIME`
 #[tactic(auto, unfolding(crate::specs::ControlReading::time_at))]
 fn time(bytes: &[u8]) -> Option<Line>
     ensures { time_at bytes.now ≡ result }
@@ -58,6 +60,7 @@ fn time(bytes: &[u8]) -> Option<Line>
     end(Line::Time { now }, rest)
 }
 
+/// `deliver N`
 #[tactic(auto, unfolding(crate::specs::ControlReading::deliver_at))]
 fn deliver(bytes: &[u8]) -> Option<Line>
     ensures { deliver_at bytes.now ≡ result }
@@ -66,6 +69,7 @@ fn deliver(bytes: &[u8]) -> Option<Line>
     end(Line::Deliver { place }, rest)
 }
 
+/// `resend CLIENT`
 #[tactic(auto, unfolding(crate::specs::ControlReading::resend_at))]
 fn resend(bytes: &[u8]) -> Option<Line>
     ensures { resend_at bytes.now ≡ result }
@@ -74,6 +78,7 @@ fn resend(bytes: &[u8]) -> Option<Line>
     end(Line::Resend { client }, rest)
 }
 
+/// A line of one word.
 #[tactic(auto, unfolding(crate::specs::ControlReading::bare_word_at))]
 fn bare_word(bytes: &[u8]) -> Option<Line>
     ensures { bare_word_at bytes.now ≡ result }
@@ -88,6 +93,7 @@ fn bare_word(bytes: &[u8]) -> Option<Line>
         .or_else(|| word(bytes, b"files", Line::Files))
 }
 
+/// `crash SERVER`
 #[tactic(auto, unfolding(crate::specs::ControlReading::crash_at))]
 fn crash(bytes: &[u8]) -> Option<Line>
     ensures { crash_at bytes.now ≡ result }
@@ -96,6 +102,7 @@ fn crash(bytes: &[u8]) -> Option<Line>
     end(Line::Crash { server }, rest)
 }
 
+/// `arm SERVER N`
 #[tactic(auto, unfolding(crate::specs::ControlReading::arm_at))]
 fn arm(bytes: &[u8]) -> Option<Line>
     ensures { arm_at bytes.now ≡ result }
@@ -105,6 +112,7 @@ fn arm(bytes: &[u8]) -> Option<Line>
     end(Line::Arm { server, count }, rest)
 }
 
+/// `restart SERVER`
 #[tactic(auto, unfolding(crate::specs::ControlReading::restart_at))]
 fn restart(bytes: &[u8]) -> Option<Line>
     ensures { restart_at bytes.now ≡ result }
@@ -113,6 +121,7 @@ fn restart(bytes: &[u8]) -> Option<Line>
     end(Line::Restart { server }, rest)
 }
 
+/// `dispatch CLIENT one` or `dispatch CLIENT all workers=N`
 #[tactic(auto, unfolding(crate::specs::ControlReading::dispatch_at))]
 fn dispatch(bytes: &[u8]) -> Option<Line>
     ensures { dispatch_at bytes.now ≡ result }
@@ -125,6 +134,7 @@ fn dispatch(bytes: &[u8]) -> Option<Line>
     end(Line::DispatchAll { client, workers }, rest)
 }
 
+/// `cat TEXT`
 #[tactic(auto, unfolding(crate::specs::ControlReading::cat_at))]
 fn cat(alloc: Global, bytes: &[u8]) -> Result<Line, Trouble>
     ensures { Gives (λ line. line) result (cat_at bytes.now) }

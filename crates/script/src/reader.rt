@@ -100,8 +100,10 @@ impl Reader {
     /// Reads one more line.
     fn turn(&mut self, alloc: Global, raw: &[u8]) -> Result<(), ScriptAnswer>
         requires { self.old.number < 2 ^ 32 - 1 }
-        ensures ok { OnOk result ((raws : List (List ℕ)) → outcome_of self.old (raw.now ∷ raws) ≡ outcome_of self.new raws) }
-        ensures err { IfErr result (λ answer. (raws : List (List ℕ)) → Refuses answer (outcome_of self.old (raw.now ∷ raws))) }
+        ensures ok { OnOk result ((raws : List (List ℕ)) →
+            outcome_of self.old (raw.now ∷ raws) ≡ outcome_of self.new raws) }
+        ensures err { IfErr result (λ answer. (raws : List (List ℕ)) →
+            Refuses answer (outcome_of self.old (raw.now ∷ raws))) }
         ensures counts { OnOk result (self.new.number ≡ self.old.number + 1) }
     {
         let number = self.number;
@@ -163,7 +165,7 @@ fn judge(alloc: Global, bytes: &[u8]) -> Result<Seq<Line>, ScriptAnswer>
     reader.finish()
 }
 
-/// Reads a script of at most 4,294,967,294 bytes, in one pass.
+/// Reads a script of at most 4,294,967,294 bytes. It takes the room for its lines first, and then reads each line once.
 ///
 /// `Bad` comes exactly where the bytes spell no script. It names the least bad line, counted from 1 over all lines, and the
 /// first reason that holds of it: `Grammar`, then `Cluster`, then `Time`. Bytes of skipped lines alone are bad at the line
