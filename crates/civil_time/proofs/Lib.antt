@@ -1,0 +1,4 @@
+pub mod Counting
+pub mod OnLiterals
+pub mod Rows
+pub mod StampLaws
