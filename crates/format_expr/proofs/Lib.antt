@@ -1,0 +1,4 @@
+pub mod FaultLaws
+pub mod LanguageLaws
+pub mod Steps
+pub mod TokenLaws

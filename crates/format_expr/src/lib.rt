@@ -1,0 +1,12 @@
+//! Format expressions of log records: their language, the first fault of a text, and their pieces.
+#![tactic(auto)]
+
+mod check;
+mod fault;
+mod piece;
+mod token;
+
+pub use check::{MAX_EXPR, check_expr, has_notified, takes_class};
+pub use fault::{ExprAnswer, ExprFault, ExprWhy};
+pub use piece::{Expr, Piece};
+pub use token::{Moment, Part, TOKENS, TimePart, Token, TokenRow, letters_of, part_of};
