@@ -1,30 +1,31 @@
 -- Where the automaton stops is where no expression goes on, and the reasons are those of the language.
-use Rattle.std.proofs.Common.{◌≡◌, ℕ, ◌+◌, ◌-◌, ◌*◌, ◌<◌, ◌≤◌, ◌∷◌, [], ◌++◌, List, length, take, drop, Bool, true, false, not, cond, ◌&&◌, ◌||◌, nat_eq, nat_lt, nat_le, ◌⊎◌, inl, inr, Option, Some, None, Result, Ok, Err, IsOk, ◌↔◌, is_some, slice_index, get_or, refl, sym, ap, subst, ◌∙◌, append_assoc, append-nil, arith}
+use Rattle.std.proofs.Common.{◌≡◌, ℕ, ◌+◌, ◌-◌, ◌*◌, ◌<◌, ◌≤◌, ◌∷◌, [], ◌++◌, List, length, take, drop, true, false, not, cond, ◌&&◌, ◌||◌, nat_eq, nat_lt, ◌⊎◌, inl, inr, Option, Some, None, Result, Ok, Err, IsOk, ◌↔◌, is_some, get_or, refl, sym, ap, subst, ◌∙◌, append_assoc, append-nil, arith}
 use Rattle.std.specs.Result.{result_err}
 use Rattle.std.specs.Fmt.{decimal}
 use Rattle.std.specs.List.{slice_get}
-use Rattle.std.proofs.lemmas.Bool.{cond_both, cond-true, cond-false, and_parts, and_from, or_parts, or_left, or_right, eqb-true, eq-eqb, ltb-true, ltb-false, lt-ltb, leb-true, le-leb, cases_Bool, cases_lt, not-true, true≢false, both_ways}
+use Rattle.std.proofs.lemmas.Bool.{cond_both, cond-true, cond-false, and_parts, or_right, eqb-true, eq-eqb, ltb-true, lt-ltb, cases_Bool, cases_lt, not-true, both_ways}
 use Rattle.std.proofs.lemmas.Bool.Decides.{nat_tests}
 use Rattle.std.proofs.lemmas.Fmt.{decimal_digit}
 use Rattle.std.proofs.lemmas.List.{take_more, take-take, take_all, take-append-drop}
-use Rattle.std.proofs.lemmas.Option.{slice_get-get_or, slice_get_past, slice_get_within}
+use Rattle.std.proofs.lemmas.Option.{slice_get-get_or, slice_get_past}
 use Rattle.format_expr.specs.declared.check.Stand.{Stand}
 use Rattle.format_expr.specs.declared.check.Stand.TheVariants.{Between, At, Class, Width}
 use Rattle.format_expr.specs.declared.fault.ExprWhy.{ExprWhy}
 use Rattle.format_expr.specs.declared.fault.ExprWhy.TheVariants.{UnknownToken, WrongClass, BadWidth, LoneAt, ControlByte, TooLong}
 use Rattle.format_expr.specs.declared.fault.ExprFault.{ExprFault}
+use Rattle.format_expr.specs.declared.fault.ExprAnswer.{ExprAnswer}
+use Rattle.format_expr.specs.declared.fault.ExprAnswer.TheVariants.{Bad}
 use Rattle.format_expr.specs.declared.token.Token.{Token}
 use Rattle.format_expr.specs.declared.token.Part.{Part}
-use Rattle.format_expr.specs.declared.token.Part.TheVariants.{Number, NotificationId, User}
 use Rattle.format_expr.specs.declared.token.TheConstants.{TOKENS}
 use Rattle.ais_values.specs.declared.kind.StreamKind.{StreamKind}
 use Rattle.ais_values.specs.declared.kind.StreamKind.TheVariants.{Alarm, Notification, System, Application}
 use Rattle.format_expr.specs.Tokens.{letters, part_in}
-use Rattle.format_expr.specs.Language.{is_plain, is_digit, is_class, is_class_of, is_notified, width_digits, is_width, takes_digit, token_spelling, IsExpression}
+use Rattle.format_expr.specs.Language.{is_plain, is_digit, is_class, is_class_of, width_digits, is_width, takes_digit, token_spelling, IsExpression}
 use Rattle.format_expr.specs.Faults.{Begins, EndsIn, is_next, spoils, IsReason, StandsAt, IsFault}
 use Rattle.format_expr.specs.Scan.{plain_step, class_step, field_step, width_step, step_of, end_of, why_at, after, run, StopsAt}
-use Rattle.format_expr.proofs.TokenLaws.{IsRow, row_of, part_in_letters}
-use Rattle.format_expr.proofs.Steps.{after_ok, some_of, plain_ok, plain_err, class_ok, field_ok, IsLonger, width_ok, width_of, digits_more, past_width, behind_width, run_width}
+use Rattle.format_expr.proofs.TokenLaws.{row_of, part_in_letters}
+use Rattle.format_expr.proofs.Steps.{after_ok, plain_ok, plain_err, class_ok, field_ok, width_ok, width_of, digits_more, past_width, behind_width, run_width}
 use Rattle.format_expr.proofs.LanguageLaws.{IsAccepted, accepted_is_expression, expression_is_accepted, run-append}
 
 -- an `@` that is read stands before a class letter
@@ -78,17 +79,17 @@ run_short kind None last short e = cc
 run_short kind (Some width) last short e =
     elim (cases_Bool (nat_eq width 0)) [
       | inl none ↦
-        let zero = eqb-true width 0 none in
-        let digits : decimal width ≡ 48 ∷ [] = ap decimal zero ∙ decimal_digit 0 (omega arith) in
-        absurd (let bad = ap (run kind (Width 0)) (sym digits) ∙ e in cc)
+          let zero = eqb-true width 0 none in
+          let digits : decimal width ≡ 48 ∷ [] = ap decimal zero ∙ decimal_digit 0 (omega arith) in
+          absurd (let bad = ap (run kind (Width 0)) (sym digits) ∙ e in cc)
       | inr some ↦
-        let fits : is_width (Some width) ≡ true = grind (arith, nat_tests) in
-        let read = run_width kind (Some width) [] fits in
-        let whole = ap (run kind (Width 0)) (append-nil (decimal width)) in
-        let behind = cond-true (nat_lt width 100) (Width width) Between short in
-        let same : Ok (behind_width (Some width)) ≡ Ok last = sym read ∙ whole ∙ e in
-        let is : behind_width (Some width) ≡ last = cc (same) in
-        sym is ∙ behind
+          let fits : is_width (Some width) ≡ true = grind (arith, nat_tests) in
+          let read = run_width kind (Some width) [] fits in
+          let whole = ap (run kind (Width 0)) (append-nil (decimal width)) in
+          let behind = cond-true (nat_lt width 100) (Width width) Between short in
+          let same : Ok (behind_width (Some width)) ≡ Ok last = sym read ∙ whole ∙ e in
+          let is : behind_width (Some width) ≡ last = cc (same) in
+          sym is ∙ behind
     ]
 
 after_token : (kind : StreamKind) (before : List ℕ) (token : Token) (stand last : Stand) → takes_digit token.width ≡ true → run kind stand (before ++ token_spelling token) ≡ Ok last → last ≡ Width (value_of token.width)
@@ -98,7 +99,7 @@ after_token kind before token stand last short e =
     let field = found.1 in
     let is = found.2 in
     let split : before ++ token_spelling token ≡ (before ++ 64 ∷ class ∷ []) ++ field ∷ width_digits token.width =
-      ap (λ ls. before ++ (64 ∷ ls ++ width_digits token.width)) is.written ∙ sym (append_assoc before (64 ∷ class ∷ []) (field ∷ width_digits token.width)) in
+    ap (λ ls. before ++ (64 ∷ ls ++ width_digits token.width)) is.written ∙ sym (append_assoc before (64 ∷ class ∷ []) (field ∷ width_digits token.width)) in
     let parts = run_parts kind stand (before ++ 64 ∷ class ∷ []) (field ∷ width_digits token.width) last (ap (run kind stand) (sym split) ∙ e) in
     let at = after_class kind before class stand parts.0 parts.1 in
     let known : field_step class field ≡ Ok (Width 0) = ap (λ o. cond (is_some o) (Ok (Width 0)) (Err UnknownToken)) is.found in
@@ -139,7 +140,7 @@ control_stops kind stand byte ends control =
     let bad : is_plain byte ≡ false = grind (arith, nat_tests) in
     let none : is_digit byte ≡ false = grind (arith, nat_tests) in
     let plain : plain_step byte ≡ Err ControlByte = cond-false (nat_eq byte 64) (Ok At) (cond (is_plain byte) (Ok Between) (Err ControlByte)) lone
-      ∙ cond-false (is_plain byte) (Ok Between) (Err ControlByte) bad in
+    ∙ cond-false (is_plain byte) (Ok Between) (Err ControlByte) bad in
     elim stand as (λ s. end_of s ≡ None → result_err (step_of kind s byte) ≡ Some ControlByte) [
       | Between ↦ λ _. ap result_err plain
       | At ↦ λ e. absurd cc
@@ -154,16 +155,16 @@ reason_stops kind front next LoneAt stand reached ((before, is), none) =
     ap (λ s. why_at kind s next) at ∙ elim next as (λ n. not (is_next is_class n) ≡ true → why_at kind At n ≡ Some LoneAt) [
       | None ↦ λ _. refl
       | Some byte ↦ λ e. let other : is_class byte ≡ false = not-true (is_class byte) e in
-        ap result_err (cond-false (is_class_of kind byte) (Ok (Class byte)) (cond (is_class byte) (Err WrongClass) (Err LoneAt)) (not_class kind byte other)
-        ∙ cond-false (is_class byte) (Err WrongClass) (Err LoneAt) other)
+          ap result_err (cond-false (is_class_of kind byte) (Ok (Class byte)) (cond (is_class byte) (Err WrongClass) (Err LoneAt)) (not_class kind byte other)
+          ∙ cond-false (is_class byte) (Err WrongClass) (Err LoneAt) other)
     ] none
 reason_stops kind front next WrongClass stand reached ((before, is), some, other) =
     let at = after_at kind before Between stand (ap (run kind Between) (sym is) ∙ reached) in
     ap (λ s. why_at kind s next) at ∙ elim next as (λ n. is_next is_class n ≡ true → not (is_next (is_class_of kind) n) ≡ true → why_at kind At n ≡ Some WrongClass) [
       | None ↦ λ e f. absurd cc
       | Some byte ↦ λ e f.
-        ap result_err (cond-false (is_class_of kind byte) (Ok (Class byte)) (cond (is_class byte) (Err WrongClass) (Err LoneAt)) (not-true (is_class_of kind byte) f)
-        ∙ cond-true (is_class byte) (Err WrongClass) (Err LoneAt) e)
+          ap result_err (cond-false (is_class_of kind byte) (Ok (Class byte)) (cond (is_class byte) (Err WrongClass) (Err LoneAt)) (not-true (is_class_of kind byte) f)
+          ∙ cond-true (is_class byte) (Err WrongClass) (Err LoneAt) e)
     ] some other
 reason_stops kind front next UnknownToken stand reached (class, (before, is), none) =
     let at = after_class kind before class Between stand (ap (run kind Between) (sym is) ∙ reached) in
@@ -176,7 +177,7 @@ reason_stops kind front next BadWidth stand reached (token, (before, is), short,
     ap (λ s. why_at kind s next) at ∙ elim next as (λ n. is_next (spoils token.width) n ≡ true → why_at kind (Width (value_of token.width)) n ≡ Some BadWidth) [
       | None ↦ λ e. absurd cc
       | Some byte ↦ λ e. ap result_err (cond-true (is_digit byte) (width_step (value_of token.width) (byte - 48)) (plain_step byte) (spoils_digit token.width byte e)
-        ∙ spoils_step token.width byte e)
+          ∙ spoils_step token.width byte e)
     ] bad
 reason_stops kind front next ControlByte stand reached (whole, bad) =
     let accepted = expression_is_accepted kind front whole in
@@ -212,14 +213,14 @@ stood_digit kind front before part width byte next is digit step =
     let back : 48 + (byte - 48) ≡ byte = grind (arith, nat_tests) in
     let value = width * 10 + (byte - 48) in
     let written : width_digits (width_of width) ++ byte ∷ [] ≡ decimal value =
-      ap (λ b. width_digits (width_of width) ++ b ∷ []) (sym back) ∙ digits_more width (byte - 48) small longer.some longer.low in
+    ap (λ b. width_digits (width_of width) ++ b ∷ []) (sym back) ∙ digits_more width (byte - 48) small longer.some longer.low in
     let some : nat_eq value 0 ≡ false = let above = longer.some in grind (arith, nat_tests) in
     let value_is : width_digits (width_of value) ≡ decimal value = ap width_digits (cond-false (nat_eq value 0) None (Some value) some) in
     let whole : front ++ byte ∷ [] ≡ before ++ (64 ∷ letters part ++ width_digits (width_of value)) =
-      ap (λ f. f ++ byte ∷ []) is
-      ∙ append_assoc before (64 ∷ letters part ++ width_digits (width_of width)) (byte ∷ [])
-      ∙ ap (λ ds. before ++ ds) (append_assoc (64 ∷ letters part) (width_digits (width_of width)) (byte ∷ []))
-      ∙ ap (λ ds. before ++ (64 ∷ letters part ++ ds)) (written ∙ sym value_is) in
+    ap (λ f. f ++ byte ∷ []) is
+    ∙ append_assoc before (64 ∷ letters part ++ width_digits (width_of width)) (byte ∷ [])
+    ∙ ap (λ ds. before ++ ds) (append_assoc (64 ∷ letters part) (width_digits (width_of width)) (byte ∷ []))
+    ∙ ap (λ ds. before ++ (64 ∷ letters part ++ ds)) (written ∙ sym value_is) in
     elim (cases_Bool (nat_lt value 100)) [
       | inl short ↦ subst (Stood kind (front ++ byte ∷ [])) (sym (longer.next_is ∙ cond-true (nat_lt value 100) (Width value) Between short)) (ltb-true value 100 short, (part, (before, whole)))
       | inr long ↦ subst (Stood kind (front ++ byte ∷ [])) (sym (longer.next_is ∙ cond-false (nat_lt value 100) (Width value) Between long)) tt
@@ -234,9 +235,17 @@ stood_step kind front At next byte (before, is) e =
 stood_step kind front (Class class) next byte ((before, is), own) e =
     let known = field_ok class byte next e in
     let two = part_in_letters class byte known.0 known.1 in
-    subst (Stood kind (front ++ byte ∷ [])) (sym known.2)
-    (omega arith, (known.0, (before, ap (λ f. f ++ byte ∷ []) is ∙ append_assoc before (64 ∷ class ∷ []) (byte ∷ [])
-      ∙ ap (λ ls. before ++ (64 ∷ ls)) (sym (append-nil (letters known.0) ∙ two)))))
+    subst (Stood kind (front ++ byte ∷ [])) (sym known.2) (
+      omega arith,
+      (
+        known.0,
+        (
+          before,
+          ap (λ f. f ++ byte ∷ []) is ∙ append_assoc before (64 ∷ class ∷ []) (byte ∷ [])
+              ∙ ap (λ ls. before ++ (64 ∷ ls)) (sym (append-nil (letters known.0) ∙ two)),
+        ),
+      ),
+    )
 stood_step kind front (Width width) next byte (low, (part, (before, is))) e =
     elim (cases_Bool (is_digit byte)) [
       | inl digit ↦ stood_digit kind front before part width byte next is digit (sym (cond-true (is_digit byte) (width_step width (byte - 48)) (plain_step byte) digit) ∙ e)
@@ -279,12 +288,14 @@ completed kind front (Class class) s = class_completed kind class (class_is kind
 -- so some expression begins with what was read
 pub run_begins : (kind : StreamKind) (front : List ℕ) (stand : Stand) → run kind Between front ≡ Ok stand → Begins kind front
 run_begins kind front stand e =
-    let rest = completed kind front stand (stood kind front stand e) in
-    (rest.0, accepted_is_expression kind (front ++ rest.0) (record {
-      last = rest.1.last;
-      reached = run-append kind front rest.0 Between ∙ ap (λ r. after r (λ next. run kind next rest.0)) e ∙ rest.1.reached;
-      ends = rest.1.ends;
-    }))
+    let rest = completed kind front stand (stood kind front stand e) in (
+      rest.0,
+      accepted_is_expression kind (front ++ rest.0) (record {
+        last = rest.1.last;
+        reached = run-append kind front rest.0 Between ∙ ap (λ r. after r (λ next. run kind next rest.0)) e ∙ rest.1.reached;
+        ends = rest.1.ends;
+      }),
+    )
 
 -- and what some expression begins with is read
 pub begins_run : (kind : StreamKind) (front : List ℕ) → Begins kind front → (stand : Stand) × (run kind Between front ≡ Ok stand)
@@ -305,9 +316,9 @@ class_err kind byte why =
     (λ r. result_err r ≡ Some why → ((why ≡ WrongClass) × (is_class byte ≡ true) × (is_class_of kind byte ≡ false)) ⊎ ((why ≡ LoneAt) × (is_class byte ≡ false)))
     (λ own e. absurd cc)
     (λ other. cond_both (is_class byte) (Err WrongClass) (Err LoneAt)
-      (λ r. result_err r ≡ Some why → ((why ≡ WrongClass) × (is_class byte ≡ true) × (is_class_of kind byte ≡ false)) ⊎ ((why ≡ LoneAt) × (is_class byte ≡ false)))
-      (λ wrong e. inl (cc, wrong, other))
-      (λ lone e. inr (cc, lone)))
+    (λ r. result_err r ≡ Some why → ((why ≡ WrongClass) × (is_class byte ≡ true) × (is_class_of kind byte ≡ false)) ⊎ ((why ≡ LoneAt) × (is_class byte ≡ false)))
+    (λ wrong e. inl (cc, wrong, other))
+    (λ lone e. inr (cc, lone)))
 
 -- why a field letter is refused
 field_err : (class byte : ℕ) (why : ExprWhy) → result_err (field_step class byte) ≡ Some why → (why ≡ UnknownToken) × (is_some (part_in TOKENS class byte) ≡ false)
@@ -324,11 +335,11 @@ width_err width byte why digit =
     (λ r. result_err r ≡ Some why → (why ≡ BadWidth) × (spoils (width_of width) byte ≡ true))
     (λ bad e. (cc, spoiled bad))
     (λ fits. cond_both (nat_lt (width * 10 + (byte - 48)) 100) (Ok (Width (width * 10 + (byte - 48)))) (Ok Between)
-      (λ r. result_err r ≡ Some why → (why ≡ BadWidth) × (spoils (width_of width) byte ≡ true))
-      (λ short e. absurd cc) (λ long e. absurd cc))
+    (λ r. result_err r ≡ Some why → (why ≡ BadWidth) × (spoils (width_of width) byte ≡ true))
+    (λ short e. absurd cc) (λ long e. absurd cc))
   where
-  spoiled : ((nat_eq width 0 && nat_eq (byte - 48) 0) || nat_lt 255 (width * 10 + (byte - 48))) ≡ true → spoils (width_of width) byte ≡ true
-  spoiled bad = cond_both (nat_eq width 0) None (Some width) (λ w. spoils w byte ≡ true) (λ none. grind (arith, nat_tests)) (λ some. grind (arith, nat_tests))
+    spoiled : ((nat_eq width 0 && nat_eq (byte - 48) 0) || nat_lt 255 (width * 10 + (byte - 48))) ≡ true → spoils (width_of width) byte ≡ true
+    spoiled bad = cond_both (nat_eq width 0) None (Some width) (λ w. spoils w byte ≡ true) (λ none. grind (arith, nat_tests)) (λ some. grind (arith, nat_tests))
 
 -- why a text goes on nowhere from a stand, in the words of the language
 stand_reason : (kind : StreamKind) (front : List ℕ) (next : Option ℕ) (why : ExprWhy) (stand : Stand) → run kind Between front ≡ Ok stand → Stood kind front stand → why_at kind stand next ≡ Some why → IsReason kind front next why
@@ -355,12 +366,12 @@ stand_reason kind front None why (Width width) reached s e = absurd cc
 stand_reason kind front (Some byte) why (Width width) reached s e =
     elim (cases_Bool (is_digit byte)) [
       | inl digit ↦
-        let bad = width_err width byte why digit (ap result_err (sym (cond-true (is_digit byte) (width_step width (byte - 48)) (plain_step byte) digit)) ∙ e) in
-        let short : takes_digit (width_of width) ≡ true = cond_both (nat_eq width 0) None (Some width) (λ w. takes_digit w ≡ true) (λ _. refl) (λ _. lt-ltb width 100 s.0) in
-        subst (IsReason kind front (Some byte)) (sym bad.0) (record { part = s.1.0; width = width_of width }, s.1.1, short, bad.1)
+          let bad = width_err width byte why digit (ap result_err (sym (cond-true (is_digit byte) (width_step width (byte - 48)) (plain_step byte) digit)) ∙ e) in
+          let short : takes_digit (width_of width) ≡ true = cond_both (nat_eq width 0) None (Some width) (λ w. takes_digit w ≡ true) (λ _. refl) (λ _. lt-ltb width 100 s.0) in
+          subst (IsReason kind front (Some byte)) (sym bad.0) (record { part = s.1.0; width = width_of width }, s.1.1, short, bad.1)
       | inr other ↦
-        let bad = plain_err byte why (ap result_err (sym (past_width kind width byte other)) ∙ e) in
-        subst (IsReason kind front (Some byte)) (sym bad.0) (accepted_is_expression kind front (record { last = Width width; reached = reached; ends = refl }), bad.1)
+          let bad = plain_err byte why (ap result_err (sym (past_width kind width byte other)) ∙ e) in
+          subst (IsReason kind front (Some byte)) (sym bad.0) (accepted_is_expression kind front (record { last = Width width; reached = reached; ends = refl }), bad.1)
     ]
 
 -- a run does not go past a place where it stops
@@ -369,22 +380,22 @@ run_past kind text place further why last stops inside reached =
     elim (cases_lt place further) [
       | inr le ↦ le
       | inl lt ↦
-        let next = split_next text place (omega arith) in
-        let front : take (place + 1) (take further text) ≡ take place text ++ next.0 ∷ [] = take-take (place + 1) further text (omega arith) ∙ next.2 in
-        let whole : take further text ≡ (take place text ++ next.0 ∷ []) ++ drop (place + 1) (take further text) =
+          let next = split_next text place (omega arith) in
+          let front : take (place + 1) (take further text) ≡ take place text ++ next.0 ∷ [] = take-take (place + 1) further text (omega arith) ∙ next.2 in
+          let whole : take further text ≡ (take place text ++ next.0 ∷ []) ++ drop (place + 1) (take further text) =
           sym (take-append-drop (place + 1) (take further text)) ∙ ap (λ f. f ++ drop (place + 1) (take further text)) front in
-        let parts = run_parts kind Between (take place text ++ next.0 ∷ []) (drop (place + 1) (take further text)) last (ap (run kind Between) (sym whole) ∙ reached) in
-        absurd (no_step kind text place why parts.0 stops next.0 next.1 parts.1)
+          let parts = run_parts kind Between (take place text ++ next.0 ∷ []) (drop (place + 1) (take further text)) last (ap (run kind Between) (sym whole) ∙ reached) in
+          absurd (no_step kind text place why parts.0 stops next.0 next.1 parts.1)
     ]
   where
-  no_step : (kind : StreamKind) (text : List ℕ) (place : ℕ) (why : ExprWhy) (last : Stand) → (stops : StopsAt kind text place why) → (byte : ℕ) → slice_get text place ≡ Some byte → run kind Between (take place text ++ byte ∷ []) ≡ Ok last → ⊥
-  no_step kind text place why last stops byte at reached =
-      let parts = run_parts kind Between (take place text) (byte ∷ []) last reached in
-      let step = after_ok (step_of kind parts.0 byte) (λ next. run kind next []) last parts.2 in
-      let same : stops.stand ≡ parts.0 = let both = sym stops.reached ∙ parts.1 in cc in
-      let stopped : why_at kind parts.0 (Some byte) ≡ Some why = ap (λ s. why_at kind s (Some byte)) (sym same) ∙ ap (why_at kind stops.stand) (sym at) ∙ stops.stopped in
-      let went : why_at kind parts.0 (Some byte) ≡ None = ap result_err step.1 in
-      cc
+    no_step : (kind : StreamKind) (text : List ℕ) (place : ℕ) (why : ExprWhy) (last : Stand) → (stops : StopsAt kind text place why) → (byte : ℕ) → slice_get text place ≡ Some byte → run kind Between (take place text ++ byte ∷ []) ≡ Ok last → ⊥
+    no_step kind text place why last stops byte at reached =
+        let parts = run_parts kind Between (take place text) (byte ∷ []) last reached in
+        let step = after_ok (step_of kind parts.0 byte) (λ next. run kind next []) last parts.2 in
+        let same : stops.stand ≡ parts.0 = let both = sym stops.reached ∙ parts.1 in cc in
+        let stopped : why_at kind parts.0 (Some byte) ≡ Some why = ap (λ s. why_at kind s (Some byte)) (sym same) ∙ ap (why_at kind stops.stand) (sym at) ∙ stops.stopped in
+        let went : why_at kind parts.0 (Some byte) ≡ None = ap result_err step.1 in
+        cc
 
 -- where the automaton stops, the language has its reason
 pub stops_stands : (kind : StreamKind) (text : List ℕ) (place : ℕ) (why : ExprWhy) → StopsAt kind text place why → StandsAt kind text place why
@@ -393,9 +404,9 @@ stops_stands kind text place why stops =
       inside = stops.inside;
       begins = run_begins kind (take place text) stops.stand stops.reached;
       longest = λ more begins.
-        let further = begins_run kind (take (place + 1) text) begins in
-        let past = run_past kind text place (place + 1) why further.0 stops (omega arith) further.1 in
-        absurd (omega arith);
+          let further = begins_run kind (take (place + 1) text) begins in
+          let past = run_past kind text place (place + 1) why further.0 stops (omega arith) further.1 in
+          absurd (omega arith);
       reason = stand_reason kind (take place text) (slice_get text place) why stops.stand stops.reached (stood kind (take place text) stops.stand stops.reached) stops.stopped;
     }
 
@@ -416,7 +427,7 @@ one_why kind text place other why reason same one two =
     let reached : run kind Between (take place text) ≡ Ok two.stand = ap (λ p. run kind Between (take p text)) same ∙ two.reached in
     let stand : one.stand ≡ two.stand = let both = sym one.reached ∙ reached in cc in
     let stopped : why_at kind one.stand (slice_get text place) ≡ Some reason =
-      ap (λ s. why_at kind s (slice_get text place)) stand ∙ ap (λ p. why_at kind two.stand (slice_get text p)) same ∙ two.stopped in
+    ap (λ s. why_at kind s (slice_get text place)) stand ∙ ap (λ p. why_at kind two.stand (slice_get text p)) same ∙ two.stopped in
     let both : Some why ≡ Some reason = sym one.stopped ∙ stopped in
     cc
 
@@ -453,45 +464,48 @@ checked_stop {T} kind text found stops early =
     let answer : Result T ExprFault = Err found in
     record {
       ok = (λ h. absurd cc, λ h. absurd (stop_refuses kind text found.place found.why stops h.0));
-      refused = λ fault.
-        (λ e. let same : found ≡ fault = cc in subst (IsFault kind text) same (inl (stops_stands kind text found.place found.why stops, early)),
+      refused = λ fault. (
+        λ e. let same : found ≡ fault = cc in subst (IsFault kind text) same (inl (stops_stands kind text found.place found.why stops, early)),
         λ is. elim is [
           | inl stands ↦
-            let other = stands_stops kind text fault.place fault.why stands.0 in
-            let place = one_place kind text found.place fault.place found.why fault.why stops other in
-            let why = one_why kind text found.place fault.place found.why fault.why place stops other in
-            ap Err (same_fault found fault place why)
+              let other = stands_stops kind text fault.place fault.why stands.0 in
+              let place = one_place kind text found.place fault.place found.why fault.why stops other in
+              let why = one_why kind text found.place fault.place found.why fault.why place stops other in
+              ap Err (same_fault found fault place why)
           | inr long ↦
-            let late = long.3 found.place found.why (stops_stands kind text found.place found.why stops) in
-            let more = long.2 in
-            elim early [ | inl short ↦ absurd (omega arith) | inr small ↦ absurd (omega arith) ]
-        ]);
+              let late = long.3 found.place found.why (stops_stands kind text found.place found.why stops) in
+              let more = long.2 in
+              elim early [ inl short ↦ absurd (omega arith) | inr small ↦ absurd (omega arith) ]
+        ],
+      );
     }
   where
-  same_fault : (a b : ExprFault) → a.place ≡ b.place → a.why ≡ b.why → a ≡ b
-  same_fault a b place why = rw (place, why)
+    same_fault : (a b : ExprFault) → a.place ≡ b.place → a.why ≡ b.why → a ≡ b
+    same_fault a b place why = rw (place, why)
 
 -- it does not stop inside the first bytes of a text that is too long
 pub checked_long : {T : Type 0} (kind : StreamKind) (text : List ℕ) (stand : Stand) → run kind Between (take 1024 text) ≡ Ok stand → 1024 < length text → IsChecked {T = T} kind text (Err (record { place = 1024; why = TooLong }))
 checked_long {T} kind text stand reached more =
     record {
       ok = (λ h. absurd cc, λ h. absurd (let low = h.1 in omega arith));
-      refused = λ fault.
-        (λ e. let same : too_long ≡ fault = cc in
-          subst (IsFault kind text) same
-          (inr (refl, refl, more, λ place why stands. run_past kind text place 1024 why stand (stands_stops kind text place why stands) (omega arith) reached)),
+      refused = λ fault. (
+        λ e. let same : too_long ≡ fault = cc in
+            subst (IsFault kind text) same
+            (inr (refl, refl, more, λ place why stands. run_past kind text place 1024 why stand (stands_stops kind text place why stands) (omega arith) reached)),
         λ is. elim is [
           | inl stands ↦
-            let past = run_past kind text fault.place 1024 fault.why stand (stands_stops kind text fault.place fault.why stands.0) (omega arith) reached in
-            elim stands.1 [ | inl short ↦ absurd (omega arith) | inr small ↦ absurd (omega arith) ]
+              let past = run_past kind text fault.place 1024 fault.why stand (stands_stops kind text fault.place fault.why stands.0) (omega arith) reached in
+              elim stands.1 [ inl short ↦ absurd (omega arith) | inr small ↦ absurd (omega arith) ]
           | inr long ↦ ap Err (sym (is_too_long fault long.0 long.1))
-        ]);
+        ],
+      );
     }
   where
-  too_long : ExprFault
-  too_long = record { place = 1024; why = TooLong }
-  is_too_long : (fault : ExprFault) → fault.why ≡ TooLong → fault.place ≡ 1024 → fault ≡ record { place = 1024; why = TooLong }
-  is_too_long fault why place = rw (why, place)
+    too_long : ExprFault
+    too_long = record { place = 1024; why = TooLong }
+
+    is_too_long : (fault : ExprFault) → fault.why ≡ TooLong → fault.place ≡ 1024 → fault ≡ record { place = 1024; why = TooLong }
+    is_too_long fault why place = rw (why, place)
 
 -- it comes to the end of a text that is not too long, and may end there
 pub checked_ok : {T : Type 0} (kind : StreamKind) (text : List ℕ) (stand : Stand) (value : T) → run kind Between text ≡ Ok stand → end_of stand ≡ None → length text ≤ 1024 → IsChecked kind text (Ok value)
@@ -500,12 +514,13 @@ checked_ok {T} kind text stand value reached ends low =
     let whole = accepted_is_expression kind text accepted in
     record {
       ok = (λ h. (whole, low), λ h. refl);
-      refused = λ fault.
-        (λ e. absurd cc,
+      refused = λ fault. (
+        λ e. absurd cc,
         λ is. elim is [
           | inl stands ↦ absurd (stop_refuses kind text fault.place fault.why (stands_stops kind text fault.place fault.why stands.0) whole)
           | inr long ↦ absurd (let more = long.2 in omega arith)
-        ]);
+        ],
+      );
     }
 
 -- one more step of a run
@@ -531,3 +546,12 @@ stops_at_end kind text stand why low reached ends =
       reached = ap (run kind Between) (take_all (length text) text (omega arith) ∙ sym (take_all 1024 text low)) ∙ reached;
       stopped = ap (why_at kind stand) (slice_get_past text (length text) (omega arith)) ∙ ends;
     }
+
+-- a fault that is handed on is the fault that was found
+pub hand_on : {T S : Type 0} (found fault : ExprFault) (one : Result S ExprFault) (other : Result T ExprAnswer) {P : Type 0} → one ≡ Err found → other ≡ Err (Bad found) → (one ≡ Err fault) ↔ P → (other ≡ Err (Bad fault)) ↔ P
+hand_on found fault one other is handed both =
+    (λ e. both.0 (let same : found ≡ fault = cc in is ∙ ap Err same), λ p. let found_is = both.1 p in cc)
+
+-- and where none was found there is none
+pub no_fault : {S P : Type 0} (one : Result S ExprFault) (value : S) (fault : ExprFault) → one ≡ Ok value → (one ≡ Err fault) ↔ P → P → ⊥
+no_fault one value fault is both p = let bad = both.1 p in cc

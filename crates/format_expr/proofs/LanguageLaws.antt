@@ -1,24 +1,22 @@
 -- The automaton accepts exactly the expressions.
-use Rattle.std.proofs.Common.{◌≡◌, ℕ, ◌+◌, ◌-◌, ◌*◌, ◌<◌, ◌≤◌, ◌∷◌, [], ◌++◌, List, Bool, true, false, not, cond, ◌&&◌, ◌||◌, nat_eq, nat_lt, nat_le, ◌⊎◌, inl, inr, Option, Some, None, Result, Ok, Err, is_some, slice_index, refl, sym, ap, subst, ◌∙◌, append_assoc, append-nil, arith}
+use Rattle.std.proofs.Common.{◌≡◌, ℕ, ◌+◌, ◌-◌, ◌*◌, ◌<◌, ◌∷◌, [], ◌++◌, List, true, false, not, cond, ◌&&◌, nat_eq, nat_lt, inl, inr, Option, Some, None, Ok, Err, is_some, slice_index, refl, sym, ap, subst, ◌∙◌, append_assoc, append-nil, arith}
 use Rattle.std.specs.Fmt.{decimal}
 use Rattle.std.specs.List.{list_all}
-use Rattle.std.proofs.lemmas.Bool.{cond_both, cond-true, cond-false, and_parts, and_from, and_left, and_right, eqb-true, eq-eqb, ltb-true, ltb-false, lt-ltb, leb-true, le-leb, cases_Bool, not_from_false, not-true}
+use Rattle.std.proofs.lemmas.Bool.{cond_both, cond-true, cond-false, and_parts, and_from, and_left, and_right, ltb-true, cases_Bool, not-true}
 use Rattle.std.proofs.lemmas.Bool.Decides.{nat_tests}
 use Rattle.format_expr.specs.declared.check.Stand.{Stand}
 use Rattle.format_expr.specs.declared.check.Stand.TheVariants.{Between, At, Class, Width}
-use Rattle.format_expr.specs.declared.fault.ExprWhy.{ExprWhy}
 use Rattle.format_expr.specs.declared.fault.ExprWhy.TheVariants.{UnknownToken}
 use Rattle.format_expr.specs.declared.token.Token.{Token}
 use Rattle.format_expr.specs.declared.token.Part.{Part}
-use Rattle.format_expr.specs.declared.token.TheConstants.{TOKENS}
 use Rattle.format_expr.specs.declared.piece.Piece.{Piece}
 use Rattle.format_expr.specs.declared.piece.Piece.TheVariants.{Plain, Field}
 use Rattle.ais_values.specs.declared.kind.StreamKind.{StreamKind}
-use Rattle.format_expr.specs.Tokens.{letters, part_in}
-use Rattle.format_expr.specs.Language.{is_plain, is_digit, is_class_of, width_digits, is_width, takes_digit, token_spelling, spelling, begins_with, begins_plain, is_empty, are_pieces, Spells, IsExpression}
-use Rattle.format_expr.specs.Scan.{plain_step, class_step, field_step, width_step, step_of, end_of, after, run}
-use Rattle.format_expr.proofs.TokenLaws.{IsRow, row_of, part_in_letters}
-use Rattle.format_expr.proofs.Steps.{after_ok, plain_ok, plain_on, class_ok, class_on, field_ok, IsLonger, width_ok, width_on, width_of, digits_more, digit_step, past_width, behind_width, run_width}
+use Rattle.format_expr.specs.Tokens.{letters}
+use Rattle.format_expr.specs.Language.{is_plain, is_digit, is_class_of, width_digits, is_width, takes_digit, token_spelling, spelling, begins_with, begins_plain, is_empty, are_pieces, IsExpression}
+use Rattle.format_expr.specs.Scan.{plain_step, field_step, width_step, step_of, end_of, after, run}
+use Rattle.format_expr.proofs.TokenLaws.{row_of, part_in_letters}
+use Rattle.format_expr.proofs.Steps.{after_ok, plain_ok, plain_on, class_ok, class_on, field_ok, width_ok, width_of, digits_more, past_width, behind_width, run_width}
 
 -- one more plain byte at the front of pieces
 cons_plain : ℕ → List Piece → List Piece
@@ -40,21 +38,25 @@ are_pieces-cons_plain kind byte (Field token ∷ pieces) plain valid = grind ari
 
 -- a plain byte before an expression
 plain_before : (kind : StreamKind) (byte : ℕ) (bytes : List ℕ) → is_plain byte ≡ true → IsExpression kind bytes → IsExpression kind (byte ∷ bytes)
-plain_before kind byte bytes plain (pieces, spells) =
-    (cons_plain byte pieces, record {
-      valid = are_pieces-cons_plain kind byte pieces plain spells.valid;
-      spelled = ap (λ rest. byte ∷ rest) spells.spelled ∙ sym (spelling-cons_plain byte pieces);
-    })
+plain_before kind byte bytes plain (pieces, spells) = (
+  cons_plain byte pieces,
+  record {
+    valid = are_pieces-cons_plain kind byte pieces plain spells.valid;
+    spelled = ap (λ rest. byte ∷ rest) spells.spelled ∙ sym (spelling-cons_plain byte pieces);
+  },
+)
 
 -- a token before an expression that does not go on with a digit of its width
 token_before : (kind : StreamKind) (token : Token) (bytes : List ℕ) → is_class_of kind (slice_index (letters token.part) 0) ≡ true → is_width token.width ≡ true → (takes_digit token.width && begins_with is_digit bytes) ≡ false → IsExpression kind bytes → IsExpression kind (token_spelling token ++ bytes)
 token_before kind token bytes own width apart (pieces, spells) =
     let clear : (takes_digit token.width && begins_with is_digit (spelling pieces)) ≡ false =
-      ap (λ rest. takes_digit token.width && begins_with is_digit rest) (sym spells.spelled) ∙ apart in
-    (Field token ∷ pieces, record {
-      valid = and_from _ _ (and_from _ _ (and_from _ _ own width) (ap not clear)) spells.valid;
-      spelled = ap (λ rest. token_spelling token ++ rest) spells.spelled;
-    })
+    ap (λ rest. takes_digit token.width && begins_with is_digit rest) (sym spells.spelled) ∙ apart in (
+      Field token ∷ pieces,
+      record {
+        valid = and_from _ _ (and_from _ _ (and_from _ _ own width) (ap not clear)) spells.valid;
+        spelled = ap (λ rest. token_spelling token ++ rest) spells.spelled;
+      },
+    )
 
 -- what the bytes behind such a stand make of the text so far
 Completes : StreamKind → Stand → List ℕ → Type 0
@@ -103,22 +105,22 @@ digit_sound kind width byte bytes next more between digit step a part own =
     let back : 48 + (byte - 48) ≡ byte = grind (arith, nat_tests) in
     let value = width * 10 + (byte - 48) in
     let written : width_digits (width_of width) ++ byte ∷ [] ≡ decimal value =
-      ap (λ b. width_digits (width_of width) ++ b ∷ []) (sym back) ∙ digits_more width (byte - 48) small longer.some longer.low in
+    ap (λ b. width_digits (width_of width) ++ b ∷ []) (sym back) ∙ digits_more width (byte - 48) small longer.some longer.low in
     let some : nat_eq value 0 ≡ false = let above = longer.some in grind (arith, nat_tests) in
     let is : width_digits (width_of value) ≡ decimal value = ap width_digits (cond-false (nat_eq value 0) None (Some value) some) in
     let whole : 64 ∷ letters part ++ width_digits (width_of value) ++ bytes ≡ 64 ∷ letters part ++ width_digits (width_of width) ++ byte ∷ bytes =
-      ap (λ ds. 64 ∷ letters part ++ ds ++ bytes) (is ∙ sym written)
-      ∙ ap (λ ds. ds ++ bytes) (sym (append_assoc (64 ∷ letters part) (width_digits (width_of width)) (byte ∷ [])))
-      ∙ append_assoc (64 ∷ letters part ++ width_digits (width_of width)) (byte ∷ []) bytes in
+    ap (λ ds. 64 ∷ letters part ++ ds ++ bytes) (is ∙ sym written)
+    ∙ ap (λ ds. ds ++ bytes) (sym (append_assoc (64 ∷ letters part) (width_digits (width_of width)) (byte ∷ [])))
+    ∙ append_assoc (64 ∷ letters part ++ width_digits (width_of width)) (byte ∷ []) bytes in
     subst (IsExpression kind) whole
     (elim (cases_Bool (nat_lt value 100)) [
       | inl short ↦
-        more value (subst (λ s. IsAccepted kind s bytes) (longer.next_is ∙ cond-true (nat_lt value 100) (Width value) Between short) a) (ltb-true value 100 short) part own
+          more value (subst (λ s. IsAccepted kind s bytes) (longer.next_is ∙ cond-true (nat_lt value 100) (Width value) Between short) a) (ltb-true value 100 short) part own
       | inr long ↦
-        let fits : is_width (width_of value) ≡ true = ap is_width (cond-false (nat_eq value 0) None (Some value) some) ∙ grind (arith, nat_tests) in
-        let full : takes_digit (width_of value) ≡ false = ap takes_digit (cond-false (nat_eq value 0) None (Some value) some) ∙ long in
-        token_before kind (record { part = part; width = width_of value }) bytes own fits (and_left _ (begins_with is_digit bytes) full)
-        (between (subst (λ s. IsAccepted kind s bytes) (longer.next_is ∙ cond-false (nat_lt value 100) (Width value) Between long) a))
+          let fits : is_width (width_of value) ≡ true = ap is_width (cond-false (nat_eq value 0) None (Some value) some) ∙ grind (arith, nat_tests) in
+          let full : takes_digit (width_of value) ≡ false = ap takes_digit (cond-false (nat_eq value 0) None (Some value) some) ∙ long in
+          token_before kind (record { part = part; width = width_of value }) bytes own fits (and_left _ (begins_with is_digit bytes) full)
+          (between (subst (λ s. IsAccepted kind s bytes) (longer.next_is ∙ cond-false (nat_lt value 100) (Width value) Between long) a))
     ])
 
 -- the end of a text is no place behind `@` or behind a class letter
@@ -151,11 +153,11 @@ sound kind (byte ∷ bytes) (Width width) a = λ low part own.
     let step = step_accepted kind (Width width) byte bytes a in
     elim (cases_Bool (is_digit byte)) [
       | inl digit ↦
-        digit_sound kind width byte bytes step.0 (λ v. sound kind bytes (Width v)) (sound kind bytes Between) digit
-        (sym (cond-true (is_digit byte) (width_step width (byte - 48)) (plain_step byte) digit) ∙ step.1) step.2 part own
+          digit_sound kind width byte bytes step.0 (λ v. sound kind bytes (Width v)) (sound kind bytes Between) digit
+          (sym (cond-true (is_digit byte) (width_step width (byte - 48)) (plain_step byte) digit) ∙ step.1) step.2 part own
       | inr other ↦
-        width_over kind width part (byte ∷ bytes) low other own
-        (between_sound kind byte bytes step.0 (sound kind bytes At) (sound kind bytes Between) (sym (past_width kind width byte other) ∙ step.1) step.2)
+          width_over kind width part (byte ∷ bytes) low other own
+          (between_sound kind byte bytes step.0 (sound kind bytes At) (sound kind bytes Between) (sym (past_width kind width byte other) ∙ step.1) step.2)
     ]
 
 pub accepted_is_expression : (kind : StreamKind) (text : List ℕ) → IsAccepted kind Between text → IsExpression kind text
@@ -224,8 +226,8 @@ complete kind (Field token ∷ pieces) valid =
     record {
       last = rest.last;
       reached = ap (run kind Between) (append_assoc (64 ∷ letters token.part) (width_digits token.width) (spelling pieces))
-        ∙ run_letters kind token.part (width_digits token.width ++ spelling pieces) own.0
-        ∙ run_width kind token.width (spelling pieces) own.1 ∙ rest.reached;
+          ∙ run_letters kind token.part (width_digits token.width ++ spelling pieces) own.0
+          ∙ run_width kind token.width (spelling pieces) own.1 ∙ rest.reached;
       ends = rest.ends;
     }
 

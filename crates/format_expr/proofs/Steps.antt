@@ -1,19 +1,19 @@
 -- What one step of the automaton says of the byte that it reads.
-use Rattle.std.proofs.Common.{◌≡◌, ℕ, ◌+◌, ◌-◌, ◌*◌, ◌/◌, ◌%◌, ◌<◌, ◌≤◌, ◌^◌, ◌∷◌, [], ◌++◌, List, Bool, true, false, not, cond, ◌&&◌, ◌||◌, nat_eq, nat_lt, nat_le, ◌⊎◌, inl, inr, Option, Some, None, Result, Ok, Err, is_some, refl, sym, ap, subst, ◌∙◌, append_assoc, arith}
+use Rattle.std.proofs.Common.{◌≡◌, ℕ, ◌+◌, ◌-◌, ◌*◌, ◌/◌, ◌%◌, ◌<◌, ◌≤◌, ◌∷◌, [], ◌++◌, List, Bool, true, false, cond, ◌&&◌, ◌||◌, nat_eq, nat_lt, nat_le, ◌⊎◌, inl, inr, Option, Some, None, Result, Ok, Err, is_some, refl, sym, ap, ◌∙◌, append_assoc, arith}
 use Rattle.std.specs.Result.{result_err}
 use Rattle.std.specs.Fmt.{decimal}
-use Rattle.std.proofs.lemmas.Bool.{cond_both, cond-true, cond-false, and_parts, and_from, or_parts, or_from, or_left, or_right, eqb-true, eqb-false, eq-eqb, ltb-true, ltb-false, lt-ltb, le-ltb, leb-true, leb-false, le-leb, cases_Bool, true≢false}
+use Rattle.std.proofs.lemmas.Bool.{cond_both, cond-true, cond-false, and_parts, or_parts, eqb-true, ltb-true, ltb-false, lt-ltb, leb-true, cases_Bool}
 use Rattle.std.proofs.lemmas.Bool.Decides.{nat_tests}
 use Rattle.std.proofs.lemmas.Fmt.{decimal_digit, decimal_step}
 use Rattle.format_expr.specs.declared.check.Stand.{Stand}
 use Rattle.format_expr.specs.declared.check.Stand.TheVariants.{Between, At, Class, Width}
 use Rattle.format_expr.specs.declared.fault.ExprWhy.{ExprWhy}
-use Rattle.format_expr.specs.declared.fault.ExprWhy.TheVariants.{UnknownToken, WrongClass, BadWidth, LoneAt, ControlByte, TooLong}
+use Rattle.format_expr.specs.declared.fault.ExprWhy.TheVariants.{ControlByte}
 use Rattle.format_expr.specs.declared.token.Part.{Part}
 use Rattle.format_expr.specs.declared.token.TheConstants.{TOKENS}
 use Rattle.ais_values.specs.declared.kind.StreamKind.{StreamKind}
-use Rattle.format_expr.specs.Tokens.{letters, part_in}
-use Rattle.format_expr.specs.Language.{is_plain, is_digit, is_class, is_class_of, is_notified, width_digits, is_width}
+use Rattle.format_expr.specs.Tokens.{part_in}
+use Rattle.format_expr.specs.Language.{is_plain, is_digit, is_class, is_class_of, width_digits, is_width}
 use Rattle.format_expr.specs.Scan.{plain_step, class_step, field_step, width_step, step_of, after, run}
 
 -- which way a choice went, by what it gave
@@ -60,9 +60,9 @@ plain_err byte why =
     (λ r. refused r ≡ Some why → (why ≡ ControlByte) × ((nat_lt byte 32 || nat_lt 126 byte) ≡ true))
     (λ at e. absurd cc)
     (λ other. cond_both (is_plain byte) (Ok Between) (Err ControlByte)
-      (λ r. refused r ≡ Some why → (why ≡ ControlByte) × ((nat_lt byte 32 || nat_lt 126 byte) ≡ true))
-      (λ plain e. absurd cc)
-      (λ bad e. (cc, grind (arith, nat_tests))))
+    (λ r. refused r ≡ Some why → (why ≡ ControlByte) × ((nat_lt byte 32 || nat_lt 126 byte) ≡ true))
+    (λ plain e. absurd cc)
+    (λ bad e. (cc, grind (arith, nat_tests))))
 
 pub class_ok : (kind : StreamKind) (byte : ℕ) (next : Stand) → class_step kind byte ≡ Ok next → (is_class_of kind byte ≡ true) × (next ≡ Class byte)
 class_ok kind byte next e =
@@ -121,13 +121,13 @@ pub digits_more : (width digit : ℕ) → digit < 10 → 0 < width * 10 + digit 
 digits_more width digit small some low =
     cond_both (nat_eq width 0) None (Some width) (λ w. width_digits w ++ (48 + digit) ∷ [] ≡ decimal (width * 10 + digit))
     (λ first. let zero : width * 10 + digit ≡ digit = let none = eqb-true width 0 first in omega arith in
-      let only : decimal (width * 10 + digit) ≡ (48 + digit) ∷ [] = ap decimal zero ∙ decimal_digit digit small in
-      sym only)
+    let only : decimal (width * 10 + digit) ≡ (48 + digit) ∷ [] = ap decimal zero ∙ decimal_digit digit small in
+    sym only)
     (λ later. let one : 1 ≤ width = grind (arith, nat_tests) in
-      let step = decimal_step (width * 10 + digit) (omega arith) (omega arith) in
-      let front : (width * 10 + digit) / 10 ≡ width = omega arith in
-      let back : (width * 10 + digit) % 10 ≡ digit = omega arith in
-      sym (step ∙ ap (λ n. decimal n ++ (48 + (width * 10 + digit) % 10) ∷ []) front ∙ ap (λ n. decimal width ++ (48 + n) ∷ []) back))
+    let step = decimal_step (width * 10 + digit) (omega arith) (omega arith) in
+    let front : (width * 10 + digit) / 10 ≡ width = omega arith in
+    let back : (width * 10 + digit) % 10 ≡ digit = omega arith in
+    sym (step ∙ ap (λ n. decimal n ++ (48 + (width * 10 + digit) % 10) ∷ []) front ∙ ap (λ n. decimal width ++ (48 + n) ∷ []) back))
 
 -- a digit read behind the letters
 pub digit_step : (kind : StreamKind) (width digit : ℕ) → digit < 10 → step_of kind (Width width) (48 + digit) ≡ width_step width digit
@@ -153,28 +153,28 @@ run_two : (kind : StreamKind) (width : ℕ) (rest : List ℕ) → 1 ≤ width �
 run_two kind width rest some low =
     elim (cases_Bool (nat_lt width 10)) [
       | inl one ↦
-        let small : width < 10 = ltb-true width 10 one in
-        let alone : 0 * 10 + width ≡ width = omega arith in
-        let short : nat_lt width 100 ≡ true = lt-ltb width 100 low in
-        ap (λ ds. run kind (Width 0) (ds ++ rest)) (decimal_digit width small) ∙ run_digit kind 0 width rest small (omega arith) (omega arith)
-        ∙ ap (λ w. run kind (behind_width (Some w)) rest) alone
-        ∙ ap (λ s. run kind s rest) (cond-true (nat_lt width 100) (Width width) Between short)
+          let small : width < 10 = ltb-true width 10 one in
+          let alone : 0 * 10 + width ≡ width = omega arith in
+          let short : nat_lt width 100 ≡ true = lt-ltb width 100 low in
+          ap (λ ds. run kind (Width 0) (ds ++ rest)) (decimal_digit width small) ∙ run_digit kind 0 width rest small (omega arith) (omega arith)
+          ∙ ap (λ w. run kind (behind_width (Some w)) rest) alone
+          ∙ ap (λ s. run kind s rest) (cond-true (nat_lt width 100) (Width width) Between short)
       | inr two ↦
-        let large : 10 ≤ width = ltb-false width 10 two in
-        let tens = width / 10 in
-        let ones = width % 10 in
-        let whole : tens * 10 + ones ≡ width = omega arith in
-        let first : 0 * 10 + tens ≡ tens = omega arith in
-        let short : nat_lt width 100 ≡ true = lt-ltb width 100 low in
-        let shorter : nat_lt tens 100 ≡ true = lt-ltb tens 100 (omega arith) in
-        let digits : decimal width ≡ (48 + tens) ∷ (48 + ones) ∷ [] = decimal_step width large (omega arith) ∙ ap (λ ds. ds ++ (48 + ones) ∷ []) (decimal_digit tens (omega arith)) in
-        ap (λ ds. run kind (Width 0) (ds ++ rest)) digits
-        ∙ run_digit kind 0 tens ((48 + ones) ∷ rest) (omega arith) (omega arith) (omega arith)
-        ∙ ap (λ w. run kind (behind_width (Some w)) ((48 + ones) ∷ rest)) first
-        ∙ ap (λ s. run kind s ((48 + ones) ∷ rest)) (cond-true (nat_lt tens 100) (Width tens) Between shorter)
-        ∙ run_digit kind tens ones rest (omega arith) (omega arith) (omega arith)
-        ∙ ap (λ w. run kind (behind_width (Some w)) rest) whole
-        ∙ ap (λ s. run kind s rest) (cond-true (nat_lt width 100) (Width width) Between short)
+          let large : 10 ≤ width = ltb-false width 10 two in
+          let tens = width / 10 in
+          let ones = width % 10 in
+          let whole : tens * 10 + ones ≡ width = omega arith in
+          let first : 0 * 10 + tens ≡ tens = omega arith in
+          let short : nat_lt width 100 ≡ true = lt-ltb width 100 low in
+          let shorter : nat_lt tens 100 ≡ true = lt-ltb tens 100 (omega arith) in
+          let digits : decimal width ≡ (48 + tens) ∷ (48 + ones) ∷ [] = decimal_step width large (omega arith) ∙ ap (λ ds. ds ++ (48 + ones) ∷ []) (decimal_digit tens (omega arith)) in
+          ap (λ ds. run kind (Width 0) (ds ++ rest)) digits
+          ∙ run_digit kind 0 tens ((48 + ones) ∷ rest) (omega arith) (omega arith) (omega arith)
+          ∙ ap (λ w. run kind (behind_width (Some w)) ((48 + ones) ∷ rest)) first
+          ∙ ap (λ s. run kind s ((48 + ones) ∷ rest)) (cond-true (nat_lt tens 100) (Width tens) Between shorter)
+          ∙ run_digit kind tens ones rest (omega arith) (omega arith) (omega arith)
+          ∙ ap (λ w. run kind (behind_width (Some w)) rest) whole
+          ∙ ap (λ s. run kind s rest) (cond-true (nat_lt width 100) (Width width) Between short)
     ]
 
 pub run_width : (kind : StreamKind) (width : Option ℕ) (rest : List ℕ) → is_width width ≡ true → run kind (Width 0) (width_digits width ++ rest) ≡ run kind (behind_width width) rest
@@ -186,13 +186,13 @@ run_width kind (Some width) rest e =
     elim (cases_Bool (nat_lt width 100)) [
       | inl short ↦ run_two kind width rest some (ltb-true width 100 short) ∙ ap (λ s. run kind s rest) (sym (cond-true (nat_lt width 100) (Width width) Between short))
       | inr long ↦
-        let large : 100 ≤ width = ltb-false width 100 long in
-        let front = width / 10 in
-        let ones = width % 10 in
-        let whole : front * 10 + ones ≡ width = omega arith in
-        ap (λ ds. run kind (Width 0) (ds ++ rest)) (decimal_step width (omega arith) (omega arith))
-        ∙ ap (run kind (Width 0)) (append_assoc (decimal front) ((48 + ones) ∷ []) rest)
-        ∙ run_two kind front ((48 + ones) ∷ rest) (omega arith) (omega arith)
-        ∙ run_digit kind front ones rest (omega arith) (omega arith) (omega arith)
-        ∙ ap (λ w. run kind (behind_width (Some w)) rest) whole
+          let large : 100 ≤ width = ltb-false width 100 long in
+          let front = width / 10 in
+          let ones = width % 10 in
+          let whole : front * 10 + ones ≡ width = omega arith in
+          ap (λ ds. run kind (Width 0) (ds ++ rest)) (decimal_step width (omega arith) (omega arith))
+          ∙ ap (run kind (Width 0)) (append_assoc (decimal front) ((48 + ones) ∷ []) rest)
+          ∙ run_two kind front ((48 + ones) ∷ rest) (omega arith) (omega arith)
+          ∙ run_digit kind front ones rest (omega arith) (omega arith) (omega arith)
+          ∙ ap (λ w. run kind (behind_width (Some w)) rest) whole
     ]

@@ -1,9 +1,7 @@
 -- One row of the table for each token, and one token for each row.
-use Rattle.std.proofs.Common.{◌≡◌, ℕ, ◌∷◌, [], ◌++◌, List, Bool, true, false, cond, ◌&&◌, nat_eq, Option, Some, None, IsTrue, refl, sym, ap, ◌∙◌, arith}
+use Rattle.std.proofs.Common.{◌≡◌, ℕ, ◌∷◌, [], List, true, false, ◌&&◌, nat_eq, Some, refl, sym, ap, ◌∙◌}
 use Rattle.std.proofs.lemmas.Bool.{cond_both, and_parts, eqb-true}
-use Rattle.format_expr.specs.declared.token.Moment.{Moment}
 use Rattle.format_expr.specs.declared.token.Moment.TheVariants.{Record, Event}
-use Rattle.format_expr.specs.declared.token.TimePart.{TimePart}
 use Rattle.format_expr.specs.declared.token.TimePart.TheVariants.{Nanoseconds, Hour, Minute, Second, HalfDay, Month, MonthName, Day, DayName, ShortYear, Year}
 use Rattle.format_expr.specs.declared.token.Part.{Part}
 use Rattle.format_expr.specs.declared.token.Part.TheVariants.{Number, Time, ClassId, Cut, Body, BodyBytes, NotificationId, EventType, Object, Notifier, User, Severity}
@@ -70,8 +68,8 @@ found_agrees (row ∷ rows) class field part all =
     cond_both (nat_eq row.class class && nat_eq row.field field) (Some row.part) (part_in rows class field)
     (λ answer. answer ≡ Some part → letters part ≡ class ∷ field ∷ [])
     (λ same found. let both = and_parts _ _ same in
-      let is : row.part ≡ part = cc in
-      ap letters (sym is) ∙ all.0 ∙ ap (λ c. c ∷ row.field ∷ []) (eqb-true _ _ both.0) ∙ ap (λ f. class ∷ f ∷ []) (eqb-true _ _ both.1))
+    let is : row.part ≡ part = cc in
+    ap letters (sym is) ∙ all.0 ∙ ap (λ c. c ∷ row.field ∷ []) (eqb-true _ _ both.0) ∙ ap (λ f. class ∷ f ∷ []) (eqb-true _ _ both.1))
     (λ other found. found_agrees rows class field part all.1 found)
 
 -- the letters by which a part is found are the part's

@@ -51,4 +51,13 @@ abbrev pub IsFault : StreamKind → List ℕ → ExprFault → Type 0
 IsFault kind text fault =
     (StandsAt kind text fault.place fault.why × ((length text ≤ 1024) ⊎ (fault.place < 1024)))
     ⊎ ((fault.why ≡ TooLong) × (fault.place ≡ 1024) × (1024 < length text)
-      × ((place : ℕ) (why : ExprWhy) → StandsAt kind text place why → 1024 ≤ place))
+    × ((place : ℕ) (why : ExprWhy) → StandsAt kind text place why → 1024 ≤ place))
+
+-- the word of a reason
+abbrev pub word_of : ExprWhy → List ℕ
+word_of UnknownToken = codes "UnknownToken"
+word_of WrongClass = codes "WrongClass"
+word_of BadWidth = codes "BadWidth"
+word_of LoneAt = codes "LoneAt"
+word_of ControlByte = codes "ControlByte"
+word_of TooLong = codes "TooLong"

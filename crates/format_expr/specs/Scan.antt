@@ -1,10 +1,10 @@
 -- The automaton that reads expressions: where it stands after each byte, and why it stops.
-use Rattle.std.specs.Prelude.{◌≡◌, ℕ, ◌+◌, ◌-◌, ◌*◌, ◌≤◌, ◌<◌, ◌∷◌, [], List, length, take, Bool, ◌&&◌, ◌||◌, ◌==◌, nat_lt, if◌then◌else◌, Option, Some, None, Result, Ok, Err, is_some, slice_get}
+use Rattle.std.specs.Prelude.{◌≡◌, ℕ, ◌+◌, ◌-◌, ◌*◌, ◌≤◌, ◌∷◌, [], List, length, take, ◌&&◌, ◌||◌, ◌==◌, nat_lt, if◌then◌else◌, Option, Some, None, Result, Ok, Err, is_some, slice_get}
 use Rattle.std.specs.Result.{result_err}
 use Rattle.format_expr.specs.declared.check.Stand.{Stand}
 use Rattle.format_expr.specs.declared.check.Stand.TheVariants.{Between, At, Class, Width}
 use Rattle.format_expr.specs.declared.fault.ExprWhy.{ExprWhy}
-use Rattle.format_expr.specs.declared.fault.ExprWhy.TheVariants.{UnknownToken, WrongClass, BadWidth, LoneAt, ControlByte, TooLong}
+use Rattle.format_expr.specs.declared.fault.ExprWhy.TheVariants.{UnknownToken, WrongClass, BadWidth, LoneAt, ControlByte}
 use Rattle.format_expr.specs.declared.token.TheConstants.{TOKENS}
 use Rattle.ais_values.specs.declared.kind.StreamKind.{StreamKind}
 use Rattle.format_expr.specs.Tokens.{part_in}

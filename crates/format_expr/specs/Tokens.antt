@@ -1,5 +1,5 @@
 -- The table of tokens: class C for every stream, class N for alarms and notifications, class S for system and application streams.
-use Rattle.std.specs.Prelude.{ℕ, ◌∷◌, [], ◌++◌, List, Bool, true, false, ◌&&◌, ◌==◌, if◌then◌else◌, codes, Option, Some, None}
+use Rattle.std.specs.Prelude.{ℕ, ◌∷◌, [], ◌++◌, List, ◌&&◌, ◌==◌, if◌then◌else◌, codes, Option, Some, None}
 use Rattle.format_expr.specs.declared.token.Moment.{Moment}
 use Rattle.format_expr.specs.declared.token.Moment.TheVariants.{Record, Event}
 use Rattle.format_expr.specs.declared.token.TimePart.{TimePart}
@@ -7,8 +7,6 @@ use Rattle.format_expr.specs.declared.token.TimePart.TheVariants.{Nanoseconds, H
 use Rattle.format_expr.specs.declared.token.Part.{Part}
 use Rattle.format_expr.specs.declared.token.Part.TheVariants.{Number, Time, ClassId, Cut, Body, BodyBytes, NotificationId, EventType, Object, Notifier, User, Severity}
 use Rattle.format_expr.specs.declared.token.TokenRow.{TokenRow}
-use Rattle.ais_values.specs.declared.kind.StreamKind.{StreamKind}
-use Rattle.ais_values.specs.declared.kind.StreamKind.TheVariants.{Alarm, Notification, System, Application}
 
 -- the class letter of a time
 abbrev pub moment_letter : Moment → List ℕ

@@ -1,5 +1,6 @@
 //! Why a text is no expression.
-use std::alloc::AllocError;
+use ais_values::Duplicate;
+use std::alloc::{AllocError, Global};
 use std::fmt;
 
 /// Why no expression goes on at a place.
@@ -20,6 +21,11 @@ pub enum ExprWhy {
 }
 
 impl fmt::Display for ExprWhy {
+    ghost use Rattle.std.specs.Prelude.{Some};
+    ghost use Rattle.format_expr.specs.Faults.{word_of};
+
+    ghost output = { λ why. Some (word_of why) };
+
     fn fmt<W: fmt::Write>(&self, f: &mut fmt::Formatter<W>) -> fmt::Result {
         match self {
             ExprWhy::UnknownToken => write!(f, "UnknownToken"),
@@ -29,6 +35,12 @@ impl fmt::Display for ExprWhy {
             ExprWhy::ControlByte => write!(f, "ControlByte"),
             ExprWhy::TooLong => write!(f, "TooLong"),
         }
+    }
+}
+
+impl Duplicate for ExprWhy {
+    fn copy(&self, _alloc: Global) -> Result<Self, AllocError> {
+        Ok(*self)
     }
 }
 

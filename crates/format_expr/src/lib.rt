@@ -3,10 +3,17 @@
 
 mod check;
 mod fault;
+mod parse;
 mod piece;
+mod print;
 mod token;
 
 pub use check::{MAX_EXPR, check_expr, has_notified, takes_class};
 pub use fault::{ExprAnswer, ExprFault, ExprWhy};
+pub use parse::parse_expr;
 pub use piece::{Expr, Piece};
+pub use print::print_expr;
 pub use token::{Moment, Part, TOKENS, TimePart, Token, TokenRow, letters_of, part_of};
+
+#[cfg(test)]
+mod tests;

@@ -1,4 +1,7 @@
-//! The pieces of an expression.
+//! Expressions and their pieces.
+ghost use Rattle.std.specs.Prelude.{◌≤◌, length, IsTrue};
+ghost use Rattle.format_expr.specs.Language.{are_pieces, spelling};
+
 use crate::Token;
 use ais_values::{Duplicate, Seq, StreamKind, Text};
 use std::alloc::{AllocError, Global};
@@ -11,9 +14,31 @@ pub enum Piece {
     Field { token: Token },
 }
 
-/// An expression: its pieces spell a text that passes for streams of its kind.
+/// An expression: its pieces are those of a text that passes for streams of its kind.
 #[derive(Drop)]
 pub struct Expr {
     pub kind: StreamKind,
     pub pieces: Seq<Piece>,
+    pub ghost parsed: { IsTrue (are_pieces kind pieces) },
+    pub ghost bounded: { length (spelling pieces) ≤ 1024 },
+}
+
+impl Duplicate for Piece {
+    fn copy(&self, alloc: Global) -> Result<Self, AllocError> {
+        match self {
+            Piece::Plain { text } => Ok(Piece::Plain {
+                text: text.copy(alloc)?,
+            }),
+            Piece::Field { token } => Ok(Piece::Field { token: *token }),
+        }
+    }
+}
+
+impl Duplicate for Expr {
+    fn copy(&self, alloc: Global) -> Result<Self, AllocError> {
+        Ok(Expr {
+            kind: self.kind,
+            pieces: self.pieces.copy(alloc)?,
+        })
+    }
 }

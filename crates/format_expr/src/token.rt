@@ -145,7 +145,6 @@ pub fn part_of<const N: usize>(table: &[TokenRow; N], class: u8, field: u8) -> O
     None
 }
 
-
 impl Duplicate for Token {
     fn copy(&self, _alloc: Global) -> Result<Self, AllocError> {
         Ok(*self)

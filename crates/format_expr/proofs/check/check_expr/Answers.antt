@@ -1,9 +1,7 @@
-use Rattle.std.proofs.Common.{◌≡◌, ◌<◌, ◌≤◌, ◌⊎◌, inl, inr, length, take, ap, sym, ◌∙◌, Ok, Some, arith}
+use Rattle.std.proofs.Common.{inl, inr, length, ap, sym, ◌∙◌, arith}
 use Rattle.std.proofs.lemmas.List.{take_all}
-use Rattle.std.proofs.lemmas.Option.{slice_get_past}
-use Rattle.std.specs.Prelude.{slice_get}
 use Rattle.format_expr.specs.declared.check.Stand.TheVariants.{Between}
-use Rattle.format_expr.specs.Scan.{run, why_at, end_of, StopsAt}
+use Rattle.format_expr.specs.Scan.{run}
 use Rattle.format_expr.proofs.FaultLaws.{checked_stop, checked_long, checked_ok, stops_at_end}
 use Rattle.format_expr.proofs.check.check_expr.Goals as goal
 

@@ -1,4 +1,4 @@
-use Rattle.std.proofs.Common.{◌≡◌, ◌<◌, ◌⊎◌, length, arith}
+use Rattle.std.proofs.Common.{◌≡◌, ◌⊎◌, length, arith}
 use Rattle.format_expr.proofs.FaultLaws.{run_more, run_front}
 use Rattle.format_expr.proofs.check.read_front.Goals as goal
 
