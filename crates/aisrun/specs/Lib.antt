@@ -1,0 +1,17 @@
+pub mod Commands
+pub mod Endings
+pub mod ExitStatus
+pub mod SessionFiles
+pub mod SessionScript
+pub mod SessionText
+pub mod Sessions
+pub use Rattle.io_edge.specs.Causes
+pub use Rattle.io_edge.specs.Reads
+pub use Rattle.io_edge.specs.Writes
+pub use Rattle.stream_files.specs.Deeds
+pub use Rattle.stream_files.specs.Disk
+pub use Rattle.stream_files.specs.Failures
+pub use Rattle.script.specs.Refusals
+pub use Rattle.script.specs.Scripts
+pub use Rattle.format_expr.specs.Faults
+pub use Rattle.format_expr.specs.Language

@@ -1,0 +1,69 @@
+//! The command `check`: whether the source gives a script.
+ghost use Rattle.std.specs.Prelude.{◌≡◌, ◌≤◌, ◌++◌, length, codes, string_bytes, IfOk};
+ghost use Rattle.std.specs.Fmt.{decimal};
+ghost use Rattle.aisrun.specs.Endings.{CheckEnds, Judged};
+ghost use Rattle.aisrun.specs.Refusals.{why_word};
+
+use crate::input::{INPUT_LIMIT, READ_FAULT, TOO_LONG, end_with};
+use crate::session::End;
+use crate::status::Status8;
+use io_edge::{ReadAnswer, Source, read_all};
+use script::{ScriptAnswer, ScriptWhy, parse_script};
+use std::alloc::{AllocError, Global};
+
+// The line for a script of so many lines.
+fn passed(alloc: Global, lines: usize) -> Result<String, AllocError>
+    ensures { IfOk result (λ line. string_bytes line ≡ codes "ok " ++ (decimal lines ++ codes "\n")) }
+{
+    format!(in alloc; "ok {lines}\n")
+}
+
+// The line for a script that is bad at a line.
+fn failed(alloc: Global, line: u32, why: ScriptWhy) -> Result<String, AllocError>
+    ensures { IfOk result (λ printed. string_bytes printed ≡ codes "script line " ++ (decimal line ++ (codes ": " ++ (why_word why ++ codes "\n")))) }
+{
+    format!(in alloc; "script line {line}: {why}\n")
+}
+
+// How the bytes of an input are judged.
+fn judge(alloc: Global, bytes: &[u8]) -> Result<End, AllocError>
+    requires { length bytes.now ≤ 16777216 }
+    ensures { IfOk result (λ end. Judged bytes.now end.status end.text.items) }
+{
+    match parse_script(alloc, bytes) {
+        Ok(lines) => {
+            let line = passed(alloc, lines.as_slice().len())?;
+            let end = end_with(alloc, Status8::Done, line.as_bytes())?;
+            Ok(end)
+        }
+        Err(ScriptAnswer::Memory) => Err(AllocError),
+        Err(ScriptAnswer::Bad { line, why }) => {
+            let printed = failed(alloc, line, why)?;
+            let end = end_with(alloc, Status8::ScriptRefused, printed.as_bytes())?;
+            Ok(end)
+        }
+    }
+}
+
+/// Reads the source to its end and tells whether its bytes are a script.
+///
+/// `Err` only where memory ran out.
+pub fn check_script<S: Source>(alloc: Global, source: &mut S) -> Result<End, AllocError>
+    ensures ends { IfOk result (λ end. CheckEnds (S.left source.old) (S.left source.new) (S.faults source.old) (S.faults source.new) end.status end.text.items) }
+{
+    match read_all(alloc, source, INPUT_LIMIT) {
+        Ok(bytes) => {
+            let end = judge(alloc, bytes.as_slice())?;
+            Ok(end)
+        }
+        Err(ReadAnswer::Memory) => Err(AllocError),
+        Err(ReadAnswer::ReadFault) => {
+            let end = end_with(alloc, Status8::ReadFault, READ_FAULT)?;
+            Ok(end)
+        }
+        Err(ReadAnswer::TooLong) => {
+            let end = end_with(alloc, Status8::TooLong, TOO_LONG)?;
+            Ok(end)
+        }
+    }
+}

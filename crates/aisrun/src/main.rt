@@ -1,0 +1,54 @@
+//! The Log Service and the Notification Service of a high-availability cluster, driven by a script.
+//!
+//! `main` makes the real source, sink and disk and calls `run`, which does all the rest.
+#![tactic(auto)]
+
+mod check;
+mod command;
+mod expr;
+mod input;
+mod run;
+mod session;
+mod session_files;
+mod session_script;
+mod session_text;
+mod status;
+
+pub use command::{Command, command_of};
+use disk_model::DirDisk;
+use io_edge::{StdSink, StdSource};
+pub use run::run;
+pub use status::Status8;
+use std::alloc::AllocError;
+use std::env;
+use std::io::ErrorKind;
+use std::process::ExitCode;
+use std::rt::Env;
+
+// The command's words behind the program's name. Where one is no text there are none, which is no command.
+fn words_of<R: Env + AllocGlobal>(rt: &R) -> Result<Vec<String>, AllocError> {
+    match env::args(rt) {
+        Ok(mut args) => {
+            let _ = args.next();
+            args.collect(rt.alloc())
+        }
+        Err(error) if error.kind() == ErrorKind::OutOfMemory => Err(AllocError),
+        Err(_) => Ok(Vec::new(rt.alloc())),
+    }
+}
+
+fn main(rt: HostRuntime) -> ExitCode {
+    let words = match words_of(&rt) {
+        Ok(words) => words,
+        Err(_) => return ExitCode::from(Status8::Memory.code()),
+    };
+    let alloc = rt.alloc();
+    let mut source = StdSource::new(rt.stdin());
+    let mut out = StdSink::new(rt.stdout());
+    let mut disk = DirDisk::new(rt);
+    let status = run(alloc, words.as_slice(), &mut source, &mut out, &mut disk);
+    ExitCode::from(status.code())
+}
+
+#[cfg(test)]
+mod tests;
