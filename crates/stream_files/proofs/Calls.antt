@@ -3,7 +3,7 @@ use Rattle.std.proofs.Common.{◌≡◌, ℕ, ◌+◌, ◌<◌, ◌≤◌, List,
 use Rattle.std.specs.Result.{IsErrOf}
 use Rattle.std.proofs.lemmas.List.{take_more, drop_more, take-append-drop, append-nil}
 use Rattle.std.proofs.lemmas.Option.{same_Some}
-use Rattle.ais_values.specs.Causes.{HasCauseOf, Rose}
+use Rattle.ais_values.specs.Causes.{HasCauseOf}
 use Rattle.disk_model.specs.Disk.{Files}
 use Rattle.disk_model.specs.Failures.{WhereTold}
 use Rattle.disk_model.specs.declared.answers.DiskAnswer.{DiskAnswer}

@@ -1,5 +1,4 @@
-use Rattle.std.proofs.Common.{◌≡◌, [], ◌∷◌, ◌++◌, sym, ◌∙◌, ap, subst, arith, refl, Err, OnOk}
-use Rattle.stream_files.specs.Deeds.{DeviceCall, CallCreate, CallWrite, CallSync, CallRename, CallRemove, calls_of, calls_of_all, all_applied, StopsIn, StopsBefore, Performs}
+use Rattle.stream_files.specs.Deeds.{CallCreate}
 use Rattle.stream_files.proofs.Calls.{performs_one}
 use Rattle.stream_files.proofs.performing.create.Goals as goal
 

@@ -1,5 +1,5 @@
-use Rattle.std.proofs.Common.{◌≡◌, ◌<◌, ◌≤◌, length, arith, option_map}
-use Rattle.stream_files.specs.Deeds.{calls_of, calls_of_all, all_applied, Breaks}
+use Rattle.std.proofs.Common.{◌<◌, length, arith}
+use Rattle.stream_files.specs.Deeds.{calls_of_all, Breaks}
 use Rattle.stream_files.proofs.Calls.{breaks_memory, breaks_failed, breaks_deed, done_more}
 use Rattle.stream_files.proofs.performing.perform.Goals as goal
 

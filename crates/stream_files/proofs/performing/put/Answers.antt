@@ -1,6 +1,6 @@
-use Rattle.std.proofs.Common.{◌≡◌, [], ◌∷◌, ◌++◌, sym, ◌∙◌, ap, subst, arith, refl, Err, OnOk, option_map}
-use Rattle.stream_files.specs.Deeds.{DeviceCall, CallCreate, CallWrite, CallSync, CallRename, CallRemove, calls_of, calls_of_all, all_applied, StopsIn, StopsBefore, Breaks, Performs}
-use Rattle.stream_files.proofs.Calls.{performs_one, performs_after, breaks_one, breaks_within, none_applied}
+use Rattle.std.proofs.Common.{◌≡◌, [], ◌∷◌, option_map}
+use Rattle.stream_files.specs.Deeds.{CallCreate, CallWrite, CallSync, all_applied, Breaks}
+use Rattle.stream_files.proofs.Calls.{performs_after, breaks_one, breaks_within, none_applied}
 use Rattle.stream_files.proofs.performing.put.Goals as goal
 
 pub returns-in-Ok-clause-performs : goal.returns-in-Ok-clause-performs
