@@ -1,0 +1,13 @@
+//! Notifications of the Notification Service: their types, and the check that a send must pass
+//! (SAI-AIS-NTF-A.01.01, 3.12).
+#![tactic(auto)]
+
+mod check;
+mod notification;
+#[cfg(test)]
+mod tests;
+mod value;
+
+pub use check::{MAX_BYTES, MAX_ELEMENTS, MAX_SEVERITY, UNKNOWN_TIME, check_notification};
+pub use notification::{Body, Notification, kind_of};
+pub use value::{Change, Pair, StateChange, Value};

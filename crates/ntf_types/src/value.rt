@@ -1,0 +1,77 @@
+//! Values that notifications carry, and the changes that they tell of.
+use ais_values::{Duplicate, Name, Text};
+use std::alloc::{AllocError, Global};
+
+/// A value of an attribute, of additional information or of a security alarm.
+#[derive(PartialEq, Drop)]
+pub enum Value {
+    Int { value: i64 },
+    NameOf { name: Name },
+    TextOf { text: Text },
+    Binary { bytes: Text },
+}
+
+/// A value under a number: an attribute of an object, or an element of additional information.
+#[derive(PartialEq, Drop)]
+pub struct Pair {
+    pub id: u16,
+    pub value: Value,
+}
+
+/// An attribute's value after a change, and the one before it where that is known.
+#[derive(PartialEq, Drop)]
+pub struct Change {
+    pub id: u16,
+    pub after: Value,
+    pub before: Option<Value>,
+}
+
+/// A state after a change, and the one before it where that is known.
+#[derive(Clone, Copy, PartialEq, Eq, Debug)]
+pub struct StateChange {
+    pub id: u16,
+    pub after: u16,
+    pub before: Option<u16>,
+}
+
+impl Duplicate for Value {
+    fn copy(&self, alloc: Global) -> Result<Self, AllocError> {
+        match self {
+            Value::Int { value } => Ok(Value::Int { value: *value }),
+            Value::NameOf { name } => Ok(Value::NameOf {
+                name: name.copy(alloc)?,
+            }),
+            Value::TextOf { text } => Ok(Value::TextOf {
+                text: text.copy(alloc)?,
+            }),
+            Value::Binary { bytes } => Ok(Value::Binary {
+                bytes: bytes.copy(alloc)?,
+            }),
+        }
+    }
+}
+
+impl Duplicate for Pair {
+    fn copy(&self, alloc: Global) -> Result<Self, AllocError> {
+        Ok(Pair {
+            id: self.id,
+            value: self.value.copy(alloc)?,
+        })
+    }
+}
+
+impl Duplicate for Change {
+    fn copy(&self, alloc: Global) -> Result<Self, AllocError> {
+        Ok(Change {
+            id: self.id,
+            after: self.after.copy(alloc)?,
+            before: self.before.copy(alloc)?,
+        })
+    }
+}
+
+impl Duplicate for StateChange {
+    fn copy(&self, _alloc: Global) -> Result<Self, AllocError> {
+        Ok(*self)
+    }
+}
