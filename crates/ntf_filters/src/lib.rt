@@ -1,0 +1,13 @@
+//! Filters of notifications: what a subscription and a reader of stored alarms ask for
+//! (SAI-AIS-NTF-A.01.01, 3.13).
+#![tactic(auto)]
+
+mod check;
+mod filter;
+mod matching;
+#[cfg(test)]
+mod tests;
+
+pub use check::check_filters;
+pub use filter::{Filter, FilterSet};
+pub use matching::matches;
