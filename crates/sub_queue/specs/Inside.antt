@@ -1,0 +1,24 @@
+-- How a queue is kept: its items with their numbers, in a vector with room for all of them.
+use Rattle.std.specs.Prelude.{◌≡◌, ℕ, ◌≤◌, List}
+use Rattle.std.specs.Vec.{vec_capacity}
+use Rattle.sub_queue.specs.declared.queue.SubQueue.TheInside.{Inside}
+use Rattle.sub_queue.specs.declared.item.Item.{Item}
+use Rattle.sub_queue.specs.Items.{numbered, contents_of}
+use Rattle.sub_queue.specs.Queue.{Queue, IsSound}
+
+abbrev pub queue_of : Inside → Queue
+queue_of inside = record {
+  capacity = inside.capacity;
+  first = inside.first;
+  held = contents_of inside.items.items;
+  lost = inside.lost;
+}
+
+-- a queue is sound, its items have their numbers in order, and there is room for as many as it may hold
+pub record IsKeptAs (queue : Queue) (items : List Item) (places : ℕ) : Type 0 where
+  pub sound : IsSound queue
+  pub numbers : items ≡ numbered queue.first queue.held
+  pub room : queue.capacity ≤ places
+
+abbrev pub IsKept : Inside → Type 0
+IsKept inside = IsKeptAs (queue_of inside) inside.items.items (vec_capacity inside.items)

@@ -1,0 +1,5 @@
+pub mod Items
+pub mod Queue
+pub mod History
+pub mod Inside
+pub use Rattle.ntf_types.specs.Kinds

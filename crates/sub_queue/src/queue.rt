@@ -1,0 +1,190 @@
+//! The queue of one subscription.
+ghost use Rattle.std.specs.Prelude.{◌≡◌, ◌+◌, ◌<◌, ◌≤◌, ◌↔◌, [], ◌∷◌, ◌++◌, drop, length, IsTrue, IsOk, IfOk, OnOk, OnErr, vec_len};
+ghost use Rattle.std.specs.Vec.{vec_capacity};
+ghost use Rattle.sub_queue.specs.Items.{mark_of, numbered, discarded};
+ghost use Rattle.sub_queue.specs.Queue.{IsCapacity, IsSound, IsNew, HasNumberLeft, empty_queue, queue_of_parts, has_room, offered, received};
+
+use crate::{Content, Item, Lost};
+use ais_values::Seq;
+use ntf_types::{Notification, kind_of};
+use std::alloc::{AllocError, Global};
+use std::marker::Model;
+use std::mem;
+
+/// The items of a subscription that have no receipt yet, at most `capacity` of them, and the
+/// notifications that were lost since all places were taken.
+#[derive(Drop)]
+pub struct SubQueue {
+    alloc: Global,
+    capacity: u32,
+    first: u32,
+    items: Vec<Item>,
+    lost: Seq<Lost>,
+}
+
+impl Model for SubQueue {
+    ghost use Rattle.sub_queue.specs.Queue.{Queue};
+
+    ghost Value = { Queue };
+
+    ghost use Rattle.sub_queue.specs.Inside.{queue_of, IsKept};
+
+    ghost view = { queue_of };
+
+    ghost invariant = { IsKept };
+}
+
+/// Removes items from the front.
+fn remove_front(items: &mut Vec<Item>, count: usize)
+    requires { count ≤ vec_len items.old }
+    ensures items { items.new.items ≡ drop count items.old.items }
+    ensures capacity { vec_capacity items.new ≡ vec_capacity items.old }
+{
+    let rest = items.len() - count;
+    items.rotate_left(count);
+    items.truncate(rest);
+}
+
+/// Adds the type and the id of a notification to those lost, and lets it go.
+fn lose(lost: &mut Seq<Lost>, notification: Notification) -> Result<(), AllocError>
+    ensures ok { OnOk result (lost.new ≡ lost.old ++ mark_of notification ∷ []) }
+    ensures err { OnErr result (lost.new ≡ lost.old) }
+{
+    let kind = kind_of(&notification);
+    let id = notification.id;
+    lost.push(Lost { kind, id })
+}
+
+/// Adds an item of what was lost, where anything was. It takes the place of a removed one.
+fn add_discarded(items: &mut Vec<Item>, number: u32, lost: Seq<Lost>)
+    requires { vec_len items.old < vec_capacity items.old }
+    ensures items { items.new.items ≡ items.old.items ++ numbered number (discarded lost) }
+    ensures capacity { vec_capacity items.new ≡ vec_capacity items.old }
+{
+    if !lost.as_slice().is_empty() {
+        let content = Content::Discarded { lost };
+        let item = Item { number, content };
+        items.push_reserved(item);
+    }
+}
+
+/// The contents as items, numbered from `first` on, in a vector with room for `capacity` of them.
+fn numbered_items(
+    alloc: Global,
+    capacity: u32,
+    first: u32,
+    held: Seq<Content>,
+) -> Result<Vec<Item>, AllocError>
+    requires places { length held ≤ capacity }
+    requires numbers { first + length held ≤ 4294967295 }
+    ensures items { IfOk result (λ items. items.items ≡ numbered first held) }
+    ensures room { IfOk result (λ items. capacity ≤ vec_capacity items) }
+{
+    let mut items = Vec::with_capacity(alloc, capacity as usize)?;
+    let mut number = first;
+    for content in held.into_vec() {
+        items.push_reserved(Item { number, content });
+        number += 1;
+    }
+    Ok(items)
+}
+
+impl SubQueue {
+    /// The queue of a new subscription, of this capacity. It takes the memory of all its items.
+    pub fn new(alloc: Global, cap: u32) -> Result<SubQueue, AllocError>
+        requires { IsCapacity cap }
+        ensures { IfOk result (λ queue. queue ≡ empty_queue cap) }
+    {
+        Ok(SubQueue {
+            alloc,
+            capacity: cap,
+            first: 1,
+            items: Vec::with_capacity(alloc, cap as usize)?,
+            lost: Seq::new(alloc),
+        })
+    }
+
+    /// The queue with these parts, its items numbered from `first`. It takes the memory of all its items.
+    pub fn rebuild(
+        alloc: Global,
+        cap: u32,
+        first: u32,
+        held: Seq<Content>,
+        lost: Seq<Lost>,
+    ) -> Result<SubQueue, AllocError>
+        requires { IsSound (queue_of_parts cap first held lost) }
+        ensures { IfOk result (λ queue. queue ≡ queue_of_parts cap first held lost) }
+    {
+        let items = numbered_items(alloc, cap, first, held)?;
+        Ok(SubQueue {
+            alloc,
+            capacity: cap,
+            first,
+            items,
+            lost,
+        })
+    }
+
+    /// Offers a notification that matches. It becomes the next item where a place is free, which takes
+    /// no memory; otherwise its type and id join those lost. On an error nothing changes.
+    pub fn offer(&mut self, notification: Notification) -> Result<(), AllocError>
+        requires { HasNumberLeft self.old }
+        ensures ok { OnOk result (self.new ≡ offered notification self.old) }
+        ensures room { IsTrue (has_room self.old) → IsOk result }
+        ensures err { OnErr result (self.new ≡ self.old) }
+    {
+        let count = self.items.len();
+        if count < self.capacity as usize {
+            let number = self.first + count as u32;
+            let content = Content::Notified { notification };
+            self.items.push_reserved(Item { number, content });
+            Ok(())
+        } else {
+            lose(&mut self.lost, notification)
+        }
+    }
+
+    /// Whether a receipt is new: its number is that of an item that is held.
+    pub fn is_new(&self, through: u32) -> bool
+        ensures { IsTrue result ↔ IsNew through self.now }
+    {
+        through >= self.first && through - self.first < self.items.len() as u32
+    }
+
+    /// Takes a new receipt: the items through its number are removed. Where notifications were lost, one
+    /// item more holds them all, and none is lost any more. It takes no memory.
+    pub fn acked(&mut self, through: u32)
+        requires new { IsNew through self.old }
+        requires numbers { HasNumberLeft self.old }
+        ensures { self.new ≡ received through self.old }
+    {
+        let count = (through - self.first) as usize + 1;
+        remove_front(&mut self.items, count);
+        self.first = through + 1;
+        let number = self.first + self.items.len() as u32;
+        let lost = mem::replace(&mut self.lost, Seq::new(self.alloc));
+        add_discarded(&mut self.items, number, lost);
+    }
+
+    /// The items that are held, in order of their numbers.
+    pub fn items(&self) -> &[Item]
+        ensures items { result.now ≡ numbered self.now.first self.now.held }
+        ensures sound { IsSound self.now }
+    {
+        self.items.as_slice()
+    }
+
+    /// What was lost since the last item was made, in order.
+    pub fn lost(&self) -> &[Lost]
+        ensures { result.now ≡ self.now.lost }
+    {
+        self.lost.as_slice()
+    }
+
+    /// The number of the first item that is held, or of the next one where none is.
+    pub fn first(&self) -> u32
+        ensures { result ≡ self.now.first }
+    {
+        self.first
+    }
+}
