@@ -1,0 +1,5 @@
+pub mod DigitLaws
+pub mod LineLaws
+pub mod OnLiterals
+pub mod Rows
+pub mod SheetLaws

@@ -1,0 +1,106 @@
+-- A record's text, piece after piece, and the mark in it.
+use Rattle.std.proofs.Common.{◌≡◌, ℕ, ◌+◌, ◌-◌, ◌<◌, ◌≤◌, List, [], ◌∷◌, ◌++◌, length, take, get_or, Bool, true, false, nat_lt, Option, Some, None, refl, sym, ap, ◌∙◌, arith, length-append}
+use Rattle.std.specs.List.{list_any}
+use Rattle.std.proofs.lemmas.List.{take_more, flat_map_more, length-take}
+use Rattle.std.proofs.lemmas.Bool.{or_parts, cond-true, cond-false, lt-ltb, le-ltb}
+use Rattle.format_expr.specs.declared.token.Moment.{Moment}
+use Rattle.format_expr.specs.declared.token.Part.{Part}
+use Rattle.format_expr.specs.declared.token.Part.TheVariants.{Number, Time, ClassId, Cut, Body, BodyBytes, NotificationId, EventType, Object, Notifier, User, Severity}
+use Rattle.format_expr.specs.declared.piece.Piece.{Piece}
+use Rattle.format_expr.specs.declared.piece.Piece.TheVariants.{Plain, Field}
+use Rattle.record_print.specs.declared.record.LogRecord.{LogRecord}
+use Rattle.record_print.specs.Printing.{piece_text, part_text, in_places, is_number, is_mark, has_part, record_text, spaces, has_half, mark_of, line_of, printed_record}
+
+-- one more piece
+pub record_text-more : (half : Moment → Bool) (number mark : ℕ) (rec : LogRecord) (pieces : List Piece) (count : ℕ) (piece : Piece) → count < length pieces → piece ≡ get_or pieces count piece → record_text half number mark rec (take count pieces) ++ piece_text half number mark rec piece ≡ record_text half number mark rec (take (count + 1) pieces)
+record_text-more half number mark rec pieces count piece inside is =
+    flat_map_more (piece_text half number mark rec) [] (take count pieces) piece
+    ∙ ap (λ p. record_text half number mark rec (take count pieces ++ p ∷ [])) is
+    ∙ ap (record_text half number mark rec) (sym (take_more pieces count piece inside))
+
+-- without a token that tells of it a text is the same whether it is cut or not
+pub record_text-unmarked : (half : Moment → Bool) (number one other : ℕ) (rec : LogRecord) (pieces : List Piece) → list_any (has_part is_mark) pieces ≡ false → record_text half number one rec pieces ≡ record_text half number other rec pieces
+record_text-unmarked half number one other rec [] e = refl
+record_text-unmarked half number one other rec (piece ∷ pieces) e =
+    let parts = or_parts (has_part is_mark piece) (list_any (has_part is_mark) pieces) e in
+    ap (λ text. text ++ record_text half number one rec pieces) (piece_text-unmarked half number one other rec piece parts.0)
+    ∙ ap (λ text. piece_text half number other rec piece ++ text) (record_text-unmarked half number one other rec pieces parts.1)
+  where
+    part_text-unmarked : (half : Moment → Bool) (number one other : ℕ) (rec : LogRecord) (part : Part) → is_mark part ≡ false → part_text half number one rec part ≡ part_text half number other rec part
+    part_text-unmarked half number one other rec Number e = refl
+    part_text-unmarked half number one other rec (Time moment part) e = refl
+    part_text-unmarked half number one other rec ClassId e = refl
+    part_text-unmarked half number one other rec Cut e = absurd cc
+    part_text-unmarked half number one other rec Body e = refl
+    part_text-unmarked half number one other rec BodyBytes e = refl
+    part_text-unmarked half number one other rec NotificationId e = refl
+    part_text-unmarked half number one other rec EventType e = refl
+    part_text-unmarked half number one other rec Object e = refl
+    part_text-unmarked half number one other rec Notifier e = refl
+    part_text-unmarked half number one other rec User e = refl
+    part_text-unmarked half number one other rec Severity e = refl
+
+    piece_text-unmarked : (half : Moment → Bool) (number one other : ℕ) (rec : LogRecord) (piece : Piece) → has_part is_mark piece ≡ false → piece_text half number one rec piece ≡ piece_text half number other rec piece
+    piece_text-unmarked half number one other rec (Plain text) e = refl
+    piece_text-unmarked half number one other rec (Field token) e = ap (in_places (is_number token.part) token.width) (part_text-unmarked half number one other rec token.part e)
+
+-- the printed record of a text that is cut, of one that is not, and of one that does not tell
+pub printed_cut : (pieces : List Piece) (number : ℕ) (rec : LogRecord) (size : ℕ) → 0 < size → size ≤ length (record_text (has_half pieces) number 67 rec pieces) → line_of size (record_text (has_half pieces) number 84 rec pieces) ≡ printed_record pieces number rec size
+unfolding printed_record
+printed_cut pieces number rec size some long =
+    let text = λ (mark : ℕ). record_text (has_half pieces) number mark rec pieces in
+    sym (ap (λ mark. line_of size (text mark)) (cond-true (nat_lt (size - 1) (length (text 67))) 84 67 (lt-ltb (size - 1) (length (text 67)) (omega arith))))
+
+pub printed_whole : (pieces : List Piece) (number : ℕ) (rec : LogRecord) (size : ℕ) → length (record_text (has_half pieces) number 67 rec pieces) < size → line_of size (record_text (has_half pieces) number 67 rec pieces) ≡ printed_record pieces number rec size
+unfolding printed_record
+printed_whole pieces number rec size short =
+    let text = λ (mark : ℕ). record_text (has_half pieces) number mark rec pieces in
+    sym (ap (λ mark. line_of size (text mark)) (cond-false (nat_lt (size - 1) (length (text 67))) 84 67 (le-ltb (size - 1) (length (text 67)) (omega arith))))
+
+pub printed_unmarked : (pieces : List Piece) (number : ℕ) (rec : LogRecord) (size : ℕ) → list_any (has_part is_mark) pieces ≡ false → line_of size (record_text (has_half pieces) number 67 rec pieces) ≡ printed_record pieces number rec size
+unfolding printed_record
+printed_unmarked pieces number rec size none =
+    ap (line_of size) (record_text-unmarked (has_half pieces) number 67 (mark_of (λ mark. record_text (has_half pieces) number mark rec pieces) size) rec pieces none)
+
+-- a text is as long with the one mark as with the other
+pub length-record_text : (half : Moment → Bool) (number one other : ℕ) (rec : LogRecord) (pieces : List Piece) → length (record_text half number one rec pieces) ≡ length (record_text half number other rec pieces)
+length-record_text half number one other rec [] = refl
+length-record_text half number one other rec (piece ∷ pieces) =
+    let front = piece_long half number one other rec piece in
+    let rest = length-record_text half number one other rec pieces in
+    let whole = length-append (piece_text half number one rec piece) (record_text half number one rec pieces) in
+    let whole' = length-append (piece_text half number other rec piece) (record_text half number other rec pieces) in
+    omega arith
+  where
+    in_places_long : (aligned : Bool) (width : Option ℕ) (one other : List ℕ) → length one ≡ length other → length (in_places aligned width one) ≡ length (in_places aligned width other)
+    in_places_long false None one other e = e
+    in_places_long true None one other e =
+        let left = length-append (spaces (10 - length one)) one in
+        let right = length-append (spaces (10 - length other)) other in
+        let blank : length (spaces (10 - length one)) ≡ length (spaces (10 - length other)) = ap (λ n. length (spaces (10 - n))) e in
+        omega arith
+    in_places_long aligned (Some width) one other e =
+        let left = length-append (take width one) (spaces (width - length one)) in
+        let right = length-append (take width other) (spaces (width - length other)) in
+        let one_long = length-take width one in
+        let other_long = length-take width other in
+        let blank : length (spaces (width - length one)) ≡ length (spaces (width - length other)) = ap (λ n. length (spaces (width - n))) e in
+        omega arith
+
+    part_long : (half : Moment → Bool) (number one other : ℕ) (rec : LogRecord) (part : Part) → length (part_text half number one rec part) ≡ length (part_text half number other rec part)
+    part_long half number one other rec Number = refl
+    part_long half number one other rec (Time moment part) = refl
+    part_long half number one other rec ClassId = refl
+    part_long half number one other rec Cut = refl
+    part_long half number one other rec Body = refl
+    part_long half number one other rec BodyBytes = refl
+    part_long half number one other rec NotificationId = refl
+    part_long half number one other rec EventType = refl
+    part_long half number one other rec Object = refl
+    part_long half number one other rec Notifier = refl
+    part_long half number one other rec User = refl
+    part_long half number one other rec Severity = refl
+
+    piece_long : (half : Moment → Bool) (number one other : ℕ) (rec : LogRecord) (piece : Piece) → length (piece_text half number one rec piece) ≡ length (piece_text half number other rec piece)
+    piece_long half number one other rec (Plain text) = refl
+    piece_long half number one other rec (Field token) = in_places_long (is_number token.part) token.width _ _ (part_long half number one other rec token.part)

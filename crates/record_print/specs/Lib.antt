@@ -1,0 +1,4 @@
+pub mod Figures
+pub mod Printing
+pub mod Records
+pub mod Sheets
