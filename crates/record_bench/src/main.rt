@@ -2,17 +2,16 @@
 //! how many bytes they have and what their bytes sum to. `bench/records` measures it.
 #![tactic(auto)]
 
-ghost use Rattle.std.specs.Prelude.{◌≡◌, IfOk, IsTrue};
+ghost use Rattle.std.specs.Prelude.{IfOk, IsTrue};
 ghost use Rattle.record_print.specs.Printing.{can_print};
 
 use ais_values::{ClassId, Name, StreamKind, Text};
 use format_expr::{Expr, parse_expr};
 use record_print::{Header, LogRecord, print_record};
 use std::alloc::{AllocError, Global};
-use std::env;
-use std::io;
 use std::io::ErrorKind;
 use std::rt::Env;
+use std::{env, io};
 
 const EXPRESSION: &[u8] = b"@Cr @Ch:@Cn:@Cs @Cm/@Cd/@CY @Sv @Sl \"@Cb\"";
 
