@@ -92,9 +92,11 @@ fn end_of<S: Source, D: SharedDisk>(
 ///
 /// The words `run` read the source to its end as a script and play it over the disk, whose files are then those
 /// of the script's records. The words `check` read it to its end and tell whether it is a script. The words
-/// `expr KIND TEXT` tell whether the text is a format expression; the source stays unread. With every status one text is written, as the clause `ends` says by cases over the
-/// status; `WriteFault` comes only where the sink's count of faults rose, and then a front of the text was written.
-/// The other statuses say nothing of memory, and `Memory` comes where there was none.
+/// `expr KIND TEXT` tell whether the text is a format expression; the source stays unread.
+///
+/// The clause `ends` says by cases over the status what was read, what is written and what stands on the disk.
+/// `WriteFault` comes only where the sink's count of faults rose; a front of the text was written then. Where
+/// memory ran out, `Memory`, nothing was written or a front of the text.
 pub fn run<S: Source, K: Sink, D: SharedDisk>(
     alloc: Global,
     words: &[String],

@@ -489,8 +489,8 @@ fn each_read_of_the_disk_fails_in_turn(rt: HostRuntime) -> Result<(), Fail> {
 fn an_input_has_at_most_16_mebibytes(rt: HostRuntime) -> Result<(), Fail> {
     let alloc = rt.alloc();
     refused(&rt, alloc, vec![in alloc; b'#'; 16_777_216]?, 0)?;
-    for (more, unread) in [(1, 0), (4, 3)] {
-        let mut stage = prepared(alloc, vec![in alloc; b'#'; 16_777_216 + more]?, NONE)?;
+    for (size, unread) in [(16_777_217, 0), (16_777_220, 3)] {
+        let mut stage = prepared(alloc, vec![in alloc; b'#'; size]?, NONE)?;
         let end = End(Status8::TooLong, b"script too long\n", b"");
         ends(&rt, alloc, &mut stage, &["run"], 0, end)?;
         assert_eq!(rt; stage.source.unread().len(), unread);
