@@ -1,0 +1,78 @@
+//! The names and the attributes of log streams.
+use ais_values::{Duplicate, Name, Text};
+use std::alloc::{AllocError, Global};
+
+/// What a stream does where its file is full.
+#[derive(Clone, Copy, Debug, PartialEq, Eq)]
+pub enum FullAction {
+    /// A new record takes the place of the oldest.
+    Wrap,
+    /// No further record is taken.
+    Halt,
+    /// A new file is begun.
+    Rotate,
+}
+
+/// The attributes of a stream. Any values can stand here: `check_attrs` says which a stream may have.
+#[derive(PartialEq, Drop)]
+pub struct StreamAttrs {
+    /// The first part of the names of its files.
+    pub file: Text,
+    /// The folder of its files, or `.`.
+    pub path: Text,
+    /// The greatest size of one of its files, in bytes.
+    pub max_file: u64,
+    /// The size of each of its records, in bytes.
+    pub record_size: u32,
+    /// The high-availability property, 0 or 1.
+    pub ha: u8,
+    /// What it does where its file is full.
+    pub action: FullAction,
+    /// The greatest number of its files that stand, where it rotates.
+    pub rotated: u32,
+    /// The expression by which its records are printed.
+    pub expr: Text,
+}
+
+/// The name of a stream: one of the three that are well known, or an application's own.
+#[derive(PartialEq, Drop)]
+pub enum StreamName {
+    Alarm,
+    Notification,
+    System,
+    App { name: Name },
+}
+
+impl Duplicate for FullAction {
+    fn copy(&self, _alloc: Global) -> Result<Self, AllocError> {
+        Ok(*self)
+    }
+}
+
+impl Duplicate for StreamAttrs {
+    fn copy(&self, alloc: Global) -> Result<Self, AllocError> {
+        Ok(StreamAttrs {
+            file: self.file.copy(alloc)?,
+            path: self.path.copy(alloc)?,
+            max_file: self.max_file,
+            record_size: self.record_size,
+            ha: self.ha,
+            action: self.action,
+            rotated: self.rotated,
+            expr: self.expr.copy(alloc)?,
+        })
+    }
+}
+
+impl Duplicate for StreamName {
+    fn copy(&self, alloc: Global) -> Result<Self, AllocError> {
+        match self {
+            StreamName::Alarm => Ok(StreamName::Alarm),
+            StreamName::Notification => Ok(StreamName::Notification),
+            StreamName::System => Ok(StreamName::System),
+            StreamName::App { name } => Ok(StreamName::App {
+                name: name.copy(alloc)?,
+            }),
+        }
+    }
+}

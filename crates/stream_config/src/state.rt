@@ -1,0 +1,41 @@
+//! What stands of a stream between two changes.
+use crate::{StreamAttrs, StreamName};
+use ais_values::{Duplicate, Seq};
+use std::alloc::{AllocError, Global};
+
+/// A file of records of a stream, by its stamps. A stamp is a second.
+#[derive(Clone, Copy, Debug, PartialEq, Eq)]
+pub struct LogFile {
+    /// The stamp at which the file was made.
+    pub created: i64,
+    /// The stamp at which it was closed; none while it is the current file.
+    pub closed: Option<i64>,
+}
+
+/// A stream as it stands.
+#[derive(PartialEq, Drop)]
+pub struct StreamState {
+    pub name: StreamName,
+    pub attrs: StreamAttrs,
+    /// How many records it has taken since it was made.
+    pub taken: u32,
+    /// Its files that stand, from the oldest to the current one.
+    pub files: Seq<LogFile>,
+}
+
+impl Duplicate for LogFile {
+    fn copy(&self, _alloc: Global) -> Result<Self, AllocError> {
+        Ok(*self)
+    }
+}
+
+impl Duplicate for StreamState {
+    fn copy(&self, alloc: Global) -> Result<Self, AllocError> {
+        Ok(StreamState {
+            name: self.name.copy(alloc)?,
+            attrs: self.attrs.copy(alloc)?,
+            taken: self.taken,
+            files: self.files.copy(alloc)?,
+        })
+    }
+}
