@@ -2,9 +2,13 @@
 use Rattle.std.specs.Prelude.{ℕ, ◌+◌, ◌-◌, ◌^◌, ◌≤◌, min, IsErrOf}
 use Rattle.std.specs.Prelude.{Result}
 
--- a count that stops at its type's end rose: it is greater, or stands at that end
+-- the next value of a count that stops at its type's end
+abbrev pub one_more : ℕ → ℕ
+one_more count = min (count + 1) (2 ^ 64 - 1)
+
+-- such a count rose: it is greater, or stands at that end
 abbrev pub Rose : ℕ → ℕ → Type 0
-Rose before now = min (before + 1) (2 ^ 64 - 1) ≤ now
+Rose before now = one_more before ≤ now
 
 -- the count has not fallen, and rose where the answer is this error
 pub record HasCauseOf {T E : Type 0} (before now : ℕ) (result : Result T E) (error : E) : Type 0 where

@@ -1,4 +1,9 @@
 pub mod Causes
 pub mod Codes
+pub mod Events
+pub mod FirstRow
 pub mod Names
 pub mod Statuses
+pub mod Tables
+pub mod Texts
+pub mod Times

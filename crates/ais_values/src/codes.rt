@@ -3,6 +3,8 @@ ghost use Rattle.std.specs.Prelude.{◌≡◌, ◌↔◌, ℕ, List, IsTrue, IsN
 ghost use Rattle.std.specs.List.{find};
 ghost use Rattle.ais_values.specs.Codes.{HasRow, are_apart, has_name, has_code};
 
+use crate::Duplicate;
+use std::alloc::{AllocError, Global};
 use std::convert::AsStr;
 
 /// A code of the interface and its printed name.
@@ -10,6 +12,12 @@ use std::convert::AsStr;
 pub struct CodeRow<S = &'static str> {
     pub code: u32,
     pub name: S,
+}
+
+impl<S: Copy> Duplicate for CodeRow<S> {
+    fn copy(&self, _alloc: Global) -> Result<Self, AllocError> {
+        Ok(*self)
+    }
 }
 
 /// The first row of this name.

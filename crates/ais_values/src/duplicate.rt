@@ -34,6 +34,18 @@ impl Duplicate for u64 {
     }
 }
 
+impl Duplicate for i64 {
+    fn copy(&self, _alloc: Global) -> Result<Self, AllocError> {
+        Ok(*self)
+    }
+}
+
+impl Duplicate for bool {
+    fn copy(&self, _alloc: Global) -> Result<Self, AllocError> {
+        Ok(*self)
+    }
+}
+
 impl<T: Duplicate> Duplicate for Option<T> {
     fn copy(&self, alloc: Global) -> Result<Self, AllocError> {
         match self {

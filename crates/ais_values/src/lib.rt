@@ -3,20 +3,26 @@
 
 mod codes;
 mod duplicate;
+mod events;
 mod kind;
+mod law;
 mod name;
 mod seq;
 mod status;
 pub mod tables;
 mod text;
+mod times;
 
 pub use codes::{CodeRow, code_of, name_of};
 pub use duplicate::Duplicate;
+pub use events::is_event_type;
 pub use kind::{ClassId, StreamKind, Version, Which};
-pub use name::{Name, NameAnswer};
+pub use law::{law_of_tables, law_of_unknown_time};
+pub use name::{MAX_NAME, Name, NameAnswer};
 pub use seq::Seq;
 pub use status::{Status, negotiate};
-pub use text::{Text, TextAnswer};
+pub use text::{MAX_TEXT, Text, TextAnswer};
+pub use times::{UNKNOWN_TIME, is_time};
 
 #[cfg(test)]
 mod tests;

@@ -1,159 +1,32 @@
-//! What no clause says: the tables' rows, and that each call succeeds while there is memory.
-ghost use Rattle.std.specs.Prelude.{IsTrue};
-ghost use Rattle.ais_values.specs.Codes.{are_apart};
-
+//! What no clause says: that each call succeeds while there is memory.
 use crate::tables::*;
 use crate::*;
-use std::convert::AsStr;
-use std::process::Abort;
 use std::test::Fail;
 
-/// The table has these rows and no others, and both look-ups find them.
-fn has_rows<S: AsStr + Copy, const N: usize>(
-    rt: &impl Abort,
-    table: &[CodeRow<S>; N],
-    rows: &[(u32, &str)],
-)
-    requires { IsTrue (are_apart S.text table.now) }
-{
-    assert_eq!(rt; table.as_slice().len(), rows.len());
-    for row in rows {
-        assert_eq!(rt; code_of(table, row.1), Some(row.0));
-        match name_of(table, row.0) {
-            Some(name) => assert!(rt; name.as_str() == row.1),
-            None => assert!(rt; false, "no name for {}", row.0),
-        }
+#[test]
+fn codes_and_names(rt: HostRuntime) {
+    for (code, name) in [(0x3001, "state change"), (0x4002, "QoS")] {
+        assert_eq!(rt; code_of(&EVENT_TYPES, name), Some(code));
+        assert_eq!(rt; name_of(&EVENT_TYPES, code), Some(name));
     }
-    assert_eq!(rt; code_of(table, "nothing"), None);
-    assert!(rt; name_of(table, 4_000_000_000).is_none());
-}
-
-#[test]
-fn tables_of_answers_and_logs(rt: HostRuntime) {
-    has_rows(
-        &rt,
-        &STATUSES,
-        &[
-            (1, "ok"),
-            (3, "VERSION"),
-            (6, "TRY_AGAIN"),
-            (7, "INVALID_PARAM"),
-            (9, "BAD_HANDLE"),
-            (12, "NOT_EXIST"),
-            (14, "EXIST"),
-            (15, "NO_SPACE"),
-            (18, "NO_RESOURCES"),
-            (25, "BAD_FLAGS"),
-        ],
-    );
-    has_rows(
-        &rt,
-        &LOG_SEVERITIES,
-        &[
-            (0, "EM"),
-            (1, "AL"),
-            (2, "CR"),
-            (3, "ER"),
-            (4, "WA"),
-            (5, "NO"),
-            (6, "IN"),
-        ],
-    );
-    has_rows(
-        &rt,
-        &FULL_ACTIONS,
-        &[(1, "WRAP"), (2, "HALT"), (3, "ROTATE")],
-    );
-    has_rows(
-        &rt,
-        &MONTHS,
-        &[
-            (1, "Jan"),
-            (2, "Feb"),
-            (3, "Mar"),
-            (4, "Apr"),
-            (5, "May"),
-            (6, "Jun"),
-            (7, "Jul"),
-            (8, "Aug"),
-            (9, "Sep"),
-            (10, "Oct"),
-            (11, "Nov"),
-            (12, "Dec"),
-        ],
-    );
-}
-
-#[test]
-fn tables_of_notifications(rt: HostRuntime) {
-    has_rows(
-        &rt,
-        &NOTIFICATION_TYPES,
-        &[
-            (0x1000, "objects"),
-            (0x2000, "attributes"),
-            (0x3000, "states"),
-            (0x4000, "alarm"),
-            (0x5000, "security"),
-        ],
-    );
-    has_rows(
-        &rt,
-        &EVENT_TYPES,
-        &[
-            (0x1001, "creation"),
-            (0x1002, "deletion"),
-            (0x2001, "added"),
-            (0x2002, "removed"),
-            (0x2003, "changed"),
-            (0x2004, "reset"),
-            (0x3001, "state change"),
-            (0x4001, "communication"),
-            (0x4002, "QoS"),
-            (0x4003, "processing"),
-            (0x4004, "equipment"),
-            (0x4005, "environment"),
-            (0x5001, "integrity"),
-            (0x5002, "operation"),
-            (0x5003, "physical"),
-            (0x5004, "security service"),
-            (0x5005, "time"),
-        ],
-    );
-    has_rows(
-        &rt,
-        &PERCEIVED_SEVERITIES,
-        &[
-            (0, "CLEARED"),
-            (1, "INDETERMINATE"),
-            (2, "WARNING"),
-            (3, "MINOR"),
-            (4, "MAJOR"),
-            (5, "CRITICAL"),
-        ],
-    );
-    has_rows(
-        &rt,
-        &SOURCE_INDICATORS,
-        &[
-            (1, "OBJECT_OPERATION"),
-            (2, "UNKNOWN_OPERATION"),
-            (3, "MANAGEMENT_OPERATION"),
-        ],
-    );
-    has_rows(
-        &rt,
-        &SEARCH_MODES,
-        &[
-            (1, "BEFORE_OR_AT_TIME"),
-            (2, "AT_TIME"),
-            (3, "AT_OR_AFTER_TIME"),
-            (4, "BEFORE_TIME"),
-            (5, "AFTER_TIME"),
-            (6, "NOTIFICATION_ID"),
-            (7, "ONLY_FILTER"),
-        ],
-    );
+    assert_eq!(rt; code_of(&MONTHS, "nothing"), None);
+    assert_eq!(rt; name_of(&MONTHS, 13), None);
+    for (code, found) in [
+        (0x1000, false),
+        (0x1001, true),
+        (0x5005, true),
+        (0x5006, false),
+    ] {
+        assert_eq!(rt; is_event_type(code), found);
+    }
+    for (time, accepted) in [
+        (i64::MIN, true),
+        (i64::MIN + 1, false),
+        (-1, false),
+        (0, true),
+    ] {
+        assert_eq!(rt; is_time(time), accepted);
+    }
 }
 
 #[test]
@@ -266,6 +139,9 @@ fn lists_and_copies(rt: HostRuntime) -> Result<(), Fail> {
     assert_eq!(rt; Some(7u8).copy(alloc)?, Some(7));
     assert_eq!(rt; None::<u32>.copy(alloc)?, None);
     assert_eq!(rt; u64::MAX.copy(alloc)?, u64::MAX);
+    assert_eq!(rt; i64::MIN.copy(alloc)?, i64::MIN);
+    assert!(rt; true.copy(alloc)?);
+    assert_eq!(rt; MONTHS[3].copy(alloc)?, MONTHS[3]);
     assert_eq!(rt; Which::Ntf.copy(alloc)?, Which::Ntf);
     assert_eq!(rt; StreamKind::System.copy(alloc)?, StreamKind::System);
     let version = Version {

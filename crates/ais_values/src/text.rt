@@ -1,5 +1,6 @@
 //! Bounded byte strings.
-ghost use Rattle.std.specs.Prelude.{◌≡◌, ◌<◌, ◌≤◌, ◌↔◌, length, IfOk, IsErrOf};
+ghost use Rattle.std.specs.Prelude.{◌≡◌, ◌↔◌, IfOk, IsErrOf};
+ghost use Rattle.ais_values.specs.Texts.{IsText};
 ghost use Rattle.ais_values.specs.declared.text.TextAnswer.TheVariants.{Refused};
 
 use crate::Duplicate;
@@ -36,13 +37,14 @@ pub struct Text {
 }
 
 impl Model for Text {
-    ghost use Rattle.std.specs.Prelude.{List, ℕ, ◌≤◌, length};
+    ghost use Rattle.std.specs.Prelude.{List, ℕ};
+    ghost use Rattle.ais_values.specs.Texts.{IsText};
 
     ghost Value = { List ℕ };
 
     ghost view = { λ text. text.bytes.items };
 
-    ghost invariant = { λ text. length text.bytes.items ≤ 16384 };
+    ghost invariant = { λ text. IsText text.bytes.items };
 }
 
 impl Text {
@@ -51,7 +53,7 @@ impl Text {
     /// `Refused` comes exactly where there are more than 16,384 bytes.
     pub fn new(alloc: Global, bytes: &[u8]) -> Result<Text, TextAnswer>
         ensures ok { IfOk result (λ text. text ≡ bytes.now) }
-        ensures refused { IsErrOf result Refused ↔ (16384 < length bytes.now) }
+        ensures refused { IsErrOf result Refused ↔ (¬ IsText bytes.now) }
     {
         if bytes.len() > MAX_TEXT {
             return Err(TextAnswer::Refused);
@@ -62,7 +64,7 @@ impl Text {
 
     /// The text of these bytes. It takes no memory.
     pub fn from_vec(bytes: Vec<u8>) -> Text
-        requires { length bytes.items ≤ 16384 }
+        requires { IsText bytes.items }
         ensures { result ≡ bytes.items }
     {
         Text { bytes }
@@ -71,7 +73,7 @@ impl Text {
     /// The bytes, of which there are at most 16,384.
     pub fn as_slice(&self) -> &[u8]
         ensures bytes { result.now ≡ self.now }
-        ensures bound { length self.now ≤ 16384 }
+        ensures bound { IsText self.now }
     {
         self.bytes.as_slice()
     }
