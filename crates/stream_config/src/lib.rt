@@ -2,9 +2,11 @@
 #![tactic(auto)]
 
 mod attrs;
+mod check;
 mod event;
 mod state;
 
 pub use attrs::{FullAction, StreamAttrs, StreamName};
+pub use check::{check_attrs, have_one_place};
 pub use event::{Stamps, StreamEvent};
 pub use state::{LogFile, StreamState};
