@@ -1,0 +1,95 @@
+//! A set of clients.
+ghost use Rattle.std.specs.Prelude.{◌≡◌, ℕ, nat_lt, ◌==◌, [], MatchResult, OnOk, OnErr};
+ghost use Rattle.client_set.specs.Members.{has};
+ghost use Rattle.client_set.specs.Rising.{put, without, IsRising};
+ghost use Rattle.client_set.specs.Searching.{IsPlaceOf, IsPlaceFor};
+
+use ais_values::Duplicate;
+use std::alloc::{AllocError, Global};
+use std::marker::Model;
+
+/// A set of clients by their numbers. Contracts see the rising list of them.
+#[derive(Drop)]
+pub struct ClientSet {
+    clients: Vec<u16>,
+}
+
+impl Model for ClientSet {
+    ghost use Rattle.std.specs.Prelude.{List, ℕ, nat_lt};
+    ghost use Rattle.client_set.specs.Rising.{IsRising};
+
+    ghost Value = { List ℕ };
+
+    ghost view = { λ set. set.clients.items };
+
+    ghost invariant = { λ set. IsRising nat_lt set.clients.items };
+}
+
+/// The place of a client in a rising list, or the one where it belongs.
+fn place_of(clients: &[u16], client: u16) -> Result<usize, usize>
+    requires { IsRising nat_lt clients.now }
+    ensures { MatchResult result (IsPlaceOf clients.now client) (IsPlaceFor clients.now client) }
+{
+    clients.binary_search(&client)
+}
+
+impl ClientSet {
+    /// The empty set. It takes no memory.
+    pub fn new(alloc: Global) -> ClientSet
+        ensures { result ≡ [] }
+    {
+        ClientSet {
+            clients: Vec::new(alloc),
+        }
+    }
+
+    /// The set of these clients. It takes no memory.
+    pub fn from_rising(clients: Vec<u16>) -> ClientSet
+        requires { IsRising nat_lt clients.items }
+        ensures { result ≡ clients.items }
+    {
+        ClientSet { clients }
+    }
+
+    /// Whether the client is in the set.
+    pub fn contains(&self, client: u16) -> bool
+        ensures { result ≡ has client self.now }
+    {
+        place_of(self.clients.as_slice(), client).is_ok()
+    }
+
+    /// Puts the client into the set. On an error nothing changes.
+    pub fn insert(&mut self, client: u16) -> Result<(), AllocError>
+        ensures ok { OnOk result (self.new ≡ put nat_lt client self.old) }
+        ensures err { OnErr result (self.new ≡ self.old) }
+    {
+        if let Err(place) = place_of(self.clients.as_slice(), client) {
+            self.clients.insert(place, client)?;
+        }
+        Ok(())
+    }
+
+    /// Takes the client out of the set. It takes no memory.
+    pub fn remove(&mut self, client: u16)
+        ensures { self.new ≡ without (λ other. other == client) self.old }
+    {
+        if let Ok(place) = place_of(self.clients.as_slice(), client) {
+            self.clients.remove(place);
+        }
+    }
+
+    /// The clients, rising.
+    pub fn as_slice(&self) -> &[u16]
+        ensures clients { result.now ≡ self.now }
+        ensures rising { IsRising nat_lt self.now }
+    {
+        self.clients.as_slice()
+    }
+}
+
+impl Duplicate for ClientSet {
+    fn copy(&self, alloc: Global) -> Result<Self, AllocError> {
+        let clients = self.clients.to_vec(alloc)?;
+        Ok(ClientSet { clients })
+    }
+}

@@ -1,0 +1,8 @@
+//! Sets of clients, kept as rising lists, and the laws of lists that rise.
+#![tactic(auto)]
+
+mod client_set;
+#[cfg(test)]
+mod tests;
+
+pub use client_set::ClientSet;
