@@ -1,0 +1,20 @@
+-- What is kept of the calls of one client, by all replies that were ever taken, the newest first. The first call has number 1.
+use Rattle.std.specs.Prelude.{◌≡◌, ℕ, ◌+◌, ◌-◌, ◌≤◌, min, List, length, take, reverse}
+
+-- the number of the next call, and the last replies, the newest first
+pub record Kept (R : Type 0) : Type 0 where
+  pub next : ℕ
+  pub replies : List R
+
+-- the window after all these replies: the last 32 are kept
+abbrev pub window_of : {R : Type 0} → List R → Kept R
+window_of all = record { next = length all + 1; replies = take 32 all }
+
+-- the window with this number of the next call, and these replies, the oldest first
+abbrev pub window_of_parts : {R : Type 0} → ℕ → List R → Kept R
+window_of_parts next replies = record { next = next; replies = reverse replies }
+
+-- so many replies are kept before the next call: one for each call before it, or 32, whichever is less
+pub record HasRepliesBefore (next count : ℕ) : Type 0 where
+  pub first : 1 ≤ next
+  pub kept : count ≡ min (next - 1) 32

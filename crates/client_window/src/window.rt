@@ -1,0 +1,117 @@
+//! The window of one client's calls.
+ghost use Rattle.std.specs.Prelude.{◌≡◌, ◌+◌, ◌<◌, ◌≤◌, List, [], ◌∷◌, length, take, reverse, slice_get, IfOk};
+ghost use Rattle.std.specs.Option.{option_copied};
+ghost use Rattle.std.specs.VecDeque.{deque_capacity};
+ghost use Rattle.client_window.specs.Windows.{window_of, window_of_parts, HasRepliesBefore};
+ghost use Rattle.client_window.specs.Judgement.{IsJudged};
+
+use crate::Judged;
+use ais_values::Seq;
+use std::alloc::{AllocError, Global};
+use std::collections::VecDeque;
+use std::marker::Model;
+
+/// How many replies are kept.
+const KEPT: usize = 32;
+
+/// The number of a client's next call, and the replies to the 32 calls before it.
+#[derive(Drop)]
+pub struct Window<R> {
+    next: u32,
+    replies: VecDeque<R>,
+}
+
+impl<R> Model for Window<R> {
+    ghost use Rattle.client_window.specs.Windows.{Kept};
+
+    ghost Value = { Kept R };
+
+    ghost use Rattle.client_window.specs.Inside.{kept_of, IsKept};
+
+    ghost view = { kept_of };
+
+    ghost invariant = { IsKept };
+}
+
+/// Puts a reply in front, and lets the last one go where no place is free.
+fn keep<R: Drop>(replies: &mut VecDeque<R>, reply: R)
+    requires bound { length replies.old.items ≤ 32 }
+    requires room { 32 ≤ deque_capacity replies.old }
+    ensures items { replies.new.items ≡ take 32 (reply ∷ replies.old.items) }
+    ensures capacity { deque_capacity replies.new ≡ deque_capacity replies.old }
+{
+    replies.truncate(KEPT - 1);
+    replies.push_front_reserved(reply);
+}
+
+impl<R: Drop> Window<R> {
+    /// The window of a client that has made no call. It takes the memory of all its replies.
+    pub fn new(alloc: Global) -> Result<Window<R>, AllocError>
+        ensures { IfOk result (λ window. window ≡ window_of []) }
+    {
+        Ok(Window {
+            next: 1,
+            replies: VecDeque::with_capacity(alloc, KEPT)?,
+        })
+    }
+
+    /// The window with these parts, the oldest reply first. It takes the memory of all its replies.
+    pub fn rebuild(alloc: Global, next: u32, replies: Seq<R>) -> Result<Window<R>, AllocError>
+        requires { HasRepliesBefore next (length replies) }
+        ensures { IfOk result (λ window. window ≡ window_of_parts next replies) }
+    {
+        let mut items = replies.into_vec();
+        items.reverse();
+        items.reserve(KEPT - items.len())?;
+        Ok(Window {
+            next,
+            replies: VecDeque::from_vec(items),
+        })
+    }
+
+    /// What the call of this number is. It takes no memory.
+    pub fn judge(&self, seq: u32) -> Judged<'_, R>
+        ensures { (all : List R) → self.now ≡ window_of all → IsJudged seq all result }
+    {
+        if seq > self.next {
+            return Judged::Ahead;
+        }
+        if seq == self.next {
+            return Judged::New;
+        }
+        match self.replies.get((self.next - seq - 1) as usize) {
+            Some(reply) => Judged::Repeat { reply },
+            None => Judged::Old,
+        }
+    }
+
+    /// Takes the reply to the next call. It takes no memory.
+    pub fn take(&mut self, reply: R)
+        requires { self.old.next < 4294967295 }
+        ensures { (all : List R) → self.old ≡ window_of all → self.new ≡ window_of (reply ∷ all) }
+    {
+        keep(&mut self.replies, reply);
+        self.next += 1;
+    }
+
+    /// The number of the next call. A window always stands for some replies.
+    pub fn next(&self) -> u32
+        ensures next { result ≡ self.now.next }
+        ensures stands { (all : List R) × (self.now ≡ window_of all) }
+    {
+        self.next
+    }
+
+    /// The reply at this place among those that are kept, the oldest at place 0.
+    pub fn reply_at(&self, i: u32) -> Option<&R>
+        ensures { option_copied result ≡ slice_get (reverse self.now.replies) i }
+    {
+        let count = self.replies.len();
+        let place = i as usize;
+        if place < count {
+            self.replies.get(count - 1 - place)
+        } else {
+            None
+        }
+    }
+}
