@@ -1,2 +1,4 @@
 pub mod Fit
+pub mod FitTests
 pub mod Matching
+pub mod Meaning

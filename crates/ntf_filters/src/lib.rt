@@ -1,5 +1,5 @@
 //! Filters of notifications: what a subscription and a reader of stored alarms ask for
-//! (SAI-AIS-NTF-A.01.01, 3.13).
+//! (SAI-AIS-NTF-A.01.01).
 #![tactic(auto)]
 
 mod check;

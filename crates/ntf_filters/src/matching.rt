@@ -1,6 +1,7 @@
 //! Which notifications a set of filters asks for.
 ghost use Rattle.std.specs.Prelude.{◌≡◌, ◌↔◌, IsTrue};
-ghost use Rattle.ntf_filters.specs.Matching.{admits, admits_option, source_of, cause_of, severity_of, filter_for, admits_common, admits_body, is_admitted, matches, IsMatch};
+ghost use Rattle.ntf_filters.specs.Meaning.{source_of, cause_of, severity_of, filter_for, IsMatch};
+ghost use Rattle.ntf_filters.specs.Matching.{admits, admits_option, admits_common, admits_body, is_admitted};
 
 use crate::{Filter, FilterSet};
 use ntf_types::{Body, Notification};
@@ -101,8 +102,7 @@ fn is_admitted(notification: &Notification, filter: &Filter) -> bool
 /// each list of that filter is empty or holds what the notification has. A list of what the notification
 /// has not, as a cause where it is no alarm, must be empty. It takes no memory.
 pub fn matches(filters: &FilterSet, notification: &Notification) -> bool
-    ensures value { result ≡ matches filters.now notification.now }
-    ensures meaning { IsTrue result ↔ IsMatch filters.now notification.now }
+    ensures { IsTrue result ↔ IsMatch filters.now notification.now }
 {
     match filter_for(filters, &notification.body) {
         None => false,
