@@ -10,10 +10,10 @@ use Rattle.sub_queue.specs.declared.item.Lost.{Lost}
 use Rattle.sub_queue.specs.declared.item.Content.{Content}
 use Rattle.sub_queue.specs.declared.item.Content.TheVariants.{Notified}
 use Rattle.sub_queue.specs.Items.{mark_of, discarded, marks_of, marks_in, numbered}
-use Rattle.sub_queue.specs.Queue.{Queue, IsNew, has_room, offered, received}
+use Rattle.sub_queue.specs.Queue.{Queue, IsNew, IsCapacity, IsSound, next_number, has_room, offered, received}
 use Rattle.sub_queue.specs.History.{Happening, Account, has_place, is_new_receipt, after_offer, after_receipt, account_of, marks_offered, queue_for}
 use Rattle.sub_queue.specs.History.Happening.{Offered, Receipted}
-use Rattle.sub_queue.proofs.Keeping.{drop-numbered}
+use Rattle.sub_queue.proofs.Keeping.{drop-numbered, length-discarded}
 
 -- the account after an offer, by whether a place was free
 abbrev offer_by : Notification → Account → Bool → Account
@@ -31,9 +31,10 @@ receipt_by through account new = record {
   lost = cond new [] account.lost;
 }
 
--- receipts go no further than the items made, and something is lost only while all places are taken
+-- receipts go no further than the items made, no more items are held than places, and something is lost only while all places are taken
 pub record IsPossible (capacity : ℕ) (account : Account) : Type 0 where
   pub receipts : account.through ≤ length account.made
+  pub places : length account.made - account.through ≤ capacity
   pub lost : (account.lost ≡ []) ⊎ (capacity ≤ length account.made - account.through)
 
 -- where a place is free, nothing is lost
@@ -46,9 +47,10 @@ IsPossible-offer capacity notification account possible =
     let P : Bool → Type 0 = λ place. IsPossible capacity (offer_by notification account place) in
     let more = length-append account.made (Notified notification ∷ []) in
     let receipts = possible.receipts in
+    let places = possible.places in
     elim (leb_tells (suc (length account.made - account.through)) capacity) [
-      | inl room ↦ subst P (sym room.0) (record { receipts = omega arith; lost = inl (none_lost capacity account possible room.1) })
-      | inr full ↦ subst P (sym full.0) (record { receipts = receipts; lost = inr (omega arith) })
+      | inl room ↦ subst P (sym room.0) (record { receipts = omega arith; places = omega arith; lost = inl (none_lost capacity account possible room.1) })
+      | inr full ↦ subst P (sym full.0) (record { receipts = receipts; places = places; lost = inr (omega arith) })
     ]
 
 -- two tests hold both, or not
@@ -66,9 +68,14 @@ IsPossible-receipt : (capacity through : ℕ) (account : Account) → IsPossible
 IsPossible-receipt capacity through account possible =
     let P : Bool → Type 0 = λ new. IsPossible capacity (receipt_by through account new) in
     let more = length-append account.made (discarded account.lost) in
+    let one = length-discarded account.lost in
+    let places = possible.places in
     elim (both_tests (nat_lt account.through through) (nat_le through (length account.made))) [
       | inl new ↦ elim (leb_tells through (length account.made)) [
-        | inl within ↦ let made = within.1 in subst P (sym new) (record { receipts = omega arith; lost = inl refl })
+        | inl within ↦
+            let made = within.1 in
+            let after = leb-true (suc account.through) through (both (nat_lt account.through through) (nat_le through (length account.made)) new).0 in
+            subst P (sym new) (record { receipts = omega arith; places = omega arith; lost = inl refl })
         | inr beyond ↦ let tests = both (nat_lt account.through through) (nat_le through (length account.made)) new in absurd (cc (beyond.0, tests.1))
       ]
       | inr old ↦ subst P (sym old) possible
@@ -76,7 +83,7 @@ IsPossible-receipt capacity through account possible =
 
 -- each account of what happened is possible
 pub account_of-possible : (capacity : ℕ) (past : List Happening) → IsPossible capacity (account_of capacity past)
-account_of-possible capacity [] = record { receipts = omega arith; lost = inl refl }
+account_of-possible capacity [] = record { receipts = omega arith; places = omega arith; lost = inl refl }
 account_of-possible capacity (Offered notification ∷ past) =
     IsPossible-offer capacity notification (account_of capacity past) (account_of-possible capacity past)
 account_of-possible capacity (Receipted through ∷ past) =
@@ -177,3 +184,32 @@ received-queue_for capacity through account new =
 pub numbered-held : (through : ℕ) (made : List Content) → numbered (through + 1) (drop through made) ≡ drop through (numbered 1 made)
 numbered-held through made =
     ap (λ number. numbered number (drop through made)) (add_comm through 1) ∙ sym (drop-numbered through 1 made)
+
+-- what is held are the items made that have no receipt: at most as many as there are places
+pub held-places : (capacity : ℕ) (account : Account) → IsPossible capacity account → length (queue_for capacity account).held ≤ capacity
+held-places capacity account possible =
+    let held = length-drop account.through account.made in
+    let places = possible.places in
+    omega arith
+
+-- the next item's number is one above the count of items made
+pub next_number-made : (capacity : ℕ) (account : Account) → IsPossible capacity account → next_number (queue_for capacity account) ≡ length account.made + 1
+next_number-made capacity account possible =
+    let held = length-drop account.through account.made in
+    let receipts = possible.receipts in
+    omega arith
+
+-- while numbers are left, the queue that stands for an account is sound
+pub queue_for-sound : (capacity : ℕ) (account : Account) → IsPossible capacity account → IsCapacity capacity → length account.made < 4294967295 → IsSound (queue_for capacity account)
+queue_for-sound capacity account possible fits left =
+    let held = length-drop account.through account.made in
+    let receipts = possible.receipts in
+    let places = possible.places in
+    let next = next_number-made capacity account possible in
+    record {
+      capacity = fits;
+      first = omega arith;
+      numbers = omega arith;
+      places = held-places capacity account possible;
+      lost = elim possible.lost [ inl none ↦ inl none | inr full ↦ inr (omega arith) ];
+    }

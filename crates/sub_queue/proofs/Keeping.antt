@@ -73,7 +73,7 @@ IsSound-lost queue lost sound full =
     record { capacity = sound.capacity; first = sound.first; numbers = sound.numbers; places = places; lost = inr (omega arith) }
 
 -- at most one item holds what was lost
-length-discarded : (lost : List Lost) → length (discarded lost) ≤ 1
+pub length-discarded : (lost : List Lost) → length (discarded lost) ≤ 1
 length-discarded [] = omega arith
 length-discarded (first ∷ others) = omega arith
 

@@ -1,9 +1,9 @@
 //! Laws of a subscription over all that may happen to it.
-ghost use Rattle.std.specs.Prelude.{◌≡◌, ◌↔◌, ℕ, ◌+◌, ◌<◌, List, [], ◌∷◌, ◌++◌, map, drop, length, IsTrue};
+ghost use Rattle.std.specs.Prelude.{◌≡◌, ◌↔◌, ℕ, ◌+◌, ◌<◌, ◌≤◌, List, [], ◌∷◌, ◌++◌, drop, length, IsTrue};
 ghost use Rattle.ntf_types.specs.declared.notification.Notification.{Notification};
 ghost use Rattle.sub_queue.specs.declared.item.Lost.{Lost};
 ghost use Rattle.sub_queue.specs.Items.{numbered, marks_in};
-ghost use Rattle.sub_queue.specs.Queue.{empty_queue, IsNew, offered, received};
+ghost use Rattle.sub_queue.specs.Queue.{empty_queue, next_number, IsCapacity, IsSound, IsNew, offered, received};
 ghost use Rattle.sub_queue.specs.History.{Happening, account_of, is_new_receipt, marks_offered, queue_for};
 ghost use Rattle.sub_queue.specs.History.Happening.{Offered, Receipted};
 
@@ -31,4 +31,20 @@ pub fn law_of_calls()
     ensures items { (capacity : ℕ) (past : List Happening) →
         numbered (queue_for capacity (account_of capacity past)).first (queue_for capacity (account_of capacity past)).held
         ≡ drop (account_of capacity past).through (numbered 1 (account_of capacity past).made) }
+{}
+
+/// Whatever happened: receipts go no further than the items ever made; no more items are held than the
+/// capacity; the next item's number is one above the count of items ever made; and while that number is
+/// left, the queue is one that can be rebuilt.
+pub fn law_of_counts()
+    ensures receipts { (capacity : ℕ) (past : List Happening) →
+        (account_of capacity past).through ≤ length (account_of capacity past).made }
+    ensures places { (capacity : ℕ) (past : List Happening) →
+        length (queue_for capacity (account_of capacity past)).held ≤ capacity }
+    ensures numbers { (capacity : ℕ) (past : List Happening) →
+        next_number (queue_for capacity (account_of capacity past))
+        ≡ length (account_of capacity past).made + 1 }
+    ensures sound { (capacity : ℕ) (past : List Happening) →
+        IsCapacity capacity → length (account_of capacity past).made < 4294967295 →
+        IsSound (queue_for capacity (account_of capacity past)) }
 {}
