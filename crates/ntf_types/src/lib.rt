@@ -1,5 +1,5 @@
 //! Notifications of the Notification Service: their types, and the check that a send must pass
-//! (SAI-AIS-NTF-A.01.01, 3.12).
+//! (SAI-AIS-NTF-A.01.01).
 #![tactic(auto)]
 
 mod check;
