@@ -1,0 +1,72 @@
+//! What a service accepts, and the items that it holds for a client.
+use crate::Call;
+use ais_values::Duplicate;
+use std::alloc::{AllocError, Global};
+use sub_queue::Item;
+
+/// What a service accepted, and when: nanoseconds since 1970 in UTC.
+#[derive(PartialEq, Drop)]
+pub enum Entry {
+    /// The call of a client, under its number.
+    Called {
+        client: u16,
+        seq: u32,
+        time: i64,
+        call: Call,
+    },
+    /// The receipt of a client for the items of the subscription `key`, through a number.
+    Receipted {
+        client: u16,
+        key: u32,
+        through: u32,
+        time: i64,
+    },
+}
+
+/// An item that has no receipt yet.
+#[derive(PartialEq, Drop)]
+pub struct Held {
+    pub client: u16,
+    /// The number of the call that made the subscription.
+    pub key: u32,
+    pub item: Item,
+}
+
+impl Duplicate for Entry {
+    fn copy(&self, alloc: Global) -> Result<Self, AllocError> {
+        match self {
+            Entry::Called {
+                client,
+                seq,
+                time,
+                call,
+            } => Ok(Entry::Called {
+                client: *client,
+                seq: *seq,
+                time: *time,
+                call: call.copy(alloc)?,
+            }),
+            Entry::Receipted {
+                client,
+                key,
+                through,
+                time,
+            } => Ok(Entry::Receipted {
+                client: *client,
+                key: *key,
+                through: *through,
+                time: *time,
+            }),
+        }
+    }
+}
+
+impl Duplicate for Held {
+    fn copy(&self, alloc: Global) -> Result<Self, AllocError> {
+        Ok(Held {
+            client: self.client,
+            key: self.key,
+            item: self.item.copy(alloc)?,
+        })
+    }
+}

@@ -1,0 +1,14 @@
+//! Calls and their answers, entries, callbacks and the saved value of a service; and the history of what was accepted.
+#![tactic(auto)]
+
+mod call;
+mod entry;
+mod history;
+mod reply;
+mod saved;
+
+pub use call::{Ask, Call};
+pub use entry::{Entry, Held};
+pub use history::History;
+pub use reply::{Callback, Reply};
+pub use saved::{Saved, SavedAlarm, SavedReader, SavedStream, SavedSub, SavedWindow};

@@ -1,0 +1,60 @@
+//! What a service answers, and what a client's callbacks tell.
+use ais_values::{Duplicate, Seq, Status};
+use ntf_types::Notification;
+use std::alloc::{AllocError, Global};
+use sub_queue::Lost;
+
+/// The answer to a call.
+#[derive(PartialEq, Drop)]
+pub enum Reply {
+    /// The call changed nothing.
+    Refused { status: Status },
+    Done,
+    /// The notification was sent, and has this id.
+    Sent { id: u64 },
+    /// The stored alarm that was read.
+    Found { notification: Notification },
+}
+
+/// What a callback tells a client.
+#[derive(PartialEq, Drop)]
+pub enum Callback {
+    /// What became of a record whose writer asked to be told.
+    Written { invocation: u64, status: Status },
+    /// A notification for the subscription of this id.
+    Notified { id: u32, notification: Notification },
+    /// Notifications for the subscription of this id were lost.
+    Discarded { id: u32, lost: Seq<Lost> },
+}
+
+impl Duplicate for Reply {
+    fn copy(&self, alloc: Global) -> Result<Self, AllocError> {
+        match self {
+            Reply::Refused { status } => Ok(Reply::Refused { status: *status }),
+            Reply::Done => Ok(Reply::Done),
+            Reply::Sent { id } => Ok(Reply::Sent { id: *id }),
+            Reply::Found { notification } => Ok(Reply::Found {
+                notification: notification.copy(alloc)?,
+            }),
+        }
+    }
+}
+
+impl Duplicate for Callback {
+    fn copy(&self, alloc: Global) -> Result<Self, AllocError> {
+        match self {
+            Callback::Written { invocation, status } => Ok(Callback::Written {
+                invocation: *invocation,
+                status: *status,
+            }),
+            Callback::Notified { id, notification } => Ok(Callback::Notified {
+                id: *id,
+                notification: notification.copy(alloc)?,
+            }),
+            Callback::Discarded { id, lost } => Ok(Callback::Discarded {
+                id: *id,
+                lost: lost.copy(alloc)?,
+            }),
+        }
+    }
+}

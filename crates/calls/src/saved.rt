@@ -1,0 +1,145 @@
+//! The value of a service, as it is handed on.
+use crate::Reply;
+use ais_values::{Duplicate, Seq};
+use ntf_filters::FilterSet;
+use ntf_types::Notification;
+use std::alloc::{AllocError, Global};
+use stream_config::StreamState;
+use sub_queue::{Content, Lost};
+
+/// The window of a client: the number of its next call, and its last replies, the oldest first.
+#[derive(PartialEq, Drop)]
+pub struct SavedWindow {
+    pub client: u16,
+    pub next: u32,
+    pub replies: Seq<Reply>,
+}
+
+/// A stream, and the clients that have it open.
+#[derive(PartialEq, Drop)]
+pub struct SavedStream {
+    pub state: StreamState,
+    pub openers: Seq<u16>,
+}
+
+/// A stored alarm, under the number of its record.
+#[derive(PartialEq, Drop)]
+pub struct SavedAlarm {
+    pub k: u32,
+    pub notification: Notification,
+}
+
+/// A subscription, with its queue.
+#[derive(PartialEq, Drop)]
+pub struct SavedSub {
+    pub client: u16,
+    /// The number of the call that made it.
+    pub key: u32,
+    pub id: u32,
+    pub filters: FilterSet,
+    /// The number of the first item that is held.
+    pub first: u32,
+    pub held: Seq<Content>,
+    pub lost: Seq<Lost>,
+}
+
+/// A reader of stored alarms, with the point that it has come to.
+#[derive(PartialEq, Drop)]
+pub struct SavedReader {
+    pub client: u16,
+    pub filters: FilterSet,
+    pub time: i64,
+    pub id: u64,
+    /// Nothing was read since it began.
+    pub fresh: bool,
+}
+
+/// The whole value of a service.
+#[derive(PartialEq, Drop)]
+pub struct Saved {
+    /// How many entries were accepted.
+    pub number: u64,
+    pub last_stamp: i64,
+    pub last_id: u64,
+    /// How many items a subscription holds.
+    pub capacity: u32,
+    pub log_users: Seq<u16>,
+    pub ntf_users: Seq<u16>,
+    pub windows: Seq<SavedWindow>,
+    pub streams: Seq<SavedStream>,
+    pub alarms: Seq<SavedAlarm>,
+    pub subs: Seq<SavedSub>,
+    pub readers: Seq<SavedReader>,
+}
+
+impl Duplicate for SavedWindow {
+    fn copy(&self, alloc: Global) -> Result<Self, AllocError> {
+        Ok(SavedWindow {
+            client: self.client,
+            next: self.next,
+            replies: self.replies.copy(alloc)?,
+        })
+    }
+}
+
+impl Duplicate for SavedStream {
+    fn copy(&self, alloc: Global) -> Result<Self, AllocError> {
+        Ok(SavedStream {
+            state: self.state.copy(alloc)?,
+            openers: self.openers.copy(alloc)?,
+        })
+    }
+}
+
+impl Duplicate for SavedAlarm {
+    fn copy(&self, alloc: Global) -> Result<Self, AllocError> {
+        Ok(SavedAlarm {
+            k: self.k,
+            notification: self.notification.copy(alloc)?,
+        })
+    }
+}
+
+impl Duplicate for SavedSub {
+    fn copy(&self, alloc: Global) -> Result<Self, AllocError> {
+        Ok(SavedSub {
+            client: self.client,
+            key: self.key,
+            id: self.id,
+            filters: self.filters.copy(alloc)?,
+            first: self.first,
+            held: self.held.copy(alloc)?,
+            lost: self.lost.copy(alloc)?,
+        })
+    }
+}
+
+impl Duplicate for SavedReader {
+    fn copy(&self, alloc: Global) -> Result<Self, AllocError> {
+        Ok(SavedReader {
+            client: self.client,
+            filters: self.filters.copy(alloc)?,
+            time: self.time,
+            id: self.id,
+            fresh: self.fresh,
+        })
+    }
+}
+
+impl Duplicate for Saved {
+    fn copy(&self, alloc: Global) -> Result<Self, AllocError> {
+        Ok(Saved {
+            number: self.number,
+            last_stamp: self.last_stamp,
+            last_id: self.last_id,
+            capacity: self.capacity,
+            log_users: self.log_users.copy(alloc)?,
+            ntf_users: self.ntf_users.copy(alloc)?,
+            windows: self.windows.copy(alloc)?,
+            streams: self.streams.copy(alloc)?,
+            alarms: self.alarms.copy(alloc)?,
+            subs: self.subs.copy(alloc)?,
+            readers: self.readers.copy(alloc)?,
+        })
+    }
+}
