@@ -1,11 +1,13 @@
 -- The automaton accepts exactly the expressions.
-use Rattle.std.proofs.Common.{◌≡◌, ℕ, ◌+◌, ◌-◌, ◌*◌, ◌<◌, ◌∷◌, [], ◌++◌, List, true, false, not, cond, ◌&&◌, nat_eq, nat_lt, inl, inr, Option, Some, None, Ok, Err, is_some, slice_index, refl, sym, ap, subst, ◌∙◌, append_assoc, append-nil, arith}
+use Rattle.std.proofs.Common.{◌≡◌, ℕ, ◌+◌, ◌-◌, ◌*◌, ◌<◌, ◌∷◌, [], ◌++◌, List, true, false, not, cond, ◌&&◌, nat_eq, nat_lt, inl, inr, Option, Some, None, Ok, Err, is_some, is_none, Result, slice_index, refl, sym, ap, subst, ◌∙◌, append_assoc, append-nil, arith}
+use Rattle.std.specs.Bool.{Decides}
 use Rattle.std.specs.Fmt.{decimal}
 use Rattle.std.specs.List.{list_all}
 use Rattle.std.proofs.lemmas.Bool.{cond_both, cond-true, cond-false, and_parts, and_from, and_left, and_right, ltb-true, cases_Bool, not-true}
 use Rattle.std.proofs.lemmas.Bool.Decides.{nat_tests}
 use Rattle.format_expr.specs.declared.check.Stand.{Stand}
 use Rattle.format_expr.specs.declared.check.Stand.TheVariants.{Between, At, Class, Width}
+use Rattle.format_expr.specs.declared.fault.ExprWhy.{ExprWhy}
 use Rattle.format_expr.specs.declared.fault.ExprWhy.TheVariants.{UnknownToken}
 use Rattle.format_expr.specs.declared.token.Token.{Token}
 use Rattle.format_expr.specs.declared.token.Part.{Part}
@@ -14,7 +16,7 @@ use Rattle.format_expr.specs.declared.piece.Piece.TheVariants.{Plain, Field}
 use Rattle.ais_values.specs.declared.kind.StreamKind.{StreamKind}
 use Rattle.format_expr.specs.Tokens.{letters}
 use Rattle.format_expr.specs.Language.{is_plain, is_digit, is_class_of, width_digits, is_width, takes_digit, token_spelling, spelling, begins_with, begins_plain, is_empty, are_pieces, IsExpression}
-use Rattle.format_expr.specs.Scan.{plain_step, field_step, width_step, step_of, end_of, after, run}
+use Rattle.format_expr.specs.Scan.{plain_step, field_step, width_step, step_of, end_of, after, run, may_end, is_expression}
 use Rattle.format_expr.proofs.TokenLaws.{row_of, part_in_letters}
 use Rattle.format_expr.proofs.Steps.{after_ok, plain_ok, plain_on, class_ok, class_on, field_ok, width_ok, width_of, digits_more, past_width, behind_width, run_width}
 
@@ -234,3 +236,22 @@ complete kind (Field token ∷ pieces) valid =
 pub expression_is_accepted : (kind : StreamKind) (text : List ℕ) → IsExpression kind text → IsAccepted kind Between text
 expression_is_accepted kind text (pieces, spells) =
     subst (IsAccepted kind Between) (sym spells.spelled) (complete kind pieces spells.valid)
+
+none_from : {A : Type 0} (o : Option A) → is_none o ≡ true → o ≡ None
+none_from None is = refl
+none_from (Some value) is = cc
+
+accepted_from : (kind : StreamKind) (text : List ℕ) (end : Result Stand ExprWhy) → run kind Between text ≡ end → may_end end ≡ true → IsAccepted kind Between text
+accepted_from kind text (Ok stand) at ends = record { last = stand; reached = at; ends = none_from (end_of stand) ends }
+accepted_from kind text (Err why) at ends = cc
+
+may_end-from : (kind : StreamKind) (text : List ℕ) → IsAccepted kind Between text → may_end (run kind Between text) ≡ true
+may_end-from kind text is = ap may_end is.reached ∙ ap is_none is.ends
+
+-- the test passes exactly where the text is an expression
+pub decides_expression : (kind : StreamKind) (text : List ℕ) → Decides (is_expression kind text) (IsExpression kind text)
+unfolding is_expression
+decides_expression kind text = (
+  λ ends. accepted_is_expression kind text (accepted_from kind text (run kind Between text) refl ends),
+  λ is. may_end-from kind text (expression_is_accepted kind text is),
+)

@@ -1,5 +1,5 @@
 -- The automaton that reads expressions: where it stands after each byte, and why it stops.
-use Rattle.std.specs.Prelude.{◌≡◌, ℕ, ◌+◌, ◌-◌, ◌*◌, ◌≤◌, ◌∷◌, [], List, length, take, ◌&&◌, ◌||◌, ◌==◌, nat_lt, if◌then◌else◌, Option, Some, None, Result, Ok, Err, is_some, slice_get}
+use Rattle.std.specs.Prelude.{◌≡◌, ℕ, ◌+◌, ◌-◌, ◌*◌, ◌≤◌, ◌∷◌, [], List, length, take, ◌&&◌, ◌||◌, ◌==◌, nat_lt, if◌then◌else◌, Option, Some, None, Result, Ok, Err, Bool, false, is_some, is_none, slice_get}
 use Rattle.std.specs.Result.{result_err}
 use Rattle.format_expr.specs.declared.check.Stand.{Stand}
 use Rattle.format_expr.specs.declared.check.Stand.TheVariants.{Between, At, Class, Width}
@@ -62,3 +62,12 @@ pub record StopsAt (kind : StreamKind) (text : List ℕ) (place : ℕ) (why : Ex
   pub inside : place ≤ length text
   pub reached : run kind Between (take place text) ≡ Ok stand
   pub stopped : why_at kind stand (slice_get text place) ≡ Some why
+
+-- whether a text may end where the reading stands
+abbrev pub may_end : Result Stand ExprWhy → Bool
+may_end (Ok stand) = is_none (end_of stand)
+may_end (Err why) = false
+
+-- a test that computes of whether a text is an expression of the kind
+unfoldable pub is_expression : StreamKind → List ℕ → Bool
+is_expression kind text = may_end (run kind Between text)

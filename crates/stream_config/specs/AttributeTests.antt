@@ -3,8 +3,7 @@ use Rattle.std.specs.Prelude.{ℕ, List, length, Bool, ◌&&◌, ◌||◌, nat_l
 use Rattle.std.specs.List.{list_all}
 use Rattle.std.specs.Str.{bytes_eq}
 use Rattle.ais_values.specs.declared.kind.StreamKind.{StreamKind}
-use Rattle.format_expr.specs.Language.{are_pieces, spelling}
-use Rattle.format_expr.specs.Reading.{pieces_of}
+use Rattle.format_expr.specs.Scan.{is_expression}
 use Rattle.stream_config.specs.declared.attrs.StreamAttrs.{StreamAttrs}
 use Rattle.stream_config.specs.Attributes.{is_file_byte}
 
@@ -19,10 +18,9 @@ is_sized attrs =
     nat_le 32 attrs.record_size && nat_le attrs.record_size 16384
     && nat_le attrs.record_size attrs.max_file && nat_le attrs.max_file 1073741824
 
--- the text is short, and the pieces that are read of it are an expression's and spell it
+-- the text is short, and an expression
 unfoldable pub is_format : StreamKind → List ℕ → Bool
-is_format kind text =
-    nat_le (length text) 1024 && are_pieces kind (pieces_of text) && bytes_eq (spelling (pieces_of text)) text
+is_format kind text = nat_le (length text) 1024 && is_expression kind text
 
 -- whether a stream of the kind may have these attributes
 unfoldable pub passes_attrs : StreamKind → StreamAttrs → Bool

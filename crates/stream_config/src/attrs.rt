@@ -1,5 +1,8 @@
 //! The names and the attributes of log streams.
-use ais_values::{Duplicate, Name, Text};
+ghost use Rattle.std.specs.Prelude.{◌≡◌};
+ghost use Rattle.stream_config.specs.Attributes.{kind_of};
+
+use ais_values::{Duplicate, Name, StreamKind, Text};
 use std::alloc::{AllocError, Global};
 
 /// What a stream does where its file is full.
@@ -41,6 +44,20 @@ pub enum StreamName {
     Notification,
     System,
     App { name: Name },
+}
+
+impl StreamName {
+    /// The kind of the stream of this name.
+    pub fn kind(&self) -> StreamKind
+        ensures { result ≡ kind_of self.now }
+    {
+        match self {
+            StreamName::Alarm => StreamKind::Alarm,
+            StreamName::Notification => StreamKind::Notification,
+            StreamName::System => StreamKind::System,
+            StreamName::App { .. } => StreamKind::Application,
+        }
+    }
 }
 
 impl Duplicate for FullAction {

@@ -1,5 +1,5 @@
 //! What attributes a stream may have.
-ghost use Rattle.std.specs.Prelude.{◌≡◌, ◌↔◌, IsTrue, IsOk, IsErrOf};
+ghost use Rattle.std.specs.Prelude.{◌≡◌, ◌↔◌, IsTrue, IsOk, IsErrOf, is_ok};
 ghost use Rattle.stream_config.specs.Attributes.{is_file_byte, IsFileName, IsPath, IsSized, IsFormat, PassesAttrs, HaveOnePlace};
 
 use crate::StreamAttrs;

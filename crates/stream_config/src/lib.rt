@@ -2,11 +2,17 @@
 #![tactic(auto)]
 
 mod attrs;
+mod cfg;
 mod check;
+mod defaults;
 mod event;
+mod sizes;
 mod state;
 
 pub use attrs::{FullAction, StreamAttrs, StreamName};
+pub use cfg::cfg_text;
 pub use check::{check_attrs, have_one_place};
+pub use defaults::{default_format, well_known};
 pub use event::{Stamps, StreamEvent};
+pub use sizes::{per_file, stamp};
 pub use state::{LogFile, StreamState};
