@@ -1,2 +1,3 @@
 pub mod RisingLaws
 pub mod Places
+pub mod MemberLaws

@@ -1,0 +1,4 @@
+pub mod Keeping
+pub mod OrderLaws
+pub mod NearestLaws
+pub mod AskedLaws

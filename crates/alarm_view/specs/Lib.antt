@@ -1,0 +1,6 @@
+pub mod Modes
+pub mod Order
+pub mod Alarms
+pub mod Nearest
+pub mod Search
+pub use Rattle.client_set.specs.Members

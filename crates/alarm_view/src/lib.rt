@@ -1,0 +1,17 @@
+//! The alarms whose records are stored, and searches among them.
+#![tactic(auto)]
+
+mod alarm;
+mod cursor;
+mod law;
+mod mode;
+mod search;
+#[cfg(test)]
+mod tests;
+mod view;
+
+pub use alarm::KeptAlarm;
+pub use cursor::Cursor;
+pub use law::{law_of_nearest, law_of_order};
+pub use mode::{Direction, SearchMode};
+pub use view::AlarmView;

@@ -1,0 +1,129 @@
+//! The alarms that are kept.
+ghost use Rattle.std.specs.Prelude.{◌≡◌, ◌<◌, [], ◌∷◌, ◌++◌, length, reverse, OnOk, OnErr, IfSome, IfNone, nat_le, option_map, slice_get, MatchOption};
+ghost use Rattle.alarm_view.specs.Alarms.{kept_alarm, notifications, AreInOrder, CanAdd, from_record};
+ghost use Rattle.alarm_view.specs.Nearest.{IsNone, CanStart, CanFollow, IsStartAt, IsNext, cursor_before, cursor_after};
+ghost use Rattle.alarm_view.specs.Search.{starting, next_alarm};
+
+use crate::search::{Next, Start, first_in};
+use crate::{Cursor, Direction, KeptAlarm, SearchMode};
+use ntf_filters::FilterSet;
+use ntf_types::Notification;
+use std::alloc::{AllocError, Global};
+use std::marker::Model;
+
+/// The alarms whose records are stored, in order of their records. Contracts see the list of them.
+#[derive(Drop)]
+pub struct AlarmView {
+    alarms: Vec<KeptAlarm>,
+}
+
+impl Model for AlarmView {
+    ghost use Rattle.std.specs.Prelude.{List};
+    ghost use Rattle.alarm_view.specs.declared.alarm.KeptAlarm.{KeptAlarm};
+    ghost use Rattle.alarm_view.specs.Alarms.{AreInOrder};
+
+    ghost Value = { List KeptAlarm };
+
+    ghost view = { λ view. view.alarms.items };
+
+    ghost invariant = { λ view. AreInOrder view.alarms.items };
+}
+
+/// Whether an alarm's record has this number or a later one.
+fn is_from(alarm: &KeptAlarm, number: u32) -> bool
+    ensures { result ≡ nat_le number alarm.now.number }
+{
+    alarm.number >= number
+}
+
+impl AlarmView {
+    /// No alarms. It takes no memory.
+    pub fn new(alloc: Global) -> AlarmView
+        ensures { result ≡ [] }
+    {
+        AlarmView {
+            alarms: Vec::new(alloc),
+        }
+    }
+
+    /// Adds the alarm of record `number` of the alarm stream. On an error nothing changes.
+    pub fn add(&mut self, number: u32, notification: Notification) -> Result<(), AllocError>
+        requires { CanAdd number notification self.old }
+        ensures ok { OnOk result (self.new ≡ self.old ++ kept_alarm number notification ∷ []) }
+        ensures err { OnErr result (self.new ≡ self.old) }
+    {
+        self.alarms.push(KeptAlarm {
+            number,
+            notification,
+        })?;
+        Ok(())
+    }
+
+    /// Drops the alarms of records below `number`. It takes no memory.
+    pub fn keep_from(&mut self, number: u32)
+        ensures { self.new ≡ from_record number self.old }
+    {
+        self.alarms.retain(|alarm| is_from(alarm, number));
+    }
+
+    /// The cursor at the alarm that a search starts at: the first on the mode's way of those that match
+    /// the filters and whose time or id is what the mode asks for. None exactly where there is no such
+    /// alarm. It takes no memory.
+    pub fn start(&self, mode: SearchMode, value: i64, filters: &FilterSet) -> Option<Cursor>
+        ensures value { result ≡ option_map cursor_before (starting mode value filters.now (reverse (notifications self.now))) }
+        ensures found { IfSome result (λ cursor. IsStartAt mode value filters.now (notifications self.now) cursor) }
+        ensures none { IfNone result (IsNone (CanStart mode value filters.now) (notifications self.now)) }
+    {
+        let test = Start {
+            mode,
+            value,
+            filters,
+        };
+        match first_in(self.alarms.as_slice(), mode.way(), &test) {
+            None => None,
+            Some(alarm) => Some(Cursor::at(alarm, true)),
+        }
+    }
+
+    /// The alarm that is read next, and the cursor behind it: the first in the direction of those that
+    /// match the filters and lie at the cursor or beyond where it is fresh, and else beyond it. None
+    /// exactly where there is no such alarm. It takes no memory.
+    pub fn next(
+        &self,
+        cursor: Cursor,
+        way: Direction,
+        filters: &FilterSet,
+    ) -> Option<(Cursor, &Notification)>
+        ensures value { option_map (λ found. found.1.now) result ≡ next_alarm cursor way filters.now (reverse (notifications self.now)) }
+        ensures found { IfSome result (λ found. IsNext cursor way filters.now (notifications self.now) found.1.now) }
+        ensures after { IfSome result (λ found. found.0 ≡ cursor_after found.1.now) }
+        ensures none { IfNone result (IsNone (CanFollow way cursor filters.now) (notifications self.now)) }
+    {
+        let test = Next {
+            cursor,
+            way,
+            filters,
+        };
+        match first_in(self.alarms.as_slice(), way, &test) {
+            None => None,
+            Some(alarm) => Some((Cursor::at(alarm, false), alarm)),
+        }
+    }
+
+    /// How many alarms are kept.
+    pub fn count(&self) -> u32
+        ensures count { result ≡ length self.now }
+        ensures order { AreInOrder self.now }
+    {
+        self.alarms.len() as u32
+    }
+
+    /// The alarm at a place, from 0, in order of records, with the number of its record. None exactly
+    /// where fewer are kept.
+    pub fn alarm_at(&self, place: u32) -> Option<(u32, &Notification)>
+        ensures { MatchOption result (slice_get self.now place ≡ None) (λ found. slice_get self.now place ≡ Some (kept_alarm found.0 found.1.now)) }
+    {
+        let alarm = self.alarms.get(place as usize)?;
+        Some((alarm.number, &alarm.notification))
+    }
+}
