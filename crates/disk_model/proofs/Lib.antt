@@ -1,3 +1,4 @@
+pub mod Breaking
 pub mod Changes
 pub mod Maps
 pub mod Overwriting

@@ -9,7 +9,7 @@ use Rattle.std.specs.Ordering.{is_lt, ordering_reverse}
 use Rattle.std.specs.Cmp.{IsTotalOrder, tied_itself}
 use Rattle.std.specs.FinMap.{IsAntisymmetric}
 use Rattle.std.specs.FinMap.Entries.{put, find, is_sorted, below_all}
-use Rattle.disk_model.specs.Shelf.{place_of, without, StandsAt, LacksAt}
+use Rattle.disk_model.specs.Shelf.{place_of, without, KeyStandsAt, KeyLacksAt}
 
 -- a test that passes, in std's older form
 pub passes : (b : Bool) → b ≡ true → T b
@@ -166,7 +166,7 @@ module _ {K X : Type 0} {R : K → K → Ordering} (o : IsTotalOrder R) (same : 
 
   -- what is told of a key that stands at its place
   pub stands_at : (k : K) (es : List (K × X)) (i : ℕ) (x : K × X) → is_sorted R es ≡ true → i ≡ place_of R k es → i < length es
-      → x ≡ get_or es i x → x.0 ≡ k → StandsAt R k es i
+      → x ≡ get_or es i x → x.0 ≡ k → KeyStandsAt R k es i
   stands_at k es i x sorted is within read key =
       let at : (d : K × X) → (get_or es (place_of R k es) d).0 ≡ k =
       λ d. ap (λ n. (get_or es n d).0) (sym is) ∙ ap (λ e. e.0) (sym (get_or_read es i x within read d)) ∙ key in
@@ -180,7 +180,7 @@ module _ {K X : Type 0} {R : K → K → Ordering} (o : IsTotalOrder R) (same : 
 
   -- what is told of a key that does not stand at its place
   pub lacks_at : (k : K) (es : List (K × X)) (i : ℕ) → is_sorted R es ≡ true → i ≡ place_of R k es → i ≤ length es
-      → ((d : K × X) → i < length es → (get_or es i d).0 ≢ k) → LacksAt R k es i
+      → ((d : K × X) → i < length es → (get_or es i d).0 ≢ k) → KeyLacksAt R k es i
   lacks_at k es i sorted is within other =
       let other' : (d : K × X) → place_of R k es < length es → (get_or es (place_of R k es) d).0 ≢ k = rw is at other in
       record {

@@ -7,7 +7,7 @@ use Rattle.std.specs.Option.{option_map_or}
 use Rattle.std.specs.FinMap as map
 use Rattle.std.proofs.lemmas.Bool.Decides.{nat_tests}
 use Rattle.disk_model.specs.Disk.{File, Files, overwritten, adjusted}
-use Rattle.disk_model.specs.Failures.{Torn, is_within, FileLeftByWrite, FileLeftBySync, LeftByWrite}
+use Rattle.disk_model.specs.Failures.{Torn, is_within, FileLeftByWrite, FileLeftBySync, LeavesFile, LeftByWrite, LeftBySync}
 use Rattle.disk_model.specs.Memory.{torn_bytes, half_grown, torn_end, file_torn_by_write, file_torn_by_sync, range_torn, ranges_torn}
 use Rattle.disk_model.proofs.Overwriting.{length-torn_bytes, overwritten_past, append_none}
 
@@ -132,8 +132,8 @@ ranges_torn_outside torn (range ∷ ranges) bytes place within free =
     ranges_torn_outside torn ranges (range_torn torn range bytes) place (omega arith) parts.1
     ∙ range_torn_outside torn range bytes place within parts.0
 
-pub left_by_torn_sync : (torn : List ℕ) (file : File) → file.settled ≤ length file.bytes → FileLeftBySync file (file_torn_by_sync torn file)
-left_by_torn_sync torn file settled =
+pub left_by_torn_sync : (torn : List ℕ) (file : File) → FileLeftBySync file (file_torn_by_sync torn file)
+left_by_torn_sync torn file =
     let size = length-ranges_torn torn file.loose file.bytes in
     let kept = length-take (half_grown file.settled (length file.bytes)) (ranges_torn torn file.loose file.bytes) in
     record {
@@ -149,12 +149,12 @@ left_by_torn_sync torn file settled =
     }
 
 -- what a broken sync does step by step is a torn sync
-pub torn_sync_is : (torn : List ℕ) (file : File) (len : ℕ) (now : List ℕ) → len ≡ length file.bytes
-    → now ≡ take (file.settled + (len - file.settled) / 2) (ranges_torn torn file.loose file.bytes)
+pub torn_sync_is : (torn : List ℕ) (file : File) (kept : ℕ) (now : List ℕ) → kept ≡ half_grown file.settled (length file.bytes)
+    → now ≡ take kept (ranges_torn torn file.loose file.bytes)
     → ◌≡◌ {A = File} (record { bytes = now; loose = file.loose; settled = file.settled }) (file_torn_by_sync torn file)
-torn_sync_is torn file len now is e =
+torn_sync_is torn file kept now is e =
     let whole : now ≡ take (half_grown file.settled (length file.bytes)) (ranges_torn torn file.loose file.bytes) =
-    e ∙ ap (λ n. take (half_grown file.settled n) (ranges_torn torn file.loose file.bytes)) is in
+    e ∙ ap (λ n. take n (ranges_torn torn file.loose file.bytes)) is in
     λ i. record { bytes = whole i; loose = file.loose; settled = file.settled }
 
 -- a broken write keeps what lies within the file and half of what lies past its end
@@ -200,12 +200,22 @@ torn_write_is torn at bytes file inside kept grown now loose within inside-is ke
     let loose-are : loose ≡ (if nat_le at (length file.bytes) then file.loose ++ (at, length bytes) ∷ [] else file.loose) = rw fits loose-is in
     λ i. record { bytes = bytes-are i; loose = loose-are i; settled = file.settled }
 
+-- a file changed to what a relation leaves of it, with the other files as they were, is what that relation leaves of the files
+leaves_file : (Left : File → File → Type 0) (change : File → File) (name : List ℕ) (old new : Files)
+    → ((file : File) → Left file (change file)) → new ≡ adjusted change old name → LeavesFile Left name old new
+leaves_file Left change name old new leaves is =
+    elim (map.get old name) as (λ f. new ≡ option_map_or (λ file. map.insert old name (change file)) f old
+    → MatchOption f (new ≡ old) (λ file. (left : File) × Left file left × (new ≡ map.insert old name left))) [
+      | None ↦ λ e. e
+      | Some file ↦ λ e. (change file, leaves file, e)
+    ] is
+
 -- a file torn by a broken write is what a failed write may leave of the files
 pub left_where_torn : (torn : List ℕ) (name : List ℕ) (at : ℕ) (bytes : List ℕ) (old new : Files)
     → new ≡ adjusted (file_torn_by_write torn at bytes) old name → LeftByWrite name at bytes old new
-left_where_torn torn name at bytes old new is =
-    elim (map.get old name) as (λ f. new ≡ option_map_or (λ file. map.insert old name (file_torn_by_write torn at bytes file)) f old
-    → MatchOption f (new ≡ old) (λ file. (left : File) × FileLeftByWrite at bytes file left × (new ≡ map.insert old name left))) [
-      | None ↦ λ e. e
-      | Some file ↦ λ e. (file_torn_by_write torn at bytes file, left_by_torn_write torn at bytes file, e)
-    ] is
+left_where_torn torn name at bytes old new =
+    leaves_file (FileLeftByWrite at bytes) (file_torn_by_write torn at bytes) name old new (left_by_torn_write torn at bytes)
+
+-- a file torn by a broken sync is what a failed sync may leave of the files
+pub left_where_sync_torn : (torn : List ℕ) (name : List ℕ) (old new : Files) → new ≡ adjusted (file_torn_by_sync torn) old name → LeftBySync name old new
+left_where_sync_torn torn name old new = leaves_file FileLeftBySync (file_torn_by_sync torn) name old new (left_by_torn_sync torn)

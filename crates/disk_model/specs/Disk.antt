@@ -1,4 +1,4 @@
--- What a disk holds, and what each of its calls makes of it when the call is done.
+-- Words of public clauses: what a disk holds, and what each of its calls makes of it when the call is done.
 use Rattle.std.specs.Prelude.{ℕ, ◌+◌, ◌≡◌, List, [], ◌∷◌, ◌++◌, length, take, drop, nat_le, if◌then◌else◌, Option, option_map}
 use Rattle.std.specs.Option.{option_map_or}
 use Rattle.std.specs.Ordering.{nat_cmp}
@@ -23,6 +23,10 @@ no_files = map.empty
 -- an empty file, of which nothing is loose
 abbrev pub empty_file : File
 empty_file = record { bytes = []; loose = []; settled = 0 }
+
+-- a file with these bytes, of which nothing is loose
+abbrev pub settled_file : List ℕ → File
+settled_file bytes = record { bytes = bytes; loose = []; settled = length bytes }
 
 -- bytes put over those that stand from a place on; where they go past the end, the list grows
 abbrev pub overwritten : List ℕ → ℕ → List ℕ → List ℕ

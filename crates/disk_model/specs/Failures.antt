@@ -1,5 +1,5 @@
--- What a changing call that failed may have left.
-use Rattle.std.specs.Prelude.{◌≡◌, ℕ, ◌+◌, ◌<◌, ◌≤◌, Bool, false, ◌&&◌, ◌||◌, ◌⊎◌, nat_le, nat_lt, List, [], ◌∷◌, length, slice_index, Option, Some, None, MatchOption, ⊤}
+-- Words of public clauses: what a changing call that failed may have left.
+use Rattle.std.specs.Prelude.{◌≡◌, ℕ, ◌+◌, ◌<◌, ◌≤◌, min, max, Bool, false, ◌&&◌, ◌||◌, ◌⊎◌, nat_le, nat_lt, List, [], ◌∷◌, length, slice_index, Option, Some, None, MatchOption, ⊤}
 use Rattle.std.specs.FinMap as map
 use Rattle.disk_model.specs.Disk.{File, Files, file_written, created, renamed, removed}
 
@@ -8,29 +8,29 @@ abbrev pub is_within : List (ℕ × ℕ) → ℕ → Bool
 is_within [] place = false
 is_within (range ∷ ranges) place = (nat_le range.0 place && nat_lt place (range.0 + range.1)) || is_within ranges place
 
--- these ranges hold any bytes, and all else stays; the length is any from the least to the most
-pub record Torn (ranges : List (ℕ × ℕ)) (least most : ℕ) (old new : List ℕ) : Type 0 where
-  pub no_shorter : least ≤ length new
-  pub no_longer : length new ≤ most
+-- these ranges hold any bytes, and all else stays; the length is any between these two, whichever is greater
+pub record Torn (ranges : List (ℕ × ℕ)) (one other : ℕ) (old new : List ℕ) : Type 0 where
+  pub no_shorter : min one other ≤ length new
+  pub no_longer : length new ≤ max one other
   pub kept : (place : ℕ) → place < length new → is_within ranges place ≡ false → slice_index new place ≡ slice_index old place
 
 -- a file after a write that failed: its range holds any bytes and stays loose,
--- and the length is any from the old one to that of the write done
+-- and the length is any between the old one and that of the write done
 pub record FileLeftByWrite (at : ℕ) (bytes : List ℕ) (old new : File) : Type 0 where
   pub torn : Torn ((at, length bytes) ∷ []) (length old.bytes) (length (file_written at bytes old).bytes) old.bytes new.bytes
   pub loose : new.loose ≡ (file_written at bytes old).loose
   pub settled : new.settled ≡ old.settled
 
 -- a file after a sync that failed: its loose ranges hold any bytes and stay loose,
--- and the length is any from the one when nothing was loose to the present one
+-- and the length is any between the one when nothing was loose and the present one
 pub record FileLeftBySync (old new : File) : Type 0 where
   pub torn : Torn old.loose old.settled (length old.bytes) old.bytes new.bytes
   pub loose : new.loose ≡ old.loose
   pub settled : new.settled ≡ old.settled
 
 -- the file of that name is left by a relation, and the others stay; where it does not stand, nothing changes
-abbrev pub LeftAt : (File → File → Type 0) → List ℕ → Files → Files → Type 0
-LeftAt Left name old new =
+abbrev pub LeavesFile : (File → File → Type 0) → List ℕ → Files → Files → Type 0
+LeavesFile Left name old new =
     MatchOption (map.get old name) (new ≡ old) (λ file. (left : File) × Left file left × (new ≡ map.insert old name left))
 
 -- a call is done wholly or not at all
@@ -41,10 +41,10 @@ abbrev pub LeftByCreate : List ℕ → Files → Files → Type 0
 LeftByCreate name old new = WhollyOrNot (created old name) old new
 
 abbrev pub LeftByWrite : List ℕ → ℕ → List ℕ → Files → Files → Type 0
-LeftByWrite name at bytes = LeftAt (FileLeftByWrite at bytes) name
+LeftByWrite name at bytes = LeavesFile (FileLeftByWrite at bytes) name
 
 abbrev pub LeftBySync : List ℕ → Files → Files → Type 0
-LeftBySync name = LeftAt FileLeftBySync name
+LeftBySync name = LeavesFile FileLeftBySync name
 
 abbrev pub LeftByRename : List ℕ → List ℕ → Files → Files → Type 0
 LeftByRename from to old new = WhollyOrNot (renamed old from to) old new

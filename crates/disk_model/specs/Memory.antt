@@ -1,8 +1,7 @@
--- A disk in memory: when its calls fail, and what a failed call leaves of a file.
-use Rattle.std.specs.Prelude.{◌≡◌, ℕ, zero, suc, ◌+◌, ◌-◌, ◌/◌, ◌%◌, ◌^◌, min, Bool, true, false, ◌==◌, List, [], ◌∷◌, ◌++◌, length, take, nat_le, if◌then◌else◌, slice_index, Result, Ok, Err, refl}
+-- Words of public clauses on a disk in memory: when its calls fail, and what a failed call leaves of a file.
+use Rattle.std.specs.Prelude.{◌≡◌, ℕ, zero, suc, ◌+◌, ◌-◌, ◌/◌, ◌%◌, min, Bool, true, false, ◌==◌, List, [], ◌∷◌, ◌++◌, length, take, nat_le, if◌then◌else◌, slice_index, Result, Ok, Err}
 use Rattle.std.specs.List.{list_any}
-use Rattle.std.specs.Coded.{Coded, code_by, coded×, coded_list, coded_ℕ}
-use Rattle.std.specs.FinMap as map
+use Rattle.ais_values.specs.Causes.{one_more}
 use Rattle.disk_model.specs.declared.answers.DiskFault.{DiskFault}
 use Rattle.disk_model.specs.declared.answers.DiskFault.TheVariants as fault
 use Rattle.disk_model.specs.declared.answers.DiskAnswer.{DiskAnswer}
@@ -18,9 +17,9 @@ abbrev pub torn_bytes : List ℕ → ℕ → List ℕ
 torn_bytes torn zero = []
 torn_bytes torn (suc size) = torn_bytes torn size ++ torn_byte torn size ∷ []
 
--- the length when half of a growth is kept, rounded down
+-- the length when half of a growth is kept, rounded down; a file that became shorter keeps its new length
 abbrev pub half_grown : ℕ → ℕ → ℕ
-half_grown old new = old + (new - old) / 2
+half_grown old new = min new (old + (new - old) / 2)
 
 -- where a torn write of a file of this length ends, from where it would have ended
 abbrev pub torn_end : ℕ → ℕ → ℕ
@@ -54,14 +53,6 @@ file_torn_by_sync torn file = record {
   settled = file.settled;
 }
 
--- a file with these bytes, of which nothing is loose
-abbrev pub settled_file : List ℕ → File
-settled_file bytes = record { bytes = bytes; loose = []; settled = length bytes }
-
--- a number that counts up and stops at its type's end
-abbrev pub next : ℕ → ℕ
-next count = min (count + 1) (2 ^ 64 - 1)
-
 -- a disk in memory: its files, how many changing and reading calls were made and how many faults were told,
 -- the numbers of the changing and reading calls that fail, and the bytes of torn ranges
 pub record MemState : Type 0 where
@@ -73,52 +64,28 @@ pub record MemState : Type 0 where
   pub failing_reads : List ℕ
   pub torn : List ℕ
 
--- a file is stored as the row of its parts
-abbrev pub file_code : Coded File
-file_code =
-    code_by (List ℕ × (List (ℕ × ℕ) × ℕ)) (coded× (coded_list coded_ℕ) (coded× (coded_list (coded× coded_ℕ coded_ℕ)) coded_ℕ))
-    (λ f. (f.bytes, (f.loose, f.settled))) (λ p. record { bytes = p.0; loose = p.1.0; settled = p.1.1 }) (λ _. refl)
-
 -- whether the next changing call, or reading call, is one that fails
 abbrev pub fails_next : MemState → Bool
-fails_next disk = list_any (λ n. n == next disk.changes) disk.failing
+fails_next disk = list_any (λ n. n == one_more disk.changes) disk.failing
 
 abbrev pub read_fails_next : MemState → Bool
-read_fails_next disk = list_any (λ n. n == next disk.reads) disk.failing_reads
+read_fails_next disk = list_any (λ n. n == one_more disk.reads) disk.failing_reads
 
 -- a changing call: it fails exactly where its number is listed, and then leaves the files as told
 abbrev pub Changes : {T : Type 0} → Result T DiskAnswer → (Files → Files) → (Files → Files) → MemState → MemState → Type 0
 Changes (Ok value) done left old new =
-    (fails_next old ≡ false) × (new ≡ record old { files = done old.files; changes = next old.changes })
+    (fails_next old ≡ false) × (new ≡ record old { files = done old.files; changes = one_more old.changes })
 Changes (Err Memory) done left old new = new ≡ old
 Changes (Err Failed) done left old new =
-    (fails_next old ≡ true) × (new ≡ record old { files = left old.files; changes = next old.changes; faults = next old.faults })
+    (fails_next old ≡ true) × (new ≡ record old { files = left old.files; changes = one_more old.changes; faults = one_more old.faults })
 
 -- a reading call: it fails exactly where its number is listed
 abbrev pub Reads : {T : Type 0} → Result T DiskAnswer → MemState → MemState → Type 0
-Reads (Ok value) old new = (read_fails_next old ≡ false) × (new ≡ record old { reads = next old.reads })
+Reads (Ok value) old new = (read_fails_next old ≡ false) × (new ≡ record old { reads = one_more old.reads })
 Reads (Err Memory) old new = new ≡ old
-Reads (Err Failed) old new = (read_fails_next old ≡ true) × (new ≡ record old { reads = next old.reads; faults = next old.faults })
-
--- a disk in memory is stored as the row of its parts
-abbrev pub state_code : Coded MemState
-state_code =
-    code_by (Files × (ℕ × (ℕ × (ℕ × (List ℕ × (List ℕ × List ℕ))))))
-    (coded× (map.code (coded_list coded_ℕ) file_code) (coded× coded_ℕ (coded× coded_ℕ (coded× coded_ℕ
-    (coded× (coded_list coded_ℕ) (coded× (coded_list coded_ℕ) (coded_list coded_ℕ)))))))
-    (λ d. (d.files, (d.changes, (d.reads, (d.faults, (d.failing, (d.failing_reads, d.torn)))))))
-    (λ p. record {
-      files = p.0;
-      changes = p.1.0;
-      reads = p.1.1.0;
-      faults = p.1.1.1.0;
-      failing = p.1.1.1.1.0;
-      failing_reads = p.1.1.1.1.1.0;
-      torn = p.1.1.1.1.1.1;
-    })
-    (λ _. refl)
+Reads (Err Failed) old new = (read_fails_next old ≡ true) × (new ≡ record old { reads = one_more old.reads; faults = one_more old.faults })
 
 -- a reading call that takes no memory
 abbrev pub ReadsAt : {T : Type 0} → Result T DiskFault → MemState → MemState → Type 0
-ReadsAt (Ok value) old new = (read_fails_next old ≡ false) × (new ≡ record old { reads = next old.reads })
-ReadsAt (Err fault.Failed) old new = (read_fails_next old ≡ true) × (new ≡ record old { reads = next old.reads; faults = next old.faults })
+ReadsAt (Ok value) old new = (read_fails_next old ≡ false) × (new ≡ record old { reads = one_more old.reads })
+ReadsAt (Err fault.Failed) old new = (read_fails_next old ≡ true) × (new ≡ record old { reads = one_more old.reads; faults = one_more old.faults })

@@ -1,4 +1,4 @@
--- Entries in a list, in the order of their keys.
+-- Words of the bodies alone: entries in a list, in the order of their keys.
 use Rattle.std.specs.Prelude.{◌≡◌, ℕ, suc, ◌<◌, ◌≤◌, not, List, [], ◌∷◌, length, slice_index_or, slice_set, if◌then◌else◌, Some, None}
 use Rattle.std.specs.List.{insert, remove}
 use Rattle.std.specs.Option.{option_map_or}
@@ -16,14 +16,14 @@ abbrev pub without : {K X : Type 0} → (K → K → Ordering) → K → List (K
 without R k es = where_key R (λ x. not (eq_by_cmp R k x)) es
 
 -- the key stands at this place: what is found there, put there, and left out there
-pub record StandsAt {K X : Type 0} (R : K → K → Ordering) (k : K) (es : List (K × X)) (i : ℕ) : Type 0 where
+pub record KeyStandsAt {K X : Type 0} (R : K → K → Ordering) (k : K) (es : List (K × X)) (i : ℕ) : Type 0 where
   pub within : i < length es
   pub found : (d : K × X) → find R k es ≡ Some (slice_index_or es i d).1
   pub put_is : (v : X) (d : K × X) → put R k v es ≡ slice_set es i ((slice_index_or es i d).0, v)
   pub without_is : without R k es ≡ remove es i
 
 -- the key does not stand, and would stand at this place
-pub record LacksAt {K X : Type 0} (R : K → K → Ordering) (k : K) (es : List (K × X)) (i : ℕ) : Type 0 where
+pub record KeyLacksAt {K X : Type 0} (R : K → K → Ordering) (k : K) (es : List (K × X)) (i : ℕ) : Type 0 where
   pub within : i ≤ length es
   pub missing : find R k es ≡ None
   pub put_is : (v : X) → put R k v es ≡ insert es i (k, v)

@@ -1,13 +1,13 @@
 //! Files in a vector, in byte order of their names.
-ghost use Rattle.std.specs.Prelude.{◌≡◌, ◌≤◌, ℕ, List, length, IsTrue, IsSome, IsOk, IfSome, IfOk, map, MatchResult, OnOk, OnErr};
+ghost use Rattle.std.specs.Prelude.{◌≡◌, ◌≤◌, ℕ, List, length, IsTrue, IsSome, IsOk, IfOk, map, MatchResult, OnOk, OnErr};
 ghost use Rattle.std.specs.Option.{option_copied};
 ghost use Rattle.std.specs.Ordering.{nat_cmp};
 ghost use Rattle.std.specs.Cmp.Lexicographic.{slice_cmp};
 ghost use Rattle.std.specs.FinMap.Entries.{is_sorted, put, find};
+ghost use Rattle.ais_values.specs.Texts.{IsText};
 ghost use Rattle.disk_model.specs.Disk.{File, file_written, file_synced};
-ghost use Rattle.disk_model.specs.Failures.{FileLeftBySync};
 ghost use Rattle.disk_model.specs.Memory.{file_torn_by_write, file_torn_by_sync};
-ghost use Rattle.disk_model.specs.Shelf.{place_of, without, StandsAt, LacksAt, adjusted_in};
+ghost use Rattle.disk_model.specs.Shelf.{place_of, without, KeyStandsAt, KeyLacksAt, adjusted_in};
 
 use crate::stored_file::StoredFile;
 use ais_values::{Duplicate, Text};
@@ -24,7 +24,7 @@ fn place_in(entries: &[(Text, StoredFile)], name: &[u8]) -> usize
 /// Where a name stands, or else where it would stand.
 pub fn find_in(entries: &[(Text, StoredFile)], name: &[u8]) -> Result<usize, usize>
     requires { IsTrue (is_sorted (slice_cmp nat_cmp) entries.now) }
-    ensures { MatchResult result (StandsAt (slice_cmp nat_cmp) name.now entries.now) (LacksAt (slice_cmp nat_cmp) name.now entries.now) }
+    ensures { MatchResult result (KeyStandsAt (slice_cmp nat_cmp) name.now entries.now) (KeyLacksAt (slice_cmp nat_cmp) name.now entries.now) }
 {
     let place = place_in(entries, name);
     if place < entries.len() {
@@ -59,7 +59,7 @@ pub fn put_in(
     file: StoredFile,
 ) -> Result<(), AllocError>
     requires sorted { IsTrue (is_sorted (slice_cmp nat_cmp) entries.old.items) }
-    requires short { length name.now ≤ 16384 }
+    requires short { IsText name.now }
     ensures ok { OnOk result (entries.new.items ≡ put (slice_cmp nat_cmp) name.now file entries.old.items) }
     ensures err { OnErr result (entries.new.items ≡ entries.old.items) }
     ensures standing { IsSome (find (slice_cmp nat_cmp) name.now entries.old.items) → IsOk result }
@@ -151,9 +151,7 @@ pub fn sync_in(entries: &mut Vec<(Text, StoredFile)>, name: &[u8])
 /// Breaks a sync of a file off.
 pub fn tear_sync_in(entries: &mut Vec<(Text, StoredFile)>, name: &[u8], torn: &[u8])
     requires { IsTrue (is_sorted (slice_cmp nat_cmp) entries.old.items) }
-    ensures torn { entries.new.items ≡ adjusted_in (slice_cmp nat_cmp) (file_torn_by_sync torn.now) name.now entries.old.items }
-    ensures left { IfSome (find (slice_cmp nat_cmp) name.now entries.old.items)
-        (λ file. FileLeftBySync file (file_torn_by_sync torn.now file)) }
+    ensures { entries.new.items ≡ adjusted_in (slice_cmp nat_cmp) (file_torn_by_sync torn.now) name.now entries.old.items }
 {
     if let Ok(place) = find_in(entries.as_slice(), name) {
         let entry = &mut entries[place];

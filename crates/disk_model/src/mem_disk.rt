@@ -1,10 +1,11 @@
 //! A disk in memory, told in advance which of its calls fail.
 ghost use Rattle.std.specs.Prelude.{◌≡◌, ◌≤◌, List, ℕ, length, Option, Some, option_map, IfOk, IfSome, OnOk, OnErr, IsErrOf};
 ghost use Rattle.std.specs.FinMap as map;
-ghost use Rattle.ais_values.specs.Causes.{HasCauseOf};
-ghost use Rattle.disk_model.specs.Disk.{Files, no_files, created, written_at, synced, renamed, removed, adjusted, length_of, bytes_at, Gives};
+ghost use Rattle.ais_values.specs.Causes.{one_more, HasCauseOf};
+ghost use Rattle.ais_values.specs.Texts.{IsText};
+ghost use Rattle.disk_model.specs.Disk.{Files, no_files, settled_file, created, written_at, synced, renamed, removed, adjusted, length_of, bytes_at, Gives};
 ghost use Rattle.disk_model.specs.Failures.{WhereTold, LeftByCreate, LeftByWrite, LeftBySync, LeftByRename, LeftByRemove};
-ghost use Rattle.disk_model.specs.Memory.{Changes, Reads, ReadsAt, fails_next, read_fails_next, next, settled_file, file_torn_by_write, file_torn_by_sync};
+ghost use Rattle.disk_model.specs.Memory.{Changes, Reads, ReadsAt, fails_next, read_fails_next, file_torn_by_write, file_torn_by_sync};
 ghost use Rattle.disk_model.specs.declared.answers.DiskAnswer.{DiskAnswer};
 ghost use Rattle.disk_model.specs.declared.answers.DiskFault.{DiskFault};
 
@@ -38,7 +39,8 @@ pub struct MemDisk {
 }
 
 impl Model for MemDisk {
-    ghost use Rattle.disk_model.specs.Memory.{MemState, state_code};
+    ghost use Rattle.disk_model.specs.Memory.{MemState};
+    ghost use Rattle.disk_model.specs.Stored.{state_code};
 
     ghost Value = { MemState };
 
@@ -83,7 +85,7 @@ impl MemDisk {
 
     /// Puts a file with these bytes on the disk, of which nothing is loose. It counts as no call.
     pub fn hold(&mut self, name: &[u8], bytes: Vec<u8>) -> Result<(), AllocError>
-        requires { length name.now ≤ 16384 }
+        requires { IsText name.now }
         ensures ok { OnOk result (self.new ≡ record self.old { files = map.insert self.old.files name.now (settled_file bytes.items) }) }
         ensures err { OnErr result (self.new ≡ self.old) }
     {
@@ -104,19 +106,19 @@ impl MemDisk {
     }
 
     fn count_change(&mut self)
-        ensures { self.new ≡ record self.old { changes = next self.old.changes } }
+        ensures { self.new ≡ record self.old { changes = one_more self.old.changes } }
     {
         self.changes = self.changes.saturating_add(1);
     }
 
     fn count_read(&mut self)
-        ensures { self.new ≡ record self.old { reads = next self.old.reads } }
+        ensures { self.new ≡ record self.old { reads = one_more self.old.reads } }
     {
         self.reads = self.reads.saturating_add(1);
     }
 
     fn count_fault(&mut self)
-        ensures counted { self.new ≡ record self.old { faults = next self.old.faults } }
+        ensures counted { self.new ≡ record self.old { faults = one_more self.old.faults } }
         ensures later { self.old.faults ≤ self.new.faults }
     {
         self.faults = self.faults.saturating_add(1);
@@ -178,7 +180,7 @@ impl SharedDisk for MemDisk {
     }
 
     fn create(&mut self, name: &[u8]) -> Result<(), DiskAnswer>
-        requires { length name.now ≤ 16384 }
+        requires { IsText name.now }
         ensures exact { Changes result (λ f. created f name.now) (λ f. f) self.old self.new }
         ensures cause { HasCauseOf self.old.faults self.new.faults result DiskAnswer.Failed }
     {
@@ -230,7 +232,7 @@ impl SharedDisk for MemDisk {
     }
 
     fn rename(&mut self, from: &[u8], to: &[u8]) -> Result<(), DiskAnswer>
-        requires { length to.now ≤ 16384 }
+        requires { IsText to.now }
         ensures exact { Changes result (λ f. renamed f from.now to.now) (λ f. f) self.old self.new }
         ensures cause { HasCauseOf self.old.faults self.new.faults result DiskAnswer.Failed }
     {

@@ -2,6 +2,7 @@
 ghost use Rattle.std.specs.Prelude.{◌≡◌, ◌≤◌, List, ℕ, length, Option, option_map, IfOk, IfSome, OnOk, IsErrOf};
 ghost use Rattle.std.specs.FinMap as map;
 ghost use Rattle.ais_values.specs.Causes.{HasCauseOf};
+ghost use Rattle.ais_values.specs.Texts.{IsText};
 ghost use Rattle.disk_model.specs.Disk.{Files, created, written_at, synced, renamed, removed, length_of, bytes_at, Gives};
 ghost use Rattle.disk_model.specs.Failures.{WhereTold, LeftByCreate, LeftByWrite, LeftBySync, LeftByRename, LeftByRemove};
 ghost use Rattle.disk_model.specs.declared.answers.DiskAnswer.{DiskAnswer};
@@ -47,7 +48,7 @@ pub trait SharedDisk {
 
     /// Makes an empty file of that name; an old one is replaced. A failed call was done wholly or not at all.
     fn create(&mut self, name: &[u8]) -> Result<(), DiskAnswer>
-        requires { length name.now ≤ 16384 }
+        requires { IsText name.now }
         ensures done { OnOk result (files self.new ≡ option_map (λ f. created f name.now) (files self.old)) }
         ensures memory { IsErrOf result DiskAnswer.Memory → files self.new ≡ files self.old }
         ensures failed { IsErrOf result DiskAnswer.Failed →
@@ -57,8 +58,8 @@ pub trait SharedDisk {
     /// Puts bytes at a place of a file, over what stands there and past its end. Their range is loose until
     /// the next `sync`. Where the name is absent or the place is past the file's end, nothing changes.
     ///
-    /// After a failed call the range holds any bytes and stays loose, and the file's length is any from the
-    /// old one to the new one.
+    /// After a failed call the range holds any bytes and stays loose, and the file's length is any
+    /// between the old one and the new one.
     fn write_at(&mut self, name: &[u8], at: u64, bytes: &[u8]) -> Result<(), DiskAnswer>
         ensures done { OnOk result (files self.new ≡ option_map (λ f. written_at f name.now at bytes.now) (files self.old)) }
         ensures memory { IsErrOf result DiskAnswer.Memory → files self.new ≡ files self.old }
@@ -68,8 +69,8 @@ pub trait SharedDisk {
 
     /// Makes all bytes of a file durable: it has no loose range then. Of an absent name nothing changes.
     ///
-    /// After a failed call the file's loose ranges hold any bytes and stay loose, and its length is any from
-    /// the one when it last had no loose range to the present one.
+    /// After a failed call the file's loose ranges hold any bytes and stay loose, and its length is any
+    /// between the one when it last had no loose range and the present one.
     fn sync(&mut self, name: &[u8]) -> Result<(), DiskAnswer>
         ensures done { OnOk result (files self.new ≡ option_map (λ f. synced f name.now) (files self.old)) }
         ensures memory { IsErrOf result DiskAnswer.Memory → files self.new ≡ files self.old }
@@ -80,7 +81,7 @@ pub trait SharedDisk {
     /// Gives a file another name, with its loose ranges; a file of that name is replaced. Where the file is
     /// absent, or both names are equal, nothing changes. A failed call was done wholly or not at all.
     fn rename(&mut self, from: &[u8], to: &[u8]) -> Result<(), DiskAnswer>
-        requires { length to.now ≤ 16384 }
+        requires { IsText to.now }
         ensures done { OnOk result (files self.new ≡ option_map (λ f. renamed f from.now to.now) (files self.old)) }
         ensures memory { IsErrOf result DiskAnswer.Memory → files self.new ≡ files self.old }
         ensures failed { IsErrOf result DiskAnswer.Failed →

@@ -1,9 +1,9 @@
 //! The files of a disk in memory.
-ghost use Rattle.std.specs.Prelude.{◌≡◌, ◌≤◌, length, IsSome, IsOk, IfSome, IfOk, OnOk, OnErr};
+ghost use Rattle.std.specs.Prelude.{◌≡◌, IsSome, IsOk, IfOk, OnOk, OnErr};
 ghost use Rattle.std.specs.Option.{option_copied};
 ghost use Rattle.std.specs.FinMap as map;
+ghost use Rattle.ais_values.specs.Texts.{IsText};
 ghost use Rattle.disk_model.specs.Disk.{no_files, file_written, file_synced, adjusted, renamed};
-ghost use Rattle.disk_model.specs.Failures.{FileLeftBySync};
 ghost use Rattle.disk_model.specs.Memory.{file_torn_by_write, file_torn_by_sync};
 
 use crate::entries::{
@@ -28,7 +28,7 @@ impl Model for Shelf {
     ghost use Rattle.std.specs.FinMap as map;
     ghost use Rattle.std.specs.FinMap.Entries.{is_sorted};
     ghost use Rattle.disk_model.specs.Disk.{Files};
-    ghost use Rattle.disk_model.specs.Memory.{file_code};
+    ghost use Rattle.disk_model.specs.Stored.{file_code};
 
     ghost Value = { Files };
 
@@ -66,7 +66,7 @@ impl Shelf {
 
     /// Puts a file under a name. Where memory runs out nothing changes; none is taken where the name stands.
     pub fn put(&mut self, alloc: Global, name: &[u8], file: StoredFile) -> Result<(), AllocError>
-        requires { length name.now ≤ 16384 }
+        requires { IsText name.now }
         ensures ok { OnOk result (self.new ≡ map.insert self.old name.now file) }
         ensures err { OnErr result (self.new ≡ self.old) }
         ensures standing { IsSome (map.get self.old name.now) → IsOk result }
@@ -84,7 +84,7 @@ impl Shelf {
 
     /// Gives a file another name; a file of that name is replaced. Where memory runs out nothing changes.
     pub fn rename(&mut self, alloc: Global, from: &[u8], to: &[u8]) -> Result<(), AllocError>
-        requires { length to.now ≤ 16384 }
+        requires { IsText to.now }
         ensures ok { OnOk result (self.new ≡ renamed self.old from.now to.now) }
         ensures err { OnErr result (self.new ≡ self.old) }
     {
@@ -133,8 +133,7 @@ impl Shelf {
 
     /// Breaks a sync of a file off.
     pub fn tear_sync(&mut self, name: &[u8], torn: &[u8])
-        ensures torn { self.new ≡ adjusted (file_torn_by_sync torn.now) self.old name.now }
-        ensures left { IfSome (map.get self.old name.now) (λ file. FileLeftBySync file (file_torn_by_sync torn.now file)) }
+        ensures { self.new ≡ adjusted (file_torn_by_sync torn.now) self.old name.now }
     {
         tear_sync_in(&mut self.entries, name, torn);
     }

@@ -1,8 +1,7 @@
 //! A file in memory, with what of it is loose.
 ghost use Rattle.std.specs.Prelude.{◌≡◌, ◌-◌, ◌≤◌, ℕ, length, take, drop, min, OnOk, OnErr};
-ghost use Rattle.disk_model.specs.Disk.{File, empty_file, file_written, file_synced, Gives};
-ghost use Rattle.disk_model.specs.Failures.{FileLeftByWrite, FileLeftBySync};
-ghost use Rattle.disk_model.specs.Memory.{file_torn_by_write, file_torn_by_sync, settled_file};
+ghost use Rattle.disk_model.specs.Disk.{File, empty_file, settled_file, file_written, file_synced, Gives};
+ghost use Rattle.disk_model.specs.Memory.{half_grown, file_torn_by_write, file_torn_by_sync};
 
 use crate::bytes::{grow, overwrite, overwrite_torn, read_from, tear_ranges};
 use std::alloc::{AllocError, Global};
@@ -17,14 +16,11 @@ pub struct StoredFile {
 }
 
 impl Model for StoredFile {
-    ghost use Rattle.std.specs.Prelude.{◌≤◌, length};
     ghost use Rattle.disk_model.specs.Disk.{File};
 
     ghost Value = { File };
 
     ghost view = { λ file. record { bytes = file.bytes.items; loose = file.loose.items; settled = file.settled } };
-
-    ghost invariant = { λ file. file.settled ≤ length file.bytes.items };
 }
 
 /// How many of these bytes lie within a file of that length, where they are put at that place.
@@ -33,6 +29,16 @@ fn overlap(len: usize, at: usize, size: usize) -> usize
     ensures { result ≡ min size (len - at) }
 {
     size.min(len - at)
+}
+
+/// The length when half of a growth is kept, rounded down; after a file became shorter, its new length.
+fn half_kept(settled: u64, len: u64) -> u64
+    ensures { result ≡ half_grown settled len }
+{
+    if settled >= len {
+        return len;
+    }
+    settled + (len - settled) / 2
 }
 
 impl StoredFile {
@@ -127,12 +133,11 @@ impl StoredFile {
     /// A sync that is broken off: the loose ranges are torn, and half of the growth since nothing was loose
     /// is kept.
     pub fn tear_sync(&mut self, torn: &[u8])
-        ensures torn { self.new ≡ file_torn_by_sync torn.now self.old }
-        ensures left { FileLeftBySync self.old self.new }
+        ensures { self.new ≡ file_torn_by_sync torn.now self.old }
     {
         tear_ranges(&mut self.bytes, self.loose.as_slice(), torn);
-        let settled = self.settled;
-        let kept = settled + (self.bytes.len() as u64 - settled) / 2;
+        let len = self.bytes.len() as u64;
+        let kept = half_kept(self.settled, len);
         self.bytes.truncate(kept as usize);
     }
 }

@@ -5,16 +5,12 @@ use Rattle.std.specs.FinMap.{from_sorted}
 use Rattle.std.specs.FinMap.Entries.{is_sorted}
 use Rattle.disk_model.specs.Disk.{File}
 use Rattle.disk_model.specs.Memory.{file_torn_by_sync}
-use Rattle.disk_model.proofs.Shelving.{names_differ, sorted_adjusted, adjusted_shelved, find_shelved}
+use Rattle.disk_model.proofs.Shelving.{names_differ, sorted_adjusted, adjusted_shelved}
 use Rattle.disk_model.proofs.shelf.Shelf.tear_sync.Goals as goal
 
 pub invariant_of-self : goal.invariant_of-self
-invariant_of-self c = subst (λ (es : List (List ℕ × File)). is_sorted (slice_cmp nat_cmp) es ≡ true) (sym c.tear_sync_in.ensures.torn) (sorted_adjusted nat_list_cmp_total names_differ (file_torn_by_sync c.args.torn.now) c.args.name.now _ c.self.invariant)
+invariant_of-self c = subst (λ (es : List (List ℕ × File)). is_sorted (slice_cmp nat_cmp) es ≡ true) (sym c.tear_sync_in.ensures) (sorted_adjusted nat_list_cmp_total names_differ (file_torn_by_sync c.args.torn.now) c.args.name.now _ c.self.invariant)
 
-pub returns-clause-torn : goal.returns-clause-torn
-returns-clause-torn c =
-    rw (← c.self.view_is) (ap from_sorted c.tear_sync_in.ensures.torn ∙ adjusted_shelved nat_list_cmp_total names_differ (file_torn_by_sync c.args.torn.now) c.args.name.now _ c.self.invariant)
-
-pub returns-clause-left : goal.returns-clause-left
-returns-clause-left c =
-    rw (← c.self.view_is, find_shelved nat_list_cmp_total names_differ c.args.name.now _ c.self.invariant) c.tear_sync_in.ensures.left
+pub returns : goal.returns
+returns c =
+    rw (← c.self.view_is) (ap from_sorted c.tear_sync_in.ensures ∙ adjusted_shelved nat_list_cmp_total names_differ (file_torn_by_sync c.args.torn.now) c.args.name.now _ c.self.invariant)
