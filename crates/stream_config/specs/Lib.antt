@@ -3,6 +3,7 @@ pub mod AttributeTests
 pub mod Cfg
 pub mod Equality
 pub mod Events
+pub mod Fit
 pub mod Sizes
 pub mod Stamps
 pub mod WellKnown

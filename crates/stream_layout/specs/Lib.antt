@@ -1,0 +1,6 @@
+pub mod DeviceCalls
+pub mod Names
+pub mod Spots
+pub mod LogFiles
+pub mod Deeds
+pub mod Carrying
