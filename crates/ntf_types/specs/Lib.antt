@@ -1,2 +1,4 @@
+pub mod EventRows
 pub mod Kinds
 pub mod Sound
+pub mod SoundTests

@@ -1,5 +1,6 @@
--- What a notification must be to be sent.
-use Rattle.std.specs.Prelude.{◌≡◌, ℕ, ℤ, pos, ◌≤ℤ◌, neg_ℤ, ◌^◌, ◌≤◌, ◌⊎◌, ⊤, List, length, All, Contains, IfSome}
+-- Words of public clauses: what a notification must be to be sent.
+use Rattle.std.specs.Prelude.{ℕ, ◌≤◌, ⊤, List, length, All, Contains, IfSome}
+use Rattle.ais_values.specs.Times.{IsTime}
 use Rattle.ntf_types.specs.declared.value.Value.{Value}
 use Rattle.ntf_types.specs.declared.value.Value.TheVariants.{Int, NameOf, TextOf, Binary}
 use Rattle.ntf_types.specs.declared.value.Pair.{Pair}
@@ -8,14 +9,6 @@ use Rattle.ntf_types.specs.declared.notification.Body.{Body}
 use Rattle.ntf_types.specs.declared.notification.Body.TheVariants.{Objects, Attributes, States, Alarm, Security}
 use Rattle.ntf_types.specs.declared.notification.Notification.{Notification}
 use Rattle.ntf_types.specs.Kinds.{event_types_of}
-
--- the event time that stands for an unknown one: the least of its type
-abbrev pub unknown_time : ℤ
-unknown_time = neg_ℤ (pos (2 ^ 63))
-
--- a time is not negative, or it is the unknown one
-abbrev pub IsEventTime : ℤ → Type 0
-IsEventTime time = (pos 0 ≤ℤ time) ⊎ (time ≡ unknown_time)
 
 -- a source indicator: an object's operation, an unknown one, or a management operation
 abbrev pub IsSource : ℕ → Type 0
@@ -56,7 +49,7 @@ IsSoundBody (Security cause severity detector user provider) =
 -- a notification that may be sent
 pub record IsSound (notification : Notification) : Type 0 where
   pub event_type : Contains (event_types_of notification.body) notification.event_type
-  pub event_time : IsEventTime notification.event_time
+  pub event_time : IsTime notification.event_time
   pub text : length notification.text ≤ 1024
   pub correlated : length notification.correlated ≤ 16
   pub info : AreSound HasShortValue notification.info

@@ -1,11 +1,12 @@
 //! What a notification must be to be sent.
 ghost use Rattle.std.specs.Prelude.{◌≡◌, ◌≤◌, ◌↔◌, length, All, Contains, IsTrue, IsOk, IsErrOf, IfSome};
-ghost use Rattle.ntf_types.specs.Kinds.{event_types_of, has_row, HasEventTypes};
-ghost use Rattle.ntf_types.specs.Sound.{IsEventTime, IsSource, IsShortValue, IsShortChange, HasShortValue, AreSound, IsSoundBody, IsSound};
+ghost use Rattle.ntf_types.specs.EventRows.{has_row, HasEventTypes};
+ghost use Rattle.ntf_types.specs.Kinds.{event_types_of};
+ghost use Rattle.ntf_types.specs.Sound.{IsSource, IsShortValue, IsShortChange, HasShortValue, AreSound, IsSoundBody, IsSound};
 
 use crate::{Body, Change, Notification, Pair, Value, kind_of};
 use ais_values::tables::EVENT_TYPES;
-use ais_values::{CodeRow, Status};
+use ais_values::{CodeRow, Status, is_time};
 
 /// The most bytes of additional text, and of a value's text or binary.
 pub const MAX_BYTES: usize = 1024;
@@ -15,9 +16,6 @@ pub const MAX_ELEMENTS: usize = 16;
 
 /// The greatest perceived severity (`SA_NTF_SEVERITY_CRITICAL`).
 pub const MAX_SEVERITY: u16 = 5;
-
-/// The event time that stands for an unknown one (`SA_TIME_UNKNOWN`).
-pub const UNKNOWN_TIME: i64 = i64::MIN;
 
 /// Whether a row of the table is this event type, and of this type of notifications.
 fn has_row(rows: &[CodeRow], kind: u16, event_type: u16) -> bool
@@ -34,13 +32,6 @@ fn has_event_type(rows: &[CodeRow], notification: &Notification) -> bool
     ensures { IsTrue result ↔ Contains (event_types_of notification.now.body) notification.now.event_type }
 {
     has_row(rows, kind_of(notification), notification.event_type)
-}
-
-/// Whether a time is one of an event, or the unknown one.
-fn is_event_time(time: i64) -> bool
-    ensures { IsTrue result ↔ IsEventTime time }
-{
-    time >= 0 || time == UNKNOWN_TIME
 }
 
 /// Whether a number is that of a source indicator.
@@ -128,7 +119,7 @@ pub fn check_notification(notification: &Notification) -> Result<(), Status>
     ensures refused { IsErrOf result Status.InvalidParam ↔ (¬ IsSound notification.now) }
 {
     if has_event_type(&EVENT_TYPES, notification)
-        && is_event_time(notification.event_time)
+        && is_time(notification.event_time)
         && notification.text.as_slice().len() <= MAX_BYTES
         && notification.correlated.as_slice().len() <= MAX_ELEMENTS
         && are_sound_pairs(notification.info.as_slice())

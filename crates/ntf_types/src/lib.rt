@@ -3,11 +3,13 @@
 #![tactic(auto)]
 
 mod check;
+mod law;
 mod notification;
 #[cfg(test)]
 mod tests;
 mod value;
 
-pub use check::{MAX_BYTES, MAX_ELEMENTS, MAX_SEVERITY, UNKNOWN_TIME, check_notification};
+pub use check::{MAX_BYTES, MAX_ELEMENTS, MAX_SEVERITY, check_notification};
+pub use law::law_of_equality;
 pub use notification::{Body, Notification, kind_of};
 pub use value::{Change, Pair, StateChange, Value};

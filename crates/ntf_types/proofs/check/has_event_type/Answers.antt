@@ -1,5 +1,5 @@
 use Rattle.std.proofs.Common.{ap, ◌∙◌}
-use Rattle.ntf_types.specs.Kinds.{has_row}
+use Rattle.ntf_types.specs.EventRows.{has_row}
 use Rattle.ntf_types.proofs.EventTypes.{has_row-decides}
 use Rattle.ntf_types.proofs.check.has_event_type.Goals as goal
 
