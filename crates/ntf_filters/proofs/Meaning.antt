@@ -8,7 +8,7 @@ use Rattle.std.proofs.lemmas.Bool.{eqb-true}
 use Rattle.std.proofs.lemmas.Slice.Eq.{bytes_eq-Decides}
 use Rattle.std.proofs.lemmas.List.Folds.{list_any_at}
 use Rattle.std.proofs.lemmas.Map.Views.{Contains-from_any}
-use Rattle.ais_values.specs.declared.kind.ClassId.{ClassId}
+use Rattle.ais_values.proofs.Equality.{class_eq-decides}
 use Rattle.ntf_types.specs.declared.notification.Body.{Body}
 use Rattle.ntf_types.specs.declared.notification.Notification.{Notification}
 use Rattle.ntf_filters.specs.declared.filter.Filter.{Filter}
@@ -38,14 +38,6 @@ unfolding admits_option
 admits_option-decides values None = no_length values
 admits_option-decides values (Some value) = admits-decides nat_eq Decides-eqb values value
 
--- two classes with equal parts are equal
-same_class-decides : (one other : ClassId) → Decides (same_class one other) (one ≡ other)
-same_class-decides one other =
-    Decides-like (same_class one other)
-    (λ parts. λ i. record { vendor = parts.0 i; major = (parts.1).0 i; minor = (parts.1).1 i })
-    (λ e. (ap (λ (c : ClassId). c.vendor) e, (ap (λ (c : ClassId). c.major) e, ap (λ (c : ClassId). c.minor) e)))
-    (Decides-and _ _ (Decides-eqb one.vendor other.vendor) (Decides-and _ _ (Decides-eqb one.major other.major) (Decides-eqb one.minor other.minor)))
-
 -- the lists of what every notification has
 abbrev AdmitsCommon : Notification → Filter → Type 0
 AdmitsCommon notification filter =
@@ -54,7 +46,7 @@ AdmitsCommon notification filter =
 common-decides : (notification : Notification) (filter : Filter) → Decides (admits_common notification filter) (AdmitsCommon notification filter)
 unfolding admits_common
 common-decides notification filter =
-    Decides-and _ _ (Decides-and _ _ (Decides-and _ _ (admits-decides nat_eq Decides-eqb filter.types notification.event_type) (admits-decides bytes_eq bytes_eq-Decides filter.objects notification.object)) (admits-decides bytes_eq bytes_eq-Decides filter.notifiers notification.notifier)) (admits-decides same_class same_class-decides filter.classes notification.class)
+    Decides-and _ _ (Decides-and _ _ (Decides-and _ _ (admits-decides nat_eq Decides-eqb filter.types notification.event_type) (admits-decides bytes_eq bytes_eq-Decides filter.objects notification.object)) (admits-decides bytes_eq bytes_eq-Decides filter.notifiers notification.notifier)) (admits-decides same_class class_eq-decides filter.classes notification.class)
 
 -- the lists of what only some notifications have
 abbrev AdmitsBody : Body → Filter → Type 0

@@ -4,10 +4,12 @@
 
 mod check;
 mod filter;
+mod law;
 mod matching;
 #[cfg(test)]
 mod tests;
 
 pub use check::check_filters;
 pub use filter::{Filter, FilterSet};
+pub use law::law_of_equality;
 pub use matching::matches;
