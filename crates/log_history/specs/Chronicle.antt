@@ -1,0 +1,146 @@
+-- Words of public clauses: every stream that was ever made, and the stamps of its files.
+use Rattle.std.specs.Prelude.{ℕ, ◌+◌, ◌%◌, nat_lt, ◌==◌, Bool, true, false, ◌&&◌, if◌then◌else◌, pos, List, [], ◌∷◌, ◌++◌, length, map, Option, Some, None, is_none, option_map}
+use Rattle.std.specs.Option.{option_map_or}
+use Rattle.std.specs.List.{find}
+use Rattle.stream_config.specs.declared.attrs.StreamAttrs.{StreamAttrs}
+use Rattle.stream_config.specs.declared.attrs.StreamName.{StreamName}
+use Rattle.stream_config.specs.declared.attrs.StreamName.TheVariants as name
+use Rattle.stream_config.specs.declared.state.LogFile.{LogFile}
+use Rattle.record_print.specs.declared.record.LogRecord.{LogRecord}
+use Rattle.log_history.specs.Names.{same_name, is_application}
+use Rattle.log_history.specs.Attributes.{stamp_after, changes_file}
+use Rattle.log_history.specs.Firsts.{change_first}
+use Rattle.log_history.specs.Changes.{LogChange, Began, Opened, Stored, Closed, Ended}
+use Rattle.log_history.specs.Handles.{openers}
+
+-- what the service begins with: the second of its start, and the attributes of the well-known streams
+pub record LogSetup : Type 0 where
+  pub start : ℕ
+  pub alarm : StreamAttrs
+  pub notification : StreamAttrs
+  pub system : StreamAttrs
+
+-- a stream that was made: all its records, in order; the creating and the closing stamp of each of its files that were full, in order;
+-- the creating stamp of its last file; and the closing stamp of that one, once the stream has ended
+pub record Stream : Type 0 where
+  pub name : StreamName
+  pub attrs : StreamAttrs
+  pub records : List LogRecord
+  pub full : List (ℕ × ℕ)
+  pub current : ℕ
+  pub ended : Option ℕ
+
+-- all streams ever made, in order of creation, and the service's last stamp
+pub record Chronicle : Type 0 where
+  pub streams : List Stream
+  pub last : ℕ
+
+abbrev pub new_stream : StreamName → StreamAttrs → ℕ → Stream
+new_stream name attrs created =
+    record { name = name; attrs = attrs; records = []; full = []; current = created; ended = None }
+
+abbrev pub lives : Stream → Bool
+lives stream = is_none stream.ended
+
+-- the stream lives and has that name
+abbrev pub is_living : StreamName → Stream → Bool
+is_living name stream = lives stream && same_name stream.name name
+
+-- the next record changes the file: it is a later one whose number is a multiple of those of a file, under ROTATE
+abbrev pub is_due : Stream → Bool
+is_due stream = changes_file stream.attrs (length stream.records)
+
+-- a stream with one record more; the last stamp before is this one
+abbrev pub with_record : (last second : ℕ) → LogRecord → Stream → Stream
+with_record last second rec stream = record {
+  name = stream.name;
+  attrs = stream.attrs;
+  records = stream.records ++ rec ∷ [];
+  full = if is_due stream then stream.full ++ (stream.current, stamp_after last second) ∷ [] else stream.full;
+  current = if is_due stream then stamp_after (stamp_after last second) second else stream.current;
+  ended = stream.ended;
+}
+
+-- a change of file takes two stamps, the closing one first
+abbrev pub last_with_record : (last second : ℕ) → Stream → ℕ
+last_with_record last second stream =
+    if is_due stream then stamp_after (stamp_after last second) second else last
+
+-- a stream that has ended, its last file closed by this stamp
+abbrev pub with_end : ℕ → Stream → Stream
+with_end closed stream = record {
+  name = stream.name;
+  attrs = stream.attrs;
+  records = stream.records;
+  full = stream.full;
+  current = stream.current;
+  ended = Some closed;
+}
+
+-- those of the streams that are to end do so in order of creation, and each takes one stamp
+abbrev pub all_ended : (Stream → Bool) → (last second : ℕ) → List Stream → List Stream
+all_ended ends last second [] = []
+all_ended ends last second (stream ∷ streams) =
+    if ends stream then with_end (stamp_after last second) stream ∷ all_ended ends (stamp_after last second) second streams
+    else stream ∷ all_ended ends last second streams
+
+abbrev pub last_of_ends : (Stream → Bool) → (last second : ℕ) → List Stream → ℕ
+last_of_ends ends last second [] = last
+last_of_ends ends last second (stream ∷ streams) =
+    last_of_ends ends (if ends stream then stamp_after last second else last) second streams
+
+abbrev pub is_empty : List ℕ → Bool
+is_empty [] = true
+is_empty (client ∷ clients) = false
+
+-- an application stream ends when no client has it open
+abbrev pub has_no_openers : List LogChange → Stream → Bool
+has_no_openers past stream = lives stream && is_application stream.name && is_empty (openers past stream.name)
+
+-- the chronicle once the streams that nobody has open any more have ended
+abbrev pub after_ends : List LogChange → ℕ → Chronicle → Chronicle
+after_ends past second before = record {
+  streams = all_ended (has_no_openers past) before.last second before.streams;
+  last = last_of_ends (has_no_openers past) before.last second before.streams;
+}
+
+abbrev pub after_making : StreamName → StreamAttrs → ℕ → Chronicle → Chronicle
+after_making name attrs second before = record {
+  streams = before.streams ++ new_stream name attrs (stamp_after before.last second) ∷ [];
+  last = stamp_after before.last second;
+}
+
+abbrev pub after_record : StreamName → LogRecord → ℕ → Chronicle → Chronicle
+after_record name rec second before = record {
+  streams = change_first (is_living name) (with_record before.last second rec) before.streams;
+  last = option_map_or (last_with_record before.last second) (find (is_living name) before.streams) before.last;
+}
+
+-- the three well-known streams, made at the start
+abbrev pub beginning : LogSetup → Chronicle
+beginning setup =
+    let alarm = setup.start in
+    let notification = stamp_after alarm setup.start in
+    let system = stamp_after notification setup.start in
+    record {
+      streams = new_stream name.Alarm setup.alarm alarm ∷ new_stream name.Notification setup.notification notification
+          ∷ new_stream name.System setup.system system ∷ [];
+      last = system;
+    }
+
+-- what the changes made of the streams
+abbrev pub chronicle : LogSetup → List LogChange → Chronicle
+chronicle setup [] = beginning setup
+chronicle setup (Opened client name (Some attrs) second ∷ past) = after_making name attrs second (chronicle setup past)
+chronicle setup (Opened client name None second ∷ past) = chronicle setup past
+chronicle setup (Stored name rec second ∷ past) = after_record name rec second (chronicle setup past)
+chronicle setup (Closed client name second ∷ past) =
+    after_ends (Closed client name second ∷ past) second (chronicle setup past)
+chronicle setup (Ended client second ∷ past) = after_ends (Ended client second ∷ past) second (chronicle setup past)
+chronicle setup (Began client ∷ past) = chronicle setup past
+
+-- every file that a stream had, in order; the last is the current one until the stream ends
+abbrev pub all_files : Stream → List LogFile
+all_files stream =
+    map (λ (stamps : ℕ × ℕ). record { created = pos stamps.0; closed = Some (pos stamps.1) }) stream.full
+    ++ record { created = pos stream.current; closed = option_map pos stream.ended } ∷ []

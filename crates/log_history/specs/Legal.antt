@@ -1,0 +1,27 @@
+-- Words of public clauses: which changes can have happened.
+use Rattle.std.specs.Prelude.{◌≡◌, ℕ, Bool, true, false, List, [], ◌∷◌, IsTrue, IsFalse, Option, Some, None, is_some, ⊤}
+use Rattle.ais_values.specs.declared.status.Status.{Status}
+use Rattle.ais_values.specs.declared.status.Status.TheVariants as status
+use Rattle.stream_config.specs.declared.attrs.StreamAttrs.{StreamAttrs}
+use Rattle.stream_config.specs.declared.attrs.StreamName.{StreamName}
+use Rattle.log_history.specs.Changes.{LogChange, Began, Opened, Stored, Closed, Ended}
+use Rattle.log_history.specs.Handles.{is_using, is_open}
+use Rattle.log_history.specs.Chronicle.{LogSetup}
+use Rattle.log_history.specs.Answers.{living_stream, open_answer, is_full}
+
+-- a change that a call made which was answered ok
+abbrev pub CanFollow : LogSetup → LogChange → List LogChange → Type 0
+CanFollow setup (Began client) past = is_using past client ≡ false
+CanFollow setup (Opened client name None second) past =
+    (is_using past client ≡ true) × (is_some (living_stream setup past name) ≡ true)
+CanFollow setup (Opened client name (Some attrs) second) past =
+    (is_some (living_stream setup past name) ≡ false) × (open_answer setup past client name (Some attrs) ≡ status.Ok)
+CanFollow setup (Stored name rec second) past =
+    (is_some (living_stream setup past name) ≡ true) × (is_full setup past name ≡ false)
+CanFollow setup (Closed client name second) past = (is_using past client ≡ true) × (is_open past name client ≡ true)
+CanFollow setup (Ended client second) past = is_using past client ≡ true
+
+-- each change could follow those before it
+abbrev pub IsLogHistory : LogSetup → List LogChange → Type 0
+IsLogHistory setup [] = ⊤
+IsLogHistory setup (change ∷ past) = CanFollow setup change past × IsLogHistory setup past

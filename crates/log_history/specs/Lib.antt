@@ -1,0 +1,9 @@
+pub mod Changes
+pub mod Handles
+pub mod Chronicle
+pub mod Answers
+pub mod Table
+pub mod Legal
+pub mod Names
+pub mod Attributes
+pub mod Firsts

@@ -1,0 +1,186 @@
+-- Words of public clauses: what the service keeps of all that happened, and what one more change makes of it.
+use Rattle.std.specs.Prelude.{ℕ, ◌+◌, nat_lt, ◌==◌, Bool, not, ◌&&◌, if◌then◌else◌, pos, ℤ, List, [], ◌∷◌, ◌++◌, length, map, filter, Option, Some, None}
+use Rattle.std.specs.Option.{option_map_or}
+use Rattle.std.specs.List.{find}
+use Rattle.client_set.specs.Rising.{put, without}
+use Rattle.format_expr.specs.Reading.{pieces_of}
+use Rattle.stream_config.specs.declared.attrs.StreamAttrs.{StreamAttrs}
+use Rattle.stream_config.specs.declared.attrs.StreamName.{StreamName}
+use Rattle.stream_config.specs.declared.state.LogFile.{LogFile}
+use Rattle.stream_config.specs.declared.state.StreamState.{StreamState}
+use Rattle.stream_config.specs.declared.event.Stamps.{Stamps}
+use Rattle.stream_config.specs.declared.event.StreamEvent.{StreamEvent}
+use Rattle.stream_config.specs.declared.event.StreamEvent.TheVariants as event
+use Rattle.record_print.specs.declared.record.LogRecord.{LogRecord}
+use Rattle.record_print.specs.Printing.{printed_record}
+use Rattle.log_history.specs.Names.{same_name, is_application}
+use Rattle.log_history.specs.Attributes.{stamp_after, changes_file}
+use Rattle.log_history.specs.Firsts.{change_first, last_ones}
+use Rattle.log_history.specs.Changes.{LogChange, Began, Opened, Stored, Closed, Ended}
+use Rattle.log_history.specs.Handles.{users, openers}
+use Rattle.log_history.specs.Chronicle.{LogSetup, Stream, Chronicle, lives, is_empty, chronicle, all_files}
+
+-- a living stream, and the clients that have it open, rising
+pub record OpenStream : Type 0 where
+  pub state : StreamState
+  pub openers : List ℕ
+
+-- the last stamp, the clients that use the service, rising, and the living streams in order of creation
+pub record LogTable : Type 0 where
+  pub last : ℕ
+  pub users : List ℕ
+  pub streams : List OpenStream
+
+-- the files of a stream that stand: the last ones, as many as its attributes say
+abbrev pub standing_files : Stream → List LogFile
+standing_files stream = last_ones stream.attrs.rotated (all_files stream)
+
+abbrev pub state_of : Stream → StreamState
+state_of stream = record {
+  name = stream.name;
+  attrs = stream.attrs;
+  taken = length stream.records;
+  files = standing_files stream;
+}
+
+abbrev pub open_stream : List LogChange → Stream → OpenStream
+open_stream past stream = record { state = state_of stream; openers = openers past stream.name }
+
+-- what is kept of changes
+abbrev pub table : LogSetup → List LogChange → LogTable
+table setup past = record {
+  last = (chronicle setup past).last;
+  users = users past;
+  streams = map (open_stream past) (filter lives (chronicle setup past).streams);
+}
+
+-- what one more change makes of it
+
+abbrev pub is_named : StreamName → OpenStream → Bool
+is_named name stream = same_name stream.state.name name
+
+abbrev pub with_opener : ℕ → OpenStream → OpenStream
+with_opener client stream = record { state = stream.state; openers = put nat_lt client stream.openers }
+
+abbrev pub without_opener : ℕ → OpenStream → OpenStream
+without_opener client stream =
+    record { state = stream.state; openers = without (λ other. other == client) stream.openers }
+
+abbrev pub new_state : StreamName → StreamAttrs → (created : ℕ) → StreamState
+new_state name attrs created = record {
+  name = name;
+  attrs = attrs;
+  taken = 0;
+  files = record { created = pos created; closed = None } ∷ [];
+}
+
+-- the stamps of a change of file, where the next record is due to change it
+abbrev pub due_stamps : (last second : ℕ) → StreamState → Option Stamps
+due_stamps last second state =
+    if changes_file state.attrs state.taken
+    then Some (record { closed = pos (stamp_after last second); created = pos (stamp_after (stamp_after last second) second) })
+    else None
+
+abbrev pub last_after_due : (last second : ℕ) → StreamState → ℕ
+last_after_due last second state =
+    if changes_file state.attrs state.taken then stamp_after (stamp_after last second) second else last
+
+-- the files with the last one closed
+abbrev pub with_last_closed : ℤ → List LogFile → List LogFile
+with_last_closed closed [] = []
+with_last_closed closed (file ∷ []) = record { created = file.created; closed = Some closed } ∷ []
+with_last_closed closed (file ∷ next ∷ files) = file ∷ with_last_closed closed (next ∷ files)
+
+-- the files once a record is stored: at a change of file the current one is closed, a new one is made,
+-- and of too many the oldest goes
+abbrev pub files_after : (rotated : ℕ) → Option Stamps → List LogFile → List LogFile
+files_after rotated None files = files
+files_after rotated (Some stamps) files =
+    last_ones rotated (with_last_closed stamps.closed files ++ record { created = stamps.created; closed = None } ∷ [])
+
+abbrev pub state_after : Option Stamps → StreamState → StreamState
+state_after stamps state = record {
+  name = state.name;
+  attrs = state.attrs;
+  taken = state.taken + 1;
+  files = files_after state.attrs.rotated stamps state.files;
+}
+
+abbrev pub with_stored : (last second : ℕ) → OpenStream → OpenStream
+with_stored last second stream =
+    record { state = state_after (due_stamps last second stream.state) stream.state; openers = stream.openers }
+
+abbrev pub has_nobody : OpenStream → Bool
+has_nobody stream = is_application stream.state.name && is_empty stream.openers
+
+-- the streams that nobody has open any more end in order of creation, and each takes one stamp
+abbrev pub last_after_ends : (last second : ℕ) → List OpenStream → ℕ
+last_after_ends last second [] = last
+last_after_ends last second (stream ∷ streams) =
+    last_after_ends (if has_nobody stream then stamp_after last second else last) second streams
+
+abbrev pub ends_in : (last second : ℕ) → List OpenStream → List StreamEvent
+ends_in last second [] = []
+ends_in last second (stream ∷ streams) =
+    if has_nobody stream
+    then event.Ended stream.state (pos (stamp_after last second)) ∷ ends_in (stamp_after last second) second streams
+    else ends_in last second streams
+
+abbrev pub kept_streams : List OpenStream → List OpenStream
+kept_streams streams = filter (λ stream. not (has_nobody stream)) streams
+
+-- the streams once a client has closed one of them
+abbrev pub closed_streams : ℕ → StreamName → List OpenStream → List OpenStream
+closed_streams client name streams = change_first (is_named name) (without_opener client) streams
+
+-- the streams once a client has closed all
+abbrev pub left_streams : ℕ → List OpenStream → List OpenStream
+left_streams client streams = map (without_opener client) streams
+
+abbrev pub opened_stream : ℕ → StreamName → StreamAttrs → (created : ℕ) → OpenStream
+opened_stream client name attrs created = record { state = new_state name attrs created; openers = client ∷ [] }
+
+abbrev pub table_after : LogChange → LogTable → LogTable
+table_after (Began client) kept =
+    record { last = kept.last; users = put nat_lt client kept.users; streams = kept.streams }
+table_after (Opened client name None second) kept =
+    record { last = kept.last; users = kept.users; streams = change_first (is_named name) (with_opener client) kept.streams }
+table_after (Opened client name (Some attrs) second) kept = record {
+  last = stamp_after kept.last second;
+  users = kept.users;
+  streams = kept.streams ++ opened_stream client name attrs (stamp_after kept.last second) ∷ [];
+}
+table_after (Stored name rec second) kept = record {
+  last = option_map_or (λ (stream : OpenStream). last_after_due kept.last second stream.state) (find (is_named name) kept.streams) kept.last;
+  users = kept.users;
+  streams = change_first (is_named name) (with_stored kept.last second) kept.streams;
+}
+table_after (Closed client name second) kept = record {
+  last = last_after_ends kept.last second (closed_streams client name kept.streams);
+  users = kept.users;
+  streams = kept_streams (closed_streams client name kept.streams);
+}
+table_after (Ended client second) kept = record {
+  last = last_after_ends kept.last second (left_streams client kept.streams);
+  users = without (λ other. other == client) kept.users;
+  streams = kept_streams (left_streams client kept.streams);
+}
+
+-- the bytes of a record that is stored in a stream
+abbrev pub bytes_in : StreamState → LogRecord → List ℕ
+bytes_in state rec = printed_record (pieces_of state.attrs.expr) (state.taken + 1) rec state.attrs.record_size
+
+abbrev pub stored_event : (last second : ℕ) → LogRecord → OpenStream → List StreamEvent
+stored_event last second rec stream =
+    event.Stored stream.state (bytes_in stream.state rec) (due_stamps last second stream.state) ∷ []
+
+-- what a change does to streams, in order
+abbrev pub events_of : LogChange → LogTable → List StreamEvent
+events_of (Began client) kept = []
+events_of (Opened client name None second) kept = []
+events_of (Opened client name (Some attrs) second) kept =
+    event.Made (new_state name attrs (stamp_after kept.last second)) ∷ []
+events_of (Stored name rec second) kept =
+    option_map_or (stored_event kept.last second rec) (find (is_named name) kept.streams) []
+events_of (Closed client name second) kept = ends_in kept.last second (closed_streams client name kept.streams)
+events_of (Ended client second) kept = ends_in kept.last second (left_streams client kept.streams)
