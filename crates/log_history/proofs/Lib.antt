@@ -1,2 +1,6 @@
 pub mod FirstLaws
-pub mod NameLaws
+pub mod AnswerLaws
+pub mod EndLaws
+pub mod Reaching
+pub mod FileLists
+pub mod TableLaws

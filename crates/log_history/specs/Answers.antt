@@ -1,5 +1,5 @@
 -- Words of public clauses: the answers of the log service, each by a table whose first row that holds decides.
-use Rattle.std.specs.Prelude.{ℕ, nat_lt, nat_le, Bool, false, not, ◌&&◌, List, [], ◌∷◌, length, Option, Some, None, option_map, unwrap_or, is_some, is_none, ℤ}
+use Rattle.std.specs.Prelude.{ℕ, nat_lt, nat_le, Bool, true, false, not, ◌&&◌, List, [], ◌∷◌, length, Option, Some, None, option_map, unwrap_or, is_some, is_none, ℤ}
 use Rattle.std.specs.Option.{option_map_or}
 use Rattle.std.specs.List.{find, list_any, count_by}
 use Rattle.ais_values.specs.FirstRow.{first_row}
@@ -13,7 +13,10 @@ use Rattle.record_print.specs.Records.{can_write}
 use Rattle.stream_config.specs.Attributes.{kind_of}
 use Rattle.stream_config.specs.AttributeTests.{passes_attrs, have_one_place}
 use Rattle.log_history.specs.Names.{is_application}
-use Rattle.log_history.specs.Attributes.{per_file_of, is_halting, same_attrs}
+use Rattle.stream_config.specs.declared.attrs.FullAction.{FullAction}
+use Rattle.stream_config.specs.declared.attrs.FullAction.TheVariants.{Halt}
+use Rattle.stream_config.specs.Equality.{same_attrs}
+use Rattle.stream_config.specs.Sizes.{records_per_file}
 use Rattle.log_history.specs.Changes.{LogChange}
 use Rattle.log_history.specs.Handles.{is_using, is_open}
 use Rattle.log_history.specs.Chronicle.{LogSetup, Stream, lives, is_living, chronicle}
@@ -61,9 +64,13 @@ end_rows using = (not using, status.BadHandle) ∷ []
 abbrev pub store_rows : (full : Bool) → List (Bool × Status)
 store_rows full = (full, status.NoSpace) ∷ []
 
+abbrev pub is_halting : FullAction → Bool
+is_halting Halt = true
+is_halting _ = false
+
 -- a HALT stream that has as many records as its file holds
 abbrev pub holds_all : StreamAttrs → (taken : ℕ) → Bool
-holds_all attrs taken = is_halting attrs.action && nat_le (per_file_of attrs) taken
+holds_all attrs taken = is_halting attrs.action && nat_le (records_per_file attrs) taken
 
 -- what holds after changes
 

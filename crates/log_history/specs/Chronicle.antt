@@ -7,8 +7,11 @@ use Rattle.stream_config.specs.declared.attrs.StreamName.{StreamName}
 use Rattle.stream_config.specs.declared.attrs.StreamName.TheVariants as name
 use Rattle.stream_config.specs.declared.state.LogFile.{LogFile}
 use Rattle.record_print.specs.declared.record.LogRecord.{LogRecord}
-use Rattle.log_history.specs.Names.{same_name, is_application}
-use Rattle.log_history.specs.Attributes.{stamp_after, changes_file}
+use Rattle.stream_config.specs.Equality.{same_name}
+use Rattle.stream_config.specs.Fit.{changes_file}
+use Rattle.stream_config.specs.Sizes.{records_per_file}
+use Rattle.stream_config.specs.Stamps.{stamp_after}
+use Rattle.log_history.specs.Names.{is_application}
 use Rattle.log_history.specs.Firsts.{change_first}
 use Rattle.log_history.specs.Changes.{LogChange, Began, Opened, Stored, Closed, Ended}
 use Rattle.log_history.specs.Handles.{openers}
@@ -48,7 +51,7 @@ is_living name stream = lives stream && same_name stream.name name
 
 -- the next record changes the file: it is a later one whose number is a multiple of those of a file, under ROTATE
 abbrev pub is_due : Stream → Bool
-is_due stream = changes_file stream.attrs (length stream.records)
+is_due stream = changes_file stream.attrs.action (records_per_file stream.attrs) (length stream.records)
 
 -- a stream with one record more; the last stamp before is this one
 abbrev pub with_record : (last second : ℕ) → LogRecord → Stream → Stream
@@ -139,8 +142,12 @@ chronicle setup (Closed client name second ∷ past) =
 chronicle setup (Ended client second ∷ past) = after_ends (Ended client second ∷ past) second (chronicle setup past)
 chronicle setup (Began client ∷ past) = chronicle setup past
 
+-- a file by its creating and its closing stamp
+abbrev pub closed_file : ℕ × ℕ → LogFile
+closed_file stamps = record { created = pos stamps.0; closed = Some (pos stamps.1) }
+
 -- every file that a stream had, in order; the last is the current one until the stream ends
 abbrev pub all_files : Stream → List LogFile
 all_files stream =
-    map (λ (stamps : ℕ × ℕ). record { created = pos stamps.0; closed = Some (pos stamps.1) }) stream.full
+    map closed_file stream.full
     ++ record { created = pos stream.current; closed = option_map pos stream.ended } ∷ []

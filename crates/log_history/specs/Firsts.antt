@@ -1,11 +1,7 @@
 -- Words of public clauses: the first element of a list that passes a test.
-use Rattle.std.specs.Prelude.{Bool, if◌then◌else◌, ℕ, ◌-◌, List, [], ◌∷◌, length, drop}
+use Rattle.std.specs.Prelude.{Bool, if◌then◌else◌, List, [], ◌∷◌}
 
 -- the list with its first element that passes the test changed
 abbrev pub change_first : {X : Type 0} → (X → Bool) → (X → X) → List X → List X
 change_first test change [] = []
 change_first test change (x ∷ xs) = if test x then change x ∷ xs else x ∷ change_first test change xs
-
--- at most so many elements, the last ones
-abbrev pub last_ones : {X : Type 0} → ℕ → List X → List X
-last_ones count xs = drop (length xs - count) xs

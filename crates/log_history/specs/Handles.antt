@@ -2,7 +2,7 @@
 use Rattle.std.specs.Prelude.{ℕ, ◌==◌, nat_lt, Bool, false, not, ◌&&◌, ◌||◌, if◌then◌else◌, List, [], ◌∷◌}
 use Rattle.client_set.specs.Rising.{put, without}
 use Rattle.stream_config.specs.declared.attrs.StreamName.{StreamName}
-use Rattle.log_history.specs.Names.{same_name}
+use Rattle.stream_config.specs.Equality.{same_name}
 use Rattle.log_history.specs.Changes.{LogChange, Began, Opened, Stored, Closed, Ended}
 
 -- the client's last beginning or end is a beginning

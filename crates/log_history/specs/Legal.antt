@@ -1,13 +1,22 @@
 -- Words of public clauses: which changes can have happened.
-use Rattle.std.specs.Prelude.{◌≡◌, ℕ, Bool, true, false, List, [], ◌∷◌, IsTrue, IsFalse, Option, Some, None, is_some, ⊤}
-use Rattle.ais_values.specs.declared.status.Status.{Status}
+use Rattle.std.specs.Prelude.{◌≡◌, true, false, List, [], ◌∷◌, Some, None, is_some}
+use Rattle.ais_values.specs.declared.kind.StreamKind.TheVariants as kind
 use Rattle.ais_values.specs.declared.status.Status.TheVariants as status
-use Rattle.stream_config.specs.declared.attrs.StreamAttrs.{StreamAttrs}
-use Rattle.stream_config.specs.declared.attrs.StreamName.{StreamName}
+use Rattle.stream_config.specs.Attributes.{PassesAttrs}
+use Rattle.stream_config.specs.AttributeTests.{have_one_place}
 use Rattle.log_history.specs.Changes.{LogChange, Began, Opened, Stored, Closed, Ended}
 use Rattle.log_history.specs.Handles.{is_using, is_open}
 use Rattle.log_history.specs.Chronicle.{LogSetup}
 use Rattle.log_history.specs.Answers.{living_stream, open_answer, is_full}
+
+-- the attributes of the well-known streams pass, and no two of them have one place
+pub record IsSetup (setup : LogSetup) : Type 0 where
+  pub alarm : PassesAttrs kind.Alarm setup.alarm
+  pub notification : PassesAttrs kind.Notification setup.notification
+  pub system : PassesAttrs kind.System setup.system
+  pub first_apart : have_one_place setup.alarm setup.notification ≡ false
+  pub second_apart : have_one_place setup.alarm setup.system ≡ false
+  pub third_apart : have_one_place setup.notification setup.system ≡ false
 
 -- a change that a call made which was answered ok
 abbrev pub CanFollow : LogSetup → LogChange → List LogChange → Type 0
@@ -23,5 +32,5 @@ CanFollow setup (Ended client second) past = is_using past client ≡ true
 
 -- each change could follow those before it
 abbrev pub IsLogHistory : LogSetup → List LogChange → Type 0
-IsLogHistory setup [] = ⊤
+IsLogHistory setup [] = IsSetup setup
 IsLogHistory setup (change ∷ past) = CanFollow setup change past × IsLogHistory setup past

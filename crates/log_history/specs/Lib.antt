@@ -5,5 +5,4 @@ pub mod Answers
 pub mod Table
 pub mod Legal
 pub mod Names
-pub mod Attributes
 pub mod Firsts

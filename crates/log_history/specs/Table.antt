@@ -13,9 +13,13 @@ use Rattle.stream_config.specs.declared.event.StreamEvent.{StreamEvent}
 use Rattle.stream_config.specs.declared.event.StreamEvent.TheVariants as event
 use Rattle.record_print.specs.declared.record.LogRecord.{LogRecord}
 use Rattle.record_print.specs.Printing.{printed_record}
-use Rattle.log_history.specs.Names.{same_name, is_application}
-use Rattle.log_history.specs.Attributes.{stamp_after, changes_file}
-use Rattle.log_history.specs.Firsts.{change_first, last_ones}
+use Rattle.stream_config.specs.Equality.{same_name}
+use Rattle.stream_config.specs.Events.{open_file, standing, state_after}
+use Rattle.stream_config.specs.Fit.{changes_file}
+use Rattle.stream_config.specs.Sizes.{records_per_file}
+use Rattle.stream_config.specs.Stamps.{stamp_after}
+use Rattle.log_history.specs.Names.{is_application}
+use Rattle.log_history.specs.Firsts.{change_first}
 use Rattle.log_history.specs.Changes.{LogChange, Began, Opened, Stored, Closed, Ended}
 use Rattle.log_history.specs.Handles.{users, openers}
 use Rattle.log_history.specs.Chronicle.{LogSetup, Stream, Chronicle, lives, is_empty, chronicle, all_files}
@@ -31,16 +35,12 @@ pub record LogTable : Type 0 where
   pub users : List ℕ
   pub streams : List OpenStream
 
--- the files of a stream that stand: the last ones, as many as its attributes say
-abbrev pub standing_files : Stream → List LogFile
-standing_files stream = last_ones stream.attrs.rotated (all_files stream)
-
 abbrev pub state_of : Stream → StreamState
 state_of stream = record {
   name = stream.name;
   attrs = stream.attrs;
   taken = length stream.records;
-  files = standing_files stream;
+  files = standing stream.attrs (all_files stream);
 }
 
 abbrev pub open_stream : List LogChange → Stream → OpenStream
@@ -71,44 +71,33 @@ new_state name attrs created = record {
   name = name;
   attrs = attrs;
   taken = 0;
-  files = record { created = pos created; closed = None } ∷ [];
+  files = open_file (pos created) ∷ [];
 }
 
 -- the stamps of a change of file, where the next record is due to change it
 abbrev pub due_stamps : (last second : ℕ) → StreamState → Option Stamps
 due_stamps last second state =
-    if changes_file state.attrs state.taken
+    if changes_file state.attrs.action (records_per_file state.attrs) state.taken
     then Some (record { closed = pos (stamp_after last second); created = pos (stamp_after (stamp_after last second) second) })
     else None
 
 abbrev pub last_after_due : (last second : ℕ) → StreamState → ℕ
 last_after_due last second state =
-    if changes_file state.attrs state.taken then stamp_after (stamp_after last second) second else last
+    if changes_file state.attrs.action (records_per_file state.attrs) state.taken
+    then stamp_after (stamp_after last second) second
+    else last
 
--- the files with the last one closed
-abbrev pub with_last_closed : ℤ → List LogFile → List LogFile
-with_last_closed closed [] = []
-with_last_closed closed (file ∷ []) = record { created = file.created; closed = Some closed } ∷ []
-with_last_closed closed (file ∷ next ∷ files) = file ∷ with_last_closed closed (next ∷ files)
+-- the bytes of a record that is stored in a stream
+abbrev pub bytes_in : StreamState → LogRecord → List ℕ
+bytes_in state rec = printed_record (pieces_of state.attrs.expr) (state.taken + 1) rec state.attrs.record_size
 
--- the files once a record is stored: at a change of file the current one is closed, a new one is made,
--- and of too many the oldest goes
-abbrev pub files_after : (rotated : ℕ) → Option Stamps → List LogFile → List LogFile
-files_after rotated None files = files
-files_after rotated (Some stamps) files =
-    last_ones rotated (with_last_closed stamps.closed files ++ record { created = stamps.created; closed = None } ∷ [])
+-- a record stored in a stream
+abbrev pub storing : (last second : ℕ) → LogRecord → StreamState → StreamEvent
+storing last second rec state = event.Stored state (bytes_in state rec) (due_stamps last second state)
 
-abbrev pub state_after : Option Stamps → StreamState → StreamState
-state_after stamps state = record {
-  name = state.name;
-  attrs = state.attrs;
-  taken = state.taken + 1;
-  files = files_after state.attrs.rotated stamps state.files;
-}
-
-abbrev pub with_stored : (last second : ℕ) → OpenStream → OpenStream
-with_stored last second stream =
-    record { state = state_after (due_stamps last second stream.state) stream.state; openers = stream.openers }
+abbrev pub with_stored : (last second : ℕ) → LogRecord → OpenStream → OpenStream
+with_stored last second rec stream =
+    record { state = state_after (storing last second rec stream.state); openers = stream.openers }
 
 abbrev pub has_nobody : OpenStream → Bool
 has_nobody stream = is_application stream.state.name && is_empty stream.openers
@@ -153,7 +142,7 @@ table_after (Opened client name (Some attrs) second) kept = record {
 table_after (Stored name rec second) kept = record {
   last = option_map_or (λ (stream : OpenStream). last_after_due kept.last second stream.state) (find (is_named name) kept.streams) kept.last;
   users = kept.users;
-  streams = change_first (is_named name) (with_stored kept.last second) kept.streams;
+  streams = change_first (is_named name) (with_stored kept.last second rec) kept.streams;
 }
 table_after (Closed client name second) kept = record {
   last = last_after_ends kept.last second (closed_streams client name kept.streams);
@@ -166,14 +155,6 @@ table_after (Ended client second) kept = record {
   streams = kept_streams (left_streams client kept.streams);
 }
 
--- the bytes of a record that is stored in a stream
-abbrev pub bytes_in : StreamState → LogRecord → List ℕ
-bytes_in state rec = printed_record (pieces_of state.attrs.expr) (state.taken + 1) rec state.attrs.record_size
-
-abbrev pub stored_event : (last second : ℕ) → LogRecord → OpenStream → List StreamEvent
-stored_event last second rec stream =
-    event.Stored stream.state (bytes_in stream.state rec) (due_stamps last second stream.state) ∷ []
-
 -- what a change does to streams, in order
 abbrev pub events_of : LogChange → LogTable → List StreamEvent
 events_of (Began client) kept = []
@@ -181,6 +162,6 @@ events_of (Opened client name None second) kept = []
 events_of (Opened client name (Some attrs) second) kept =
     event.Made (new_state name attrs (stamp_after kept.last second)) ∷ []
 events_of (Stored name rec second) kept =
-    option_map_or (stored_event kept.last second rec) (find (is_named name) kept.streams) []
+    option_map_or (λ (stream : OpenStream). storing kept.last second rec stream.state ∷ []) (find (is_named name) kept.streams) []
 events_of (Closed client name second) kept = ends_in kept.last second (closed_streams client name kept.streams)
 events_of (Ended client second) kept = ends_in kept.last second (left_streams client kept.streams)

@@ -1,0 +1,114 @@
+-- What the service keeps after one more change is what the change makes of what it kept before.
+use Rattle.std.proofs.Common.{◌≡◌, ℕ, ◌+◌, ◌-◌, ◌≤◌, ◌==◌, nat_lt, Bool, true, false, not, ◌&&◌, ◌||◌, cond, List, [], ◌∷◌, ◌++◌, length, drop, map, refl, ap, sym, ◌∙◌, subst, arith, append_assoc, length-append}
+use Rattle.std.specs.Prelude.{Option, Some, None, option_map, is_some, filter, pos}
+use Rattle.std.specs.Option.{option_map_or}
+use Rattle.std.specs.List.{find}
+use Rattle.std.proofs.lemmas.List.{map-append}
+use Rattle.std.proofs.lemmas.List.Elements.{filter-append}
+use Rattle.client_set.specs.Rising.{put, without}
+use Rattle.stream_config.specs.Attributes.{PassesAttrs, kind_of}
+use Rattle.stream_config.specs.declared.attrs.StreamAttrs.{StreamAttrs}
+use Rattle.stream_config.specs.declared.attrs.StreamName.{StreamName}
+use Rattle.stream_config.specs.declared.state.LogFile.{LogFile}
+use Rattle.record_print.specs.declared.record.LogRecord.{LogRecord}
+use Rattle.stream_config.specs.declared.state.StreamState.{StreamState}
+use Rattle.stream_config.specs.declared.event.Stamps.{Stamps}
+use Rattle.stream_config.specs.Equality.{same_name}
+use Rattle.stream_config.specs.Events.{open_file, standing, files_changed}
+use Rattle.stream_config.specs.Fit.{changes_file}
+use Rattle.stream_config.specs.Stamps.{stamp_after}
+use Rattle.stream_config.proofs.Equalities.{decides_name}
+use Rattle.log_history.specs.Names.{is_application}
+use Rattle.log_history.specs.Firsts.{change_first}
+use Rattle.log_history.specs.Changes.{LogChange, Began, Opened, Stored, Closed, Ended}
+use Rattle.log_history.specs.Handles.{users, openers}
+use Rattle.log_history.specs.Chronicle.{LogSetup, Stream, Chronicle, new_stream, lives, is_living, is_due, is_empty, has_no_openers, with_record, last_with_record, with_end, all_ended, last_of_ends, after_ends, chronicle, closed_file, all_files}
+use Rattle.log_history.specs.Answers.{living_stream}
+use Rattle.log_history.specs.Legal.{IsLogHistory}
+use Rattle.log_history.specs.Table.{OpenStream, LogTable, state_of, open_stream, table, is_named, with_opener, without_opener, new_state, due_stamps, last_after_due, bytes_in, with_stored, has_nobody, last_after_ends, kept_streams, closed_streams, left_streams, opened_stream, table_after}
+use Rattle.log_history.proofs.FirstLaws.{none_is, some_is, Each, Each-filter, Each-find, AtMostOne, AtMostOne-filter, find-filter, filter-change_first, find-map, filter-map, map-change_first, map-beside, map-at_first}
+use Rattle.log_history.proofs.AnswerLaws.{MakesStream, makes-stream}
+use Rattle.log_history.proofs.EndLaws.{filter-all_ended}
+use Rattle.log_history.proofs.Reaching.{Passes, Reached, reached}
+use Rattle.log_history.proofs.FileLists.{standing-changed, standing-one}
+
+same_table : (last last' : ℕ) (users users' : List ℕ) (streams streams' : List OpenStream) → last ≡ last' → users ≡ users' → streams ≡ streams' → let kept : LogTable = record { last = last; users = users; streams = streams } in let kept' : LogTable = record { last = last'; users = users'; streams = streams' } in kept ≡ kept'
+same_table last last' users users' streams streams' one two three =
+    ap (λ (x : ℕ). let kept : LogTable = record { last = x; users = users; streams = streams } in kept) one
+    ∙ ap (λ (x : List ℕ). let kept : LogTable = record { last = last'; users = x; streams = streams } in kept) two
+    ∙ ap (λ (x : List OpenStream). let kept : LogTable = record { last = last'; users = users'; streams = x } in kept) three
+
+-- the living streams, and those of a name among them
+abbrev living : List Stream → List Stream
+living streams = filter lives streams
+
+abbrev is_called : StreamName → Stream → Bool
+is_called name stream = same_name stream.name name
+
+find-living : (name : StreamName) (past : List LogChange) (streams : List Stream) → find (is_named name) (map (open_stream past) (living streams)) ≡ option_map (open_stream past) (find (is_living name) streams)
+find-living name past streams =
+    find-map (open_stream past) (is_called name) (is_named name) (λ _. refl) (living streams)
+    ∙ ap (option_map (open_stream past)) (sym (find-filter lives (is_called name) streams))
+
+-- who opens a stream that lives joins its openers alone
+opened-streams : (past : List LogChange) (client : ℕ) (name : StreamName) (second : ℕ) (streams : List Stream) → AtMostOne (is_living name) streams → map (open_stream (Opened client name None second ∷ past)) (living streams) ≡ change_first (is_named name) (with_opener client) (map (open_stream past) (living streams))
+opened-streams past client name second streams single =
+    map-at_first (open_stream past) (is_called name) (is_named name) (λ _. refl) (open_stream (Opened client name None second ∷ past)) (with_opener client)
+    (λ stream is. ap (λ b. let opened : OpenStream = record { state = state_of stream; openers = cond b (put nat_lt client (openers past stream.name)) (openers past stream.name) } in opened) is)
+    (λ stream is. ap (λ b. let opened : OpenStream = record { state = state_of stream; openers = cond b (put nat_lt client (openers past stream.name)) (openers past stream.name) } in opened) is)
+    (living streams) (AtMostOne-filter lives (is_called name) streams single)
+
+closed-streams : (past : List LogChange) (client : ℕ) (name : StreamName) (second : ℕ) (streams : List Stream) → AtMostOne (is_living name) streams → map (open_stream (Closed client name second ∷ past)) (living streams) ≡ closed_streams client name (map (open_stream past) (living streams))
+closed-streams past client name second streams single =
+    map-at_first (open_stream past) (is_called name) (is_named name) (λ _. refl) (open_stream (Closed client name second ∷ past)) (without_opener client)
+    (λ stream is. ap (λ b. let closed : OpenStream = record { state = state_of stream; openers = cond b (without (λ other. other == client) (openers past stream.name)) (openers past stream.name) } in closed) is)
+    (λ stream is. ap (λ b. let closed : OpenStream = record { state = state_of stream; openers = cond b (without (λ other. other == client) (openers past stream.name)) (openers past stream.name) } in closed) is)
+    (living streams) (AtMostOne-filter lives (is_called name) streams single)
+
+left-streams : (past : List LogChange) (client second : ℕ) (streams : List Stream) → map (open_stream (Ended client second ∷ past)) streams ≡ left_streams client (map (open_stream past) streams)
+left-streams past client second [] = refl
+left-streams past client second (stream ∷ streams) =
+    ap (λ rest. open_stream (Ended client second ∷ past) stream ∷ rest) (left-streams past client second streams)
+
+-- a stream that is made stands behind the others, which stay as they are
+made-streams : (past : List LogChange) (client : ℕ) (name : StreamName) (attrs : StreamAttrs) (second created : ℕ) (streams : List Stream) → find (is_living name) streams ≡ None → openers past name ≡ [] → 1 ≤ attrs.rotated → map (open_stream (Opened client name (Some attrs) second ∷ past)) (living (streams ++ new_stream name attrs created ∷ [])) ≡ map (open_stream past) (living streams) ++ opened_stream client name attrs created ∷ []
+made-streams past client name attrs second created streams new nobody some =
+    let now = open_stream (Opened client name (Some attrs) second ∷ past) in
+    let stream = new_stream name attrs created in
+    let none : find (is_called name) (living streams) ≡ None = sym (find-filter lives (is_called name) streams) ∙ new in
+    let others : map now (living streams) ≡ map (open_stream past) (living streams) =
+        map-beside (open_stream past) (is_called name) (is_named name) (λ _. refl) now
+        (λ other is. ap (λ b. let opened : OpenStream = record { state = state_of other; openers = cond b (put nat_lt client (openers past other.name)) (openers past other.name) } in opened) is)
+        (living streams) none in
+    let made_openers : cond (same_name name name) (put nat_lt client (openers past name)) (openers past name) ≡ client ∷ [] =
+        ap (λ b. cond b (put nat_lt client (openers past name)) (openers past name)) ((decides_name name name).1 refl) ∙ ap (put nat_lt client) nobody in
+    let made : now stream ≡ opened_stream client name attrs created =
+        ap (λ (files : List LogFile). let opened : OpenStream = record { state = record { name = name; attrs = attrs; taken = 0; files = files }; openers = cond (same_name name name) (put nat_lt client (openers past name)) (openers past name) } in opened) (standing-one attrs (open_file (pos created)) some)
+        ∙ ap (λ (clients : List ℕ). let opened : OpenStream = record { state = new_state name attrs created; openers = clients } in opened) made_openers in
+    ap (map now) (filter-append lives streams (stream ∷ []))
+    ∙ map-append now (living streams) (stream ∷ [])
+    ∙ ap (λ front. front ++ now stream ∷ []) others
+    ∙ ap (λ last. map (open_stream past) (living streams) ++ last ∷ []) made
+
+-- the files that stand once a record is stored in a stream that lives
+files-with_record : (due : Bool) (attrs : StreamAttrs) (closing created : ℕ) (full : List (ℕ × ℕ)) (current : ℕ) → 1 ≤ attrs.rotated → standing attrs (map closed_file (cond due (full ++ (current, closing) ∷ []) full) ++ open_file (pos (cond due created current)) ∷ []) ≡ files_changed attrs (cond due (Some (record { closed = pos closing; created = pos created })) None) (standing attrs (map closed_file full ++ open_file (pos current) ∷ []))
+files-with_record false attrs closing created full current some = refl
+files-with_record true attrs closing created full current some =
+    let stamps : Stamps = record { closed = pos closing; created = pos created } in
+    ap (λ front. standing attrs (front ++ open_file (pos created) ∷ [])) (map-append closed_file full ((current, closing) ∷ []))
+    ∙ sym (standing-changed attrs stamps (map closed_file full) (open_file (pos current)) some)
+
+-- a record stored in a stream that lives is stored in what is kept of it
+stored-stream : (past past' : List LogChange) (last second : ℕ) (rec : LogRecord) (stream : Stream) → openers past' stream.name ≡ openers past stream.name → 1 ≤ stream.attrs.rotated → stream.ended ≡ None → open_stream past' (with_record last second rec stream) ≡ with_stored last second rec (open_stream past stream)
+stored-stream past past' last second rec stream same some living =
+    let closing = stamp_after last second in
+    let created = stamp_after closing second in
+    let made : Option ℕ → ℕ → List LogFile → List ℕ → OpenStream =
+        λ ended taken files clients. record { state = record { name = stream.name; attrs = stream.attrs; taken = taken; files = files }; openers = clients } in
+    let now = λ (ended : Option ℕ). standing stream.attrs (map closed_file (cond (is_due stream) (stream.full ++ (stream.current, closing) ∷ []) stream.full) ++ record { created = pos (cond (is_due stream) created stream.current); closed = option_map pos ended } ∷ []) in
+    let then = λ (ended : Option ℕ). files_changed stream.attrs (due_stamps last second (state_of stream)) (standing stream.attrs (map closed_file stream.full ++ record { created = pos stream.current; closed = option_map pos ended } ∷ [])) in
+    let files_are : now stream.ended ≡ then stream.ended =
+        ap now living ∙ files-with_record (is_due stream) stream.attrs closing created stream.full stream.current some ∙ ap then (sym living) in
+    ap (λ taken. made None taken (now stream.ended) (openers past' stream.name)) (length-append stream.records (rec ∷ []))
+    ∙ ap (λ files. made None (length stream.records + 1) files (openers past' stream.name)) files_are
+    ∙ ap (λ clients. made None (length stream.records + 1) (then stream.ended) clients) same
