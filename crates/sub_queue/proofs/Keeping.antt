@@ -3,9 +3,9 @@ use Rattle.std.proofs.Common.{◌≡◌, ℕ, ◌+◌, ◌-◌, ◌<◌, ◌≤�
 use Rattle.sub_queue.specs.declared.item.Lost.{Lost}
 use Rattle.sub_queue.specs.declared.item.Content.{Content}
 use Rattle.sub_queue.specs.declared.item.Item.{Item}
-use Rattle.sub_queue.specs.Items.{discarded, numbered, contents_of}
+use Rattle.sub_queue.specs.Items.{discarded, numbered}
 use Rattle.sub_queue.specs.Queue.{Queue, queue_of_parts, HasNumberLeft, IsNew, IsSound, received}
-use Rattle.sub_queue.specs.Inside.{IsKeptAs}
+use Rattle.sub_queue.specs.Inside.{contents_of, IsKeptAs}
 
 -- numbers do not change what is held
 pub contents_of-numbered : (number : ℕ) (contents : List Content) → contents_of (numbered number contents) ≡ contents

@@ -1,3 +1,4 @@
+pub mod Accounts
+pub mod Equality
 pub mod Keeping
 pub mod Numbering
-pub mod Accounts

@@ -1,4 +1,4 @@
--- One subscription by what happened to it: what was offered and which receipts came.
+-- Words of public clauses, those of the laws: one subscription by what happened to it, what was offered and which receipts came.
 use Rattle.std.specs.Prelude.{ℕ, ◌+◌, ◌-◌, Bool, ◌&&◌, nat_lt, nat_le, if◌then◌else◌, List, [], ◌∷◌, ◌++◌, length, drop}
 use Rattle.ntf_types.specs.declared.notification.Notification.{Notification}
 use Rattle.sub_queue.specs.declared.item.Lost.{Lost}

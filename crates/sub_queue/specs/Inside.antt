@@ -1,10 +1,14 @@
--- How a queue is kept: its items with their numbers, in a vector with room for all of them.
-use Rattle.std.specs.Prelude.{◌≡◌, ℕ, ◌≤◌, List}
+-- Words of bodies alone: how a queue is kept, its items with their numbers, in a vector with room for all of them.
+use Rattle.std.specs.Prelude.{◌≡◌, ℕ, ◌≤◌, List, map}
 use Rattle.std.specs.Vec.{vec_capacity}
 use Rattle.sub_queue.specs.declared.queue.SubQueue.TheInside.{Inside}
+use Rattle.sub_queue.specs.declared.item.Content.{Content}
 use Rattle.sub_queue.specs.declared.item.Item.{Item}
-use Rattle.sub_queue.specs.Items.{numbered, contents_of}
+use Rattle.sub_queue.specs.Items.{numbered}
 use Rattle.sub_queue.specs.Queue.{Queue, IsSound}
+
+abbrev pub contents_of : List Item → List Content
+contents_of items = map (λ (item : Item). item.content) items
 
 abbrev pub queue_of : Inside → Queue
 queue_of inside = record {

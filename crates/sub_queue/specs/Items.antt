@@ -1,5 +1,5 @@
--- The items of a subscription, and the marks of the notifications in them.
-use Rattle.std.specs.Prelude.{ℕ, ◌+◌, List, [], ◌∷◌, ◌++◌, map}
+-- Words of public clauses: the items of a subscription, and the marks of the notifications in them.
+use Rattle.std.specs.Prelude.{ℕ, ◌+◌, List, [], ◌∷◌, ◌++◌}
 use Rattle.ntf_types.specs.declared.notification.Notification.{Notification}
 use Rattle.ntf_types.specs.Kinds.{kind_of}
 use Rattle.sub_queue.specs.declared.item.Lost.{Lost}
@@ -20,9 +20,6 @@ discarded (first ∷ others) = Discarded (first ∷ others) ∷ []
 abbrev pub numbered : ℕ → List Content → List Item
 numbered number [] = []
 numbered number (content ∷ contents) = record { number = number; content = content } ∷ numbered (number + 1) contents
-
-abbrev pub contents_of : List Item → List Content
-contents_of items = map (λ (item : Item). item.content) items
 
 -- the marks of the notifications that an item holds, in order
 abbrev pub marks_of : Content → List Lost

@@ -1,4 +1,4 @@
--- A subscription's queue as its calls see it, and what each call makes of it.
+-- Words of public clauses: a subscription's queue as its calls see it, and what each call makes of it.
 use Rattle.std.specs.Prelude.{◌≡◌, ℕ, ◌+◌, ◌-◌, ◌<◌, ◌≤◌, ◌⊎◌, Bool, nat_lt, if◌then◌else◌, List, [], ◌∷◌, ◌++◌, length, drop}
 use Rattle.ntf_types.specs.declared.notification.Notification.{Notification}
 use Rattle.sub_queue.specs.declared.item.Lost.{Lost}

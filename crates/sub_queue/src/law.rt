@@ -2,10 +2,14 @@
 ghost use Rattle.std.specs.Prelude.{◌≡◌, ◌↔◌, ℕ, ◌+◌, ◌<◌, ◌≤◌, List, [], ◌∷◌, ◌++◌, drop, length, IsTrue};
 ghost use Rattle.ntf_types.specs.declared.notification.Notification.{Notification};
 ghost use Rattle.sub_queue.specs.declared.item.Lost.{Lost};
+ghost use Rattle.sub_queue.specs.declared.item.Content.{Content as ContentOf};
+ghost use Rattle.sub_queue.specs.declared.item.Item.{Item as ItemOf};
 ghost use Rattle.sub_queue.specs.Items.{numbered, marks_in};
 ghost use Rattle.sub_queue.specs.Queue.{empty_queue, next_number, IsCapacity, IsSound, IsNew, offered, received};
 ghost use Rattle.sub_queue.specs.History.{Happening, account_of, is_new_receipt, marks_offered, queue_for};
 ghost use Rattle.sub_queue.specs.History.Happening.{Offered, Receipted};
+
+use crate::{Content, Item};
 
 /// Whatever is offered and whichever receipts come: the notifications in all items ever made, and then
 /// those lost, are the ones that were offered, each once and in order.
@@ -47,4 +51,10 @@ pub fn law_of_counts()
     ensures sound { (capacity : ℕ) (past : List Happening) →
         IsCapacity capacity → length (account_of capacity past).made < 4294967295 →
         IsSound (queue_for capacity (account_of capacity past)) }
+{}
+
+/// Two items are told equal by `==` exactly where they are equal; likewise what they hold.
+pub fn law_of_equality()
+    ensures contents { (one other : ContentOf) → IsTrue (⟦<Content as PartialEq>⟧.eq one other) ↔ (one ≡ other) }
+    ensures items { (one other : ItemOf) → IsTrue (⟦<Item as PartialEq>⟧.eq one other) ↔ (one ≡ other) }
 {}

@@ -9,5 +9,5 @@ mod queue;
 mod tests;
 
 pub use item::{Content, Item, Lost};
-pub use law::{law_of_calls, law_of_counts, law_of_marks};
+pub use law::{law_of_calls, law_of_counts, law_of_equality, law_of_marks};
 pub use queue::SubQueue;

@@ -1,9 +1,9 @@
 use Rattle.std.proofs.Common.{◌≡◌, ◌+◌, ◌-◌, ◌≤◌, List, [], ◌++◌, length, ap, subst, sym, ◌∙◌, arith}
 use Rattle.std.specs.Vec.{vec_capacity}
 use Rattle.sub_queue.specs.declared.item.Lost.{Lost}
-use Rattle.sub_queue.specs.Items.{numbered, contents_of, discarded}
+use Rattle.sub_queue.specs.Items.{numbered, discarded}
 use Rattle.sub_queue.specs.Queue.{Queue, queue_of_parts, received, IsNew, HasNumberLeft}
-use Rattle.sub_queue.specs.Inside.{queue_of, IsKeptAs}
+use Rattle.sub_queue.specs.Inside.{contents_of, queue_of, IsKeptAs}
 use Rattle.sub_queue.proofs.Keeping.{kept, received_items, IsSound-received, contents_of-numbered}
 use Rattle.sub_queue.proofs.queue.SubQueue.acked.Goals as goal
 

@@ -1,5 +1,5 @@
 use Rattle.std.proofs.Common.{◌≡◌, ap, ◌∙◌}
-use Rattle.sub_queue.specs.Items.{contents_of}
+use Rattle.sub_queue.specs.Inside.{contents_of}
 use Rattle.sub_queue.proofs.Keeping.{kept, contents_of-numbered}
 use Rattle.sub_queue.proofs.queue.SubQueue.rebuild.Goals as goal
 
