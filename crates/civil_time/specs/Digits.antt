@@ -1,4 +1,4 @@
--- Small numbers in decimal, with leading zeros.
+-- Words of public clauses: small numbers in decimal, with leading zeros.
 use Rattle.std.specs.Prelude.{ℕ, ◌+◌, ◌/◌, ◌%◌, List, [], ◌∷◌, ◌++◌}
 
 -- the two digits of a number below 100

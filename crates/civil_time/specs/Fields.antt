@@ -1,4 +1,4 @@
--- The civil date and time of day of a second: whole years and then whole months are counted off from 1970.
+-- Words of public clauses: the civil date and time of day of a second; whole years and then whole months are counted off from 1970.
 use Rattle.std.specs.Prelude.{ℕ, zero, suc, ◌+◌, ◌-◌, ◌/◌, ◌%◌, ◌≤◌, pos, nat_lt, if◌then◌else◌}
 use Rattle.jiff_core.specs.Calendar.{days_in_year, days_in_month}
 use Rattle.civil_time.specs.declared.civil.Civil.{Civil}
@@ -40,6 +40,10 @@ civil_of second =
       minute = second % 3600 / 60;
       second = second % 60;
     }
+
+-- the last second that is taken, in the year 2603
+abbrev pub last_second : ℕ
+last_second = 20_000_000_100
 
 -- the fields lie where a calendar and a clock have them
 pub record IsInRange (c : Civil) : Type 0 where

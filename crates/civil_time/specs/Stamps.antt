@@ -1,4 +1,4 @@
--- The text of a second in the names of files.
+-- Words of public clauses: the text of a second in the names of files.
 use Rattle.std.specs.Prelude.{ℕ, ◌++◌, List, codes}
 use Rattle.civil_time.specs.declared.civil.Civil.{Civil}
 use Rattle.civil_time.specs.Digits.{two_digits, four_digits}

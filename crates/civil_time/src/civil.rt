@@ -1,6 +1,6 @@
 //! What a clock in UTC shows.
-ghost use Rattle.std.specs.Prelude.{◌≡◌, ◌≤◌};
-ghost use Rattle.civil_time.specs.Fields.{civil_of, IsInRange};
+ghost use Rattle.std.specs.Prelude.{◌≡◌, ◌≤◌, ℕ};
+ghost use Rattle.civil_time.specs.Fields.{civil_of, last_second, IsInRange};
 
 use jiff::Timestamp;
 use jiff::tz::Offset;
@@ -27,9 +27,9 @@ pub struct Civil {
     pub second: u8,
 }
 
-/// The date and time of day, in UTC, of a second counted from 1970-01-01T00:00:00.
-pub fn civil_at(second: u64) -> Civil
-    requires { second ≤ LAST_SECOND }
+/// The date and time of day of a second, with the ranges of its fields.
+pub(crate) fn civil_in_range(second: u64) -> Civil
+    requires { second ≤ last_second }
     ensures value { result ≡ civil_of second }
     ensures ranges { IsInRange result }
 {
@@ -44,3 +44,17 @@ pub fn civil_at(second: u64) -> Civil
         second: shown.second().unsigned_abs(),
     }
 }
+
+/// The date and time of day, in UTC, of a second counted from 1970-01-01T00:00:00.
+pub fn civil_at(second: u64) -> Civil
+    requires { second ≤ last_second }
+    ensures { result ≡ civil_of second }
+{
+    civil_in_range(second)
+}
+
+/// The last second is 20,000,000,100, and up to it the fields lie where a calendar and a clock have them.
+pub fn law_of_civil_times()
+    ensures last { LAST_SECOND ≡ last_second }
+    ensures ranges { (second : ℕ) → second ≤ last_second → IsInRange (civil_of second) }
+{}

@@ -1,9 +1,10 @@
 //! Stamps: seconds as they stand in the names of files.
 ghost use Rattle.std.specs.Prelude.{◌≡◌, ◌<◌, ◌≤◌, ℕ};
 ghost use Rattle.civil_time.specs.Digits.{two_digits};
+ghost use Rattle.civil_time.specs.Fields.{last_second};
 ghost use Rattle.civil_time.specs.Stamps.{stamp_of};
 
-use crate::{LAST_SECOND, civil_at};
+use crate::civil::civil_in_range;
 
 /// The two digits of a number below 100, in ASCII.
 pub fn digits_of(number: u8) -> [u8; 2]
@@ -16,10 +17,10 @@ pub fn digits_of(number: u8) -> [u8; 2]
 /// A second, counted from 1970-01-01T00:00:00, as `YYYYMMDD_HHMMSS` in UTC.
 #[tactic(auto, unfolding(crate::specs::Stamps::stamp_of))]
 pub fn stamp_at(second: u64) -> [u8; 15]
-    requires { second ≤ LAST_SECOND }
+    requires { second ≤ last_second }
     ensures { result ≡ stamp_of second }
 {
-    let shown = civil_at(second);
+    let shown = civil_in_range(second);
     let [y1, y2] = digits_of((shown.year / 100) as u8);
     let [y3, y4] = digits_of((shown.year % 100) as u8);
     let [o1, o2] = digits_of(shown.month);
@@ -32,13 +33,14 @@ pub fn stamp_at(second: u64) -> [u8; 15]
 
 /// No two seconds have one stamp.
 pub fn stamps_tell_seconds()
-    ensures { (one other : ℕ) → one ≤ LAST_SECOND → other ≤ LAST_SECOND
+    ensures { (one other : ℕ) → one ≤ last_second → other ≤ last_second
         → stamp_of one ≡ stamp_of other → one ≡ other }
 {}
 
 #[cfg(test)]
 mod tests {
     use super::*;
+    use crate::{LAST_SECOND, civil_at};
 
     #[test]
     fn stamps_of_an_almanac(rt: HostRuntime) {

@@ -3,7 +3,7 @@ use Rattle.std.proofs.lemmas.Int.{to_z_pos}
 use Rattle.jiff_core.specs.DateTime.{civil_nanos}
 use Rattle.civil_time.proofs.Counting.{shows_civil, same_civil, unsigned_part, day_bound, civil_in_range}
 use Rattle.civil_time.specs.Fields.{civil_of}
-use Rattle.civil_time.proofs.civil.civil_at.Goals as goal
+use Rattle.civil_time.proofs.civil.civil_in_range.Goals as goal
 
 pub returns-clause-value : goal.returns-clause-value
 returns-clause-value c =
