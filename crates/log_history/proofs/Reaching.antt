@@ -13,7 +13,7 @@ use Rattle.stream_config.proofs.Equalities.{decides_name}
 use Rattle.log_history.specs.Names.{is_application}
 use Rattle.log_history.specs.Changes.{LogChange, Began, Opened, Stored, Closed, Ended}
 use Rattle.log_history.specs.Handles.{openers}
-use Rattle.log_history.specs.Chronicle.{LogSetup, Stream, Chronicle, new_stream, lives, is_living, is_empty, has_no_openers, with_record, with_end, after_ends, chronicle}
+use Rattle.log_history.specs.Chronicle.{LogSetup, Stream, Chronicle, new_stream, lives, is_living, is_empty, is_idle, is_ending, with_record, with_end, after_ends, chronicle}
 use Rattle.log_history.specs.Answers.{living_stream}
 use Rattle.log_history.specs.Legal.{IsSetup, IsLogHistory}
 use Rattle.log_history.proofs.FirstLaws.{none_is, Each, Each-push, Each-change_first, AtMostOne, AtMostOne-push, AtMostOne-change_first, find-push, find-change_first_none}
@@ -52,16 +52,17 @@ IsUnopened-ends past second before unopened name none = by_case (find (is_living
   by_case : (found : Option Stream) → find (is_living name) before.streams ≡ found → openers past name ≡ []
   by_case None none_before = unopened name none_before
   by_case (Some stream) was =
-      let ended = find-all_ended name (has_no_openers past) before.last second before.streams stream was none in
-      let idle = both-true (lives stream && is_application stream.name) (is_empty (openers past stream.name)) ended.0 in
+      let ended = find-all_ended name (is_ending past) before.last second before.streams stream was none in
+      let idle = both-true (lives stream) (is_idle past stream) ended.0 in
+      let empty = both-true (is_application stream.name) (is_empty (openers past stream.name)) idle.1 in
       let living = both-true (lives stream) (same_name stream.name name) ended.1 in
-      ap (openers past) (sym ((decides_name stream.name name).0 living.1)) ∙ empty-is (openers past stream.name) idle.1
+      ap (openers past) (sym ((decides_name stream.name name).0 living.1)) ∙ empty-is (openers past stream.name) empty.1
 
 Reached-ends : (past : List LogChange) (second : ℕ) (before : Chronicle) → ((name : StreamName) → AtMostOne (is_living name) before.streams) → IsUnopened past before.streams → Each Passes before.streams → Reached past (after_ends past second before).streams
 Reached-ends past second before single unopened passing = record {
-  single = λ name. AtMostOne-all_ended name (has_no_openers past) before.last second before.streams (single name);
+  single = λ name. AtMostOne-all_ended name (is_ending past) before.last second before.streams (single name);
   unopened = IsUnopened-ends past second before unopened;
-  passing = Each-all_ended Passes (λ closed stream passes. passes) (has_no_openers past) before.last second before.streams passing;
+  passing = Each-all_ended Passes (λ closed stream passes. passes) (is_ending past) before.last second before.streams passing;
 }
 
 -- a name is not the same as another one to which it is not the same

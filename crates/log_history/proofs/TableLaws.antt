@@ -1,6 +1,6 @@
 -- What the service keeps after one more change is what the change makes of what it kept before.
 use Rattle.std.proofs.Common.{◌≡◌, ℕ, ◌+◌, ◌-◌, ◌≤◌, ◌==◌, nat_lt, Bool, true, false, not, ◌&&◌, ◌||◌, cond, List, [], ◌∷◌, ◌++◌, length, drop, map, refl, ap, sym, ◌∙◌, subst, arith, append_assoc, length-append}
-use Rattle.std.specs.Prelude.{Option, Some, None, option_map, is_some, filter, pos}
+use Rattle.std.specs.Prelude.{Option, Some, None, option_map, is_some, is_none, filter, pos}
 use Rattle.std.specs.Option.{option_map_or}
 use Rattle.std.specs.List.{find}
 use Rattle.std.proofs.lemmas.List.{map-append}
@@ -22,7 +22,7 @@ use Rattle.log_history.specs.Names.{is_application}
 use Rattle.log_history.specs.Firsts.{change_first}
 use Rattle.log_history.specs.Changes.{LogChange, Began, Opened, Stored, Closed, Ended}
 use Rattle.log_history.specs.Handles.{users, openers}
-use Rattle.log_history.specs.Chronicle.{LogSetup, Stream, Chronicle, new_stream, lives, is_living, is_due, is_empty, has_no_openers, with_record, last_with_record, with_end, all_ended, last_of_ends, after_ends, chronicle, closed_file, all_files}
+use Rattle.log_history.specs.Chronicle.{LogSetup, Stream, Chronicle, new_stream, lives, is_living, is_due, is_empty, is_idle, is_ending, with_record, last_with_record, with_end, all_ended, last_of_ends, after_ends, chronicle, closed_file, all_files}
 use Rattle.log_history.specs.Answers.{living_stream}
 use Rattle.log_history.specs.Legal.{IsLogHistory}
 use Rattle.log_history.specs.Table.{OpenStream, LogTable, state_of, open_stream, table, is_named, with_opener, without_opener, new_state, due_stamps, last_after_due, bytes_in, with_stored, has_nobody, last_after_ends, kept_streams, closed_streams, left_streams, opened_stream, table_after}
@@ -112,3 +112,84 @@ stored-stream past past' last second rec stream same some living =
     ap (λ taken. made None taken (now stream.ended) (openers past' stream.name)) (length-append stream.records (rec ∷ []))
     ∙ ap (λ files. made None (length stream.records + 1) files (openers past' stream.name)) files_are
     ∙ ap (λ clients. made None (length stream.records + 1) (then stream.ended) clients) same
+
+none-ended : (ended : Option ℕ) → is_none ended ≡ true → ended ≡ None
+none-ended None is = refl
+none-ended (Some closed) is = cc
+
+-- the streams once a record is stored
+stored-streams : (past past' : List LogChange) (name : StreamName) (last second : ℕ) (rec : LogRecord) (streams : List Stream) → ((other : StreamName) → openers past' other ≡ openers past other) → Each Passes streams → map (open_stream past') (living (change_first (is_living name) (with_record last second rec) streams)) ≡ change_first (is_named name) (with_stored last second rec) (map (open_stream past) (living streams))
+stored-streams past past' name last second rec streams same passing =
+    let kept : Each (λ stream. Passes stream × (lives stream ≡ true)) (living streams) = Each-filter Passes lives streams passing in
+    ap (map (open_stream past')) (filter-change_first lives (is_called name) (with_record last second rec) (λ _. refl) streams)
+    ∙ map-change_first (open_stream past') (is_called name) (is_named name) (λ _. refl) (λ stream. Passes stream × (lives stream ≡ true)) (with_record last second rec) (with_stored last second rec)
+      (λ stream holds. stored-again stream holds) (living streams) kept
+    ∙ ap (λ front. change_first (is_named name) (with_stored last second rec) front) (map-same (living streams)) where
+  map-same : (these : List Stream) → map (open_stream past') these ≡ map (open_stream past) these
+  map-same [] = refl
+  map-same (stream ∷ these) =
+      ap (λ (clients : List ℕ). let first : OpenStream = record { state = state_of stream; openers = clients } in first ∷ map (open_stream past') these) (same stream.name)
+      ∙ ap (λ rest. open_stream past stream ∷ rest) (map-same these)
+  stored-again : (stream : Stream) → Passes stream × (lives stream ≡ true) → open_stream past' (with_record last second rec stream) ≡ with_stored last second rec (open_stream past' stream)
+  stored-again stream holds =
+      stored-stream past' past' last second rec stream refl holds.0.some_rotated (none-ended stream.ended holds.1)
+
+-- the last stamp once a record is stored
+stored-last : (past : List LogChange) (name : StreamName) (last second : ℕ) (streams : List Stream) → option_map_or (last_with_record last second) (find (is_living name) streams) last ≡ option_map_or (λ (stream : OpenStream). last_after_due last second stream.state) (find (is_named name) (map (open_stream past) (living streams))) last
+stored-last past name last second streams =
+    elim (find (is_living name) streams) as (λ found. option_map_or (last_with_record last second) found last ≡ option_map_or (λ (stream : OpenStream). last_after_due last second stream.state) (option_map (open_stream past) found) last) [
+      | None ↦ refl
+      | Some stream ↦ refl
+    ]
+    ∙ ap (λ found. option_map_or (λ (stream : OpenStream). last_after_due last second stream.state) found last) (sym (find-living name past streams))
+
+-- the streams that live once those that nobody has open have ended
+ended-streams : (past : List LogChange) (last second : ℕ) (streams : List Stream) → map (open_stream past) (living (all_ended (is_ending past) last second streams)) ≡ kept_streams (map (open_stream past) (living streams))
+ended-streams past last second streams =
+    ap (map (open_stream past)) (filter-all_ended (is_idle past) last second streams)
+    ∙ sym (filter-map (open_stream past) (λ stream. not (is_idle past stream)) (λ stream. not (has_nobody stream)) (λ _. refl) (living streams))
+
+-- and the last stamp
+ended-last : (past : List LogChange) (last second : ℕ) (streams : List Stream) → last_of_ends (is_ending past) last second streams ≡ last_after_ends last second (map (open_stream past) (living streams))
+ended-last past last second [] = refl
+ended-last past last second (stream ∷ streams) =
+    elim (lives stream) as (λ b. last_of_ends (is_ending past) (cond (b && is_idle past stream) (stamp_after last second) last) second streams ≡ last_after_ends last second (map (open_stream past) (cond b (stream ∷ living streams) (living streams)))) [
+      | true ↦ ended-last past (cond (is_idle past stream) (stamp_after last second) last) second streams
+      | false ↦ ended-last past last second streams
+    ]
+
+-- what is kept once streams have ended, of changes by which the kept streams are these
+ended-table : (setup : LogSetup) (past : List LogChange) (second : ℕ) (before : Chronicle) (kept : List OpenStream) → map (open_stream past) (living before.streams) ≡ kept → ((after_ends past second before).last ≡ last_after_ends before.last second kept) × (map (open_stream past) (living (after_ends past second before).streams) ≡ kept_streams kept)
+ended-table setup past second before kept is =
+    (ended-last past before.last second before.streams ∙ ap (last_after_ends before.last second) is,
+     ended-streams past before.last second before.streams ∙ ap kept_streams is)
+
+-- **one more change carries what is kept as it should**
+pub table-after : (setup : LogSetup) (change : LogChange) (past : List LogChange) → IsLogHistory setup (change ∷ past) → table setup (change ∷ past) ≡ table_after change (table setup past)
+table-after setup (Began client) past legal = refl
+table-after setup (Opened client name None second) past legal =
+    let before = reached setup past legal.1 in
+    let now = chronicle setup past in
+    same_table now.last now.last (users past) (users past) _ _ refl refl
+    (opened-streams past client name second now.streams (before.single name))
+table-after setup (Opened client name (Some attrs) second) past legal =
+    let before = reached setup past legal.1 in
+    let now = chronicle setup past in
+    let new = none_is (living_stream setup past name) legal.0.0 in
+    let makes = makes-stream setup past client name attrs legal.0.0 legal.0.1 in
+    same_table (stamp_after now.last second) (stamp_after now.last second) (users past) (users past) _ _ refl refl
+    (made-streams past client name attrs second (stamp_after now.last second) now.streams new (before.unopened name new) makes.passes.some_rotated)
+table-after setup (Stored name rec second) past legal =
+    let before = reached setup past legal.1 in
+    let now = chronicle setup past in
+    same_table _ _ (users past) (users past) _ _ (stored-last past name now.last second now.streams) refl
+    (stored-streams past (Stored name rec second ∷ past) name now.last second rec now.streams (λ _. refl) before.passing)
+table-after setup (Closed client name second) past legal =
+    let before = reached setup past legal.1 in
+    let now = chronicle setup past in
+    let ended = ended-table setup (Closed client name second ∷ past) second now (closed_streams client name (map (open_stream past) (living now.streams))) (closed-streams past client name second now.streams (before.single name)) in
+    same_table _ _ (users past) (users past) _ _ ended.0 refl ended.1
+table-after setup (Ended client second) past legal =
+    let now = chronicle setup past in
+    let ended = ended-table setup (Ended client second ∷ past) second now (left_streams client (map (open_stream past) (living now.streams))) (left-streams past client second (living now.streams)) in
+    same_table _ _ (users (Ended client second ∷ past)) (users (Ended client second ∷ past)) _ _ ended.0 refl ended.1

@@ -96,15 +96,19 @@ abbrev pub is_empty : List ℕ → Bool
 is_empty [] = true
 is_empty (client ∷ clients) = false
 
+-- an application's stream that nobody has open
+abbrev pub is_idle : List LogChange → Stream → Bool
+is_idle past stream = is_application stream.name && is_empty (openers past stream.name)
+
 -- an application stream ends when no client has it open
-abbrev pub has_no_openers : List LogChange → Stream → Bool
-has_no_openers past stream = lives stream && is_application stream.name && is_empty (openers past stream.name)
+abbrev pub is_ending : List LogChange → Stream → Bool
+is_ending past stream = lives stream && is_idle past stream
 
 -- the chronicle once the streams that nobody has open any more have ended
 abbrev pub after_ends : List LogChange → ℕ → Chronicle → Chronicle
 after_ends past second before = record {
-  streams = all_ended (has_no_openers past) before.last second before.streams;
-  last = last_of_ends (has_no_openers past) before.last second before.streams;
+  streams = all_ended (is_ending past) before.last second before.streams;
+  last = last_of_ends (is_ending past) before.last second before.streams;
 }
 
 abbrev pub after_making : StreamName → StreamAttrs → ℕ → Chronicle → Chronicle
