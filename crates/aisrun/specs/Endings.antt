@@ -13,7 +13,7 @@ use Rattle.aisrun.specs.Commands.{command_of, text_of}
 use Rattle.ais_values.specs.declared.kind.StreamKind.{StreamKind}
 use Rattle.format_expr.specs.declared.piece.Piece.{Piece}
 use Rattle.format_expr.specs.declared.fault.ExprFault.{ExprFault}
-use Rattle.format_expr.specs.Language.{Spells as Spells_expr}
+use Rattle.format_expr.specs.Language.{ArePiecesOf}
 use Rattle.format_expr.specs.Faults.{IsFault, word_of}
 use Rattle.script.specs.declared.line.Line.{Line}
 use Rattle.script.specs.declared.line.ScriptWhy.{ScriptWhy}
@@ -139,7 +139,7 @@ CheckEnds left left_after faults faults_after _ text = ⊥
 -- the text is an expression: its pieces are counted, and it has no fault
 pub record TextPasses (kind : StreamKind) (text printed : List ℕ) : Type 0 where
   pub pieces : List Piece
-  pub spelled : Spells_expr kind pieces text
+  pub spelled : ArePiecesOf kind pieces text
   pub faultless : (fault : ExprFault) → IsFault kind text fault → ⊥
   pub shown : printed ≡ codes "ok " ++ (decimal (length pieces) ++ codes "\n")
 

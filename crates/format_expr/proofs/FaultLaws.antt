@@ -17,14 +17,13 @@ use Rattle.format_expr.specs.declared.fault.ExprAnswer.{ExprAnswer}
 use Rattle.format_expr.specs.declared.fault.ExprAnswer.TheVariants.{Bad}
 use Rattle.format_expr.specs.declared.token.Token.{Token}
 use Rattle.format_expr.specs.declared.token.Part.{Part}
-use Rattle.format_expr.specs.declared.token.TheConstants.{TOKENS}
 use Rattle.ais_values.specs.declared.kind.StreamKind.{StreamKind}
 use Rattle.ais_values.specs.declared.kind.StreamKind.TheVariants.{Alarm, Notification, System, Application}
-use Rattle.format_expr.specs.Tokens.{letters, part_in}
+use Rattle.format_expr.specs.Tokens.{letters, shown_parts, part_with}
 use Rattle.format_expr.specs.Language.{is_plain, is_digit, is_class, is_class_of, width_digits, is_width, takes_digit, token_spelling, IsExpression}
-use Rattle.format_expr.specs.Faults.{Begins, EndsIn, is_next, spoils, IsReason, StandsAt, IsFault}
+use Rattle.format_expr.specs.Faults.{Begins, EndsIn, is_next, IsNoField, spoils, StopsFor, HasFault, IsFault}
 use Rattle.format_expr.specs.Scan.{plain_step, class_step, field_step, width_step, step_of, end_of, why_at, after, run, StopsAt}
-use Rattle.format_expr.proofs.TokenLaws.{row_of, part_in_letters}
+use Rattle.format_expr.proofs.TokenLaws.{row_of, part_with-letters, no_field, none_found}
 use Rattle.format_expr.proofs.Steps.{after_ok, plain_ok, plain_err, class_ok, field_ok, width_ok, width_of, digits_more, past_width, behind_width, run_width}
 use Rattle.format_expr.proofs.LanguageLaws.{IsAccepted, accepted_is_expression, expression_is_accepted, run-append}
 
@@ -42,7 +41,7 @@ step_at kind (Class class) next e =
     let known = field_ok class 64 next e in
     let found = row_of known.0 in
     let is = found.2 in
-    let two = part_in_letters class 64 known.0 known.1 in
+    let two = part_with-letters class 64 known.0 known.1 in
     let same : found.1 ≡ 64 = let both = sym is.written ∙ two in cc in
     absurd (both_ways (nat_eq found.1 64) is.field_is (eq-eqb found.1 64 same))
 step_at kind (Width width) next e = cc
@@ -149,7 +148,7 @@ control_stops kind stand byte ends control =
     ] ends
 
 -- the reason that the language gives is the automaton's
-pub reason_stops : (kind : StreamKind) (front : List ℕ) (next : Option ℕ) (why : ExprWhy) (stand : Stand) → run kind Between front ≡ Ok stand → IsReason kind front next why → why_at kind stand next ≡ Some why
+pub reason_stops : (kind : StreamKind) (front : List ℕ) (next : Option ℕ) (why : ExprWhy) (stand : Stand) → run kind Between front ≡ Ok stand → StopsFor kind front next why → why_at kind stand next ≡ Some why
 reason_stops kind front next LoneAt stand reached ((before, is), none) =
     let at = after_at kind before Between stand (ap (run kind Between) (sym is) ∙ reached) in
     ap (λ s. why_at kind s next) at ∙ elim next as (λ n. not (is_next is_class n) ≡ true → why_at kind At n ≡ Some LoneAt) [
@@ -168,9 +167,9 @@ reason_stops kind front next WrongClass stand reached ((before, is), some, other
     ] some other
 reason_stops kind front next UnknownToken stand reached (class, (before, is), none) =
     let at = after_class kind before class Between stand (ap (run kind Between) (sym is) ∙ reached) in
-    ap (λ s. why_at kind s next) at ∙ elim next as (λ n. not (is_next (λ field. is_some (part_in TOKENS class field)) n) ≡ true → why_at kind (Class class) n ≡ Some UnknownToken) [
+    ap (λ s. why_at kind s next) at ∙ elim next as (λ n. IsNoField class n → why_at kind (Class class) n ≡ Some UnknownToken) [
       | None ↦ λ _. refl
-      | Some byte ↦ λ e. ap result_err (cond-false (is_some (part_in TOKENS class byte)) (Ok (Width 0)) (Err UnknownToken) (not-true (is_some (part_in TOKENS class byte)) e))
+      | Some byte ↦ λ e. ap result_err (cond-false (is_some (part_with class byte)) (Ok (Width 0)) (Err UnknownToken) (none_found class byte e))
     ] none
 reason_stops kind front next BadWidth stand reached (token, (before, is), short, bad) =
     let at = after_token kind before token Between stand short (ap (run kind Between) (sym is) ∙ reached) in
@@ -234,7 +233,7 @@ stood_step kind front At next byte (before, is) e =
     subst (Stood kind (front ++ byte ∷ [])) (sym own.1) ((before, ap (λ f. f ++ byte ∷ []) is ∙ append_assoc before (64 ∷ []) (byte ∷ [])), own.0)
 stood_step kind front (Class class) next byte ((before, is), own) e =
     let known = field_ok class byte next e in
-    let two = part_in_letters class byte known.0 known.1 in
+    let two = part_with-letters class byte known.0 known.1 in
     subst (Stood kind (front ++ byte ∷ [])) (sym known.2) (
       omega arith,
       (
@@ -270,6 +269,7 @@ class_cases letter e = grind (arith, nat_tests)
 
 -- each class has a field with which a token ends
 class_completed : (kind : StreamKind) (class : ℕ) → is_class class ≡ true → (rest : List ℕ) × IsAccepted kind (Class class) rest
+unfolding part_with shown_parts
 class_completed kind class e =
     elim (class_cases class e) [
       | inl c ↦ subst (λ l. (rest : List ℕ) × IsAccepted kind (Class l) rest) (sym c) (114 ∷ [], record { last = Width 0; reached = refl; ends = refl })
@@ -279,7 +279,7 @@ class_completed kind class e =
 
 -- each stand that is reached can still come to an expression
 completed : (kind : StreamKind) (front : List ℕ) (stand : Stand) → Stood kind front stand → (rest : List ℕ) × IsAccepted kind stand rest
-unfolding Stood
+unfolding Stood part_with shown_parts
 completed kind front Between s = ([], record { last = Between; reached = refl; ends = refl })
 completed kind front At s = (67 ∷ 114 ∷ [], record { last = Width 0; reached = refl; ends = refl })
 completed kind front (Width width) s = ([], record { last = Width width; reached = refl; ends = refl })
@@ -321,10 +321,10 @@ class_err kind byte why =
     (λ lone e. inr (cc, lone)))
 
 -- why a field letter is refused
-field_err : (class byte : ℕ) (why : ExprWhy) → result_err (field_step class byte) ≡ Some why → (why ≡ UnknownToken) × (is_some (part_in TOKENS class byte) ≡ false)
+field_err : (class byte : ℕ) (why : ExprWhy) → result_err (field_step class byte) ≡ Some why → (why ≡ UnknownToken) × (is_some (part_with class byte) ≡ false)
 field_err class byte why =
-    cond_both (is_some (part_in TOKENS class byte)) (Ok (Width 0)) (Err UnknownToken)
-    (λ r. result_err r ≡ Some why → (why ≡ UnknownToken) × (is_some (part_in TOKENS class byte) ≡ false))
+    cond_both (is_some (part_with class byte)) (Ok (Width 0)) (Err UnknownToken)
+    (λ r. result_err r ≡ Some why → (why ≡ UnknownToken) × (is_some (part_with class byte) ≡ false))
     (λ known e. absurd cc)
     (λ other e. (cc, other))
 
@@ -342,36 +342,36 @@ width_err width byte why digit =
     spoiled bad = cond_both (nat_eq width 0) None (Some width) (λ w. spoils w byte ≡ true) (λ none. grind (arith, nat_tests)) (λ some. grind (arith, nat_tests))
 
 -- why a text goes on nowhere from a stand, in the words of the language
-stand_reason : (kind : StreamKind) (front : List ℕ) (next : Option ℕ) (why : ExprWhy) (stand : Stand) → run kind Between front ≡ Ok stand → Stood kind front stand → why_at kind stand next ≡ Some why → IsReason kind front next why
+stand_reason : (kind : StreamKind) (front : List ℕ) (next : Option ℕ) (why : ExprWhy) (stand : Stand) → run kind Between front ≡ Ok stand → Stood kind front stand → why_at kind stand next ≡ Some why → StopsFor kind front next why
 unfolding Stood
 stand_reason kind front None why Between reached s e = absurd cc
 stand_reason kind front (Some byte) why Between reached s e =
     let bad = plain_err byte why e in
-    subst (IsReason kind front (Some byte)) (sym bad.0) (accepted_is_expression kind front (record { last = Between; reached = reached; ends = refl }), bad.1)
+    subst (StopsFor kind front (Some byte)) (sym bad.0) (accepted_is_expression kind front (record { last = Between; reached = reached; ends = refl }), bad.1)
 stand_reason kind front None why At reached s e =
     let is : LoneAt ≡ why = cc (e) in
-    subst (IsReason kind front None) is (s, refl)
+    subst (StopsFor kind front None) is (s, refl)
 stand_reason kind front (Some byte) why At reached s e =
     elim (class_err kind byte why e) [
-      | inl wrong ↦ subst (IsReason kind front (Some byte)) (sym wrong.0) (s, wrong.1, ap not wrong.2)
-      | inr lone ↦ subst (IsReason kind front (Some byte)) (sym lone.0) (s, ap not lone.1)
+      | inl wrong ↦ subst (StopsFor kind front (Some byte)) (sym wrong.0) (s, wrong.1, ap not wrong.2)
+      | inr lone ↦ subst (StopsFor kind front (Some byte)) (sym lone.0) (s, ap not lone.1)
     ]
 stand_reason kind front None why (Class class) reached s e =
     let is : UnknownToken ≡ why = cc (e) in
-    subst (IsReason kind front None) is (class, s.0, refl)
+    subst (StopsFor kind front None) is (class, s.0, tt)
 stand_reason kind front (Some byte) why (Class class) reached s e =
     let bad = field_err class byte why e in
-    subst (IsReason kind front (Some byte)) (sym bad.0) (class, s.0, ap not bad.1)
+    subst (StopsFor kind front (Some byte)) (sym bad.0) (class, s.0, no_field class byte bad.1)
 stand_reason kind front None why (Width width) reached s e = absurd cc
 stand_reason kind front (Some byte) why (Width width) reached s e =
     elim (cases_Bool (is_digit byte)) [
       | inl digit ↦
           let bad = width_err width byte why digit (ap result_err (sym (cond-true (is_digit byte) (width_step width (byte - 48)) (plain_step byte) digit)) ∙ e) in
           let short : takes_digit (width_of width) ≡ true = cond_both (nat_eq width 0) None (Some width) (λ w. takes_digit w ≡ true) (λ _. refl) (λ _. lt-ltb width 100 s.0) in
-          subst (IsReason kind front (Some byte)) (sym bad.0) (record { part = s.1.0; width = width_of width }, s.1.1, short, bad.1)
+          subst (StopsFor kind front (Some byte)) (sym bad.0) (record { part = s.1.0; width = width_of width }, s.1.1, short, bad.1)
       | inr other ↦
           let bad = plain_err byte why (ap result_err (sym (past_width kind width byte other)) ∙ e) in
-          subst (IsReason kind front (Some byte)) (sym bad.0) (accepted_is_expression kind front (record { last = Width width; reached = reached; ends = refl }), bad.1)
+          subst (StopsFor kind front (Some byte)) (sym bad.0) (accepted_is_expression kind front (record { last = Width width; reached = reached; ends = refl }), bad.1)
     ]
 
 -- a run does not go past a place where it stops
@@ -398,7 +398,7 @@ run_past kind text place further why last stops inside reached =
         cc
 
 -- where the automaton stops, the language has its reason
-pub stops_stands : (kind : StreamKind) (text : List ℕ) (place : ℕ) (why : ExprWhy) → StopsAt kind text place why → StandsAt kind text place why
+pub stops_stands : (kind : StreamKind) (text : List ℕ) (place : ℕ) (why : ExprWhy) → StopsAt kind text place why → HasFault kind text place why
 stops_stands kind text place why stops =
     record {
       inside = stops.inside;
@@ -411,7 +411,7 @@ stops_stands kind text place why stops =
     }
 
 -- and the other way round
-pub stands_stops : (kind : StreamKind) (text : List ℕ) (place : ℕ) (why : ExprWhy) → StandsAt kind text place why → StopsAt kind text place why
+pub stands_stops : (kind : StreamKind) (text : List ℕ) (place : ℕ) (why : ExprWhy) → HasFault kind text place why → StopsAt kind text place why
 stands_stops kind text place why stands =
     let reached = begins_run kind (take place text) stands.begins in
     record {

@@ -17,7 +17,7 @@ use Rattle.ais_values.specs.declared.kind.StreamKind.{StreamKind}
 use Rattle.format_expr.specs.Tokens.{letters}
 use Rattle.format_expr.specs.Language.{is_plain, is_digit, is_class_of, width_digits, is_width, takes_digit, token_spelling, spelling, begins_with, begins_plain, is_empty, are_pieces, IsExpression}
 use Rattle.format_expr.specs.Scan.{plain_step, field_step, width_step, step_of, end_of, after, run, may_end, is_expression}
-use Rattle.format_expr.proofs.TokenLaws.{row_of, part_in_letters}
+use Rattle.format_expr.proofs.TokenLaws.{row_of, part_with-letters}
 use Rattle.format_expr.proofs.Steps.{after_ok, plain_ok, plain_on, class_ok, class_on, field_ok, width_ok, width_of, digits_more, past_width, behind_width, run_width}
 
 -- one more plain byte at the front of pieces
@@ -146,7 +146,7 @@ sound kind (byte ∷ bytes) At a =
 sound kind (byte ∷ bytes) (Class class) a = λ own.
     let step = step_accepted kind (Class class) byte bytes a in
     let known = field_ok class byte step.0 step.1 in
-    let two = part_in_letters class byte known.0 known.1 in
+    let two = part_with-letters class byte known.0 known.1 in
     subst (λ ls. IsExpression kind (64 ∷ ls ++ bytes)) two
     (subst (λ ls. IsExpression kind (64 ∷ ls ++ bytes)) (append-nil (letters known.0))
     (sound kind bytes (Width 0) (subst (λ s. IsAccepted kind s bytes) known.2 step.2) (omega arith) known.0

@@ -8,12 +8,11 @@ use Rattle.std.proofs.lemmas.List.{take_at, drop_at}
 use Rattle.std.proofs.lemmas.Fmt.{decimal_digit}
 use Rattle.format_expr.specs.declared.token.Token.{Token}
 use Rattle.format_expr.specs.declared.token.Part.{Part}
-use Rattle.format_expr.specs.declared.token.TheConstants.{TOKENS}
 use Rattle.format_expr.specs.declared.piece.Piece.{Piece}
 use Rattle.format_expr.specs.declared.piece.Piece.TheVariants.{Plain, Field}
 use Rattle.ais_values.specs.declared.kind.StreamKind.{StreamKind}
-use Rattle.format_expr.specs.Tokens.{letters, part_in}
-use Rattle.format_expr.specs.Language.{is_plain, is_digit, is_class_of, width_digits, is_width, takes_digit, token_spelling, spelling, begins_with, begins_plain, are_pieces, Spells, IsExpression}
+use Rattle.format_expr.specs.Tokens.{letters, part_with}
+use Rattle.format_expr.specs.Language.{is_plain, is_digit, is_class_of, width_digits, is_width, takes_digit, token_spelling, spelling, begins_with, begins_plain, are_pieces, ArePiecesOf, IsExpression}
 use Rattle.format_expr.specs.Reading.{digit_of, width_at, token_at, plain_length, plain_at, piece_at, pieces_from, pieces_of}
 use Rattle.format_expr.proofs.TokenLaws.{row_of}
 use Rattle.format_expr.proofs.Decimals.{decimal_two, decimal_three}
@@ -117,9 +116,9 @@ token_some [] token = λ e. absurd cc
 token_some (at ∷ []) token = λ e. absurd cc
 token_some (at ∷ class ∷ []) token = λ e. absurd cc
 token_some (at ∷ class ∷ field ∷ bytes) token =
-    cond_both (nat_eq at 64) (option_map_or (λ (part : Part). Some (record { part = part; width = (width_at bytes).0 }, 3 + (width_at bytes).1)) (part_in TOKENS class field) None) None
+    cond_both (nat_eq at 64) (option_map_or (λ (part : Part). Some (record { part = part; width = (width_at bytes).0 }, 3 + (width_at bytes).1)) (part_with class field) None) None
     (λ found. found ≡ Some token → 3 ≤ token.1)
-    (λ _. known (part_in TOKENS class field))
+    (λ _. known (part_with class field))
     (λ _ e. absurd cc)
   where
     known : (part : Option Part) → option_map_or (λ (p : Part). Some (record { part = p; width = (width_at bytes).0 }, 3 + (width_at bytes).1)) part None ≡ Some token → 3 ≤ token.1
@@ -191,13 +190,13 @@ read_back kind (Field token ∷ pieces) valid =
     ∙ ap (λ ps. Field token ∷ ps) (read_back kind pieces parts.1)
 
 -- so a text has one parse, and it is what is read
-pub parse_is_read : (kind : StreamKind) (pieces : List Piece) (text : List ℕ) → Spells kind pieces text → pieces_of text ≡ pieces
+pub parse_is_read : (kind : StreamKind) (pieces : List Piece) (text : List ℕ) → ArePiecesOf kind pieces text → pieces_of text ≡ pieces
 parse_is_read kind pieces text spells = ap pieces_of spells.spelled ∙ read_back kind pieces spells.valid
 
 -- and what is read of an expression spells it
-pub read_spells : (kind : StreamKind) (text : List ℕ) → IsExpression kind text → Spells kind (pieces_of text) text
+pub read_spells : (kind : StreamKind) (text : List ℕ) → IsExpression kind text → ArePiecesOf kind (pieces_of text) text
 read_spells kind text (pieces, spells) =
-    subst (λ ps. Spells kind ps text) (sym (parse_is_read kind pieces text spells)) spells
+    subst (λ ps. ArePiecesOf kind ps text) (sym (parse_is_read kind pieces text spells)) spells
 
 -- one step of the loop that reads pieces
 pub read_more : (text : List ℕ) (pieces new : List Piece) (rest more : List ℕ) (piece : Piece) (count : ℕ) → pieces ++ pieces_of rest ≡ pieces_of text → 0 < length rest → piece_at rest ≡ (piece, count) → new ≡ pieces ++ piece ∷ [] → more ≡ drop count rest → new ++ pieces_of more ≡ pieces_of text

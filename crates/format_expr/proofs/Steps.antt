@@ -10,9 +10,8 @@ use Rattle.format_expr.specs.declared.check.Stand.TheVariants.{Between, At, Clas
 use Rattle.format_expr.specs.declared.fault.ExprWhy.{ExprWhy}
 use Rattle.format_expr.specs.declared.fault.ExprWhy.TheVariants.{ControlByte}
 use Rattle.format_expr.specs.declared.token.Part.{Part}
-use Rattle.format_expr.specs.declared.token.TheConstants.{TOKENS}
 use Rattle.ais_values.specs.declared.kind.StreamKind.{StreamKind}
-use Rattle.format_expr.specs.Tokens.{part_in}
+use Rattle.format_expr.specs.Tokens.{part_with}
 use Rattle.format_expr.specs.Language.{is_plain, is_digit, is_class, is_class_of, width_digits, is_width}
 use Rattle.format_expr.specs.Scan.{plain_step, class_step, field_step, width_step, step_of, after, run}
 
@@ -77,9 +76,9 @@ class_ok kind byte next e =
 pub class_on : (kind : StreamKind) (byte : ℕ) → is_class_of kind byte ≡ true → class_step kind byte ≡ Ok (Class byte)
 class_on kind byte e = cond-true _ _ _ e
 
-pub field_ok : (class byte : ℕ) (next : Stand) → field_step class byte ≡ Ok next → (part : Part) × (part_in TOKENS class byte ≡ Some part) × (next ≡ Width 0)
+pub field_ok : (class byte : ℕ) (next : Stand) → field_step class byte ≡ Ok next → (part : Part) × (part_with class byte ≡ Some part) × (next ≡ Width 0)
 field_ok class byte next e =
-    elim (chosen (is_some (part_in TOKENS class byte)) _ _ _ e) [
+    elim (chosen (is_some (part_with class byte)) _ _ _ e) [
       | inl known ↦ let part = some_of _ known.0 in (part.0, part.1, cc)
       | inr other ↦ absurd cc
     ]

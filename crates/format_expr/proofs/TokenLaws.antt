@@ -1,27 +1,31 @@
--- One row of the table for each token, and one token for each row.
-use Rattle.std.proofs.Common.{◌≡◌, ℕ, ◌∷◌, [], List, true, false, ◌&&◌, nat_eq, Some, refl, sym, ap, ◌∙◌}
+-- Two letters for each part, and one part for these letters.
+use Rattle.std.proofs.Common.{◌≡◌, ℕ, ◌∷◌, [], List, true, false, ◌&&◌, nat_eq, Option, Some, None, is_some, slice_index, refl, sym, ap, ◌∙◌}
 use Rattle.std.proofs.lemmas.Bool.{cond_both, and_parts, eqb-true}
 use Rattle.format_expr.specs.declared.token.Moment.TheVariants.{Record, Event}
 use Rattle.format_expr.specs.declared.token.TimePart.TheVariants.{Nanoseconds, Hour, Minute, Second, HalfDay, Month, MonthName, Day, DayName, ShortYear, Year}
 use Rattle.format_expr.specs.declared.token.Part.{Part}
 use Rattle.format_expr.specs.declared.token.Part.TheVariants.{Number, Time, ClassId, Cut, Body, BodyBytes, NotificationId, EventType, Object, Notifier, User, Severity}
-use Rattle.format_expr.specs.declared.token.TokenRow.{TokenRow}
-use Rattle.format_expr.specs.declared.token.TheConstants.{TOKENS}
-use Rattle.format_expr.specs.Tokens.{letters, part_in}
+use Rattle.format_expr.specs.Tokens.{letters, shown_parts, first_with, part_with}
 use Rattle.format_expr.specs.Language.{is_class}
 
--- the table's row of a part: its letters, which no other row has, and of which the field's is not `@`
+-- the letters of a part, which no other part has, and of which the field's is not `@`
 pub record IsRow (part : Part) (class field : ℕ) : Type 0 where
   pub written : letters part ≡ class ∷ field ∷ []
-  pub found : part_in TOKENS class field ≡ Some part
+  pub found : part_with class field ≡ Some part
   pub class_is : is_class class ≡ true
   pub field_is : nat_eq field 64 ≡ false
 
-row : (part : Part) (class field : ℕ) → letters part ≡ class ∷ field ∷ [] → part_in TOKENS class field ≡ Some part → is_class class ≡ true → nat_eq field 64 ≡ false → IsRow part class field
+row : (part : Part) (class field : ℕ) → letters part ≡ class ∷ field ∷ [] → part_with class field ≡ Some part → is_class class ≡ true → nat_eq field 64 ≡ false → IsRow part class field
 row part class field w f c n = record { written = w; found = f; class_is = c; field_is = n }
+
+-- each part has two letters
+abbrev AreTwo : List Part → Type 0
+AreTwo [] = Unit {0}
+AreTwo (part ∷ parts) = (letters part ≡ slice_index (letters part) 0 ∷ slice_index (letters part) 1 ∷ []) × AreTwo parts
 
 -- each part has a row
 pub row_of : (part : Part) → (class : ℕ) × (field : ℕ) × IsRow part class field
+unfolding part_with shown_parts
 row_of Number = (67, 114, row Number 67 114 refl refl refl refl)
 row_of (Time Record Nanoseconds) = (67, 116, row (Time Record Nanoseconds) 67 116 refl refl refl refl)
 row_of (Time Record Hour) = (67, 104, row (Time Record Hour) 67 104 refl refl refl refl)
@@ -56,22 +60,48 @@ row_of Notifier = (78, 103, row Notifier 78 103 refl refl refl refl)
 row_of User = (83, 108, row User 83 108 refl refl refl refl)
 row_of Severity = (83, 118, row Severity 83 118 refl refl refl refl)
 
--- the rows of a table have the letters of their parts
-abbrev Agree : List TokenRow → Type 0
-Agree [] = Unit {0}
-Agree (row ∷ rows) = (letters row.part ≡ row.class ∷ row.field ∷ []) × Agree rows
+two_letters : (part : Part) → letters part ≡ slice_index (letters part) 0 ∷ slice_index (letters part) 1 ∷ []
+two_letters part =
+    let found = row_of part in
+    let written = found.2.written in
+    written ∙ ap (λ ls. slice_index ls 0 ∷ slice_index ls 1 ∷ []) (sym written)
 
--- so what is found for two letters has these letters
-found_agrees : (rows : List TokenRow) (class field : ℕ) (part : Part) → Agree rows → part_in rows class field ≡ Some part → letters part ≡ class ∷ field ∷ []
-found_agrees [] class field part all = λ found. absurd cc
-found_agrees (row ∷ rows) class field part all =
-    cond_both (nat_eq row.class class && nat_eq row.field field) (Some row.part) (part_in rows class field)
+all_two : (parts : List Part) → AreTwo parts
+all_two [] = tt
+all_two (part ∷ parts) = (two_letters part, all_two parts)
+
+-- what is found for two letters has these letters
+found_letters : (parts : List Part) (class field : ℕ) (part : Part) → AreTwo parts → first_with parts class field ≡ Some part → letters part ≡ class ∷ field ∷ []
+found_letters [] class field part two = λ found. absurd cc
+found_letters (other ∷ parts) class field part two =
+    cond_both (nat_eq (slice_index (letters other) 0) class && nat_eq (slice_index (letters other) 1) field) (Some other) (first_with parts class field)
     (λ answer. answer ≡ Some part → letters part ≡ class ∷ field ∷ [])
     (λ same found. let both = and_parts _ _ same in
-    let is : row.part ≡ part = cc in
-    ap letters (sym is) ∙ all.0 ∙ ap (λ c. c ∷ row.field ∷ []) (eqb-true _ _ both.0) ∙ ap (λ f. class ∷ f ∷ []) (eqb-true _ _ both.1))
-    (λ other found. found_agrees rows class field part all.1 found)
+    let is : other ≡ part = cc in
+    ap letters (sym is) ∙ two.0 ∙ ap (λ c. c ∷ slice_index (letters other) 1 ∷ []) (eqb-true _ _ both.0) ∙ ap (λ f. class ∷ f ∷ []) (eqb-true _ _ both.1))
+    (λ differ found. found_letters parts class field part two.1 found)
 
--- the letters by which a part is found are the part's
-pub part_in_letters : (class field : ℕ) (part : Part) → part_in TOKENS class field ≡ Some part → letters part ≡ class ∷ field ∷ []
-part_in_letters class field part = found_agrees TOKENS class field part (refl, (refl, (refl, (refl, (refl, (refl, (refl, (refl, (refl, (refl, (refl, (refl, (refl, (refl, (refl, (refl, (refl, (refl, (refl, (refl, (refl, (refl, (refl, (refl, (refl, (refl, (refl, (refl, (refl, (refl, (refl, (refl, (refl, tt)))))))))))))))))))))))))))))))))
+pub part_with-letters : (class field : ℕ) (part : Part) → part_with class field ≡ Some part → letters part ≡ class ∷ field ∷ []
+unfolding part_with shown_parts
+part_with-letters class field part = found_letters shown_parts class field part (all_two shown_parts)
+
+-- the letters of a part find it
+pub part_with-told : (part : Part) (class field : ℕ) → letters part ≡ class ∷ field ∷ [] → part_with class field ≡ Some part
+part_with-told part class field is =
+    let found = row_of part in
+    let written : found.0 ∷ found.1 ∷ [] ≡ class ∷ field ∷ [] = sym found.2.written ∙ is in
+    let one : found.0 ≡ class = cc in
+    let two : found.1 ≡ field = cc in
+    ap (λ c. part_with c field) (sym one) ∙ ap (part_with found.0) (sym two) ∙ found.2.found
+
+-- where none is found, no token has these letters, and the other way round
+pub no_field : (class field : ℕ) → is_some (part_with class field) ≡ false → (part : Part) → letters part ≡ class ∷ field ∷ [] → ⊥
+no_field class field none part is =
+    let some = ap is_some (part_with-told part class field is) in
+    cc
+
+pub none_found : (class field : ℕ) → ((part : Part) → letters part ≡ class ∷ field ∷ [] → ⊥) → is_some (part_with class field) ≡ false
+none_found class field none = by_found (part_with class field) refl where
+  by_found : (found : Option Part) → part_with class field ≡ found → is_some found ≡ false
+  by_found None is = refl
+  by_found (Some part) is = absurd (none part (part_with-letters class field part is))

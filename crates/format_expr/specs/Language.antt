@@ -1,4 +1,4 @@
--- The language of expressions: their pieces, and the text that pieces spell.
+-- Words of public clauses: the language of expressions, their pieces, and the text that pieces spell.
 use Rattle.std.specs.Prelude.{◌≡◌, ℕ, ◌∷◌, [], ◌++◌, List, Bool, true, false, not, ◌&&◌, ◌||◌, ◌==◌, nat_lt, nat_le, codes, Option, Some, None, IsTrue, slice_index}
 use Rattle.std.specs.Fmt.{decimal}
 use Rattle.std.specs.List.{list_all}
@@ -81,10 +81,10 @@ are_pieces kind (Field token ∷ pieces) =
     && not (takes_digit token.width && begins_with is_digit (spelling pieces)) && are_pieces kind pieces
 
 -- these pieces are an expression of the kind, and spell this text
-pub record Spells (kind : StreamKind) (pieces : List Piece) (text : List ℕ) : Type 0 where
+pub record ArePiecesOf (kind : StreamKind) (pieces : List Piece) (text : List ℕ) : Type 0 where
   pub valid : IsTrue (are_pieces kind pieces)
   pub spelled : text ≡ spelling pieces
 
 -- a text is an expression of the kind, of whatever length
 abbrev pub IsExpression : StreamKind → List ℕ → Type 0
-IsExpression kind text = (pieces : List Piece) × Spells kind pieces text
+IsExpression kind text = (pieces : List Piece) × ArePiecesOf kind pieces text

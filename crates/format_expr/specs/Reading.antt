@@ -1,11 +1,10 @@
--- The pieces of a text, read from its front. Of an expression they are its pieces.
+-- Words of bodies, of the law of pieces, and of definitions above this crate: the pieces of a text as a function of it. Of an expression they are its pieces.
 use Rattle.std.specs.Prelude.{ℕ, zero, suc, ◌+◌, ◌-◌, ◌*◌, ◌∷◌, [], List, length, take, drop, min, ◌==◌, if◌then◌else◌, Option, Some, None, slice_get}
 use Rattle.std.specs.Option.{option_map_or}
 use Rattle.format_expr.specs.declared.token.Token.{Token}
-use Rattle.format_expr.specs.declared.token.TheConstants.{TOKENS}
 use Rattle.format_expr.specs.declared.piece.Piece.{Piece}
 use Rattle.format_expr.specs.declared.piece.Piece.TheVariants.{Plain, Field}
-use Rattle.format_expr.specs.Tokens.{part_in}
+use Rattle.format_expr.specs.Tokens.{part_with}
 use Rattle.format_expr.specs.Language.{is_digit}
 
 -- the value of a digit
@@ -30,7 +29,7 @@ token_at (at ∷ []) = None
 token_at (at ∷ class ∷ []) = None
 token_at (at ∷ class ∷ field ∷ bytes) =
     if at == 64 then
-    option_map_or (λ part. Some (record { part = part; width = (width_at bytes).0 }, 3 + (width_at bytes).1)) (part_in TOKENS class field) None
+    option_map_or (λ part. Some (record { part = part; width = (width_at bytes).0 }, 3 + (width_at bytes).1)) (part_with class field) None
     else None
 
 -- how many bytes stand before the next `@`

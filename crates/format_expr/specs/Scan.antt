@@ -1,13 +1,12 @@
--- The automaton that reads expressions: where it stands after each byte, and why it stops.
+-- Words of bodies, and of definitions above this crate that compute: the automaton that reads expressions, where it stands after each byte, and why it stops.
 use Rattle.std.specs.Prelude.{◌≡◌, ℕ, ◌+◌, ◌-◌, ◌*◌, ◌≤◌, ◌∷◌, [], List, length, take, ◌&&◌, ◌||◌, ◌==◌, nat_lt, if◌then◌else◌, Option, Some, None, Result, Ok, Err, Bool, false, is_some, is_none, slice_get}
 use Rattle.std.specs.Result.{result_err}
 use Rattle.format_expr.specs.declared.check.Stand.{Stand}
 use Rattle.format_expr.specs.declared.check.Stand.TheVariants.{Between, At, Class, Width}
 use Rattle.format_expr.specs.declared.fault.ExprWhy.{ExprWhy}
 use Rattle.format_expr.specs.declared.fault.ExprWhy.TheVariants.{UnknownToken, WrongClass, BadWidth, LoneAt, ControlByte}
-use Rattle.format_expr.specs.declared.token.TheConstants.{TOKENS}
 use Rattle.ais_values.specs.declared.kind.StreamKind.{StreamKind}
-use Rattle.format_expr.specs.Tokens.{part_in}
+use Rattle.format_expr.specs.Tokens.{part_with}
 use Rattle.format_expr.specs.Language.{is_plain, is_digit, is_class, is_class_of}
 
 -- between pieces, or in a plain one
@@ -21,7 +20,7 @@ class_step kind byte =
 
 -- behind a class letter
 abbrev pub field_step : ℕ → ℕ → Result Stand ExprWhy
-field_step class byte = if is_some (part_in TOKENS class byte) then Ok (Width 0) else Err UnknownToken
+field_step class byte = if is_some (part_with class byte) then Ok (Width 0) else Err UnknownToken
 
 -- one more digit of a width, which is 0 before its first
 abbrev pub width_step : ℕ → ℕ → Result Stand ExprWhy

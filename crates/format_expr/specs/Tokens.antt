@@ -1,12 +1,11 @@
--- The table of tokens: class C for every stream, class N for alarms and notifications, class S for system and application streams.
-use Rattle.std.specs.Prelude.{ℕ, ◌∷◌, [], ◌++◌, List, ◌&&◌, ◌==◌, if◌then◌else◌, codes, Option, Some, None}
+-- Words of public clauses: the table of tokens, with class C for every stream, class N for alarms and notifications, class S for system and application streams.
+use Rattle.std.specs.Prelude.{ℕ, ◌∷◌, [], ◌++◌, List, ◌&&◌, ◌==◌, if◌then◌else◌, codes, Option, Some, None, slice_index}
 use Rattle.format_expr.specs.declared.token.Moment.{Moment}
 use Rattle.format_expr.specs.declared.token.Moment.TheVariants.{Record, Event}
 use Rattle.format_expr.specs.declared.token.TimePart.{TimePart}
 use Rattle.format_expr.specs.declared.token.TimePart.TheVariants.{Nanoseconds, Hour, Minute, Second, HalfDay, Month, MonthName, Day, DayName, ShortYear, Year}
 use Rattle.format_expr.specs.declared.token.Part.{Part}
 use Rattle.format_expr.specs.declared.token.Part.TheVariants.{Number, Time, ClassId, Cut, Body, BodyBytes, NotificationId, EventType, Object, Notifier, User, Severity}
-use Rattle.format_expr.specs.declared.token.TokenRow.{TokenRow}
 
 -- the class letter of a time
 abbrev pub moment_letter : Moment → List ℕ
@@ -42,8 +41,22 @@ letters Notifier = codes "Ng"
 letters User = codes "Sl"
 letters Severity = codes "Sv"
 
--- the first row of a table of tokens that has these letters
-abbrev pub part_in : List TokenRow → ℕ → ℕ → Option Part
-part_in [] class field = None
-part_in (row ∷ rows) class field =
-    if row.class == class && row.field == field then Some row.part else part_in rows class field
+-- all that tokens show: first those of class C, then those of N and of S
+unfoldable pub shown_parts : List Part
+shown_parts =
+    Number ∷ Time Record Nanoseconds ∷ Time Record Hour ∷ Time Record Minute ∷ Time Record Second ∷ Time Record HalfDay
+    ∷ Time Record Month ∷ Time Record MonthName ∷ Time Record Day ∷ Time Record DayName ∷ Time Record ShortYear ∷ Time Record Year
+    ∷ ClassId ∷ Cut ∷ Body ∷ BodyBytes
+    ∷ Time Event Nanoseconds ∷ Time Event Hour ∷ Time Event Minute ∷ Time Event Second ∷ Time Event HalfDay
+    ∷ Time Event Month ∷ Time Event MonthName ∷ Time Event Day ∷ Time Event DayName ∷ Time Event ShortYear ∷ Time Event Year
+    ∷ NotificationId ∷ EventType ∷ Object ∷ Notifier ∷ User ∷ Severity ∷ []
+
+-- the first of some parts that has these letters
+abbrev pub first_with : List Part → ℕ → ℕ → Option Part
+first_with [] class field = None
+first_with (part ∷ parts) class field =
+    if slice_index (letters part) 0 == class && slice_index (letters part) 1 == field then Some part else first_with parts class field
+
+-- what the token with these letters shows
+unfoldable pub part_with : ℕ → ℕ → Option Part
+part_with class field = first_with shown_parts class field

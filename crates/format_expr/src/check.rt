@@ -5,7 +5,7 @@ ghost use Rattle.format_expr.specs.Language.{is_class_of, is_notified, IsExpress
 ghost use Rattle.format_expr.specs.Faults.{IsFault};
 ghost use Rattle.format_expr.specs.declared.fault.ExprFault.{ExprFault};
 
-use crate::{ExprFault, ExprWhy, TOKENS, part_of};
+use crate::{ExprFault, ExprWhy, part_of};
 use ais_values::StreamKind;
 
 /// The most bytes that an expression has.
@@ -86,7 +86,7 @@ fn step(kind: StreamKind, stand: Stand, byte: u8) -> Result<Stand, ExprWhy>
     match stand {
         Stand::Between => at_plain(byte),
         Stand::At => at_class(kind, byte),
-        Stand::Class(class) => match part_of(&TOKENS, class, byte) {
+        Stand::Class(class) => match part_of(class, byte) {
             Some(_) => Ok(Stand::Width(0)),
             None => Err(ExprWhy::UnknownToken),
         },

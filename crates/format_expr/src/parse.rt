@@ -1,13 +1,13 @@
 //! The pieces of an expression.
 ghost use Rattle.std.specs.Prelude.{List, ◌≡◌, ◌+◌, ◌≤◌, ◌<◌, ◌↔◌, length, IfOk, IsErrOf, IfSome, OnSome, slice_get};
 ghost use Rattle.format_expr.specs.Reading.{digit_of, width_at, token_at, plain_length, piece_at, pieces_of};
-ghost use Rattle.format_expr.specs.Language.{Spells};
+ghost use Rattle.format_expr.specs.Language.{ArePiecesOf};
 ghost use Rattle.format_expr.specs.Faults.{IsFault};
 ghost use Rattle.format_expr.specs.declared.piece.Piece.{Piece};
 ghost use Rattle.format_expr.specs.declared.fault.ExprFault.{ExprFault};
 ghost use Rattle.format_expr.specs.declared.fault.ExprAnswer.TheVariants.{Bad};
 
-use crate::{Expr, ExprAnswer, MAX_EXPR, Piece, TOKENS, Token, check_expr, part_of};
+use crate::{Expr, ExprAnswer, MAX_EXPR, Piece, Token, check_expr, part_of};
 use ais_values::{Seq, StreamKind, Text};
 use std::alloc::{AllocError, Global};
 
@@ -47,7 +47,7 @@ fn read_token(bytes: &[u8]) -> Option<(Token, usize)>
     ensures inside { IfSome result (λ token. token.1 ≤ length bytes.now) }
 {
     match bytes {
-        [b'@', class, field, rest @ ..] => match part_of(&TOKENS, *class, *field) {
+        [b'@', class, field, rest @ ..] => match part_of(*class, *field) {
             Some(part) => {
                 let (width, digits) = read_width(rest);
                 Some((Token { part, width }, 3 + digits))
@@ -108,9 +108,8 @@ fn read_pieces(alloc: Global, text: &[u8]) -> Result<Vec<Piece>, AllocError>
 /// pieces are longest runs.
 pub fn parse_expr(alloc: Global, kind: StreamKind, text: &[u8]) -> Result<Expr, ExprAnswer>
     ensures kind { IfOk result (λ expr. expr.kind ≡ kind) }
-    ensures pieces { IfOk result (λ expr. Spells kind expr.pieces text.now) }
-    ensures only { IfOk result (λ expr. (others : List Piece) → Spells kind others text.now → others ≡ expr.pieces) }
-    ensures read { IfOk result (λ expr. expr.pieces ≡ pieces_of text.now) }
+    ensures pieces { IfOk result (λ expr. ArePiecesOf kind expr.pieces text.now) }
+    ensures only { IfOk result (λ expr. (others : List Piece) → ArePiecesOf kind others text.now → others ≡ expr.pieces) }
     ensures bad { (fault : ExprFault) → IsErrOf result (Bad fault) ↔ IsFault kind text.now fault }
 {
     match check_expr(kind, text) {

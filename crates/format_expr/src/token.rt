@@ -1,6 +1,7 @@
 //! The tokens of format expressions.
-ghost use Rattle.std.specs.Prelude.{◌≡◌, ◌<◌, length};
-ghost use Rattle.format_expr.specs.Tokens.{letters, part_in};
+ghost use Rattle.std.specs.Prelude.{◌≡◌};
+ghost use Rattle.format_expr.specs.TokenRows.{part_in};
+ghost use Rattle.format_expr.specs.Tokens.{letters, part_with};
 
 use ais_values::Duplicate;
 use std::alloc::{AllocError, Global};
@@ -61,11 +62,10 @@ pub struct Token {
 }
 
 /// A row of the table of tokens: its class letter, its field letter, and what it shows.
-#[derive(Clone, Copy, Debug, PartialEq, Eq)]
-pub struct TokenRow {
-    pub class: u8,
-    pub field: u8,
-    pub part: Part,
+struct TokenRow {
+    class: u8,
+    field: u8,
+    part: Part,
 }
 
 macro_rules! token_rows {
@@ -124,7 +124,7 @@ macro_rules! as_letters {
 }
 
 /// The tokens that there are.
-pub const TOKENS: [TokenRow; 33] = token_rows!(as_table);
+const TOKENS: [TokenRow; 33] = token_rows!(as_table);
 
 /// The class letter and the field letter of what a token shows.
 pub fn letters_of(part: Part) -> [u8; 2]
@@ -134,15 +134,22 @@ pub fn letters_of(part: Part) -> [u8; 2]
 }
 
 /// What a table of tokens has for these two letters, by its first row that has them.
-pub fn part_of<const N: usize>(table: &[TokenRow; N], class: u8, field: u8) -> Option<Part>
-    ensures { result ≡ part_in table.now class field }
+fn first_part(rows: &[TokenRow], class: u8, field: u8) -> Option<Part>
+    ensures { result ≡ part_in rows.now class field }
 {
-    for row in table {
+    for row in rows {
         if row.class == class && row.field == field {
             return Some(row.part);
         }
     }
     None
+}
+
+/// What the token with this class letter and this field letter shows.
+pub fn part_of(class: u8, field: u8) -> Option<Part>
+    ensures { result ≡ part_with class field }
+{
+    first_part(&TOKENS, class, field)
 }
 
 impl Duplicate for Token {

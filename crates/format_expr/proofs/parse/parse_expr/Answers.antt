@@ -1,5 +1,5 @@
 use Rattle.std.proofs.Common.{◌≤◌, length, ap, sym, ◌∙◌, subst, refl}
-use Rattle.format_expr.specs.Language.{Spells, spelling, are_pieces}
+use Rattle.format_expr.specs.Language.{ArePiecesOf, spelling, are_pieces}
 use Rattle.format_expr.proofs.ReadingLaws.{read_spells, parse_is_read}
 use Rattle.format_expr.proofs.FaultLaws.{hand_on, no_fault}
 use Rattle.format_expr.proofs.parse.parse_expr.Goals as goal
@@ -17,7 +17,7 @@ pub returns-in-Ok-read_pieces-clause-pieces : goal.returns-in-Ok-read_pieces-cla
 returns-in-Ok-read_pieces-clause-pieces c =
     let whole = (c.in-Ok.ensures.ok).0 refl in
     let pieces = c.from_vec.ensures ∙ c.in-Ok-read_pieces.ensures in
-    subst (λ ps. Spells c.args.kind ps c.args.text.now) (sym pieces) (read_spells c.args.kind c.args.text.now whole.0)
+    subst (λ ps. ArePiecesOf c.args.kind ps c.args.text.now) (sym pieces) (read_spells c.args.kind c.args.text.now whole.0)
 
 pub invariant_of-result : goal.invariant_of-result
 invariant_of-result c =
