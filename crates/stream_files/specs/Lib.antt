@@ -1,4 +1,5 @@
 pub mod Deeds
+pub use Rattle.disk_model.specs.DeviceCalls
 pub use Rattle.disk_model.specs.Disk
 pub use Rattle.disk_model.specs.Failures
 pub use Rattle.disk_model.specs.Causes

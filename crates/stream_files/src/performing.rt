@@ -1,25 +1,26 @@
 //! Deeds performed on a disk, call by call.
-ghost use Rattle.std.specs.Prelude.{◌≡◌, [], ◌∷◌, option_map, OnOk, IsErrOf};
+ghost use Rattle.std.specs.Prelude.{◌≡◌, ℕ, [], ◌∷◌, option_map, OnOk, IsErrOf};
 ghost use Rattle.ais_values.specs.Causes.{HasCauseOf};
-ghost use Rattle.disk_model.specs.Failures.{WhereTold};
+ghost use Rattle.disk_model.specs.DeviceCalls.{CallCreate, CallWrite, CallSync, CallRename, CallRemove, all_applied, FailsAfter, LacksMemoryAfter, Performs};
 ghost use Rattle.disk_model.specs.declared.answers.DiskAnswer.{DiskAnswer};
-ghost use Rattle.stream_files.specs.Deeds.{CallCreate, CallWrite, CallSync, CallRename, CallRemove, calls_of, calls_of_all, all_applied, StopsIn, StopsBefore, Performs};
+ghost use Rattle.stream_files.specs.Deeds.{calls_of, calls_of_all};
 
 use crate::Deed;
 use ais_values::{Seq, Text};
 use disk_model::{DiskAnswer, SharedDisk};
 
-/// Makes the device calls of the deeds, in order and no others, up to the first that is not done.
+/// Makes the device calls of the deeds in order, up to the first that is not done.
 ///
-/// `Ok`: all are done. `Failed`, which comes only where the disk's count of faults rose: calls from the front
-/// were done, the next one failed and left what such a failure may leave, and no later one was made.
-/// `Memory`: calls from the front were done, the next one changed nothing, and no later one was made.
+/// `Ok`: the files are those after all calls. `Failed`, which comes only where the disk's count of faults
+/// rose: they are those after some calls from the front and a failure of the next one. `Memory`: they are
+/// those after some calls from the front, fewer than all. What is said speaks of the files that the disk
+/// tells; how many calls it was asked for is no part of it.
 pub fn perform<D: SharedDisk>(disk: &mut D, deeds: &Seq<Deed>) -> Result<(), DiskAnswer>
     ensures done { OnOk result (D.files disk.new ≡ option_map (all_applied (calls_of_all deeds.now)) (D.files disk.old)) }
     ensures memory { IsErrOf result DiskAnswer.Memory →
-        WhereTold (StopsBefore (calls_of_all deeds.now)) (D.files disk.old) (D.files disk.new) }
+        (count : ℕ) × LacksMemoryAfter (calls_of_all deeds.now) count (D.files disk.old) (D.files disk.new) }
     ensures failed { IsErrOf result DiskAnswer.Failed →
-        WhereTold (StopsIn (calls_of_all deeds.now)) (D.files disk.old) (D.files disk.new) }
+        (count : ℕ) × FailsAfter (calls_of_all deeds.now) count (D.files disk.old) (D.files disk.new) }
     ensures cause { HasCauseOf (D.faults disk.old) (D.faults disk.new) result DiskAnswer.Failed }
 {
     for deed in deeds.as_slice() {

@@ -1,6 +1,6 @@
 use Rattle.std.proofs.Common.{◌≡◌, [], ◌∷◌, option_map}
-use Rattle.stream_files.specs.Deeds.{CallCreate, CallWrite, CallSync, all_applied, Breaks}
-use Rattle.stream_files.proofs.Calls.{performs_after, breaks_one, breaks_within, none_applied}
+use Rattle.disk_model.specs.DeviceCalls.{CallCreate, CallWrite, CallSync, all_applied, Breaks}
+use Rattle.disk_model.proofs.Breaking.{performs_after, breaks_one, breaks_within, none_applied}
 use Rattle.stream_files.proofs.performing.put.Goals as goal
 
 pub returns-in-Ok-clause-performs : goal.returns-in-Ok-clause-performs

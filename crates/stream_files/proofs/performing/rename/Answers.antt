@@ -1,5 +1,5 @@
-use Rattle.stream_files.specs.Deeds.{CallRename}
-use Rattle.stream_files.proofs.Calls.{performs_one}
+use Rattle.disk_model.specs.DeviceCalls.{CallRename}
+use Rattle.disk_model.proofs.Breaking.{performs_one}
 use Rattle.stream_files.proofs.performing.rename.Goals as goal
 
 pub returns-clause-performs : goal.returns-clause-performs

@@ -1,6 +1,6 @@
 use Rattle.std.proofs.Common.{◌≡◌, [], ◌∷◌, option_map}
-use Rattle.stream_files.specs.Deeds.{CallWrite, CallSync, all_applied, Breaks, Performs}
-use Rattle.stream_files.proofs.Calls.{performs_one, performs_after, breaks_one, breaks_within, none_applied}
+use Rattle.disk_model.specs.DeviceCalls.{CallWrite, CallSync, all_applied, Breaks, Performs}
+use Rattle.disk_model.proofs.Breaking.{performs_one, performs_after, breaks_one, breaks_within, none_applied}
 use Rattle.stream_files.proofs.performing.write_and_sync.Goals as goal
 
 pub returns-in-Ok-clause-performs : goal.returns-in-Ok-clause-performs
