@@ -55,6 +55,13 @@ FailsAfter = BreaksOff LeftBy
 abbrev pub LacksMemoryAfter : List DeviceCall → ℕ → Option Files → Option Files → Type 0
 LacksMemoryAfter = BreaksOff LeftAlone
 
+-- some calls from the front were done, none or all of them may be, and nothing else was changed
+pub record DoesFront (calls : List DeviceCall) (old new : Option Files) : Type 0 where
+  pub done : List DeviceCall
+  pub undone : List DeviceCall
+  pub in_order : calls ≡ done ++ undone
+  pub stands : new ≡ option_map (all_applied done) old
+
 -- some calls from the front were done, up to one that answered this
 abbrev pub Breaks : DiskAnswer → List DeviceCall → Option Files → Option Files → Type 0
 Breaks Memory calls old new = (count : ℕ) × LacksMemoryAfter calls count old new

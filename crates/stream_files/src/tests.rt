@@ -93,6 +93,34 @@ fn each_device_call_fails_in_turn(rt: HostRuntime) -> Result<(), Fail> {
     Ok(())
 }
 
+/// The changing call of this number fails, and with `fails` the one before it too: whether the deeds made
+/// all calls before it and no others.
+fn makes_calls_before(
+    alloc: Global,
+    deeds: &Seq<Deed>,
+    fails: bool,
+    next: u64,
+) -> Result<bool, DiskAnswer> {
+    let first = if fails { next.saturating_sub(1) } else { next };
+    let failing = [first, next].to_vec(alloc)?;
+    let mut disk = MemDisk::new(alloc, failing, Vec::new(alloc), Vec::new(alloc));
+    let answer = perform(&mut disk, deeds);
+    Ok(answer.is_err() == fails && disk.remove(b"none").is_err())
+}
+
+#[test]
+fn each_deed_makes_its_calls_and_no_others(rt: HostRuntime) -> Result<(), Fail> {
+    let alloc = rt.alloc();
+    let deeds = some_deeds(alloc)?;
+    for (deed, next) in deeds.as_slice().iter().zip([4, 2, 3, 2, 2]) {
+        let mut one = Seq::new(alloc);
+        one.push(deed.copy(alloc)?)?;
+        assert!(rt; makes_calls_before(alloc, &one, false, next)?, "{next}");
+        assert!(rt; makes_calls_before(alloc, &one, true, next)?, "{next}");
+    }
+    Ok(())
+}
+
 #[test]
 fn a_copy_of_deeds_is_done_alike(rt: HostRuntime) -> Result<(), Fail> {
     let alloc = rt.alloc();
