@@ -3,8 +3,8 @@ use Rattle.std.specs.Prelude.{◌≡◌, ℕ, ◌<◌, ℤ, pos, ◌≤ℤ◌, �
 use Rattle.std.specs.Option.{option_map_or}
 use Rattle.std.specs.Str.{bytes_eq}
 use Rattle.std.specs.FinMap.{get}
-use Rattle.disk_model.specs.Disk.{File, Files}
-use Rattle.stream_layout.specs.DeviceCalls.{all_applied, settled_file}
+use Rattle.disk_model.specs.Disk.{File, Files, settled_file}
+use Rattle.disk_model.specs.DeviceCalls.{all_applied}
 use Rattle.stream_config.specs.declared.attrs.FullAction.TheVariants.{Halt}
 use Rattle.stream_config.specs.declared.state.StreamState.{StreamState}
 use Rattle.stream_config.specs.declared.event.Stamps.{Stamps}

@@ -1,6 +1,6 @@
 -- The deeds of what happens to a stream, and the device calls of deeds.
 use Rattle.std.specs.Prelude.{ℕ, ℤ, pos, nat_lt, if◌then◌else◌, List, [], ◌∷◌, ◌++◌, length, Option, Some, None}
-use Rattle.stream_layout.specs.DeviceCalls.{DeviceCall, CallCreate, CallWrite, CallSync, CallRename, CallRemove}
+use Rattle.disk_model.specs.DeviceCalls.{DeviceCall, CallCreate, CallWrite, CallSync, CallRename, CallRemove}
 use Rattle.stream_config.specs.declared.attrs.StreamAttrs.{StreamAttrs}
 use Rattle.stream_config.specs.declared.state.LogFile.{LogFile}
 use Rattle.stream_config.specs.declared.state.StreamState.{StreamState}

@@ -1,4 +1,3 @@
-pub mod DeviceCalls
 pub mod Names
 pub mod Spots
 pub mod LogFiles

@@ -1,0 +1,4 @@
+pub mod FileLaws
+pub mod NameLaws
+pub mod Rounds
+pub mod Rows
