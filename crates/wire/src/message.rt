@@ -1,0 +1,92 @@
+//! The messages of clients and servers, and why bytes are none.
+use ais_values::Duplicate;
+use calls::{Call, Entry, Reply, Saved};
+use std::alloc::{AllocError, Global};
+use sub_queue::Item;
+
+/// What clients and servers send to each other.
+#[derive(PartialEq, Drop)]
+pub enum Message {
+    /// The call of a client, under its number.
+    Request { client: u16, seq: u32, call: Call },
+    /// The answer to the call of this number.
+    Reply { client: u16, seq: u32, reply: Reply },
+    /// An item of the subscription that the call `key` made.
+    Item { client: u16, key: u32, item: Item },
+    /// The receipt of a client for the items of the subscription `key`, through a number.
+    Receipt { client: u16, key: u32, through: u32 },
+    /// The entry of this number, from the active server to its partner.
+    Mirror { number: u64, entry: Entry },
+    /// The partner has the entry of this number.
+    MirrorAck { number: u64 },
+    /// The value of the service, for a server that joins.
+    Snapshot { saved: Saved },
+    /// The server that joined has the value after so many entries.
+    JoinAck { number: u64 },
+}
+
+/// What is wrong at the place where bytes stop to be the front of a message.
+#[derive(Clone, Copy, PartialEq, Eq, Debug)]
+pub enum WireWhy {
+    /// A whole message ends there, and bytes follow.
+    Trailing,
+    /// The bytes end there, within a message.
+    Short,
+    /// The byte there fits no message that begins so.
+    BadValue,
+}
+
+/// Why no message is read.
+#[derive(Clone, Copy, PartialEq, Eq, Debug)]
+pub enum WireAnswer {
+    /// Memory ran out.
+    Memory,
+    /// The bytes are no message: so many of them are the front of one.
+    Refused { place: u32, why: WireWhy },
+}
+
+impl Duplicate for Message {
+    fn copy(&self, alloc: Global) -> Result<Self, AllocError> {
+        match self {
+            Message::Request { client, seq, call } => Ok(Message::Request {
+                client: *client,
+                seq: *seq,
+                call: call.copy(alloc)?,
+            }),
+            Message::Reply { client, seq, reply } => Ok(Message::Reply {
+                client: *client,
+                seq: *seq,
+                reply: reply.copy(alloc)?,
+            }),
+            Message::Item { client, key, item } => Ok(Message::Item {
+                client: *client,
+                key: *key,
+                item: item.copy(alloc)?,
+            }),
+            Message::Receipt {
+                client,
+                key,
+                through,
+            } => Ok(Message::Receipt {
+                client: *client,
+                key: *key,
+                through: *through,
+            }),
+            Message::Mirror { number, entry } => Ok(Message::Mirror {
+                number: *number,
+                entry: entry.copy(alloc)?,
+            }),
+            Message::MirrorAck { number } => Ok(Message::MirrorAck { number: *number }),
+            Message::Snapshot { saved } => Ok(Message::Snapshot {
+                saved: saved.copy(alloc)?,
+            }),
+            Message::JoinAck { number } => Ok(Message::JoinAck { number: *number }),
+        }
+    }
+}
+
+impl Duplicate for WireWhy {
+    fn copy(&self, _alloc: Global) -> Result<Self, AllocError> {
+        Ok(*self)
+    }
+}
