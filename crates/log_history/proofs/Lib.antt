@@ -4,3 +4,4 @@ pub mod EndLaws
 pub mod Reaching
 pub mod FileLists
 pub mod TableLaws
+mod Rows

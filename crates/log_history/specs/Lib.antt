@@ -4,5 +4,6 @@ pub mod Chronicle
 pub mod Answers
 pub mod Table
 pub mod Legal
+pub mod Files
 pub mod Names
 pub mod Firsts
