@@ -8,7 +8,8 @@ use Rattle.std.proofs.lemmas.Int.{ints}
 use Rattle.std.proofs.lemmas.Bool.Decides.{nat_tests}
 use Rattle.ntf_types.specs.declared.notification.Notification.{Notification}
 use Rattle.ntf_filters.specs.declared.filter.FilterSet.{FilterSet}
-use Rattle.ntf_filters.specs.Matching.{matches, IsMatch}
+use Rattle.ntf_filters.specs.Matching.{matches}
+use Rattle.ntf_filters.specs.Meaning.{IsMatch}
 use Rattle.ntf_filters.proofs.Meaning.{matches-decides}
 use Rattle.client_set.specs.Members.{Stands}
 use Rattle.client_set.proofs.MemberLaws.{Stands-reverse, Stands-reversed}
@@ -20,7 +21,9 @@ use Rattle.alarm_view.specs.Modes.{way_of}
 use Rattle.alarm_view.specs.Order.{point_of, comes_before}
 use Rattle.alarm_view.specs.Nearest.{IsNearest, IsNone, HasMode, CanStart, IsBeyond, CanFollow, IsStart, IsNext, point_at}
 use Rattle.alarm_view.specs.Search.{has_mode, can_start, is_beyond, can_follow, starting, next_alarm}
-use Rattle.alarm_view.proofs.NearestLaws.{first_in-finds}
+use Rattle.alarm_view.specs.declared.alarm.KeptAlarm.{KeptAlarm}
+use Rattle.alarm_view.specs.Alarms.{notifications, AreInOrder}
+use Rattle.alarm_view.proofs.NearestLaws.{first_in-finds, IsNearest-one}
 
 int_eq-decides : (x y : ℤ) → Decides (int_eq x y) (x ≡ y)
 int_eq-decides x y = (λ e. grind (arith, ints), λ e. grind (arith, ints))
@@ -42,7 +45,7 @@ both false b e = cc
 can_start-decides : (mode : SearchMode) (value : ℤ) (filters : FilterSet) (alarm : Notification) → Decides (can_start mode value filters alarm) (CanStart mode value filters alarm)
 can_start-decides mode value filters alarm =
     let timed = has_mode-decides mode value alarm in
-    let matching = matches-decides filters alarm (matches filters alarm) refl in (
+    let matching = matches-decides filters alarm in (
       λ e.
           let tests = both (has_mode mode value alarm) (matches filters alarm) e in
           record { asked = timed.0 tests.0; matches = matching.0 tests.1 },
@@ -65,7 +68,7 @@ is_beyond-decides way cursor alarm = by_fresh cursor.fresh where
 can_follow-decides : (way : Direction) (cursor : Cursor) (filters : FilterSet) (alarm : Notification) → Decides (can_follow way cursor filters alarm) (CanFollow way cursor filters alarm)
 can_follow-decides way cursor filters alarm =
     let lies = is_beyond-decides way cursor alarm in
-    let matching = matches-decides filters alarm (matches filters alarm) refl in (
+    let matching = matches-decides filters alarm in (
       λ e.
           let tests = both (is_beyond way cursor alarm) (matches filters alarm) e in
           record { beyond = lies.0 tests.0; matches = matching.0 tests.1 },
@@ -102,3 +105,32 @@ module _ (way : Direction) (P : Notification → Type 0) (alarms : List Notifica
   nearest-found found alarm is answer =
       let M : Option Notification → Type 0 = λ o. MatchOption o (IsNone P alarms) (IsNearest way P alarms) in
       subst M answer is
+
+-- the alarm that is nearest is the one that the search finds
+module _ (way : Direction) (P : Notification → Type 0) (alarms : List KeptAlarm) (rising : AreInOrder alarms) where
+  nearest-is : (found : Option Notification) → MatchOption found (IsNone P (notifications alarms)) (IsNearest way P (notifications alarms)) → (alarm : Notification) → IsNearest way P (notifications alarms) alarm → found ≡ Some alarm
+  nearest-is None none alarm nearest = absurd (none alarm nearest.stands nearest.asked)
+  nearest-is (Some first) found alarm nearest =
+      ap (λ (v : Notification). Some v) (IsNearest-one way P alarms rising first alarm found nearest)
+
+  none-is : (found : Option Notification) → MatchOption found (IsNone P (notifications alarms)) (IsNearest way P (notifications alarms)) → IsNone P (notifications alarms) → found ≡ None
+  none-is None is none = refl
+  none-is (Some first) found none = absurd (none first found.stands found.asked)
+
+module _ (mode : SearchMode) (value : ℤ) (filters : FilterSet) (alarms : List KeptAlarm) (rising : AreInOrder alarms) where
+  pub starting-is : (alarm : Notification) → IsStart mode value filters (notifications alarms) alarm → starting mode value filters (reverse (notifications alarms)) ≡ Some alarm
+  starting-is alarm start =
+      nearest-is (way_of mode) (CanStart mode value filters) alarms rising (starting mode value filters (reverse (notifications alarms))) (starting-found mode value filters (notifications alarms)) alarm start
+
+  pub starting-none : IsNone (CanStart mode value filters) (notifications alarms) → starting mode value filters (reverse (notifications alarms)) ≡ None
+  starting-none none =
+      none-is (way_of mode) (CanStart mode value filters) alarms rising (starting mode value filters (reverse (notifications alarms))) (starting-found mode value filters (notifications alarms)) none
+
+module _ (cursor : Cursor) (way : Direction) (filters : FilterSet) (alarms : List KeptAlarm) (rising : AreInOrder alarms) where
+  pub next_alarm-is : (alarm : Notification) → IsNext cursor way filters (notifications alarms) alarm → next_alarm cursor way filters (reverse (notifications alarms)) ≡ Some alarm
+  next_alarm-is alarm next =
+      nearest-is way (CanFollow way cursor filters) alarms rising (next_alarm cursor way filters (reverse (notifications alarms))) (next_alarm-found cursor way filters (notifications alarms)) alarm next
+
+  pub next_alarm-none : IsNone (CanFollow way cursor filters) (notifications alarms) → next_alarm cursor way filters (reverse (notifications alarms)) ≡ None
+  next_alarm-none none =
+      none-is way (CanFollow way cursor filters) alarms rising (next_alarm cursor way filters (reverse (notifications alarms))) (next_alarm-found cursor way filters (notifications alarms)) none

@@ -42,3 +42,9 @@ RiseFrom-filter number id test (a ∷ alarms) rising =
 
 pub AreInOrder-from_record : (k : ℕ) (alarms : List KeptAlarm) → AreInOrder alarms → AreInOrder (from_record k alarms)
 AreInOrder-from_record k alarms rising = RiseFrom-filter 0 0 (λ (alarm : KeptAlarm). nat_le k alarm.number) alarms rising
+
+-- the next record number and the next id are above those of an alarm that was added
+pub IsAboveAll-added : (number : ℕ) (notification : Notification) (alarms : List KeptAlarm) → IsAboveAll number notification.id alarms → IsAboveAll (number + 1) (notification.id + 1) (alarms ++ kept_alarm number notification ∷ [])
+IsAboveAll-added number notification [] above = (omega arith, omega arith, tt)
+IsAboveAll-added number notification (a ∷ alarms) above =
+    (omega (arith, above.0), omega (arith, above.1), IsAboveAll-added number notification alarms above.2)

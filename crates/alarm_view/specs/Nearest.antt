@@ -1,9 +1,9 @@
--- Which alarm a search starts at, and which one is read next: the first on the way of those that are asked for.
+-- Which alarm a search starts at, and which one is read next: the first on the way of those that are asked for. The words of the public clauses of `start` and `next`.
 use Rattle.std.specs.Prelude.{◌≡◌, ℤ, pos, ◌≤ℤ◌, ◌<ℤ◌, ⊤, true, false, List, Option, MatchOption}
 use Rattle.std.specs.Bool.{MatchBool}
 use Rattle.ntf_types.specs.declared.notification.Notification.{Notification}
 use Rattle.ntf_filters.specs.declared.filter.FilterSet.{FilterSet}
-use Rattle.ntf_filters.specs.Matching.{IsMatch}
+use Rattle.ntf_filters.specs.Meaning.{IsMatch}
 use Rattle.client_set.specs.Members.{Stands}
 use Rattle.alarm_view.specs.declared.mode.SearchMode.{SearchMode}
 use Rattle.alarm_view.specs.declared.mode.SearchMode.TheVariants.{BeforeOrAtTime, AtTime, AtOrAfterTime, BeforeTime, AfterTime, NotificationId, OnlyFilter}

@@ -2,6 +2,7 @@
 ghost use Rattle.std.specs.Prelude.{◌≡◌, pos, Bool, reverse, option_copied};
 ghost use Rattle.std.specs.Ordering.{int_eq};
 ghost use Rattle.ntf_types.specs.declared.notification.Notification.{Notification};
+ghost use Rattle.ntf_filters.specs.Matching.{matches};
 ghost use Rattle.alarm_view.specs.Order.{point_of, is_older, comes_before};
 ghost use Rattle.alarm_view.specs.Alarms.{notifications};
 ghost use Rattle.alarm_view.specs.Nearest.{point_at};
@@ -41,6 +42,13 @@ fn comes_before(way: Direction, one: &Cursor, other: &Cursor) -> bool
     }
 }
 
+/// Whether the filters ask for an alarm.
+fn is_asked_for(filters: &FilterSet, alarm: &Notification) -> bool
+    ensures { result ≡ matches filters.now alarm.now }
+{
+    matches(filters, alarm)
+}
+
 /// A test of alarms.
 pub(crate) trait Test {
     ghost passes: { Self → Notification → Bool };
@@ -72,7 +80,7 @@ impl Test for Start<'_> {
     ghost passes = { λ start alarm. can_start start.mode start.value start.filters.now alarm };
 
     fn passes(&self, alarm: &Notification) -> bool {
-        has_mode(self.mode, self.value, alarm) && matches(self.filters, alarm)
+        has_mode(self.mode, self.value, alarm) && is_asked_for(self.filters, alarm)
     }
 }
 
@@ -82,7 +90,7 @@ impl Test for Next<'_> {
     ghost passes = { λ next alarm. can_follow next.way next.cursor next.filters.now alarm };
 
     fn passes(&self, alarm: &Notification) -> bool {
-        is_beyond(self.way, &self.cursor, alarm) && matches(self.filters, alarm)
+        is_beyond(self.way, &self.cursor, alarm) && is_asked_for(self.filters, alarm)
     }
 }
 

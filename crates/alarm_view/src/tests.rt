@@ -1,3 +1,6 @@
+ghost use Rattle.std.specs.Prelude.{◌≡◌, ◌+◌, ◌<◌, IfOk, OnOk};
+ghost use Rattle.alarm_view.specs.Alarms.{IsAlarm, IsAboveAll};
+
 use crate::{AlarmView, Cursor, Direction, SearchMode, law_of_nearest, law_of_order};
 use ais_values::{ClassId, Name, Seq, Text};
 use ntf_filters::{Filter, FilterSet};
@@ -7,7 +10,10 @@ use std::process::Abort;
 use std::test::Fail;
 
 /// An alarm of severity `id`, by its event time.
-fn alarm(alloc: Global, id: u8, event_time: i64) -> Result<Notification, Fail> {
+fn alarm(alloc: Global, id: u8, event_time: i64) -> Result<Notification, Fail>
+    ensures id { IfOk result (λ alarm. alarm.id ≡ id) }
+    ensures alarm { IfOk result (λ alarm. IsAlarm alarm.body) }
+{
     Ok(Notification {
         id: u64::from(id),
         event_type: 0x4001,
@@ -48,12 +54,22 @@ fn alarms_of(alloc: Global, severities: &[u16]) -> Result<FilterSet, AllocError>
     })
 }
 
-/// The alarms 1, 2 and 3 of the times 100, 100 and 200, in records 4, 6 and 7.
+fn add(alloc: Global, view: &mut AlarmView, number: u32, id: u8, time: i64) -> Result<(), Fail>
+    requires bound { number < 1000 }
+    requires above { IsAboveAll number id view.old }
+    ensures { OnOk result (IsAboveAll (number + 1) (id + 1) view.new) }
+{
+    let alarm = alarm(alloc, id, time)?;
+    view.add(number, alarm)?;
+    Ok(())
+}
+
+/// The alarms 1, 2 and 3 of the times 100, 100 and 200, in records 4, 5 and 6.
 fn three_alarms(alloc: Global) -> Result<AlarmView, Fail> {
     let mut view = AlarmView::new(alloc);
-    view.add(4, alarm(alloc, 1, 100)?)?;
-    view.add(6, alarm(alloc, 2, 100)?)?;
-    view.add(7, alarm(alloc, 3, 200)?)?;
+    add(alloc, &mut view, 4, 1, 100)?;
+    add(alloc, &mut view, 5, 2, 100)?;
+    add(alloc, &mut view, 6, 3, 200)?;
     Ok(view)
 }
 
@@ -164,11 +180,11 @@ fn drops_early_records(rt: HostRuntime) -> Result<(), Fail> {
     let alloc = rt.alloc();
     let mut view = three_alarms(alloc)?;
     let filters = alarms_of(alloc, &[])?;
-    view.keep_from(6);
+    view.keep_from(5);
     assert_eq!(rt; view.count(), 2);
     assert!(rt;
         view.alarm_at(0)
-            .is_some_and(|found| found.0 == 6 && found.1.id == 2)
+            .is_some_and(|found| found.0 == 5 && found.1.id == 2)
     );
     assert!(rt; view.alarm_at(2).is_none());
     walk(&rt, &view, 1, 1, &filters, [0, 0, 0]);

@@ -1,8 +1,7 @@
 //! The alarms that are kept.
-ghost use Rattle.std.specs.Prelude.{◌≡◌, ◌<◌, [], ◌∷◌, ◌++◌, length, reverse, OnOk, OnErr, IfSome, IfNone, nat_le, option_map, slice_get, MatchOption};
+ghost use Rattle.std.specs.Prelude.{◌≡◌, ◌<◌, [], ◌∷◌, ◌++◌, length, OnOk, OnErr, IfSome, IfNone, nat_le, slice_get, MatchOption};
 ghost use Rattle.alarm_view.specs.Alarms.{kept_alarm, notifications, AreInOrder, CanAdd, from_record};
-ghost use Rattle.alarm_view.specs.Nearest.{IsNone, CanStart, CanFollow, IsStartAt, IsNext, cursor_before, cursor_after};
-ghost use Rattle.alarm_view.specs.Search.{starting, next_alarm};
+ghost use Rattle.alarm_view.specs.Nearest.{IsNone, CanStart, CanFollow, IsStartAt, IsNext, cursor_after};
 
 use crate::search::{Next, Start, first_in};
 use crate::{Cursor, Direction, KeptAlarm, SearchMode};
@@ -70,9 +69,9 @@ impl AlarmView {
     /// the filters and whose time or id is what the mode asks for. None exactly where there is no such
     /// alarm. It takes no memory.
     pub fn start(&self, mode: SearchMode, value: i64, filters: &FilterSet) -> Option<Cursor>
-        ensures value { result ≡ option_map cursor_before (starting mode value filters.now (reverse (notifications self.now))) }
         ensures found { IfSome result (λ cursor. IsStartAt mode value filters.now (notifications self.now) cursor) }
         ensures none { IfNone result (IsNone (CanStart mode value filters.now) (notifications self.now)) }
+        ensures order { AreInOrder self.now }
     {
         let test = Start {
             mode,
@@ -94,10 +93,10 @@ impl AlarmView {
         way: Direction,
         filters: &FilterSet,
     ) -> Option<(Cursor, &Notification)>
-        ensures value { option_map (λ found. found.1.now) result ≡ next_alarm cursor way filters.now (reverse (notifications self.now)) }
         ensures found { IfSome result (λ found. IsNext cursor way filters.now (notifications self.now) found.1.now) }
         ensures after { IfSome result (λ found. found.0 ≡ cursor_after found.1.now) }
         ensures none { IfNone result (IsNone (CanFollow way cursor filters.now) (notifications self.now)) }
+        ensures order { AreInOrder self.now }
     {
         let test = Next {
             cursor,

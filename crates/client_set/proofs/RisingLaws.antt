@@ -1,5 +1,5 @@
 -- What putting an element in its place and taking elements out make of a rising list.
-use Rattle.std.proofs.Common.{◌≡◌, ℕ, ◌==◌, nat_lt, Bool, true, false, not, ◌&&◌, ◌||◌, cond, ◌⊎◌, inl, inr, List, [], ◌∷◌, refl, ap, sym, ◌∙◌, arith}
+use Rattle.std.proofs.Common.{◌≡◌, ℕ, ◌==◌, nat_lt, Bool, true, false, not, ◌&&◌, ◌||◌, cond, ◌⊎◌, inl, inr, List, [], ◌∷◌, map, refl, ap, sym, ◌∙◌, arith}
 use Rattle.std.specs.List.{list_any}
 use Rattle.std.proofs.lemmas.Bool.Decides.{nat_tests}
 use Rattle.client_set.specs.Members.{Stands, has}
@@ -111,3 +111,39 @@ has-without number x [] = elim (not (x == number)) as (λ b. false ≡ (b && fal
 has-without number x (y ∷ ys) =
     let rest = without (λ other. other == x) ys in
     has-cond number y rest (y == x) ∙ ap (λ b. cond (y == x) b (y == number || b)) (has-without number x ys) ∙ left_more number x y (has number ys) (y == x) refl
+
+map-cond : {X Y : Type 0} (f : X → Y) (b : Bool) (one other : List X) → map f (cond b one other) ≡ cond b (map f one) (map f other)
+map-cond f true one other = refl
+map-cond f false one other = refl
+
+-- a function that keeps the order maps what is put in its place to what is put in its place
+pub map-put : {X Y : Type 0} (f : X → Y) (before : X → X → Bool) (after : Y → Y → Bool) → ((x y : X) → after (f x) (f y) ≡ before x y) → (x : X) (xs : List X) → map f (put before x xs) ≡ put after (f x) (map f xs)
+map-put f before after same x [] = refl
+map-put f before after same x (y ∷ ys) =
+    let above = cond (after (f y) (f x)) (f y ∷ put after (f x) (map f ys)) (f x ∷ map f ys) in
+    map-cond f (before x y) (x ∷ y ∷ ys) (cond (before y x) (y ∷ put before x ys) (x ∷ ys)) ∙ ap (λ rest. cond (before x y) (f x ∷ f y ∷ map f ys) rest) (map-cond f (before y x) (y ∷ put before x ys) (x ∷ ys) ∙ ap (λ rest. cond (before y x) (f y ∷ rest) (f x ∷ map f ys)) (map-put f before after same x ys) ∙ ap (λ b. cond b (f y ∷ put after (f x) (map f ys)) (f x ∷ map f ys)) (sym (same y x))) ∙ ap (λ b. cond b (f x ∷ f y ∷ map f ys) above) (sym (same x y))
+
+-- a function that keeps the test maps what is left to what is left
+pub map-without : {X Y : Type 0} (f : X → Y) (test : X → Bool) (other : Y → Bool) → ((x : X) → other (f x) ≡ test x) → (xs : List X) → map f (without test xs) ≡ without other (map f xs)
+map-without f test other same [] = refl
+map-without f test other same (x ∷ xs) =
+    map-cond f (test x) (without test xs) (x ∷ without test xs) ∙ ap (λ rest. cond (test x) rest (f x ∷ rest)) (map-without f test other same xs) ∙ ap (λ b. cond b (without other (map f xs)) (f x ∷ without other (map f xs))) (sym (same x))
+
+-- what stands in a list after an element was put in its place is that element or stood there
+pub Stands-put : {X : Type 0} (before : X → X → Bool) (s x : X) (xs : List X) → Stands s (put before x xs) → (s ≡ x) ⊎ Stands s xs
+Stands-put before s x [] stands = stands
+Stands-put {X} before s x (y ∷ ys) stands = placed (before x y) (before y x) (Stands-put before s x ys) stands where
+  placed : (below above : Bool) → (Stands s (put before x ys) → (s ≡ x) ⊎ Stands s ys) → Stands s (cond below (x ∷ y ∷ ys) (cond above (y ∷ put before x ys) (x ∷ ys))) → (s ≡ x) ⊎ Stands s (y ∷ ys)
+  placed true above rest there = there
+  placed false true rest (inl same) = inr (inl same)
+  placed false true rest (inr there) = elim (rest there) [ | inl same ↦ inl same | inr later ↦ inr (inr later) ]
+  placed false false rest (inl same) = inl same
+  placed false false rest (inr there) = inr (inr there)
+
+pub Stands-without : {X : Type 0} (test : X → Bool) (s : X) (xs : List X) → Stands s (without test xs) → Stands s xs × (test s ≡ false)
+Stands-without test s [] stands = absurd stands
+Stands-without {X} test s (x ∷ xs) stands = left (test x) refl (Stands-without test s xs) stands where
+  left : (passes : Bool) → test x ≡ passes → (Stands s (without test xs) → Stands s xs × (test s ≡ false)) → Stands s (cond passes (without test xs) (x ∷ without test xs)) → Stands s (x ∷ xs) × (test s ≡ false)
+  left true is rest there = (inr (rest there).0, (rest there).1)
+  left false is rest (inl same) = (inl same, ap test same ∙ is)
+  left false is rest (inr there) = (inr (rest there).0, (rest there).1)
