@@ -1,0 +1,5 @@
+pub mod KeyLaws
+pub mod TableLaws
+pub mod GrowthLaws
+pub mod MarkLaws
+pub mod FitLaws

@@ -1,0 +1,5 @@
+pub mod Changes
+pub mod Subscriptions
+pub mod Tables
+pub mod Readers
+pub mod Rows

@@ -1,0 +1,82 @@
+-- The answers of the Notification Service: for each call the rows of a condition and a status, in order, of which the first whose condition holds decides; with none the call is answered ok.
+use Rattle.std.specs.Prelude.{◌≡◌, ℕ, ℤ, pos, ◌==◌, nat_le, int_lt, Bool, true, false, not, ◌&&◌, ◌||◌, List, [], ◌∷◌, length, reverse, Option, Some, None, is_some, is_none}
+use Rattle.std.specs.List.{list_any}
+use Rattle.ais_values.specs.declared.status.Status.{Status}
+use Rattle.ais_values.specs.declared.status.Status.TheVariants.{InvalidParam, BadHandle, NotExist, Exist, NoSpace, NoResources}
+use Rattle.ntf_types.specs.declared.notification.Notification.{Notification}
+use Rattle.ntf_types.specs.SoundTests.{is_sound}
+use Rattle.ntf_filters.specs.declared.filter.FilterSet.{FilterSet}
+use Rattle.ntf_filters.specs.FitTests.{is_fit}
+use Rattle.alarm_view.specs.declared.alarm.KeptAlarm.{KeptAlarm}
+use Rattle.alarm_view.specs.declared.cursor.Cursor.{Cursor}
+use Rattle.alarm_view.specs.declared.mode.Direction.{Direction}
+use Rattle.alarm_view.specs.declared.mode.SearchMode.{SearchMode}
+use Rattle.alarm_view.specs.Modes.{mode_of, direction_of}
+use Rattle.alarm_view.specs.Alarms.{notifications}
+use Rattle.alarm_view.specs.Search.{starting, next_alarm}
+use Rattle.ntf_history.specs.Changes.{NtfChange, is_using}
+use Rattle.ntf_history.specs.Subscriptions.{has_id, subs}
+use Rattle.ntf_history.specs.Readers.{Reader, ReaderChange, reader_of, readers}
+
+abbrev pub AnswerRow : Type 0
+AnswerRow = Bool × Status
+
+-- a client begins its use
+abbrev pub begin_rows : List NtfChange → ℕ → List AnswerRow
+begin_rows past client = (is_using past client, NoResources) ∷ []
+
+-- the first row of every other call: the client does not use the service
+abbrev pub unused : List NtfChange → ℕ → AnswerRow
+unused past client = (not (is_using past client), BadHandle)
+
+-- a client sends a notification, whose stream is a HALT stream that is full, or not
+abbrev pub send_rows : Bool → List NtfChange → ℕ → Notification → List AnswerRow
+send_rows is_full past client notification =
+    unused past client ∷ (not (is_sound notification), InvalidParam) ∷ (is_full, NoSpace) ∷ []
+
+-- a client subscribes under an id
+abbrev pub subscribe_rows : List NtfChange → ℕ → ℕ → FilterSet → List AnswerRow
+subscribe_rows past client id filters =
+    unused past client ∷ (not (is_fit filters), InvalidParam) ∷ (list_any (has_id client id) (subs past), Exist) ∷ (nat_le 64 (length (subs past)), NoResources) ∷ []
+
+-- a client takes the subscription of an id back
+abbrev pub unsubscribe_rows : List NtfChange → ℕ → ℕ → List AnswerRow
+unsubscribe_rows past client id =
+    unused past client ∷ (not (list_any (has_id client id) (subs past)), NotExist) ∷ []
+
+-- filters ask for alarms and security alarms alone
+abbrev pub asks_for_alarms : FilterSet → Bool
+asks_for_alarms filters = is_none filters.objects && is_none filters.attributes && is_none filters.states
+
+-- the alarm at which a search by the code of a mode starts, if the code has a mode and there is one
+abbrev pub start_by : Option SearchMode → ℤ → FilterSet → List KeptAlarm → Option Notification
+start_by None value filters stored = None
+start_by (Some mode) value filters stored = starting mode value filters (reverse (notifications stored))
+
+-- the alarm that is read next in the direction of a code, if the code has one and there is one
+abbrev pub next_by : Option Direction → Cursor → FilterSet → List KeptAlarm → Option Notification
+next_by None cursor filters stored = None
+next_by (Some way) cursor filters stored = next_alarm cursor way filters (reverse (notifications stored))
+
+-- a client starts a reader among the stored alarms, by the code of a mode and a value
+abbrev pub start_rows : List KeptAlarm → List ReaderChange → List NtfChange → ℕ → ℕ → ℤ → FilterSet → List AnswerRow
+start_rows stored readings past client code value filters =
+    unused past client ∷ (is_none (mode_of code), InvalidParam) ∷ (int_lt value (pos 0) && not (code == 7), InvalidParam) ∷ (not (is_fit filters), InvalidParam) ∷ (not (asks_for_alarms filters), InvalidParam) ∷ (is_some (reader_of readings client), NoResources) ∷ (nat_le 16 (length (readers readings)), NoResources) ∷ (is_none (start_by (mode_of code) value filters stored), NotExist) ∷ []
+
+-- the next alarm of a client's reader, if it has one
+abbrev pub read_by : Option Reader → ℕ → List KeptAlarm → Option Notification
+read_by None code stored = None
+read_by (Some reader) code stored = next_by (direction_of code) reader.cursor reader.filters stored
+
+-- a client's reader reads on in the direction of a code
+abbrev pub read_rows : List KeptAlarm → List ReaderChange → List NtfChange → ℕ → ℕ → List AnswerRow
+read_rows stored readings past client code =
+    unused past client ∷ (is_none (reader_of readings client), BadHandle) ∷ (is_none (direction_of code), InvalidParam) ∷ (is_none (read_by (reader_of readings client) code stored), NotExist) ∷ []
+
+-- a client stops its reader
+abbrev pub stop_rows : List ReaderChange → List NtfChange → ℕ → List AnswerRow
+stop_rows readings past client = unused past client ∷ (is_none (reader_of readings client), BadHandle) ∷ []
+
+-- a client ends its use
+abbrev pub end_rows : List NtfChange → ℕ → List AnswerRow
+end_rows past client = unused past client ∷ []

@@ -1,0 +1,119 @@
+-- Subscriptions, and all that happened to each.
+use Rattle.std.specs.Prelude.{◌≡◌, ℕ, ◌+◌, ◌<◌, ◌==◌, nat_lt, Bool, true, false, ◌&&◌, ◌||◌, ⊤, if◌then◌else◌, List, [], ◌∷◌, ◌++◌, length, Option, Some, None, is_some, find, filter}
+use Rattle.std.specs.List.{list_any}
+use Rattle.ntf_types.specs.declared.notification.Notification.{Notification}
+use Rattle.ntf_filters.specs.Matching.{matches}
+use Rattle.sub_queue.specs.declared.item.Content.{Content}
+use Rattle.sub_queue.specs.History.{Happening, Account, account_of, is_new_receipt}
+use Rattle.sub_queue.specs.History.{Happening as happening}
+use Rattle.client_set.specs.Rising.{put, without}
+use Rattle.ntf_history.specs.Changes.{Sub, NtfChange, is_using, last_id}
+use Rattle.ntf_history.specs.Changes.NtfChange.{Began, Ended, Subscribed, Unsubscribed, Sent, Receipted}
+
+-- whether a subscription has this client and this key
+abbrev pub has_key : ℕ → ℕ → Sub → Bool
+has_key client key sub = sub.client == client && sub.key == key
+
+-- whether a subscription has this client and this id
+abbrev pub has_id : ℕ → ℕ → Sub → Bool
+has_id client id sub = sub.client == client && sub.id == id
+
+-- whether a subscription is the client's
+abbrev pub is_of : ℕ → Sub → Bool
+is_of client sub = sub.client == client
+
+-- the first client and key come before the second: the client is lower, or it is the same and the key is lower
+abbrev pub key_first : ℕ → ℕ → ℕ → ℕ → Bool
+key_first client key other number = nat_lt client other || (client == other && nat_lt key number)
+
+-- subscriptions stand in order of their clients, and those of one client in order of their keys
+abbrev pub comes_first : Sub → Sub → Bool
+comes_first one other = key_first one.client one.key other.client other.key
+
+-- the subscriptions that last, in order
+abbrev pub subs : List NtfChange → List Sub
+subs [] = []
+subs (Subscribed sub ∷ past) = put comes_first sub (subs past)
+subs (Unsubscribed client id ∷ past) = without (has_id client id) (subs past)
+subs (Ended client ∷ past) = without (is_of client) (subs past)
+subs (_ ∷ past) = subs past
+
+-- the subscription of this client and key, while it lasts
+abbrev pub sub_at : List NtfChange → ℕ → ℕ → Option Sub
+sub_at past client key = find (has_key client key) (subs past)
+
+-- whether the subscription of this client and key lasts
+abbrev pub lasts : List NtfChange → ℕ → ℕ → Bool
+lasts past client key = is_some (sub_at past client key)
+
+-- what a notification adds to what happened to a subscription, if it lasts: it was offered where it matches
+abbrev pub offered_to : Option Sub → Notification → List Happening → List Happening
+offered_to None notification before = before
+offered_to (Some sub) notification before =
+    if matches sub.filters notification then happening.Offered notification ∷ before else before
+
+-- all that happened to the subscription of this client and key, newest first
+abbrev pub happened : List NtfChange → ℕ → ℕ → List Happening
+happened [] client key = []
+happened (Sent notification record_number ∷ past) client key =
+    offered_to (sub_at past client key) notification (happened past client key)
+happened (Receipted other number through ∷ past) client key =
+    if client == other && key == number && lasts past client key then happening.Receipted through ∷ happened past client key else happened past client key
+happened (_ ∷ past) client key = happened past client key
+
+-- what the subscription of this client and key has come to, by the capacity of queues
+abbrev pub account : ℕ → List NtfChange → ℕ → ℕ → Account
+account capacity past client key = account_of capacity (happened past client key)
+
+-- what all items ever made for the subscription hold, the first being number 1
+abbrev pub made : ℕ → List NtfChange → ℕ → ℕ → List Content
+made capacity past client key = (account capacity past client key).made
+
+-- the number through which its items have a receipt
+abbrev pub through_of : ℕ → List NtfChange → ℕ → ℕ → ℕ
+through_of capacity past client key = (account capacity past client key).through
+
+-- a receipt is new where the subscription lasts and its number is that of an item without receipt
+abbrev pub is_new : ℕ → List NtfChange → ℕ → ℕ → ℕ → Bool
+is_new capacity past client key through =
+    lasts past client key && is_new_receipt through (account capacity past client key)
+
+-- whether a subscription of this client and key was ever made
+abbrev pub is_known : List NtfChange → ℕ → ℕ → Bool
+is_known [] client key = false
+is_known (Subscribed sub ∷ past) client key = has_key client key sub || is_known past client key
+is_known (_ ∷ past) client key = is_known past client key
+
+-- the notifications that were sent since the subscription of this client and key was made, in order of time
+abbrev pub sent_since : List NtfChange → ℕ → ℕ → List Notification
+sent_since [] client key = []
+sent_since (Subscribed sub ∷ past) client key = if has_key client key sub then [] else sent_since past client key
+sent_since (Sent notification record_number ∷ past) client key = sent_since past client key ++ notification ∷ []
+sent_since (_ ∷ past) client key = sent_since past client key
+
+-- those of them for which a subscription asks
+abbrev pub asked_since : List NtfChange → Sub → List Notification
+asked_since past sub = filter (matches sub.filters) (sent_since past sub.client sub.key)
+
+-- no two subscriptions of one client have the same id
+abbrev pub HaveIds : List Sub → Type 0
+HaveIds [] = ⊤
+HaveIds (sub ∷ others) = (list_any (has_id sub.client sub.id) others ≡ false) × HaveIds others
+
+-- a subscription can be made after these changes: its client uses the service, has made none of that key and has none of that id, and fewer than 64 last
+pub record CanSubscribe (sub : Sub) (past : List NtfChange) : Type 0 where
+  pub user : is_using past sub.client ≡ true
+  pub new : is_known past sub.client sub.key ≡ false
+  pub id : list_any (has_id sub.client sub.id) (subs past) ≡ false
+  pub few : length (subs past) < 64
+
+-- a change can follow others: a subscription can be made, and a notification that was sent has the next id
+abbrev pub CanFollow : NtfChange → List NtfChange → Type 0
+CanFollow (Subscribed sub) past = CanSubscribe sub past
+CanFollow (Sent notification record_number) past = notification.id ≡ last_id past + 1
+CanFollow _ past = ⊤
+
+-- each change could follow those before it
+abbrev pub ArePossible : List NtfChange → Type 0
+ArePossible [] = ⊤
+ArePossible (change ∷ past) = CanFollow change past × ArePossible past
