@@ -3,8 +3,8 @@ use Rattle.std.specs.Prelude.{ℕ, ◌+◌, ◌-◌, ◌*◌, List, [], ◌∷�
 use Rattle.std.specs.Fmt.{decimal}
 use Rattle.std.specs.FinMap as map
 use Rattle.disk_model.specs.Disk.{File, Files}
-use Rattle.stream_files.specs.declared.deed.Deed.{Deed}
-use Rattle.stream_files.specs.declared.deed.Deed.TheVariants as deed
+use Rattle.stream_layout.specs.declared.deed.Deed.{Deed}
+use Rattle.stream_layout.specs.declared.deed.Deed.TheVariants as deed
 
 -- a number in ten places, with blanks before it
 abbrev pub number_field : ℕ → List ℕ

@@ -1,11 +1,11 @@
 //! The files of a session: the well-known streams, and the records of the system stream.
 ghost use Rattle.std.specs.Prelude.{◌≡◌, ◌+◌, ◌-◌, ◌<◌, ◌≤◌, ◌^◌, [], ◌∷◌, ◌++◌, length, IfOk, OnOk};
 ghost use Rattle.aisrun.specs.SessionFiles.{record_text, record_of, opening_deeds, record_deed};
-ghost use Rattle.stream_files.specs.declared.deed.Deed.TheVariants as deed;
+ghost use Rattle.stream_layout.specs.declared.deed.Deed.TheVariants as deed;
 
 use ais_values::{Seq, Text};
 use std::alloc::{AllocError, Global};
-use stream_files::Deed;
+use stream_layout::Deed;
 
 const ALARM_CFG_NAME: &[u8] = b"saLogAlarm.cfg";
 

@@ -9,6 +9,7 @@ use Rattle.ais_values.specs.declared.kind.StreamKind.{StreamKind}
 use Rattle.ais_values.specs.declared.kind.StreamKind.TheVariants.{Alarm, Notification, System, Application}
 use Rattle.format_expr.specs.Language.{IsExpression}
 use Rattle.format_expr.specs.Scan.{is_expression}
+use Rattle.format_expr.specs.Tokens.{part_with, shown_parts}
 use Rattle.format_expr.proofs.LanguageLaws.{decides_expression}
 use Rattle.stream_config.specs.declared.attrs.StreamAttrs.{StreamAttrs}
 use Rattle.stream_config.specs.Attributes.{is_file_byte, IsFileName, IsPath, IsSized, IsFormat, PassesAttrs, HaveOnePlace}
@@ -69,7 +70,7 @@ decides_place one other =
 
 -- the attributes of the well-known streams pass
 pub default_attrs-pass : (kind : StreamKind) → kind ≢ Application → PassesAttrs kind (default_attrs kind)
-unfolding passes_attrs is_format is_expression
+unfolding passes_attrs is_format is_expression part_with shown_parts
 default_attrs-pass Alarm known = (decides_attrs Alarm (default_attrs Alarm)).0 refl
 default_attrs-pass Notification known = (decides_attrs Notification (default_attrs Notification)).0 refl
 default_attrs-pass System known = (decides_attrs System (default_attrs System)).0 refl

@@ -5,8 +5,8 @@ use Rattle.disk_model.specs.Disk.{Files}
 use Rattle.disk_model.specs.DeviceCalls.{all_applied, Breaks}
 use Rattle.disk_model.specs.declared.answers.DiskAnswer.{DiskAnswer}
 use Rattle.disk_model.proofs.Breaking.{breaks_within, performs_after}
-use Rattle.stream_files.specs.declared.deed.Deed.{Deed}
-use Rattle.stream_files.specs.Deeds.{calls_of, calls_of_all}
+use Rattle.stream_layout.specs.declared.deed.Deed.{Deed}
+use Rattle.stream_layout.specs.Deeds.{calls_of, calls_of_all}
 
 -- the calls of deeds in two parts
 pub calls_of_all-append : (front back : List Deed) → calls_of_all (front ++ back) ≡ calls_of_all front ++ calls_of_all back

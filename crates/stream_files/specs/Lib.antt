@@ -1,4 +1,4 @@
-pub mod Deeds
+pub use Rattle.stream_layout.specs.Deeds
 pub use Rattle.disk_model.specs.DeviceCalls
 pub use Rattle.disk_model.specs.Disk
 pub use Rattle.disk_model.specs.Failures

@@ -1,10 +1,8 @@
-//! Deeds, which say what a disk's files become, and the call that performs them.
+//! Deeds performed on a disk.
 #![tactic(auto)]
 
-mod deed;
 mod performing;
 
-pub use deed::Deed;
 pub use performing::perform;
 
 #[cfg(test)]

@@ -3,11 +3,11 @@ ghost use Rattle.std.specs.Prelude.{◌≡◌, ℕ, [], ◌∷◌, option_map, O
 ghost use Rattle.ais_values.specs.Causes.{HasCauseOf};
 ghost use Rattle.disk_model.specs.DeviceCalls.{CallCreate, CallWrite, CallSync, CallRename, CallRemove, all_applied, FailsAfter, LacksMemoryAfter, Performs};
 ghost use Rattle.disk_model.specs.declared.answers.DiskAnswer.{DiskAnswer};
-ghost use Rattle.stream_files.specs.Deeds.{calls_of, calls_of_all};
+ghost use Rattle.stream_layout.specs.Deeds.{calls_of, calls_of_all};
 
-use crate::Deed;
 use ais_values::{Seq, Text};
 use disk_model::{DiskAnswer, SharedDisk};
+use stream_layout::Deed;
 
 /// Makes the device calls of the deeds in order, up to the first that is not done.
 ///

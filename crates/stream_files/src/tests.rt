@@ -4,6 +4,7 @@ use disk_model::{DiskAnswer, MemDisk, SharedDisk};
 use std::alloc::{AllocError, Global};
 use std::process::Abort;
 use std::test::Fail;
+use stream_layout::Deed;
 
 fn text(alloc: Global, bytes: &[u8]) -> Result<Text, AllocError> {
     match Text::new(alloc, bytes) {

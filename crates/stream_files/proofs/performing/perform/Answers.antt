@@ -1,6 +1,6 @@
 use Rattle.std.proofs.Common.{◌<◌, length, arith}
 use Rattle.disk_model.specs.DeviceCalls.{Breaks}
-use Rattle.stream_files.specs.Deeds.{calls_of_all}
+use Rattle.stream_layout.specs.Deeds.{calls_of_all}
 use Rattle.disk_model.proofs.Breaking.{breaks_memory, breaks_failed}
 use Rattle.stream_files.proofs.Calls.{breaks_deed, done_more}
 use Rattle.stream_files.proofs.performing.perform.Goals as goal

@@ -1,6 +1,6 @@
 use Rattle.std.proofs.Common.{◌≡◌, ◌≤◌, take, option_map}
 use Rattle.disk_model.specs.DeviceCalls.{all_applied}
-use Rattle.stream_files.specs.Deeds.{calls_of_all}
+use Rattle.stream_layout.specs.Deeds.{calls_of_all}
 use Rattle.stream_files.proofs.performing.perform.Given as goal
 
 abbrev pub invariant-loop-deed : goal.invariant-loop-deed
