@@ -12,7 +12,8 @@ use Rattle.client_set.specs.Rising.{put, without, ComesFirst, IsRising}
 use Rattle.client_set.proofs.RisingLaws.{IsOrder-nat_lt, IsRising-put, IsRising-without, Stands-put, Stands-without, has-put, has-without}
 use Rattle.ntf_history.specs.Changes.{Sub, NtfChange, is_using, users, last_id}
 use Rattle.ntf_history.specs.Changes.NtfChange.{Began, Ended, Subscribed, Unsubscribed, Sent, Receipted}
-use Rattle.ntf_history.specs.Subscriptions.{has_id, is_of, comes_first, subs, happened, made, HaveIds, ArePossible}
+use Rattle.ntf_history.specs.Subscriptions.{has_id, is_of, comes_first, subs, happened, made}
+use Rattle.ntf_history.specs.Possible.{HaveIds, ArePossible}
 use Rattle.ntf_history.specs.Tables.{kept_first, kept_of, table_of}
 use Rattle.ntf_history.proofs.KeyLaws.{subs-rising}
 use Rattle.ntf_history.proofs.GrowthLaws.{length-made}

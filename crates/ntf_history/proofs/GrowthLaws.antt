@@ -17,12 +17,7 @@ use Rattle.client_set.specs.Rising.{put, without}
 use Rattle.client_set.proofs.RisingLaws.{Stands-put, Stands-without}
 use Rattle.ntf_history.specs.Changes.{Sub, NtfChange}
 use Rattle.ntf_history.specs.Changes.NtfChange.{Began, Ended, Subscribed, Unsubscribed, Sent, Receipted}
-use Rattle.ntf_history.specs.Subscriptions.{has_key, has_id, is_of, comes_first, subs, sub_at, lasts, offered_to, happened, account, made, through_of, is_new}
-
--- one list is another with more behind it
-pub record Extends {X : Type 0} (before after : List X) : Type 0 where
-  pub more : List X
-  pub is : after ≡ before ++ more
+use Rattle.ntf_history.specs.Subscriptions.{has_key, has_id, is_of, comes_first, subs, sub_at, lasts, offered_to, happened, account, made, through_of, is_new, Extends}
 
 Extends-same : {X : Type 0} (xs : List X) → Extends xs xs
 Extends-same xs = record { more = []; is = sym (append-nil xs) }

@@ -3,3 +3,5 @@ pub mod TableLaws
 pub mod GrowthLaws
 pub mod MarkLaws
 pub mod FitLaws
+pub mod AlarmLaws
+pub mod ReaderLaws

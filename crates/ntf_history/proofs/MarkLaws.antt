@@ -14,7 +14,8 @@ use Rattle.client_set.specs.Rising.{put, without}
 use Rattle.client_set.proofs.RisingLaws.{Stands-put, Stands-without}
 use Rattle.ntf_history.specs.Changes.{Sub, NtfChange}
 use Rattle.ntf_history.specs.Changes.NtfChange.{Began, Ended, Subscribed, Unsubscribed, Sent, Receipted}
-use Rattle.ntf_history.specs.Subscriptions.{has_key, has_id, is_of, comes_first, subs, sub_at, lasts, offered_to, happened, account, made, is_known, sent_since, asked_since, ArePossible}
+use Rattle.ntf_history.specs.Subscriptions.{has_key, has_id, is_of, comes_first, subs, sub_at, lasts, offered_to, happened, account, made, is_known, sent_since, asked_since}
+use Rattle.ntf_history.specs.Possible.{ArePossible}
 use Rattle.ntf_history.proofs.KeyLaws.{has_key-self, has_key-is, sub_at-stands, sub_at-named, sub_at-member}
 use Rattle.ntf_history.proofs.TableLaws.{unknown-nothing}
 

@@ -18,7 +18,8 @@ use Rattle.client_set.proofs.RisingLaws.{map-put, map-without, Stands-put, Stand
 use Rattle.ntf_history.specs.declared.subscription.Subscription.{Subscription}
 use Rattle.ntf_history.specs.Changes.{Sub, NtfChange, users, last_id}
 use Rattle.ntf_history.specs.Changes.NtfChange.{Began, Ended, Subscribed, Unsubscribed, Sent, Receipted}
-use Rattle.ntf_history.specs.Subscriptions.{has_key, has_id, is_of, comes_first, subs, sub_at, lasts, offered_to, happened, account, is_known, CanFollow}
+use Rattle.ntf_history.specs.Subscriptions.{has_key, has_id, is_of, comes_first, subs, sub_at, lasts, offered_to, happened, account, is_known}
+use Rattle.ntf_history.specs.Possible.{CanFollow}
 use Rattle.ntf_history.specs.Tables.{NtfTable, sub_with, requeued, is_kept_at, is_kept_under, is_kept_for, kept_first, has_item, offered_sub, received_sub, after_change, kept_of, table_of}
 use Rattle.ntf_history.proofs.KeyLaws.{has_key-self, has_key-is, sub_at-member, sub_at-stands}
 

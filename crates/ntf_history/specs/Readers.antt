@@ -1,15 +1,8 @@
--- Readers of stored alarms by what changed them, and which alarms are stored.
-use Rattle.std.specs.Prelude.{◌≡◌, ℕ, ◌==◌, nat_lt, Bool, true, false, if◌then◌else◌, List, [], ◌∷◌, ◌++◌, map, Option, Some, None}
-use Rattle.ntf_types.specs.declared.notification.Body.{Body}
-use Rattle.ntf_types.specs.declared.notification.Body.TheVariants.{Objects, Attributes, States, Alarm, Security}
-use Rattle.ntf_types.specs.declared.notification.Notification.{Notification}
+-- Readers of stored alarms, by what changed them.
+use Rattle.std.specs.Prelude.{◌≡◌, ℕ, ◌==◌, nat_lt, Bool, if◌then◌else◌, List, [], ◌∷◌, map, Option, Some, None}
 use Rattle.ntf_filters.specs.declared.filter.FilterSet.{FilterSet}
-use Rattle.alarm_view.specs.declared.alarm.KeptAlarm.{KeptAlarm}
 use Rattle.alarm_view.specs.declared.cursor.Cursor.{Cursor}
-use Rattle.alarm_view.specs.Alarms.{kept_alarm, from_record}
 use Rattle.client_set.specs.Rising.{put, without}
-use Rattle.ntf_history.specs.Changes.{NtfChange}
-use Rattle.ntf_history.specs.Changes.NtfChange.{Sent}
 
 -- a reader: its client, what it asks for, and its point: the last alarm that it was told, or the starting one with the mark that none was told yet
 pub record Reader : Type 0 where
@@ -56,21 +49,3 @@ readers (Started client filters cursor ∷ past) =
     put reader_first (record { client = client; filters = filters; cursor = cursor }) (readers past)
 readers (Told client cursor ∷ past) = map (move client cursor) (readers past)
 readers (Stopped client ∷ past) = without (is_reader_of client) (readers past)
-
-abbrev pub is_alarm : Body → Bool
-is_alarm (Objects source attrs) = false
-is_alarm (Attributes source changes) = false
-is_alarm (States source changes) = false
-is_alarm (Alarm cause severity) = true
-is_alarm (Security cause severity detector user provider) = true
-
--- the alarms and security alarms that were sent, with the numbers of their records, in order of time
-abbrev pub alarms_sent : List NtfChange → List KeptAlarm
-alarms_sent [] = []
-alarms_sent (Sent notification record_number ∷ past) =
-    if is_alarm notification.body then alarms_sent past ++ kept_alarm record_number notification ∷ [] else alarms_sent past
-alarms_sent (_ ∷ past) = alarms_sent past
-
--- those of them whose records stand, by the number of the first record of the alarm stream that stands
-abbrev pub stored_alarms : ℕ → List NtfChange → List KeptAlarm
-stored_alarms first past = from_record first (alarms_sent past)

@@ -1,13 +1,12 @@
 -- Subscriptions, and all that happened to each.
-use Rattle.std.specs.Prelude.{◌≡◌, ℕ, ◌+◌, ◌<◌, ◌==◌, nat_lt, Bool, true, false, ◌&&◌, ◌||◌, ⊤, if◌then◌else◌, List, [], ◌∷◌, ◌++◌, length, Option, Some, None, is_some, find, filter}
-use Rattle.std.specs.List.{list_any}
+use Rattle.std.specs.Prelude.{◌≡◌, ℕ, ◌==◌, nat_lt, Bool, true, false, ◌&&◌, ◌||◌, if◌then◌else◌, List, [], ◌∷◌, ◌++◌, Option, Some, None, is_some, find, filter}
 use Rattle.ntf_types.specs.declared.notification.Notification.{Notification}
 use Rattle.ntf_filters.specs.Matching.{matches}
 use Rattle.sub_queue.specs.declared.item.Content.{Content}
 use Rattle.sub_queue.specs.History.{Happening, Account, account_of, is_new_receipt}
 use Rattle.sub_queue.specs.History.{Happening as happening}
 use Rattle.client_set.specs.Rising.{put, without}
-use Rattle.ntf_history.specs.Changes.{Sub, NtfChange, is_using, last_id}
+use Rattle.ntf_history.specs.Changes.{Sub, NtfChange}
 use Rattle.ntf_history.specs.Changes.NtfChange.{Began, Ended, Subscribed, Unsubscribed, Sent, Receipted}
 
 -- whether a subscription has this client and this key
@@ -95,25 +94,7 @@ sent_since (_ ∷ past) client key = sent_since past client key
 abbrev pub asked_since : List NtfChange → Sub → List Notification
 asked_since past sub = filter (matches sub.filters) (sent_since past sub.client sub.key)
 
--- no two subscriptions of one client have the same id
-abbrev pub HaveIds : List Sub → Type 0
-HaveIds [] = ⊤
-HaveIds (sub ∷ others) = (list_any (has_id sub.client sub.id) others ≡ false) × HaveIds others
-
--- a subscription can be made after these changes: its client uses the service, has made none of that key and has none of that id, and fewer than 64 last
-pub record CanSubscribe (sub : Sub) (past : List NtfChange) : Type 0 where
-  pub user : is_using past sub.client ≡ true
-  pub new : is_known past sub.client sub.key ≡ false
-  pub id : list_any (has_id sub.client sub.id) (subs past) ≡ false
-  pub few : length (subs past) < 64
-
--- a change can follow others: a subscription can be made, and a notification that was sent has the next id
-abbrev pub CanFollow : NtfChange → List NtfChange → Type 0
-CanFollow (Subscribed sub) past = CanSubscribe sub past
-CanFollow (Sent notification record_number) past = notification.id ≡ last_id past + 1
-CanFollow _ past = ⊤
-
--- each change could follow those before it
-abbrev pub ArePossible : List NtfChange → Type 0
-ArePossible [] = ⊤
-ArePossible (change ∷ past) = CanFollow change past × ArePossible past
+-- one list is another with more behind it
+pub record Extends {X : Type 0} (before after : List X) : Type 0 where
+  pub more : List X
+  pub is : after ≡ before ++ more

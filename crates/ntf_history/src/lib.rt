@@ -2,6 +2,11 @@
 //! to each, readers, stored alarms, and the answers. Definitions and laws; the calls stand above.
 #![tactic(auto)]
 
+mod law;
 mod subscription;
 
+pub use law::{
+    law_of_asked, law_of_changes, law_of_items, law_of_readers, law_of_stored,
+    law_of_subscriptions, law_of_users,
+};
 pub use subscription::Subscription;
