@@ -6,4 +6,5 @@ pub mod Names
 pub mod Statuses
 pub mod Tables
 pub mod Texts
+pub mod TimeTests
 pub mod Times

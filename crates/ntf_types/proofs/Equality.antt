@@ -1,5 +1,5 @@
 -- `==` of notifications and of the values in them decides whether they are equal.
-use Rattle.std.proofs.Common.{◌≡◌, nat_eq, refl, ap}
+use Rattle.std.proofs.Common.{◌≡◌, nat_eq, ap}
 use Rattle.std.specs.Bool.{Decides}
 use Rattle.std.specs.Cmp.Lexicographic.{pointwise_decides}
 use Rattle.std.proofs.lemmas.Bool.Decides.{Decides-eqb, Decides-int_eq, Decides-and, Decides-like}

@@ -1,15 +1,12 @@
 -- The test of a notification decides whether it may be sent.
-use Rattle.std.proofs.Common.{◌≡◌, ℕ, ◌≤◌, Bool, true, false, not, ◌&&◌, ◌||◌, nat_eq, nat_lt, nat_le, ◌⊎◌, inl, inr, ℤ, pos, negsuc, ◌≤ℤ◌, List, length, All, Contains, Option, Some, None, IfSome, refl, arith}
-use Rattle.std.proofs.lemmas.Int.{ints}
+use Rattle.std.proofs.Common.{ℕ, ◌≤◌, Bool, nat_eq, nat_le, List, length, Contains, Option, Some, None, IfSome, refl}
 use Rattle.std.specs.List.{list_all, list_any}
 use Rattle.std.specs.Bool.{Decides}
-use Rattle.std.specs.Int.{is_negative}
-use Rattle.std.specs.Ordering.{int_eq}
-use Rattle.std.proofs.lemmas.Bool.{eqb-true, leb-true, le-leb, ltb-true}
-use Rattle.std.proofs.lemmas.Bool.Decides.{Decides-int_eq, Decides-and, Decides-or, Decides-like, Decides-by_and}
+use Rattle.std.proofs.lemmas.Bool.{eqb-true, leb-true, le-leb}
+use Rattle.std.proofs.lemmas.Bool.Decides.{Decides-and, Decides-like, Decides-by_and}
 use Rattle.std.proofs.lemmas.Cmp.{nat_eq_equiv}
 use Rattle.std.proofs.lemmas.Map.Views.{Contains-from_any, list_any-from_Contains}
-use Rattle.ais_values.specs.Times.{unknown_time, IsTime}
+use Rattle.ais_values.proofs.TimeLaws.{is_time-decides}
 use Rattle.ntf_types.specs.declared.value.Value.{Value}
 use Rattle.ntf_types.specs.declared.value.Value.TheVariants.{Int, NameOf, TextOf, Binary}
 use Rattle.ntf_types.specs.declared.value.Change.{Change}
@@ -17,25 +14,12 @@ use Rattle.ntf_types.specs.declared.notification.Body.{Body}
 use Rattle.ntf_types.specs.declared.notification.Body.TheVariants.{Objects, Attributes, States, Alarm, Security}
 use Rattle.ntf_types.specs.declared.notification.Notification.{Notification}
 use Rattle.ntf_types.specs.Kinds.{event_types_of}
-use Rattle.ntf_types.specs.Sound.{IsSource, IsSeverity, IsShortValue, HasShortValue, IsShortChange, AreSound, IsSoundBody, IsSound}
-use Rattle.ntf_types.specs.SoundTests.{is_time, is_source, is_severity, is_short, has_short, is_short_before, is_short_change, are_sound, is_sound_body, is_sound}
+use Rattle.ntf_types.specs.Sound.{IsSource, IsShortValue, HasShortValue, IsShortChange, AreSound, IsSoundBody, IsSound}
+use Rattle.ntf_types.specs.SoundTests.{is_source, is_short, has_short, is_short_before, is_short_change, are_sound, is_sound_body, is_sound}
 
 -- a number is at most another exactly where the test says so
 at_most : (a b : ℕ) → Decides (nat_le a b) (a ≤ b)
 at_most a b = (leb-true a b, le-leb a b)
-
--- no number is below 0
-below_zero : (n : ℕ) (b : Bool) → nat_lt n 0 ≡ b → not b ≡ true
-below_zero n true is = let below = ltb-true n 0 is in absurd (omega arith)
-below_zero n false is = refl
-
--- a number that is not negative
-not_negative : (time : ℤ) → Decides (not (is_negative time)) (pos 0 ≤ℤ time)
-not_negative (pos n) = (λ _. omega (arith, ints), λ _. below_zero n (nat_lt n 0) refl)
-not_negative (negsuc n) = (λ e. absurd (cc), λ h. absurd (omega (arith, ints, h)))
-
-time-decides : (time : ℤ) → Decides (is_time time) (IsTime time)
-time-decides time = Decides-or _ _ (not_negative time) (Decides-int_eq time unknown_time)
 
 contains-decides : (value : ℕ) (values : List ℕ) → Decides (list_any (nat_eq value) values) (Contains values value)
 contains-decides value values =
@@ -82,4 +66,4 @@ is_sound-decides n =
     Decides-like _
     (λ h. record { event_type = h.0; event_time = (h.1).0; text = (h.1).1.0; correlated = (h.1).1.1.0; info = (h.1).1.1.1.0; body = (h.1).1.1.1.1 })
     (λ h. (h.event_type, (h.event_time, (h.text, (h.correlated, (h.info, h.body))))))
-    (Decides-and _ _ (contains-decides n.event_type (event_types_of n.body)) (Decides-and _ _ (time-decides n.event_time) (Decides-and _ _ (at_most (length n.text) 1024) (Decides-and _ _ (at_most (length n.correlated) 16) (Decides-and _ _ (sound-decides has_short HasShortValue (λ pair. short-decides pair.value) n.info) (body-decides n.body))))))
+    (Decides-and _ _ (contains-decides n.event_type (event_types_of n.body)) (Decides-and _ _ (is_time-decides n.event_time) (Decides-and _ _ (at_most (length n.text) 1024) (Decides-and _ _ (at_most (length n.correlated) 16) (Decides-and _ _ (sound-decides has_short HasShortValue (λ pair. short-decides pair.value) n.info) (body-decides n.body))))))

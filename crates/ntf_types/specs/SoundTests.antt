@@ -1,9 +1,7 @@
 -- The same as a test that computes, which definitions above this crate cite. No clause of this crate names it.
-use Rattle.std.specs.Prelude.{ℕ, Bool, true, not, ◌&&◌, ◌||◌, nat_eq, nat_le, ℤ, List, length, Option, Some, None}
+use Rattle.std.specs.Prelude.{ℕ, Bool, true, ◌&&◌, nat_eq, nat_le, List, length, Option, Some, None}
 use Rattle.std.specs.List.{list_all, list_any}
-use Rattle.std.specs.Int.{is_negative}
-use Rattle.std.specs.Ordering.{int_eq}
-use Rattle.ais_values.specs.Times.{unknown_time}
+use Rattle.ais_values.specs.TimeTests.{is_time}
 use Rattle.ntf_types.specs.declared.value.Value.{Value}
 use Rattle.ntf_types.specs.declared.value.Value.TheVariants.{Int, NameOf, TextOf, Binary}
 use Rattle.ntf_types.specs.declared.value.Pair.{Pair}
@@ -12,10 +10,6 @@ use Rattle.ntf_types.specs.declared.notification.Body.{Body}
 use Rattle.ntf_types.specs.declared.notification.Body.TheVariants.{Objects, Attributes, States, Alarm, Security}
 use Rattle.ntf_types.specs.declared.notification.Notification.{Notification}
 use Rattle.ntf_types.specs.Kinds.{event_types_of}
-
--- a time is not negative, or it is the unknown one
-abbrev pub is_time : ℤ → Bool
-is_time time = not (is_negative time) || int_eq time unknown_time
 
 abbrev pub is_source : ℕ → Bool
 is_source source = nat_le 1 source && nat_le source 3

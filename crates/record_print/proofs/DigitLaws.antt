@@ -2,7 +2,8 @@
 use Rattle.std.proofs.Common.{◌≡◌, ℕ, zero, suc, ◌+◌, ◌-◌, ◌*◌, ◌/◌, ◌%◌, ◌^◌, ◌<◌, ◌≤◌, List, [], ◌∷◌, ◌++◌, length, take, drop, set, get_or, bit_and, refl, sym, ap, ◌∙◌, arith, append_assoc, append-nil}
 use Rattle.std.proofs.lemmas.List.{take_more, take_more_set, take_all, take-append-drop}
 use Rattle.std.proofs.lemmas.Nat.{and_mask}
-use Rattle.record_print.specs.Printing.{hex_digit, hex_digits, hex_bytes}
+use Rattle.ais_values.specs.Texts.{hex_digit}
+use Rattle.record_print.specs.Printing.{hex_digits, hex_bytes}
 
 -- the low four bits
 low_bits : (number : ℕ) → bit_and number 15 ≡ number % 16

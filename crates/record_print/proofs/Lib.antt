@@ -1,4 +1,5 @@
 pub mod DigitLaws
+pub mod Equality
 pub mod LineLaws
 pub mod OnLiterals
 pub mod Rows

@@ -1,30 +1,30 @@
 -- A record's text, piece after piece, and the mark in it.
-use Rattle.std.proofs.Common.{◌≡◌, ℕ, ◌+◌, ◌-◌, ◌<◌, ◌≤◌, List, [], ◌∷◌, ◌++◌, length, take, get_or, Bool, true, false, nat_lt, Option, Some, None, refl, sym, ap, ◌∙◌, arith, length-append}
+use Rattle.std.proofs.Common.{◌≡◌, ℕ, ◌+◌, ◌-◌, ◌<◌, ◌≤◌, List, [], ◌∷◌, ◌++◌, length, take, get_or, Bool, true, false, cond, ◌↔◌, nat_lt, Option, Some, None, refl, sym, ap, ◌∙◌, arith, length-append}
 use Rattle.std.specs.List.{list_any}
-use Rattle.std.proofs.lemmas.List.{take_more, flat_map_more, length-take}
-use Rattle.std.proofs.lemmas.Bool.{or_parts, cond-true, cond-false, lt-ltb, le-ltb}
+use Rattle.std.proofs.lemmas.List.{take_more, flat_map_more, length-take, length-replicate}
+use Rattle.std.proofs.lemmas.Bool.{or_parts, cond-true, cond-false, lt-ltb, le-ltb, ltb-true, ltb-false}
 use Rattle.format_expr.specs.declared.token.Moment.{Moment}
 use Rattle.format_expr.specs.declared.token.Part.{Part}
 use Rattle.format_expr.specs.declared.token.Part.TheVariants.{Number, Time, ClassId, Cut, Body, BodyBytes, NotificationId, EventType, Object, Notifier, User, Severity}
 use Rattle.format_expr.specs.declared.piece.Piece.{Piece}
 use Rattle.format_expr.specs.declared.piece.Piece.TheVariants.{Plain, Field}
 use Rattle.record_print.specs.declared.record.LogRecord.{LogRecord}
-use Rattle.record_print.specs.Printing.{piece_text, part_text, in_places, is_number, is_mark, has_part, record_text, spaces, has_half, mark_of, line_of, printed_record}
+use Rattle.record_print.specs.Printing.{piece_text, part_text, in_places, is_number, is_mark, has_part, pieces_text, spaces, has_half, cut_mark, fitted, line_of, printed_record}
 
 -- one more piece
-pub record_text-more : (half : Moment → Bool) (number mark : ℕ) (rec : LogRecord) (pieces : List Piece) (count : ℕ) (piece : Piece) → count < length pieces → piece ≡ get_or pieces count piece → record_text half number mark rec (take count pieces) ++ piece_text half number mark rec piece ≡ record_text half number mark rec (take (count + 1) pieces)
-record_text-more half number mark rec pieces count piece inside is =
+pub pieces_text-more : (half : Moment → Bool) (number mark : ℕ) (rec : LogRecord) (pieces : List Piece) (count : ℕ) (piece : Piece) → count < length pieces → piece ≡ get_or pieces count piece → pieces_text half number mark rec (take count pieces) ++ piece_text half number mark rec piece ≡ pieces_text half number mark rec (take (count + 1) pieces)
+pieces_text-more half number mark rec pieces count piece inside is =
     flat_map_more (piece_text half number mark rec) [] (take count pieces) piece
-    ∙ ap (λ p. record_text half number mark rec (take count pieces ++ p ∷ [])) is
-    ∙ ap (record_text half number mark rec) (sym (take_more pieces count piece inside))
+    ∙ ap (λ p. pieces_text half number mark rec (take count pieces ++ p ∷ [])) is
+    ∙ ap (pieces_text half number mark rec) (sym (take_more pieces count piece inside))
 
 -- without a token that tells of it a text is the same whether it is cut or not
-pub record_text-unmarked : (half : Moment → Bool) (number one other : ℕ) (rec : LogRecord) (pieces : List Piece) → list_any (has_part is_mark) pieces ≡ false → record_text half number one rec pieces ≡ record_text half number other rec pieces
-record_text-unmarked half number one other rec [] e = refl
-record_text-unmarked half number one other rec (piece ∷ pieces) e =
+pub pieces_text-unmarked : (half : Moment → Bool) (number one other : ℕ) (rec : LogRecord) (pieces : List Piece) → list_any (has_part is_mark) pieces ≡ false → pieces_text half number one rec pieces ≡ pieces_text half number other rec pieces
+pieces_text-unmarked half number one other rec [] e = refl
+pieces_text-unmarked half number one other rec (piece ∷ pieces) e =
     let parts = or_parts (has_part is_mark piece) (list_any (has_part is_mark) pieces) e in
-    ap (λ text. text ++ record_text half number one rec pieces) (piece_text-unmarked half number one other rec piece parts.0)
-    ∙ ap (λ text. piece_text half number other rec piece ++ text) (record_text-unmarked half number one other rec pieces parts.1)
+    ap (λ text. text ++ pieces_text half number one rec pieces) (piece_text-unmarked half number one other rec piece parts.0)
+    ∙ ap (λ text. piece_text half number other rec piece ++ text) (pieces_text-unmarked half number one other rec pieces parts.1)
   where
     part_text-unmarked : (half : Moment → Bool) (number one other : ℕ) (rec : LogRecord) (part : Part) → is_mark part ≡ false → part_text half number one rec part ≡ part_text half number other rec part
     part_text-unmarked half number one other rec Number e = refl
@@ -45,31 +45,31 @@ record_text-unmarked half number one other rec (piece ∷ pieces) e =
     piece_text-unmarked half number one other rec (Field token) e = ap (in_places (is_number token.part) token.width) (part_text-unmarked half number one other rec token.part e)
 
 -- the printed record of a text that is cut, of one that is not, and of one that does not tell
-pub printed_cut : (pieces : List Piece) (number : ℕ) (rec : LogRecord) (size : ℕ) → 0 < size → size ≤ length (record_text (has_half pieces) number 67 rec pieces) → line_of size (record_text (has_half pieces) number 84 rec pieces) ≡ printed_record pieces number rec size
+pub printed_cut : (pieces : List Piece) (number : ℕ) (rec : LogRecord) (size : ℕ) → 0 < size → size ≤ length (pieces_text (has_half pieces) number 67 rec pieces) → line_of size (pieces_text (has_half pieces) number 84 rec pieces) ≡ printed_record pieces number rec size
 unfolding printed_record
 printed_cut pieces number rec size some long =
-    let text = λ (mark : ℕ). record_text (has_half pieces) number mark rec pieces in
+    let text = λ (mark : ℕ). pieces_text (has_half pieces) number mark rec pieces in
     sym (ap (λ mark. line_of size (text mark)) (cond-true (nat_lt (size - 1) (length (text 67))) 84 67 (lt-ltb (size - 1) (length (text 67)) (omega arith))))
 
-pub printed_whole : (pieces : List Piece) (number : ℕ) (rec : LogRecord) (size : ℕ) → length (record_text (has_half pieces) number 67 rec pieces) < size → line_of size (record_text (has_half pieces) number 67 rec pieces) ≡ printed_record pieces number rec size
+pub printed_whole : (pieces : List Piece) (number : ℕ) (rec : LogRecord) (size : ℕ) → length (pieces_text (has_half pieces) number 67 rec pieces) < size → line_of size (pieces_text (has_half pieces) number 67 rec pieces) ≡ printed_record pieces number rec size
 unfolding printed_record
 printed_whole pieces number rec size short =
-    let text = λ (mark : ℕ). record_text (has_half pieces) number mark rec pieces in
+    let text = λ (mark : ℕ). pieces_text (has_half pieces) number mark rec pieces in
     sym (ap (λ mark. line_of size (text mark)) (cond-false (nat_lt (size - 1) (length (text 67))) 84 67 (le-ltb (size - 1) (length (text 67)) (omega arith))))
 
-pub printed_unmarked : (pieces : List Piece) (number : ℕ) (rec : LogRecord) (size : ℕ) → list_any (has_part is_mark) pieces ≡ false → line_of size (record_text (has_half pieces) number 67 rec pieces) ≡ printed_record pieces number rec size
+pub printed_unmarked : (pieces : List Piece) (number : ℕ) (rec : LogRecord) (size : ℕ) → list_any (has_part is_mark) pieces ≡ false → line_of size (pieces_text (has_half pieces) number 67 rec pieces) ≡ printed_record pieces number rec size
 unfolding printed_record
 printed_unmarked pieces number rec size none =
-    ap (line_of size) (record_text-unmarked (has_half pieces) number 67 (mark_of (λ mark. record_text (has_half pieces) number mark rec pieces) size) rec pieces none)
+    ap (line_of size) (pieces_text-unmarked (has_half pieces) number 67 (cut_mark (λ mark. pieces_text (has_half pieces) number mark rec pieces) size) rec pieces none)
 
 -- a text is as long with the one mark as with the other
-pub length-record_text : (half : Moment → Bool) (number one other : ℕ) (rec : LogRecord) (pieces : List Piece) → length (record_text half number one rec pieces) ≡ length (record_text half number other rec pieces)
-length-record_text half number one other rec [] = refl
-length-record_text half number one other rec (piece ∷ pieces) =
+pub length-pieces_text : (half : Moment → Bool) (number one other : ℕ) (rec : LogRecord) (pieces : List Piece) → length (pieces_text half number one rec pieces) ≡ length (pieces_text half number other rec pieces)
+length-pieces_text half number one other rec [] = refl
+length-pieces_text half number one other rec (piece ∷ pieces) =
     let front = piece_long half number one other rec piece in
-    let rest = length-record_text half number one other rec pieces in
-    let whole = length-append (piece_text half number one rec piece) (record_text half number one rec pieces) in
-    let whole' = length-append (piece_text half number other rec piece) (record_text half number other rec pieces) in
+    let rest = length-pieces_text half number one other rec pieces in
+    let whole = length-append (piece_text half number one rec piece) (pieces_text half number one rec pieces) in
+    let whole' = length-append (piece_text half number other rec piece) (pieces_text half number other rec pieces) in
     omega arith
   where
     in_places_long : (aligned : Bool) (width : Option ℕ) (one other : List ℕ) → length one ≡ length other → length (in_places aligned width one) ≡ length (in_places aligned width other)
@@ -104,3 +104,41 @@ length-record_text half number one other rec (piece ∷ pieces) =
     piece_long : (half : Moment → Bool) (number one other : ℕ) (rec : LogRecord) (piece : Piece) → length (piece_text half number one rec piece) ≡ length (piece_text half number other rec piece)
     piece_long half number one other rec (Plain text) = refl
     piece_long half number one other rec (Field token) = in_places_long (is_number token.part) token.width _ _ (part_long half number one other rec token.part)
+
+-- the mark by whether the text with it is cut
+cut_mark_by : (b : Bool) (limit long : ℕ) → nat_lt limit long ≡ b → let mark : ℕ = cond b 84 67 in ((mark ≡ 84) ↔ (limit < long)) × ((mark ≡ 67) ↔ (long ≤ limit))
+cut_mark_by true limit long is =
+    let over : limit < long = ltb-true limit long is in
+    ((λ _. over, λ _. refl), (λ e. absurd (omega arith), λ h. absurd (omega arith)))
+cut_mark_by false limit long is =
+    let within : long ≤ limit = ltb-false limit long is in
+    ((λ e. absurd (omega arith), λ h. absurd (omega arith)), (λ _. within, λ _. refl))
+
+pub cut_mark-cut : (half : Moment → Bool) (number : ℕ) (rec : LogRecord) (pieces : List Piece) (size : ℕ) → let mark = cut_mark (λ mark. pieces_text half number mark rec pieces) size in (mark ≡ 84) ↔ (size - 1 < length (pieces_text half number mark rec pieces))
+cut_mark-cut half number rec pieces size =
+    let text = λ (mark : ℕ). pieces_text half number mark rec pieces in
+    let same = length-pieces_text half number 67 (cut_mark text size) rec pieces in
+    let tells = cut_mark_by (nat_lt (size - 1) (length (text 67))) (size - 1) (length (text 67)) refl in
+    (λ e. let over = tells.0.0 e in omega arith, λ h. tells.0.1 (omega arith))
+
+pub cut_mark-whole : (half : Moment → Bool) (number : ℕ) (rec : LogRecord) (pieces : List Piece) (size : ℕ) → let mark = cut_mark (λ mark. pieces_text half number mark rec pieces) size in (mark ≡ 67) ↔ (length (pieces_text half number mark rec pieces) ≤ size - 1)
+cut_mark-whole half number rec pieces size =
+    let text = λ (mark : ℕ). pieces_text half number mark rec pieces in
+    let same = length-pieces_text half number 67 (cut_mark text size) rec pieces in
+    let tells = cut_mark_by (nat_lt (size - 1) (length (text 67))) (size - 1) (length (text 67)) refl in
+    (λ e. let within = tells.1.0 e in omega arith, λ h. tells.1.1 (omega arith))
+
+-- a line has as many bytes as its size says
+pub length-line_of : (size : ℕ) (text : List ℕ) → 0 < size → length (line_of size text) ≡ size
+length-line_of size text some =
+    let line = length-append (fitted (size - 1) text) (10 ∷ []) in
+    let front = length-append (take (size - 1) text) (spaces (size - 1 - length text)) in
+    let cut = length-take (size - 1) text in
+    let blank = length-replicate {A = ℕ} (size - 1 - length text) 32 in
+    omega arith
+
+-- and so has a printed record
+pub length-printed_record : (pieces : List Piece) (number : ℕ) (rec : LogRecord) (size : ℕ) → 0 < size → length (printed_record pieces number rec size) ≡ size
+unfolding printed_record
+length-printed_record pieces number rec size some =
+    length-line_of size (pieces_text (has_half pieces) number (cut_mark (λ mark. pieces_text (has_half pieces) number mark rec pieces) size) rec pieces) some

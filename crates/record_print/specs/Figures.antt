@@ -1,4 +1,4 @@
--- What the code has ready of a record before it prints it.
+-- Words of bodies alone: what the code has ready of a record before it prints it.
 use Rattle.std.specs.Prelude.{◌≡◌, ℕ, ◌/◌, Bool, Some, None, unsigned_abs}
 use Rattle.std.specs.Option.{MatchOption}
 use Rattle.civil_time.specs.Fields.{civil_of}

@@ -1,9 +1,11 @@
--- The printed record.
-use Rattle.std.specs.Prelude.{ℕ, zero, suc, ◌+◌, ◌-◌, ◌*◌, ◌/◌, ◌%◌, ◌^◌, ◌∷◌, [], ◌++◌, List, length, take, map, replicate, slice_index_or, Bool, true, false, not, ◌&&◌, ◌||◌, ◌==◌, nat_lt, nat_le, if◌then◌else◌, codes, Option, Some, None, unsigned_abs}
+-- Words of public clauses: the printed record.
+use Rattle.std.specs.Prelude.{ℕ, zero, suc, ◌-◌, ◌*◌, ◌/◌, ◌%◌, ◌^◌, ◌∷◌, [], ◌++◌, List, length, take, map, replicate, slice_index_or, Bool, true, false, not, ◌&&◌, ◌||◌, ◌==◌, nat_lt, nat_le, if◌then◌else◌, codes, Option, Some, None, unsigned_abs}
 use Rattle.std.specs.Option.{option_map_or}
 use Rattle.std.specs.List.{list_any, flat_map}
 use Rattle.std.specs.Fmt.{decimal}
 use Rattle.std.specs.Int.{is_negative}
+use Rattle.ais_values.specs.Tables.{log_severity_rows, month_rows}
+use Rattle.ais_values.specs.Texts.{hex_digit}
 use Rattle.ais_values.specs.declared.kind.ClassId.{ClassId}
 use Rattle.civil_time.specs.declared.civil.Civil.{Civil}
 use Rattle.civil_time.specs.Fields.{civil_of}
@@ -35,10 +37,6 @@ shown_byte byte = if nat_lt byte 32 || byte == 127 then 46 else byte
 abbrev pub shown : List ℕ → List ℕ
 shown text = map shown_byte text
 
--- a digit below 16, in lower case
-abbrev pub hex_digit : ℕ → ℕ
-hex_digit digit = if nat_lt digit 10 then 48 + digit else 87 + digit
-
 -- a number's last so many hexadecimal digits
 unfoldable pub hex_digits : ℕ → ℕ → List ℕ
 hex_digits zero number = []
@@ -53,17 +51,19 @@ abbrev pub hex_bytes : List ℕ → List ℕ
 hex_bytes [] = []
 hex_bytes (byte ∷ bytes) = hex_digit (byte / 16) ∷ hex_digit (byte % 16) ∷ hex_bytes bytes
 
+-- the names of a table, in order
+abbrev pub names_of : List (ℕ × List ℕ) → List (List ℕ)
+names_of rows = map (λ (row : ℕ × List ℕ). row.1) rows
+
 -- the names of the months, of the days from Monday on, and of the severities from 0 on
 abbrev pub month_names : List (List ℕ)
-month_names =
-    codes "Jan" ∷ codes "Feb" ∷ codes "Mar" ∷ codes "Apr" ∷ codes "May" ∷ codes "Jun"
-    ∷ codes "Jul" ∷ codes "Aug" ∷ codes "Sep" ∷ codes "Oct" ∷ codes "Nov" ∷ codes "Dec" ∷ []
+month_names = names_of month_rows
 
 abbrev pub day_names : List (List ℕ)
 day_names = codes "Mon" ∷ codes "Tue" ∷ codes "Wed" ∷ codes "Thu" ∷ codes "Fri" ∷ codes "Sat" ∷ codes "Sun" ∷ []
 
 abbrev pub severity_names : List (List ℕ)
-severity_names = codes "EM" ∷ codes "AL" ∷ codes "CR" ∷ codes "ER" ∷ codes "WA" ∷ codes "NO" ∷ codes "IN" ∷ []
+severity_names = names_of log_severity_rows
 
 -- 12 hours run 12, 1 to 11
 abbrev pub clock_hour : Bool → ℕ → ℕ
@@ -189,23 +189,23 @@ abbrev pub has_half : List Piece → Moment → Bool
 has_half pieces moment = list_any (has_part (shows_half moment)) pieces
 
 -- a record's text: those of the pieces, one after another
-abbrev pub record_text : (half : Moment → Bool) (number mark : ℕ) → LogRecord → List Piece → List ℕ
-record_text half number mark rec pieces = flat_map (piece_text half number mark rec) pieces
+abbrev pub pieces_text : (half : Moment → Bool) (number mark : ℕ) → LogRecord → List Piece → List ℕ
+pieces_text half number mark rec pieces = flat_map (piece_text half number mark rec) pieces
 
 -- `T` stands for a text that is cut, `C` for a whole one; a text is as long with the one as with the other
-abbrev pub mark_of : (mark_text : ℕ → List ℕ) (size : ℕ) → ℕ
-mark_of mark_text size = if nat_lt (size - 1) (length (mark_text 67)) then 84 else 67
+abbrev pub cut_mark : (mark_text : ℕ → List ℕ) (size : ℕ) → ℕ
+cut_mark mark_text size = if nat_lt (size - 1) (length (mark_text 67)) then 84 else 67
 
 -- a text in so many bytes, the last of which is a line feed
 abbrev pub line_of : ℕ → List ℕ → List ℕ
 line_of size text = fitted (size - 1) text ++ 10 ∷ []
 
 abbrev pub marked_line : (mark_text : ℕ → List ℕ) (size : ℕ) → List ℕ
-marked_line mark_text size = line_of size (mark_text (mark_of mark_text size))
+marked_line mark_text size = line_of size (mark_text (cut_mark mark_text size))
 
 -- the printed record
 unfoldable pub printed_record : List Piece → (number : ℕ) → LogRecord → (size : ℕ) → List ℕ
-printed_record pieces number rec size = marked_line (λ mark. record_text (has_half pieces) number mark rec pieces) size
+printed_record pieces number rec size = marked_line (λ mark. pieces_text (has_half pieces) number mark rec pieces) size
 
 -- what can be printed: times that are not negative, and a severity that there is
 abbrev pub has_codes : Header → Bool

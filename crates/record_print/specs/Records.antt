@@ -1,22 +1,11 @@
--- Which records may be written to a stream.
-use Rattle.std.specs.Prelude.{ℕ, ◌^◌, Bool, not, ◌&&◌, ◌||◌, nat_le, ℤ, pos, neg_ℤ}
-use Rattle.std.specs.List.{list_any}
-use Rattle.std.specs.Ordering.{int_eq}
-use Rattle.std.specs.Int.{is_negative}
-use Rattle.ais_values.specs.declared.tables.TheConstants.{EVENT_TYPES}
-use Rattle.ais_values.specs.Codes.{has_code}
+-- Words of public clauses: which records may be written to a stream.
+use Rattle.std.specs.Prelude.{Bool, not, ◌&&◌, nat_le, ℤ}
+use Rattle.ais_values.specs.Events.{is_event_type}
+use Rattle.ais_values.specs.TimeTests.{is_time}
 use Rattle.ais_values.specs.declared.kind.StreamKind.{StreamKind}
 use Rattle.format_expr.specs.Language.{is_notified}
 use Rattle.record_print.specs.declared.record.Header.{Header}
 use Rattle.record_print.specs.declared.record.Header.TheVariants.{Ntf, Generic}
-
--- a time is not negative, or stands for the moment of acceptance
-abbrev pub is_time : ℤ → Bool
-is_time time = not (is_negative time) || int_eq time (neg_ℤ (pos (2 ^ 63)))
-
--- the table of event types has the code
-abbrev pub is_event_type : ℕ → Bool
-is_event_type code = list_any (has_code code) EVENT_TYPES
 
 -- the header is that of the kind's records, and has codes and a time that there are
 abbrev pub can_have : StreamKind → Header → Bool

@@ -1,4 +1,4 @@
--- The sheet on which a record is printed: spaces and a line feed, over which the text so far is laid.
+-- Words of bodies alone: the sheet on which a record is printed: spaces and a line feed, over which the text so far is laid.
 use Rattle.std.specs.Prelude.{◌≡◌, ℕ, ◌+◌, ◌-◌, ◌<◌, min, List, ◌++◌, length, take, slice_index_or}
 use Rattle.record_print.specs.declared.sheet.Sheet.{Sheet}
 

@@ -1,7 +1,8 @@
 //! The texts of numbers, names and times.
 ghost use Rattle.std.specs.Prelude.{◌≡◌, ◌+◌, ◌-◌, ◌*◌, ◌/◌, ◌%◌, ◌^◌, ◌<◌, ◌≤◌, List, ℕ, [], ◌∷◌, ◌++◌, length, slice_index_or, decimal, codes};
 ghost use Rattle.civil_time.specs.Digits.{two_digits, four_digits};
-ghost use Rattle.record_print.specs.Printing.{hex_digit, hex_digits, led_digits, hex_bytes, spaces, month_names, day_names, severity_names, clock_hour, civil_text, class_text};
+ghost use Rattle.ais_values.specs.Texts.{hex_digit};
+ghost use Rattle.record_print.specs.Printing.{hex_digits, led_digits, hex_bytes, spaces, month_names, day_names, severity_names, clock_hour, civil_text, class_text};
 ghost use Rattle.record_print.specs.Sheets.{Adds};
 
 use crate::clock::Clock;

@@ -3,12 +3,14 @@
 
 mod clock;
 mod digits;
+mod law;
 mod print;
 mod record;
 mod sheet;
 
+pub use law::{law_of_cut_marks, law_of_equality};
 pub use print::{is_printable, print_record};
-pub use record::{Header, LogRecord, TIME_UNKNOWN, check_write};
+pub use record::{Header, LogRecord, check_write};
 
 #[cfg(test)]
 mod tests;

@@ -3,7 +3,7 @@ ghost use Rattle.std.specs.Prelude.{◌≡◌, ◌≤◌, ◌<◌, List, ℕ, Bo
 ghost use Rattle.std.specs.Int.{is_negative};
 ghost use Rattle.std.specs.List.{list_any};
 ghost use Rattle.format_expr.specs.declared.token.Moment.{Moment};
-ghost use Rattle.record_print.specs.Printing.{class_of, id_text, event_type_text, object_text, notifier_text, user_text, severity_text, has_codes, part_text, is_number, in_places, piece_text, record_text, shows_half, has_half, has_part, is_mark, event_time, can_print, printed_record};
+ghost use Rattle.record_print.specs.Printing.{class_of, id_text, event_type_text, object_text, notifier_text, user_text, severity_text, has_codes, part_text, is_number, in_places, piece_text, pieces_text, shows_half, has_half, has_part, is_mark, event_time, can_print, printed_record};
 ghost use Rattle.record_print.specs.Figures.{IsClock, AreFigures};
 ghost use Rattle.record_print.specs.Sheets.{Has, IsOpen};
 
@@ -164,7 +164,7 @@ impl Sheet {
         requires open { IsOpen self.old }
         ensures kept { Keeps self.old self.new }
         ensures text { (half : Moment → Bool) → AreFigures figures.now half rec.now
-            → Adds self.old self.new (record_text half figures.now.number figures.now.mark rec.now pieces.now) }
+            → Adds self.old self.new (pieces_text half figures.now.number figures.now.mark rec.now pieces.now) }
     {
         for piece in pieces {
             self.put_piece(figures, rec, piece);
@@ -255,7 +255,7 @@ fn sheet_of(
     ensures open { IfOk result IsOpen }
     ensures size { IfOk result (λ sheet. length sheet.bytes.items ≡ size) }
     ensures text { IfOk result (λ sheet. (half : Moment → Bool) → AreFigures figures.now half rec.now
-        → Has sheet (record_text half figures.now.number figures.now.mark rec.now pieces.now)) }
+        → Has sheet (pieces_text half figures.now.number figures.now.mark rec.now pieces.now)) }
 {
     let mut sheet = Sheet::new(alloc, size)?;
     sheet.put_pieces(figures, rec, pieces);
@@ -274,7 +274,7 @@ pub fn is_printable(rec: &LogRecord) -> bool
 }
 
 /// The printed record: the text of the expression's pieces, cut or padded with spaces to `size` minus 1 bytes,
-/// and a line feed.
+/// and a line feed: `size` bytes in all.
 ///
 /// The number and the record's fields stand where the tokens name them. A token that shows what the header of
 /// the other kind has prints nothing; an expression of the header's kind has none such.
@@ -288,7 +288,8 @@ pub fn print_record(
     requires low { 32 ≤ size }
     requires high { size ≤ 16384 }
     requires printable { IsTrue (can_print rec.now) }
-    ensures { IfOk result (λ text. text ≡ printed_record expr.now.pieces number rec.now size) }
+    ensures text { IfOk result (λ text. text ≡ printed_record expr.now.pieces number rec.now size) }
+    ensures bytes { IfOk result (λ text. length text ≡ size) }
 {
     let pieces = expr.pieces.as_slice();
     let mut figures = Figures::new(number, rec, pieces);

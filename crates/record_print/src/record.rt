@@ -1,19 +1,15 @@
 //! Log records and the test of what is written.
 ghost use Rattle.std.specs.Prelude.{◌≡◌, ◌↔◌, IsOk, OnErr, IsTrue, Err};
-ghost use Rattle.std.specs.List.{list_any};
-ghost use Rattle.ais_values.specs.Codes.{has_code};
-ghost use Rattle.record_print.specs.Records.{is_time, is_event_type, can_write};
+ghost use Rattle.ais_values.specs.TimeTests.{is_time};
+ghost use Rattle.record_print.specs.Records.{can_write};
 ghost use Rattle.ais_values.specs.declared.status.Status.TheVariants.{InvalidParam};
 
-use ais_values::tables::{EVENT_TYPES, LOG_SEVERITIES};
-use ais_values::{ClassId, CodeRow, Duplicate, Name, Status, StreamKind, Text};
+use ais_values::tables::LOG_SEVERITIES;
+use ais_values::{ClassId, Duplicate, Name, Status, StreamKind, Text, is_event_type, is_time};
 use format_expr::has_notified;
 use std::alloc::{AllocError, Global};
 
-/// The time that stands for the moment of acceptance (`SA_TIME_UNKNOWN`).
-pub const TIME_UNKNOWN: i64 = i64::MIN;
-
-/// The header of a log record (SAI-AIS-LOG-A.02.01, 3.4.2 and 3.4.3).
+/// The header of a log record.
 #[derive(Drop, PartialEq)]
 pub enum Header {
     /// Of records of the alarm and the notification stream.
@@ -82,28 +78,17 @@ impl Duplicate for LogRecord {
     }
 }
 
+/// Whether a time is not negative, or the unknown one.
 fn has_time(time: i64) -> bool
     ensures { result ≡ is_time time }
 {
-    time >= 0 || time == TIME_UNKNOWN
-}
-
-fn has_row(rows: &[CodeRow], code: u32) -> bool
-    ensures { result ≡ list_any (has_code code) rows.now }
-{
-    rows.iter().any(|row| row.code == code)
-}
-
-fn has_event_type(code: u16) -> bool
-    ensures { result ≡ is_event_type code }
-{
-    has_row(&EVENT_TYPES, u32::from(code))
+    is_time(time)
 }
 
 /// Whether a record may be written to a stream of the kind, with this time and header. It takes no memory.
 ///
 /// `InvalidParam` comes exactly where the header is of the other kind, a time is negative and not
-/// `TIME_UNKNOWN` (the record's, or of a notification's header also the event's), a severity is above 6, or an
+/// the unknown time (the record's, or of a notification's header also the event's), a severity is above 6, or an
 /// event type is not in the table.
 pub fn check_write(kind: StreamKind, time: i64, header: &Header) -> Result<(), Status>
     ensures ok { IsOk result ↔ IsTrue (can_write kind time header.now) }
@@ -114,7 +99,7 @@ pub fn check_write(kind: StreamKind, time: i64, header: &Header) -> Result<(), S
             event_type,
             event_time,
             ..
-        } => has_notified(kind) && has_time(*event_time) && has_event_type(*event_type),
+        } => has_notified(kind) && has_time(*event_time) && is_event_type(*event_type),
         Header::Generic { severity, .. } => {
             !has_notified(kind) && usize::from(*severity) < LOG_SEVERITIES.len()
         }

@@ -1,5 +1,5 @@
-use crate::{Header, LogRecord, TIME_UNKNOWN, check_write, is_printable, print_record};
-use ais_values::{ClassId, Duplicate, Name, Status, StreamKind, Text};
+use crate::{Header, LogRecord, check_write, is_printable, print_record};
+use ais_values::{ClassId, Duplicate, Name, Status, StreamKind, Text, UNKNOWN_TIME};
 use format_expr::parse_expr;
 use std::alloc::Global;
 use std::process::Abort;
@@ -215,8 +215,8 @@ fn tested_writes(rt: HostRuntime) -> Result<(), Fail> {
     let table: [(i64, u16, u16, bool); 8] = [
         (0, 0x1001, 0, true),
         (i64::MAX, 0x5005, 6, true),
-        (TIME_UNKNOWN, 0x3001, 3, true),
-        (TIME_UNKNOWN + 1, 0x3001, 3, false),
+        (UNKNOWN_TIME, 0x3001, 3, true),
+        (UNKNOWN_TIME + 1, 0x3001, 3, false),
         (-1, 0x3001, 3, false),
         (0, 0x3002, 7, false),
         (0, 0x1000, 65_535, false),

@@ -1,6 +1,7 @@
 use Rattle.std.proofs.Common.{◌≤◌, ◌/◌, ◌∷◌, [], ◌++◌, take, drop, get_or, sym, subst, ◌∙◌, ap, arith}
 use Rattle.std.proofs.lemmas.Bool.Decides.{nat_tests}
-use Rattle.record_print.specs.Printing.{hex_bytes, hex_digit}
+use Rattle.ais_values.specs.Texts.{hex_digit}
+use Rattle.record_print.specs.Printing.{hex_bytes}
 use Rattle.record_print.specs.Sheets.{Adds}
 use Rattle.record_print.proofs.DigitLaws.{hex_bytes-rest, hex_bytes-more}
 use Rattle.record_print.proofs.SheetLaws.{full_adds, adds_then}
