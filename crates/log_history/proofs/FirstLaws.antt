@@ -1,5 +1,5 @@
 -- The first element that passes a test: in a filtered list, in a mapped one, and where at most one element passes.
-use Rattle.std.proofs.Common.{◌≡◌, ℕ, ◌+◌, Bool, true, false, ◌&&◌, ◌||◌, cond, subst, List, [], ◌∷◌, ◌++◌, map, refl, ap, sym, ◌∙◌}
+use Rattle.std.proofs.Common.{◌≡◌, ℕ, ◌+◌, Bool, true, false, ◌&&◌, ◌||◌, cond, subst, List, [], ◌∷◌, ◌++◌, map, refl, ap, sym, ◌∙◌, add-zero}
 use Rattle.std.specs.Prelude.{⊤, Option, Some, None, option_map, is_some, filter}
 use Rattle.std.specs.List.{find, list_any, count_by, fold}
 use Rattle.log_history.specs.Firsts.{change_first}
@@ -89,6 +89,25 @@ module _ {X : Type 0} (keep named : X → Bool) where
     by_case rest true kept =
         ((λ is. sym (find-filter xs) ∙ single.0 (ap (λ b. b && named x) kept ∙ is)), rest)
     by_case rest false kept = rest
+
+  -- what passes among the kept ones
+  pub list_any-filter : (xs : List X) → list_any named (filter keep xs) ≡ list_any (λ x. keep x && named x) xs
+  list_any-filter [] = refl
+  list_any-filter (x ∷ xs) =
+      elim (keep x) as (λ b. list_any named (cond b (x ∷ filter keep xs) (filter keep xs)) ≡ (b && named x || list_any (λ y. keep y && named y) xs)) [
+        | true ↦ ap (λ rest. named x || rest) (list_any-filter xs)
+        | false ↦ list_any-filter xs
+      ]
+
+  pub count_by-filter : (xs : List X) → count_by named (filter keep xs) ≡ count_by (λ x. keep x && named x) xs
+  count_by-filter xs = counted xs 0 where
+    counted : (ys : List X) (n : ℕ) → fold (λ a y. a + cond (named y) 1 0) n (filter keep ys) ≡ fold (λ a y. a + cond (keep y && named y) 1 0) n ys
+    counted [] n = refl
+    counted (y ∷ ys) n =
+        elim (keep y) as (λ b. fold (λ a z. a + cond (named z) 1 0) n (cond b (y ∷ filter keep ys) (filter keep ys)) ≡ fold (λ a z. a + cond (keep z && named z) 1 0) (n + cond (b && named y) 1 0) ys) [
+          | true ↦ counted ys (n + cond (named y) 1 0)
+          | false ↦ counted ys n ∙ ap (λ m. fold (λ a z. a + cond (keep z && named z) 1 0) m ys) (sym (add-zero n))
+        ]
 
 module _ {X Y : Type 0} (f : X → Y) (test : X → Bool) (test' : Y → Bool) (same : (x : X) → test' (f x) ≡ test x) where
   pub find-map : (xs : List X) → find test' (map f xs) ≡ option_map f (find test xs)

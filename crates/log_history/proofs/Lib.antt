@@ -4,4 +4,5 @@ pub mod EndLaws
 pub mod Reaching
 pub mod FileLists
 pub mod TableLaws
+pub mod KeptLaws
 mod Rows

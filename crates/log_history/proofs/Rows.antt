@@ -15,6 +15,7 @@ use Rattle.record_print.specs.declared.record.Header.TheVariants.{Generic}
 use Rattle.record_print.specs.declared.record.LogRecord.{LogRecord}
 use Rattle.record_print.specs.Printing.{printed_record}
 use Rattle.format_expr.specs.Reading.{pieces_of, pieces_from}
+use Rattle.format_expr.specs.Tokens.{part_with, shown_parts}
 use Rattle.civil_time.specs.Stamps.{stamp_of}
 use Rattle.civil_time.specs.Fields.{civil_of, year_of, year_from, month_of, month_from}
 use Rattle.stream_layout.specs.Names.{log_name, cfg_name}
@@ -65,7 +66,7 @@ abbrev five : List LogChange
 five = written (codes "e") (written (codes "d") (written (codes "c") two))
 
 wraps : file_at (setup (attrs 64 1 Wrap)) five (codes "saLogSystem_20240101_000002.log") ≡ Some (codes "e                              \nd                              \n")
-unfolding file_at log_entries entries_from log_name cfg_name stamp_of civil_of year_of year_from month_of month_from printed_record pieces_of pieces_from
+unfolding file_at log_entries entries_from log_name cfg_name stamp_of civil_of year_of year_from month_of month_from printed_record pieces_of pieces_from part_with shown_parts
 wraps = refl
 
 -- ROTATE with one file kept, one record a file: the third record stands alone, in the file of the seventh stamp
@@ -73,16 +74,16 @@ abbrev three : List LogChange
 three = written (codes "c") two
 
 rotates : file_at (setup (attrs 32 1 Rotate)) three (codes "saLogSystem_20240101_000006.log") ≡ Some (codes "c                              \n")
-unfolding file_at log_entries entries_from log_name cfg_name stamp_of civil_of year_of year_from month_of month_from printed_record pieces_of pieces_from
+unfolding file_at log_entries entries_from log_name cfg_name stamp_of civil_of year_of year_from month_of month_from printed_record pieces_of pieces_from part_with shown_parts
 rotates = refl
 
 removes : file_at (setup (attrs 32 1 Rotate)) three (codes "saLogSystem_20240101_000004_20240101_000005.log") ≡ None
-unfolding file_at log_entries entries_from log_name cfg_name stamp_of civil_of year_of year_from month_of month_from printed_record pieces_of pieces_from
+unfolding file_at log_entries entries_from log_name cfg_name stamp_of civil_of year_of year_from month_of month_from printed_record pieces_of pieces_from part_with shown_parts
 removes = refl
 
 -- with two files kept the one before it stands too, closed
 keeps : file_at (setup (attrs 32 2 Rotate)) three (codes "saLogSystem_20240101_000004_20240101_000005.log") ≡ Some (codes "b                              \n")
-unfolding file_at log_entries entries_from log_name cfg_name stamp_of civil_of year_of year_from month_of month_from printed_record pieces_of pieces_from
+unfolding file_at log_entries entries_from log_name cfg_name stamp_of civil_of year_of year_from month_of month_from printed_record pieces_of pieces_from part_with shown_parts
 keeps = refl
 
 -- two application streams end in one finalisation, in order of creation

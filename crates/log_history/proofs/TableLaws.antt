@@ -39,13 +39,13 @@ same_table last last' users users' streams streams' one two three =
     ∙ ap (λ (x : List OpenStream). let kept : LogTable = record { last = last'; users = users'; streams = x } in kept) three
 
 -- the living streams, and those of a name among them
-abbrev living : List Stream → List Stream
+abbrev pub living : List Stream → List Stream
 living streams = filter lives streams
 
 abbrev is_called : StreamName → Stream → Bool
 is_called name stream = same_name stream.name name
 
-find-living : (name : StreamName) (past : List LogChange) (streams : List Stream) → find (is_named name) (map (open_stream past) (living streams)) ≡ option_map (open_stream past) (find (is_living name) streams)
+pub find-living : (name : StreamName) (past : List LogChange) (streams : List Stream) → find (is_named name) (map (open_stream past) (living streams)) ≡ option_map (open_stream past) (find (is_living name) streams)
 find-living name past streams =
     find-map (open_stream past) (is_called name) (is_named name) (λ _. refl) (living streams)
     ∙ ap (option_map (open_stream past)) (sym (find-filter lives (is_called name) streams))

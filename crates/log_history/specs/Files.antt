@@ -10,7 +10,7 @@ use Rattle.stream_config.specs.declared.attrs.StreamAttrs.{StreamAttrs}
 use Rattle.stream_config.specs.Events.{standing}
 use Rattle.stream_layout.specs.LogFiles.{Entries, log_entries, cfg_entry}
 use Rattle.stream_layout.specs.Carrying.{entry_at}
-use Rattle.stream_layout.specs.DeviceCalls.{settled_file}
+use Rattle.disk_model.specs.Disk.{settled_file}
 use Rattle.log_history.specs.Changes.{LogChange}
 use Rattle.log_history.specs.Chronicle.{LogSetup, Stream, chronicle, all_files}
 

@@ -5,5 +5,6 @@ pub mod Answers
 pub mod Table
 pub mod Legal
 pub mod Files
+pub mod KeptAnswers
 pub mod Names
 pub mod Firsts

@@ -1,0 +1,64 @@
+-- Words of public clauses: the answers of a service, read of what it keeps.
+use Rattle.std.specs.Prelude.{ℕ, nat_le, Bool, false, List, Option, None, option_map, ℤ}
+use Rattle.std.specs.Option.{option_map_or}
+use Rattle.std.specs.List.{find, list_any, count_by}
+use Rattle.client_set.specs.Members.{has}
+use Rattle.ais_values.specs.declared.status.Status.{Status}
+use Rattle.stream_config.specs.declared.attrs.StreamAttrs.{StreamAttrs}
+use Rattle.stream_config.specs.declared.attrs.StreamName.{StreamName}
+use Rattle.stream_config.specs.Attributes.{kind_of}
+use Rattle.stream_config.specs.AttributeTests.{have_one_place}
+use Rattle.record_print.specs.declared.record.Header.{Header}
+use Rattle.log_history.specs.Names.{is_application}
+use Rattle.log_history.specs.Table.{OpenStream, LogTable, is_named}
+use Rattle.log_history.specs.Answers.{answer, begin_rows, open_rows, write_rows, close_rows, end_rows, store_rows, holds_all}
+
+-- the living stream of that name
+abbrev pub kept_stream : List OpenStream → StreamName → Option OpenStream
+kept_stream streams name = find (is_named name) streams
+
+abbrev pub kept_attrs : List OpenStream → StreamName → Option StreamAttrs
+kept_attrs streams name = option_map (λ (stream : OpenStream). stream.state.attrs) (kept_stream streams name)
+
+abbrev pub has_place : List OpenStream → StreamAttrs → Bool
+has_place streams attrs = list_any (λ (stream : OpenStream). have_one_place stream.state.attrs attrs) streams
+
+abbrev pub is_of_application : OpenStream → Bool
+is_of_application stream = is_application stream.state.name
+
+abbrev pub is_crowd : List OpenStream → Bool
+is_crowd streams = nat_le 64 (count_by is_of_application streams)
+
+abbrev pub has_opener : List OpenStream → StreamName → (client : ℕ) → Bool
+has_opener streams name client =
+    option_map_or (λ (stream : OpenStream). has client stream.openers) (kept_stream streams name) false
+
+abbrev pub is_filled : List OpenStream → StreamName → Bool
+is_filled streams name =
+    option_map_or (λ (stream : OpenStream). holds_all stream.state.attrs stream.state.taken) (kept_stream streams name) false
+
+abbrev pub begin_status : LogTable → (client : ℕ) → Status
+begin_status kept client = answer (begin_rows (has client kept.users))
+
+abbrev pub open_status : LogTable → (client : ℕ) → StreamName → (create : Option StreamAttrs) → Status
+open_status kept client name create =
+    answer (open_rows (has client kept.users) (kept_attrs kept.streams name)
+        (option_map_or (has_place kept.streams) create false) (is_crowd kept.streams) name create)
+
+abbrev pub write_status : LogTable → (client : ℕ) → StreamName → (flags : ℕ) (time : ℤ) → Header → Status
+write_status kept client name flags time header =
+    answer (write_rows (has client kept.users) (has_opener kept.streams name client) (is_filled kept.streams name)
+        (kind_of name) flags time header)
+
+abbrev pub close_status : LogTable → (client : ℕ) → StreamName → Status
+close_status kept client name = answer (close_rows (has client kept.users) (has_opener kept.streams name client))
+
+abbrev pub end_status : LogTable → (client : ℕ) → Status
+end_status kept client = answer (end_rows (has client kept.users))
+
+abbrev pub store_status : LogTable → StreamName → Status
+store_status kept name = answer (store_rows (is_filled kept.streams name))
+
+-- what an ok open makes: nothing where the stream lives
+abbrev pub making_in : List OpenStream → StreamName → (create : Option StreamAttrs) → Option StreamAttrs
+making_in streams name create = option_map_or (λ _. None) (kept_stream streams name) create
