@@ -1,0 +1,6 @@
+pub mod Words
+pub mod Clients
+pub mod Growing
+pub mod Posting
+pub mod Keeping
+pub mod Rows

@@ -1,0 +1,9 @@
+pub mod Types
+pub mod Lists
+pub mod Messages
+pub mod Service
+pub mod Storage
+pub mod Agents
+pub mod History
+pub mod World
+pub mod Facts
