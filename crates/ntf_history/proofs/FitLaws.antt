@@ -127,20 +127,20 @@ none-put test x [] fails none = none_both (test x) false fails refl
 none-put test x (y ∷ ys) fails none =
     let parts = none_first (test y) (list_any test ys) none in
     placed parts.0 parts.1 (comes_first x y) (comes_first y x) (none-put test x ys fails parts.1) where
-  placed : test y ≡ false → list_any test ys ≡ false → (below above : Bool) → list_any test (put comes_first x ys) ≡ false → list_any test (cond below (x ∷ y ∷ ys) (cond above (y ∷ put comes_first x ys) (x ∷ ys))) ≡ false
-  placed first later true above rest =
-      none_both (test x) (test y || list_any test ys) fails (none_both (test y) (list_any test ys) first later)
-  placed first later false true rest = none_both (test y) (list_any test (put comes_first x ys)) first rest
-  placed first later false false rest = none_both (test x) (list_any test ys) fails later
+      placed : test y ≡ false → list_any test ys ≡ false → (below above : Bool) → list_any test (put comes_first x ys) ≡ false → list_any test (cond below (x ∷ y ∷ ys) (cond above (y ∷ put comes_first x ys) (x ∷ ys))) ≡ false
+      placed first later true above rest =
+          none_both (test x) (test y || list_any test ys) fails (none_both (test y) (list_any test ys) first later)
+      placed first later false true rest = none_both (test y) (list_any test (put comes_first x ys)) first rest
+      placed first later false false rest = none_both (test x) (list_any test ys) fails later
 
 none-without : (test taken : Sub → Bool) (xs : List Sub) → list_any test xs ≡ false → list_any test (without taken xs) ≡ false
 none-without test taken [] none = refl
 none-without test taken (x ∷ xs) none =
     let parts = none_first (test x) (list_any test xs) none in
     left parts.0 (taken x) (none-without test taken xs parts.1) where
-  left : test x ≡ false → (gone : Bool) → list_any test (without taken xs) ≡ false → list_any test (cond gone (without taken xs) (x ∷ without taken xs)) ≡ false
-  left first true rest = rest
-  left first false rest = none_both (test x) (list_any test (without taken xs)) first rest
+      left : test x ≡ false → (gone : Bool) → list_any test (without taken xs) ≡ false → list_any test (cond gone (without taken xs) (x ∷ without taken xs)) ≡ false
+      left first true rest = rest
+      left first false rest = none_both (test x) (list_any test (without taken xs)) first rest
 
 HaveIds-put : (x : Sub) (xs : List Sub) → list_any (has_id x.client x.id) xs ≡ false → HaveIds xs → HaveIds (put comes_first x xs)
 HaveIds-put x [] new ids = (refl, tt)
@@ -148,10 +148,10 @@ HaveIds-put x (y ∷ ys) new ids =
     let parts = none_first (has_id x.client x.id y) (list_any (has_id x.client x.id) ys) new in
     let back = has_id-back y.client y.id x.client x.id parts.0 in
     placed parts.1 (none-put (has_id y.client y.id) x ys back ids.0) (comes_first x y) (comes_first y x) (HaveIds-put x ys parts.1 ids.1) where
-  placed : list_any (has_id x.client x.id) ys ≡ false → list_any (has_id y.client y.id) (put comes_first x ys) ≡ false → (below above : Bool) → HaveIds (put comes_first x ys) → HaveIds (cond below (x ∷ y ∷ ys) (cond above (y ∷ put comes_first x ys) (x ∷ ys)))
-  placed later first true above rest = (new, ids)
-  placed later first false true rest = (first, rest)
-  placed later first false false rest = (later, ids.1)
+      placed : list_any (has_id x.client x.id) ys ≡ false → list_any (has_id y.client y.id) (put comes_first x ys) ≡ false → (below above : Bool) → HaveIds (put comes_first x ys) → HaveIds (cond below (x ∷ y ∷ ys) (cond above (y ∷ put comes_first x ys) (x ∷ ys)))
+      placed later first true above rest = (new, ids)
+      placed later first false true rest = (first, rest)
+      placed later first false false rest = (later, ids.1)
 
 HaveIds-without : (taken : Sub → Bool) (xs : List Sub) → HaveIds xs → HaveIds (without taken xs)
 HaveIds-without taken [] ids = tt

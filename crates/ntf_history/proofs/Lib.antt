@@ -5,3 +5,4 @@ pub mod MarkLaws
 pub mod FitLaws
 pub mod AlarmLaws
 pub mod ReaderLaws
+pub mod AnswerLaws

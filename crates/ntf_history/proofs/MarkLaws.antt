@@ -69,11 +69,11 @@ module _ (client key : ℕ) (sub : Sub) where
   offered-matching (Subscribed new ∷ past) possible found =
       let there = sub_at-stands (Subscribed new ∷ past) client key sub found in
       made_now past (has_key client key new) refl possible.0.new (Stands-put comes_first sub new (subs past) there.0) there.1 (offered-matching past possible.1) where
-    made_now : (past : List NtfChange) (named : Bool) → has_key client key new ≡ named → is_known past new.client new.key ≡ false → (sub ≡ new) ⊎ Stands sub (subs past) → has_key client key sub ≡ true → (sub_at past client key ≡ Some sub → IsOffered past) → marks_offered (happened past client key) ≡ map mark_of (filter (matches sub.filters) (cond named [] (sent_since past client key)))
-    made_now past true is unknown stands mine rest = IsOffered-made new past unknown is
-    made_now past false is unknown (inl same) mine rest =
-        absurd (cc (ap (λ (s : Sub). has_key client key s) same, is, mine))
-    made_now past false is unknown (inr there) mine rest = rest (sub_at-named past client key sub there mine)
+        made_now : (past : List NtfChange) (named : Bool) → has_key client key new ≡ named → is_known past new.client new.key ≡ false → (sub ≡ new) ⊎ Stands sub (subs past) → has_key client key sub ≡ true → (sub_at past client key ≡ Some sub → IsOffered past) → marks_offered (happened past client key) ≡ map mark_of (filter (matches sub.filters) (cond named [] (sent_since past client key)))
+        made_now past true is unknown stands mine rest = IsOffered-made new past unknown is
+        made_now past false is unknown (inl same) mine rest =
+            absurd (cc (ap (λ (s : Sub). has_key client key s) same, is, mine))
+        made_now past false is unknown (inr there) mine rest = rest (sub_at-named past client key sub there mine)
   offered-matching (Unsubscribed other id ∷ past) possible found =
       let there = sub_at-stands (Unsubscribed other id ∷ past) client key sub found in
       offered-matching past possible.1 (found-before past (has_id other id) there.0 there.1)

@@ -147,15 +147,15 @@ moved-reader other client cursor None named =
 moved-reader other client cursor (Some r) named =
     let mine = named r refl in
     tests (r.client == other) (other == client) refl refl mine where
-  tests : (a b : Bool) → (r.client == other) ≡ a → (other == client) ≡ b → r.client ≡ client → option_map (move other cursor) (Some r) ≡ cond b (moved_to cursor (Some r)) (Some r)
-  tests true true one two mine = ap (λ b. Some (reader_at r (cond b cursor r.cursor))) one
-  tests false false one two mine = ap (λ b. Some (reader_at r (cond b cursor r.cursor))) one
-  tests true false one two mine =
-      let same : (other == client) ≡ true = grind (arith, nat_tests) in
-      absurd (cc (two, same))
-  tests false true one two mine =
-      let same : (r.client == other) ≡ true = grind (arith, nat_tests) in
-      absurd (cc (one, same))
+      tests : (a b : Bool) → (r.client == other) ≡ a → (other == client) ≡ b → r.client ≡ client → option_map (move other cursor) (Some r) ≡ cond b (moved_to cursor (Some r)) (Some r)
+      tests true true one two mine = ap (λ b. Some (reader_at r (cond b cursor r.cursor))) one
+      tests false false one two mine = ap (λ b. Some (reader_at r (cond b cursor r.cursor))) one
+      tests true false one two mine =
+          let same : (other == client) ≡ true = grind (arith, nat_tests) in
+          absurd (cc (two, same))
+      tests false true one two mine =
+          let same : (r.client == other) ≡ true = grind (arith, nat_tests) in
+          absurd (cc (one, same))
 
 -- each client's reader stands in the list
 pub find-reader : (past : List ReaderChange) (client : ℕ) → find (is_reader_of client) (readers past) ≡ reader_of past client

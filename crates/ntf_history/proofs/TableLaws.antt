@@ -56,9 +56,9 @@ both false b e = cc
 -- a receipt is new for a queue exactly where the queue has the item
 has_item-decides : (through : ℕ) (queue : Queue) → Decides (has_item through queue) (IsNew through queue)
 has_item-decides through queue = (
-    λ e. let tests = both (nat_le queue.first through) (nat_lt through (next_number queue)) e in record { from = leb-true queue.first through tests.0; below = leb-true (suc through) (next_number queue) tests.1 },
-    λ new. both_true (le-leb queue.first through new.from) (le-leb (suc through) (next_number queue) new.below),
-  )
+  λ e. let tests = both (nat_le queue.first through) (nat_lt through (next_number queue)) e in record { from = leb-true queue.first through tests.0; below = leb-true (suc through) (next_number queue) tests.1 },
+  λ new. both_true (le-leb queue.first through new.from) (le-leb (suc through) (next_number queue) new.below),
+)
 
 pub has_item-queue_for : (capacity through : ℕ) (account : Account) → has_item through (queue_for capacity account) ≡ is_new_receipt through account
 has_item-queue_for capacity through account =
@@ -78,10 +78,10 @@ queue-receipted capacity through before true =
     let account = account_of capacity before in
     let queue = queue_for capacity account in
     has (has_item through queue) refl where
-  has : (b : Bool) → has_item through (queue_for capacity (account_of capacity before)) ≡ b → queue_for capacity (after_receipt through (account_of capacity before)) ≡ cond b (received through (queue_for capacity (account_of capacity before))) (queue_for capacity (account_of capacity before))
-  has true is = sym (received-queue_for capacity through (account_of capacity before) ((has_item-decides through (queue_for capacity (account_of capacity before))).0 is))
-  has false is =
-      ap (queue_for capacity) (receipted-account through (account_of capacity before) (sym (has_item-queue_for capacity through (account_of capacity before)) ∙ is))
+      has : (b : Bool) → has_item through (queue_for capacity (account_of capacity before)) ≡ b → queue_for capacity (after_receipt through (account_of capacity before)) ≡ cond b (received through (queue_for capacity (account_of capacity before))) (queue_for capacity (account_of capacity before))
+      has true is = sym (received-queue_for capacity through (account_of capacity before) ((has_item-decides through (queue_for capacity (account_of capacity before))).0 is))
+      has false is =
+          ap (queue_for capacity) (receipted-account through (account_of capacity before) (sym (has_item-queue_for capacity through (account_of capacity before)) ∙ is))
 
 and_false : (a b : Bool) → b ≡ false → (a && b) ≡ false
 and_false true b e = e

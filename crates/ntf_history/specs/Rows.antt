@@ -1,8 +1,9 @@
 -- The answers of the Notification Service: for each call the rows of a condition and a status, in order, of which the first whose condition holds decides; with none the call is answered ok.
-use Rattle.std.specs.Prelude.{◌≡◌, ℕ, ℤ, pos, ◌==◌, nat_le, int_lt, Bool, true, false, not, ◌&&◌, ◌||◌, List, [], ◌∷◌, length, reverse, Option, Some, None, is_some, is_none}
+use Rattle.std.specs.Prelude.{◌≡◌, ℕ, ℤ, pos, ◌==◌, nat_le, int_lt, Bool, true, false, not, ◌&&◌, ◌||◌, List, [], ◌∷◌, length, reverse, Option, Some, None, is_some, is_none, unwrap_or}
 use Rattle.std.specs.List.{list_any}
+use Rattle.ais_values.specs.FirstRow.{first_row}
 use Rattle.ais_values.specs.declared.status.Status.{Status}
-use Rattle.ais_values.specs.declared.status.Status.TheVariants.{InvalidParam, BadHandle, NotExist, Exist, NoSpace, NoResources}
+use Rattle.ais_values.specs.declared.status.Status.TheVariants.{Ok, InvalidParam, BadHandle, NotExist, Exist, NoSpace, NoResources}
 use Rattle.ntf_types.specs.declared.notification.Notification.{Notification}
 use Rattle.ntf_types.specs.SoundTests.{is_sound}
 use Rattle.ntf_filters.specs.declared.filter.FilterSet.{FilterSet}
@@ -21,9 +22,30 @@ use Rattle.ntf_history.specs.Readers.{Reader, ReaderChange, reader_of, readers}
 abbrev pub AnswerRow : Type 0
 AnswerRow = Bool × Status
 
+-- the answer by rows: the status of the first whose condition holds, and else ok
+abbrev pub answer : List AnswerRow → Status
+answer rows = unwrap_or (first_row rows) Ok
+
+-- the rows of calls that the kept table alone decides, by what holds: whether the client uses the service, the filters may be used, the client has a subscription of the id, 64 subscriptions last
+
+abbrev pub begin_by : Bool → List AnswerRow
+begin_by is_user = (is_user, NoResources) ∷ []
+
+abbrev pub end_by : Bool → List AnswerRow
+end_by is_user = (not is_user, BadHandle) ∷ []
+
+abbrev pub subscribe_by : Bool → Bool → Bool → Bool → List AnswerRow
+subscribe_by is_user is_usable has_id is_full =
+    (not is_user, BadHandle) ∷ (not is_usable, InvalidParam) ∷ (has_id, Exist) ∷ (is_full, NoResources) ∷ []
+
+abbrev pub unsubscribe_by : Bool → Bool → List AnswerRow
+unsubscribe_by is_user has_id = (not is_user, BadHandle) ∷ (not has_id, NotExist) ∷ []
+
+-- the rows of each call after all that changed
+
 -- a client begins its use
 abbrev pub begin_rows : List NtfChange → ℕ → List AnswerRow
-begin_rows past client = (is_using past client, NoResources) ∷ []
+begin_rows past client = begin_by (is_using past client)
 
 -- the first row of every other call: the client does not use the service
 abbrev pub unused : List NtfChange → ℕ → AnswerRow
@@ -37,12 +59,12 @@ send_rows is_full past client notification =
 -- a client subscribes under an id
 abbrev pub subscribe_rows : List NtfChange → ℕ → ℕ → FilterSet → List AnswerRow
 subscribe_rows past client id filters =
-    unused past client ∷ (not (is_fit filters), InvalidParam) ∷ (list_any (has_id client id) (subs past), Exist) ∷ (nat_le 64 (length (subs past)), NoResources) ∷ []
+    subscribe_by (is_using past client) (is_fit filters) (list_any (has_id client id) (subs past)) (nat_le 64 (length (subs past)))
 
 -- a client takes the subscription of an id back
 abbrev pub unsubscribe_rows : List NtfChange → ℕ → ℕ → List AnswerRow
 unsubscribe_rows past client id =
-    unused past client ∷ (not (list_any (has_id client id) (subs past)), NotExist) ∷ []
+    unsubscribe_by (is_using past client) (list_any (has_id client id) (subs past))
 
 -- filters ask for alarms and security alarms alone
 abbrev pub asks_for_alarms : FilterSet → Bool
@@ -79,4 +101,4 @@ stop_rows readings past client = unused past client ∷ (is_none (reader_of read
 
 -- a client ends its use
 abbrev pub end_rows : List NtfChange → ℕ → List AnswerRow
-end_rows past client = unused past client ∷ []
+end_rows past client = end_by (is_using past client)

@@ -1,11 +1,11 @@
 -- What the service keeps, what each call makes of it, and what it is after all that changed.
-use Rattle.std.specs.Prelude.{◌≡◌, ℕ, ◌+◌, ◌==◌, nat_lt, nat_le, Bool, ◌&&◌, if◌then◌else◌, List, [], ◌∷◌, map}
+use Rattle.std.specs.Prelude.{◌≡◌, ℕ, ◌+◌, ◌==◌, ◌≤◌, nat_lt, nat_le, Bool, false, ◌&&◌, ⊤, if◌then◌else◌, List, [], ◌∷◌, length, map, Option, Some, None, find}
 use Rattle.ntf_types.specs.declared.notification.Notification.{Notification}
 use Rattle.ntf_filters.specs.declared.filter.FilterSet.{FilterSet}
 use Rattle.ntf_filters.specs.Matching.{matches}
-use Rattle.sub_queue.specs.Queue.{Queue, empty_queue, next_number, offered, received}
+use Rattle.sub_queue.specs.Queue.{Queue, IsCapacity, empty_queue, next_number, offered, received}
 use Rattle.sub_queue.specs.History.{queue_for}
-use Rattle.client_set.specs.Rising.{put, without}
+use Rattle.client_set.specs.Rising.{put, without, IsRising}
 use Rattle.ntf_history.specs.declared.subscription.Subscription.{Subscription}
 use Rattle.ntf_history.specs.Changes.{Sub, NtfChange, users, last_id}
 use Rattle.ntf_history.specs.Changes.NtfChange.{Began, Ended, Subscribed, Unsubscribed, Sent, Receipted}
@@ -67,6 +67,52 @@ offered_sub notification kept =
 abbrev pub received_sub : ℕ → ℕ → ℕ → Subscription → Subscription
 received_sub client key through kept =
     requeued kept (if is_kept_at client key kept && has_item through kept.queue then received through kept.queue else kept.queue)
+
+-- each subscription has a queue of this capacity
+abbrev pub HaveCapacity : ℕ → List Subscription → Type 0
+HaveCapacity capacity [] = ⊤
+HaveCapacity capacity (kept ∷ others) = (kept.queue.capacity ≡ capacity) × HaveCapacity capacity others
+
+-- what holds of a table that the service keeps
+pub record IsSoundTable (table : NtfTable) : Type 0 where
+  pub capacity : IsCapacity table.capacity
+  pub users : IsRising nat_lt table.users
+  pub order : IsRising kept_first table.subs
+  pub queues : HaveCapacity table.capacity table.subs
+  pub few : length table.subs ≤ 64
+
+-- the table of a service that nobody has used
+abbrev pub empty_table : ℕ → NtfTable
+empty_table capacity = record {
+  capacity = capacity;
+  users = [];
+  last_id = 0;
+  subs = [];
+}
+
+-- whether a receipt through a number is new for a subscription, if there is one
+abbrev pub is_new_for : Option Subscription → ℕ → Bool
+is_new_for None through = false
+is_new_for (Some kept) through = has_item through kept.queue
+
+-- whether a receipt is new: the subscription lasts, and its queue has the item
+abbrev pub is_new_in : NtfTable → ℕ → ℕ → ℕ → Bool
+is_new_in table client key through = is_new_for (find (is_kept_at client key) table.subs) through
+
+-- the same notification with an id
+abbrev pub with_id : ℕ → Notification → Notification
+with_id id notification = record {
+  id = id;
+  event_type = notification.event_type;
+  object = notification.object;
+  notifier = notification.notifier;
+  class = notification.class;
+  event_time = notification.event_time;
+  correlated = notification.correlated;
+  text = notification.text;
+  info = notification.info;
+  body = notification.body;
+}
 
 -- what each call makes of the table
 

@@ -1,5 +1,6 @@
 //! Laws of the Notification Service over all that may change it.
 ghost use Rattle.std.specs.Prelude.{◌≡◌, ◌⊎◌, ℕ, ◌+◌, ◌<◌, ◌≤◌, Bool, true, false, List, ◌∷◌, ◌++◌, [], length, map, find, nat_lt};
+ghost use Rattle.std.specs.List.{list_any};
 ghost use Rattle.ntf_types.specs.declared.notification.Notification.{Notification};
 ghost use Rattle.sub_queue.specs.Items.{mark_of, marks_in};
 ghost use Rattle.sub_queue.specs.Queue.{IsCapacity, IsSound};
@@ -8,10 +9,10 @@ ghost use Rattle.client_set.specs.Members.{Stands, has};
 ghost use Rattle.client_set.specs.Rising.{IsRising};
 ghost use Rattle.ntf_history.specs.Changes.{Sub, NtfChange, is_using, users, last_id};
 ghost use Rattle.ntf_history.specs.Changes.NtfChange.{Subscribed, Sent, Receipted};
-ghost use Rattle.ntf_history.specs.Subscriptions.{subs, account, made, through_of, is_new, asked_since, comes_first, Extends};
+ghost use Rattle.ntf_history.specs.Subscriptions.{has_id, subs, account, made, through_of, is_new, asked_since, comes_first, Extends};
 ghost use Rattle.ntf_history.specs.StoredAlarms.{is_alarm, stored_alarms};
 ghost use Rattle.ntf_history.specs.Possible.{HaveIds, CanSend, CanFollow, ArePossible};
-ghost use Rattle.ntf_history.specs.Tables.{after_change, kept_of, table_of};
+ghost use Rattle.ntf_history.specs.Tables.{after_change, empty_table, is_kept_under, is_new_in, IsSoundTable, kept_of, table_of};
 ghost use Rattle.ntf_history.specs.Readers.{Reader, ReaderChange, reader_of, reader_first, is_reader_of, readers};
 
 /// What is kept after one more change is what the call makes of what was kept.
@@ -42,6 +43,23 @@ pub fn law_of_items()
     ensures received { (capacity : ℕ) (past : List NtfChange) (client key through : ℕ) →
         is_new capacity past client key through ≡ true →
         through_of capacity (Receipted client key through ∷ past) client key ≡ through }
+{}
+
+/// What the answers ask of all that changed, the kept table tells: who uses the service, whether a client
+/// has a subscription of an id, how many last, and whether a receipt is new. The table is sound, and of a
+/// service that nobody has used it is empty.
+pub fn law_of_tables()
+    ensures users { (capacity : ℕ) (past : List NtfChange) (client : ℕ) →
+        has client (table_of capacity past).users ≡ is_using past client }
+    ensures ids { (capacity : ℕ) (past : List NtfChange) (client id : ℕ) →
+        list_any (is_kept_under client id) (table_of capacity past).subs ≡ list_any (has_id client id) (subs past) }
+    ensures count { (capacity : ℕ) (past : List NtfChange) →
+        length (table_of capacity past).subs ≡ length (subs past) }
+    ensures receipts { (capacity : ℕ) (past : List NtfChange) (client key through : ℕ) →
+        is_new_in (table_of capacity past) client key through ≡ is_new capacity past client key through }
+    ensures sound { (capacity : ℕ) (past : List NtfChange) → IsCapacity capacity → ArePossible past →
+        IsSoundTable (table_of capacity past) }
+    ensures empty { (capacity : ℕ) → table_of capacity [] ≡ empty_table capacity }
 {}
 
 /// The subscriptions that last: each was made, they stand in order of client and key, at most 64 of them;

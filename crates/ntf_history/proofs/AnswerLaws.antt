@@ -1,0 +1,65 @@
+-- What the answers and the receipts ask of the history, the kept table tells.
+use Rattle.std.proofs.Common.{◌≡◌, ℕ, suc, ◌==◌, nat_lt, Bool, true, false, ◌&&◌, ◌||◌, cond, List, [], ◌∷◌, map, length, refl, ap, sym, ◌∙◌, arith}
+use Rattle.std.specs.Prelude.{Option, Some, None, find, option_map, is_some}
+use Rattle.std.specs.List.{list_any}
+use Rattle.sub_queue.specs.Queue.{IsCapacity}
+use Rattle.sub_queue.specs.History.{account_of, is_new_receipt, queue_for}
+use Rattle.client_set.specs.Members.{Stands, has}
+use Rattle.ntf_history.specs.declared.subscription.Subscription.{Subscription}
+use Rattle.ntf_history.specs.Changes.{Sub, NtfChange, is_using, users}
+use Rattle.ntf_history.specs.Subscriptions.{has_key, has_id, subs, sub_at, happened, account, is_new}
+use Rattle.ntf_history.specs.Possible.{ArePossible}
+use Rattle.ntf_history.specs.Tables.{HaveCapacity, IsSoundTable, has_item, is_kept_at, is_kept_under, is_new_for, is_new_in, kept_of, table_of}
+use Rattle.ntf_history.proofs.KeyLaws.{has_key-is, sub_at-stands}
+use Rattle.ntf_history.proofs.TableLaws.{has_item-queue_for}
+use Rattle.ntf_history.proofs.FitLaws.{has-users, users-rising, kept-rising, length-subs}
+
+-- whether a client has a subscription of an id
+list_any-kept : (capacity : ℕ) (past : List NtfChange) (client id : ℕ) (xs : List Sub) → list_any (is_kept_under client id) (map (kept_of capacity past) xs) ≡ list_any (has_id client id) xs
+list_any-kept capacity past client id [] = refl
+list_any-kept capacity past client id (x ∷ xs) =
+    ap (λ b. has_id client id x || b) (list_any-kept capacity past client id xs)
+
+pub has_id-kept : (capacity : ℕ) (past : List NtfChange) (client id : ℕ) → list_any (is_kept_under client id) (table_of capacity past).subs ≡ list_any (has_id client id) (subs past)
+has_id-kept capacity past client id = list_any-kept capacity past client id (subs past)
+
+-- how many subscriptions last
+length-map : {X Y : Type 0} (f : X → Y) (xs : List X) → length (map f xs) ≡ length xs
+length-map f [] = refl
+length-map f (x ∷ xs) = ap (λ n. suc n) (length-map f xs)
+
+pub length-kept : (capacity : ℕ) (past : List NtfChange) → length (table_of capacity past).subs ≡ length (subs past)
+length-kept capacity past = length-map (kept_of capacity past) (subs past)
+
+-- the subscription of a client and key
+find-map : (capacity : ℕ) (past : List NtfChange) (client key : ℕ) (xs : List Sub) → find (is_kept_at client key) (map (kept_of capacity past) xs) ≡ option_map (kept_of capacity past) (find (has_key client key) xs)
+find-map capacity past client key [] = refl
+find-map capacity past client key (x ∷ xs) =
+    ap (λ o. cond (has_key client key x) (Some (kept_of capacity past x)) o) (find-map capacity past client key xs) ∙ either (has_key client key x) where
+      either : (b : Bool) → cond b (Some (kept_of capacity past x)) (option_map (kept_of capacity past) (find (has_key client key) xs)) ≡ option_map (kept_of capacity past) (cond b (Some x) (find (has_key client key) xs))
+      either true = refl
+      either false = refl
+
+-- whether a receipt is new
+pub is_new-kept : (capacity : ℕ) (past : List NtfChange) (client key through : ℕ) → is_new_in (table_of capacity past) client key through ≡ is_new capacity past client key through
+is_new-kept capacity past client key through =
+    ap (λ o. is_new_for o through) (find-map capacity past client key (subs past)) ∙ told (sub_at past client key) refl where
+      told : (o : Option Sub) → sub_at past client key ≡ o → is_new_for (option_map (kept_of capacity past) o) through ≡ (is_some o && is_new_receipt through (account capacity past client key))
+      told None is = refl
+      told (Some sub) is =
+          let named = has_key-is client key sub (sub_at-stands past client key sub is).1 in
+          has_item-queue_for capacity through (account capacity past sub.client sub.key) ∙ ap (λ c. is_new_receipt through (account capacity past c sub.key)) named.0 ∙ ap (λ k. is_new_receipt through (account capacity past client k)) named.1
+
+HaveCapacity-kept : (capacity : ℕ) (past : List NtfChange) (xs : List Sub) → HaveCapacity capacity (map (kept_of capacity past) xs)
+HaveCapacity-kept capacity past [] = tt
+HaveCapacity-kept capacity past (x ∷ xs) = (refl, HaveCapacity-kept capacity past xs)
+
+-- the table of changes that could follow one another is sound
+pub table_of-sound : (capacity : ℕ) (past : List NtfChange) → IsCapacity capacity → ArePossible past → IsSoundTable (table_of capacity past)
+table_of-sound capacity past fits possible = record {
+  capacity = fits;
+  users = users-rising past;
+  order = kept-rising capacity past;
+  queues = HaveCapacity-kept capacity past (subs past);
+  few = omega (arith, length-kept capacity past, length-subs past possible);
+}
