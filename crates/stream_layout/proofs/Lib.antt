@@ -1,4 +1,7 @@
+pub mod CurrentFile
+pub mod EntryLaws
 pub mod FileLaws
 pub mod NameLaws
 pub mod Rounds
 pub mod Rows
+pub mod StoredBytes

@@ -71,7 +71,7 @@ pub round_last : (n round k : ℕ) (records : List (List ℕ)) → k < n → len
 round_last n round k records small is =
     take_all n (drop (round * n) records) (let long = length-drop (round * n) records in omega arith)
 
-length-running : (n round k : ℕ) (records : List (List ℕ)) → length records ≡ round * n + k → length (drop (round * n) records) ≡ k
+pub length-running : (n round k : ℕ) (records : List (List ℕ)) → length records ≡ round * n + k → length (drop (round * n) records) ≡ k
 length-running n round k records is = length-drop (round * n) records ∙ omega arith
 
 -- one more record of the running round
