@@ -77,7 +77,7 @@ first_is_least stamp (next ∷ stamps) is =
     All-cons (λ s. stamp <ℤ s) next stamps less
       (All-weaker (λ s. next <ℤ s) (λ s. stamp <ℤ s) (λ s later. omega (arith, ints)) stamps (first_is_least next stamps parts.1))
 
-behind_front : {X : Type 0} (P : X → Type 0) (front xs : List X) → All P (front ++ xs) → All P xs
+pub behind_front : {X : Type 0} (P : X → Type 0) (front xs : List X) → All P (front ++ xs) → All P xs
 behind_front P front xs all = subst (All P) (drop_at front xs (length front) refl) (All-drop P (length front) (front ++ xs) all)
 
 -- what holds of all stamps holds of those at which files were made

@@ -1,5 +1,6 @@
 pub mod CurrentFile
 pub mod EntryLaws
+pub mod EventLaws
 pub mod FileLaws
 pub mod NameLaws
 pub mod Rounds
