@@ -94,7 +94,7 @@ by_entries before after old new files q found same same' is =
     is ∙ ap (λ es. replaced es new files q) (sym same) ∙ ap (λ es. replaced before es files q) (sym same')
 
 -- a stream ends
-ended_law : (attrs : StreamAttrs) (front : List LogFile) (current : LogFile) (records : List (List ℕ)) (closed : ℤ) (files : Files)
+pub ended_law : (attrs : StreamAttrs) (front : List LogFile) (current : LogFile) (records : List (List ℕ)) (closed : ℤ) (files : Files)
     → IsLaidOut attrs front current (length records) → Stand (log_entries attrs records (front ++ current ∷ [])) files → (q : List ℕ)
     → get (renamed files (log_name attrs (current_file (front ++ current ∷ []))) (log_name attrs (file_closed closed (current_file (front ++ current ∷ []))))) q
     ≡ replaced (log_entries attrs records (front ++ current ∷ [])) (log_entries attrs records (last_closed closed (front ++ current ∷ []))) files q
@@ -173,7 +173,7 @@ last_number attrs front current records out is =
     omega arith
 
 -- a record goes to the current file
-stored_law : (attrs : StreamAttrs) (front : List LogFile) (current : LogFile) (records : List (List ℕ)) (bytes : List ℕ) (files : Files)
+pub stored_law : (attrs : StreamAttrs) (front : List LogFile) (current : LogFile) (records : List (List ℕ)) (bytes : List ℕ) (files : Files)
     → IsLaidOut attrs front current (length records) → changes_file attrs.action (records_per_file attrs) (length records) ≡ false
     → AreOfSize attrs.record_size records → length bytes ≡ attrs.record_size → (attrs.action ≡ Halt → length records < records_per_file attrs)
     → Stand (log_entries attrs records (front ++ current ∷ [])) files → (q : List ℕ)
@@ -197,7 +197,7 @@ stored_law attrs front current records bytes files out stays sizes whole room st
 
 -- a change of file
 
-changes_rotates : (action : FullAction) (n taken : ℕ) → changes_file action n taken ≡ true → action ≡ Rotate
+pub changes_rotates : (action : FullAction) (n taken : ℕ) → changes_file action n taken ≡ true → action ≡ Rotate
 changes_rotates Wrap n taken is = cc
 changes_rotates Halt n taken is = cc
 changes_rotates Rotate n taken is = refl
@@ -233,30 +233,30 @@ changed_entries attrs number front shut fresh records bytes rotates some begins 
     ∙ append_assoc (entries_from attrs records number front) ((log_name attrs shut, bytes_in attrs (number + length front) records) ∷ []) ((log_name attrs fresh, bytes) ∷ [])
 
 -- what is common to the ways in which a file changes
-record IsChange (attrs : StreamAttrs) (front : List LogFile) (current : LogFile) (records : List (List ℕ)) (bytes : List ℕ) (files : Files) (stamps : Stamps) : Type 0 where
-  out : IsLaidOut attrs front current (length records)
-  rotates : attrs.action ≡ Rotate
-  begins : BeginsRound (records_per_file attrs) (length records)
-  stand : Stand (log_entries attrs records (front ++ current ∷ [])) files
-  free : get files (log_name attrs (file_closed stamps.closed current)) ≡ None
+pub record IsChange (attrs : StreamAttrs) (front : List LogFile) (current : LogFile) (records : List (List ℕ)) (bytes : List ℕ) (files : Files) (stamps : Stamps) : Type 0 where
+  pub out : IsLaidOut attrs front current (length records)
+  pub rotates : attrs.action ≡ Rotate
+  pub begins : BeginsRound (records_per_file attrs) (length records)
+  pub stand : Stand (log_entries attrs records (front ++ current ∷ [])) files
+  pub free : get files (log_name attrs (file_closed stamps.closed current)) ≡ None
 
 -- the files that a change of file leaves, by the files that stood
-abbrev changed_files : StreamAttrs → List LogFile → LogFile → Stamps → List LogFile
+abbrev pub changed_files : StreamAttrs → List LogFile → LogFile → Stamps → List LogFile
 changed_files attrs front current stamps = standing attrs ((front ++ file_closed stamps.closed current ∷ []) ++ open_file stamps.created ∷ [])
 
 -- what the deeds of a change of file make of files, by what they remove
-abbrev changed : StreamAttrs → LogFile → Stamps → ℕ → List ℕ → List Deed → Files → Files
+abbrev pub changed : StreamAttrs → LogFile → Stamps → ℕ → List ℕ → List Deed → Files → Files
 changed attrs current stamps at bytes gone files =
     all_applied (calls_of_all (Rename (log_name attrs current) (log_name attrs (file_closed stamps.closed current))
     ∷ Create (log_name attrs (open_file stamps.created)) ∷ (gone ++ Write (log_name attrs (open_file stamps.created)) at bytes ∷ []))) files
 
-abbrev ChangeLaw : StreamAttrs → List LogFile → LogFile → List (List ℕ) → List ℕ → Files → Stamps → List ℕ → Type 0
+abbrev pub ChangeLaw : StreamAttrs → List LogFile → LogFile → List (List ℕ) → List ℕ → Files → Stamps → List ℕ → Type 0
 ChangeLaw attrs front current records bytes files stamps q =
     get (changed attrs current stamps 0 bytes (removal attrs ((front ++ file_closed stamps.closed current ∷ []) ++ open_file stamps.created ∷ [])) files) q
     ≡ replaced (log_entries attrs records (front ++ current ∷ [])) (log_entries attrs (records ++ bytes ∷ []) (changed_files attrs front current stamps)) files q
 
 -- the entries of files that were not the first to be made
-later_entries : (attrs : StreamAttrs) (records : List (List ℕ)) (number : ℕ) (files : List LogFile)
+pub later_entries : (attrs : StreamAttrs) (records : List (List ℕ)) (number : ℕ) (files : List LogFile)
     → (length records - 1) / records_per_file attrs + 1 - length files ≡ number → log_entries attrs records files ≡ entries_from attrs records number files
 unfolding log_entries
 later_entries attrs records number files is = ap (λ j. entries_from attrs records j files) is
@@ -364,7 +364,7 @@ change_rotated attrs oldest front current records bytes files stamps q change ke
         (λ same. created_apart attrs oldest shut stamp out.stamp (unlike oldest.created current.created less) (sym same))
         (subst (λ es. Stand es files) before change.stand) q)
 
-change_law : (attrs : StreamAttrs) (front : List LogFile) (current : LogFile) (records : List (List ℕ)) (bytes : List ℕ) (files : Files) (stamps : Stamps) (q : List ℕ)
+pub change_law : (attrs : StreamAttrs) (front : List LogFile) (current : LogFile) (records : List (List ℕ)) (bytes : List ℕ) (files : Files) (stamps : Stamps) (q : List ℕ)
     → IsChange attrs front current records bytes files stamps → ChangeLaw attrs front current records bytes files stamps q
 change_law attrs [] current records bytes files stamps q change =
     elim (cases_lt 1 attrs.rotated) [

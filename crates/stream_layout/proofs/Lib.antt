@@ -1,5 +1,6 @@
 pub mod CurrentFile
 pub mod EntryLaws
+pub mod CarryLaws
 pub mod EventLaws
 pub mod FileLaws
 pub mod NameLaws
