@@ -8,10 +8,11 @@ use Rattle.std.specs.Option.{option_map_or}
 use Rattle.std.specs.FinMap.{find, put, is_sorted, insert, from_sorted, same_entries_map, entries-insert, entries-from_sorted, get-from_sorted, empty_of_len, len-entries}
 use Rattle.std.proofs.lemmas.Bool.Decides.{nat_tests}
 use Rattle.std.proofs.lemmas.List.{length-append, take_all, drop_all}
-use Rattle.aisrun.specs.Deeds.{DeviceCall, CallCreate, CallWrite, CallSync, calls_of, calls_of_all, applied, all_applied}
-use Rattle.aisrun.specs.Disk.{File, Files, no_files, empty_file, overwritten, file_written, file_synced, adjusted, created, written_at, synced}
+use Rattle.aisrun.specs.Deeds.{calls_of, calls_of_all}
+use Rattle.aisrun.specs.DeviceCalls.{DeviceCall, CallCreate, CallWrite, CallSync, applied, all_applied}
+use Rattle.aisrun.specs.Disk.{File, Files, no_files, empty_file, overwritten, file_written, file_synced, adjusted, created, written_at, synced, settled_file}
 use Rattle.aisrun.specs.SessionScript.{IsBody}
-use Rattle.aisrun.specs.SessionFiles.{record_of, records_from, settled_file, stored_entries, stored_files, opening_deeds, record_deed, alarm_cfg_name, alarm_log_name, notification_cfg_name, notification_log_name, system_cfg_name, system_log_name, alarm_cfg, notification_cfg, system_cfg}
+use Rattle.aisrun.specs.SessionFiles.{record_of, records_from, stored_entries, stored_files, opening_deeds, record_deed, alarm_cfg_name, alarm_log_name, notification_cfg_name, notification_log_name, system_cfg_name, system_log_name, alarm_cfg, notification_cfg, system_cfg}
 use Rattle.aisrun.proofs.FileLemmas.{length-record_of}
 
 abbrev Entries : Type 0

@@ -1,6 +1,7 @@
 mod ScriptLemmas
 mod FileLemmas
 mod DiskLemmas
+mod PlayLemmas
 mod Progress
 mod SessionLemmas
 mod ListingLemmas

@@ -9,13 +9,14 @@ use Rattle.std.specs.Ordering.{nat_cmp}
 use Rattle.std.specs.Cmp.Lexicographic.{slice_cmp}
 use Rattle.std.specs.FinMap.{find, is_sorted, keys, entries, from_sorted, entries-from_sorted, get-from_sorted, empty_of_len, len-entries}
 use Rattle.std.proofs.lemmas.List.{append-nil, length-map}
-use Rattle.aisrun.specs.Deeds.{calls_of_all, all_applied, StopsIn}
-use Rattle.aisrun.specs.Disk.{File, Files, no_files}
-use Rattle.aisrun.specs.Failures.{WhereTold}
+use Rattle.aisrun.specs.Deeds.{calls_of_all}
+use Rattle.aisrun.specs.DeviceCalls.{all_applied, FailsAfter, DoesFront}
+use Rattle.aisrun.specs.Disk.{File, Files}
 use Rattle.aisrun.specs.SessionScript.{IsBody}
 use Rattle.aisrun.specs.SessionFiles.{records_from, stored_entries, stored_files, opening_deeds, alarm_cfg_name, alarm_log_name, notification_cfg_name, notification_log_name, system_cfg_name, system_log_name, alarm_cfg, notification_cfg, system_cfg, cfg_text}
 use Rattle.aisrun.specs.SessionText.{file_lines, stored_lines}
-use Rattle.aisrun.specs.Sessions.{HeldNone, HoldsNow, sizes_of, ListsFiles, PlaysOpened, OpensStreams, IsWhole}
+use Rattle.aisrun.specs.Sessions.{HeldNone, HoldsNow, sizes_of, ListsFiles, IsWhole}
+use Rattle.aisrun.specs.SessionSteps.{PlaysOpened, OpensStreams, BreaksOpening, Unopened, OpensFront, Opening}
 use Rattle.aisrun.proofs.DiskLemmas.{opened, length-records_from}
 
 -- the sizes of names, looked up in a list of entries
@@ -98,26 +99,24 @@ held_none (Some f) names listed none =
 
 -- the deeds that make the streams, done on a disk without files
 pub opens_streams : (old mid new : Option Files) → HeldNone old → mid ≡ old → new ≡ option_map (all_applied (calls_of_all opening_deeds)) mid → OpensStreams old new
-opens_streams None mid new empty same done = record { empty = tt; stored = done ∙ ap (option_map (all_applied (calls_of_all opening_deeds))) same }
+opens_streams None mid new empty same done = record { empty = tt; done = done ∙ ap (option_map (all_applied (calls_of_all opening_deeds))) same; stored = done ∙ ap (option_map (all_applied (calls_of_all opening_deeds))) same }
 opens_streams (Some f) mid new empty same done =
     let now : new ≡ Some (all_applied (calls_of_all opening_deeds) f) = done ∙ ap (option_map (all_applied (calls_of_all opening_deeds))) same in
     record {
       empty = empty;
+      done = now;
       stored = subst (λ o. HoldsNow (Some f) o (λ g. g ≡ stored_files [])) (sym now) (ap (all_applied (calls_of_all opening_deeds)) empty ∙ opened);
     }
 
--- the same deeds broken off
-pub stops_opening : (old mid new : Option Files) → HeldNone old → mid ≡ old → WhereTold (StopsIn (calls_of_all opening_deeds)) mid new → HoldsNow old new (StopsIn (calls_of_all opening_deeds) no_files)
-stops_opening None mid new empty same stops = stops_untold mid new same stops where
-  stops_untold : (mid new : Option Files) → mid ≡ None → WhereTold (StopsIn (calls_of_all opening_deeds)) mid new → new ≡ None
-  stops_untold None None same stops = refl
-  stops_untold None (Some g) same stops = absurd stops
-  stops_untold (Some f) new same stops = cc
-stops_opening (Some f) mid None empty same stops = subst (λ o. WhereTold (StopsIn (calls_of_all opening_deeds)) o None) same stops
-stops_opening (Some f) mid (Some g) empty same stops =
-    subst (λ w. StopsIn (calls_of_all opening_deeds) w g) empty (subst (λ o. WhereTold (StopsIn (calls_of_all opening_deeds)) o (Some g)) same stops)
+-- the same deeds broken off by a fault, or for want of memory
+pub fails_opening : (old mid new : Option Files) → HeldNone old → mid ≡ old → (count : ℕ) × FailsAfter (calls_of_all opening_deeds) count mid new → BreaksOpening old new
+fails_opening old mid new empty same fails =
+    let from_start = subst (λ o. (count : ℕ) × FailsAfter (calls_of_all opening_deeds) count o new) same fails in Unopened empty from_start.0 from_start.1
 
-held_on : (P Q : Files → Type 0) (old mid new : Option Files) → HoldsNow old mid P → HoldsNow mid new Q → HoldsNow old new Q
+pub lacks_opening : (old mid new : Option Files) → HeldNone old → mid ≡ old → DoesFront (calls_of_all opening_deeds) mid new → OpensFront old new
+lacks_opening old mid new empty same does = Opening empty (subst (λ o. DoesFront (calls_of_all opening_deeds) o new) same does)
+
+pub held_on : (P Q : Files → Type 0) (old mid new : Option Files) → HoldsNow old mid P → HoldsNow mid new Q → HoldsNow old new Q
 held_on P Q None None new first second = second
 held_on P Q None (Some f) new first second = cc
 held_on P Q (Some o) None new first second = absurd first

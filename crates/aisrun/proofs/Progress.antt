@@ -1,7 +1,9 @@
 -- How far the answering of a session's calls has come.
-use Rattle.std.specs.Prelude.{◌≡◌, ℕ, ◌+◌, ◌≤◌, List, ◌++◌, length, take, Option, IfSome}
+use Rattle.std.specs.Prelude.{◌≡◌, ℕ, ◌+◌, ◌≤◌, List, ◌++◌, length, take, Option, option_map, IfSome}
 use Rattle.disk_model.specs.Disk.{Files}
-use Rattle.aisrun.specs.SessionFiles.{stored_files}
+use Rattle.aisrun.specs.Deeds.{calls_of_all}
+use Rattle.aisrun.specs.DeviceCalls.{all_applied}
+use Rattle.aisrun.specs.SessionFiles.{record_deeds, stored_files}
 use Rattle.aisrun.specs.SessionText.{request_lines, answered_lines, file_lines}
 use Rattle.aisrun.specs.Sessions.{HoldsNow, sizes_of}
 
@@ -9,6 +11,7 @@ use Rattle.aisrun.specs.Sessions.{HoldsNow, sizes_of}
 pub record Answered (bodies : List (List ℕ)) (count : ℕ) (old new : Option Files) (before now : ℕ) (text : List ℕ) : Type 0 where
   pub printed : text ≡ request_lines (length bodies + 2) ++ answered_lines (length bodies + 2) (count + 2)
   pub stored : HoldsNow old new (λ f. f ≡ stored_files (take count bodies))
+  pub done : new ≡ option_map (all_applied (calls_of_all (take count (record_deeds 0 bodies)))) old
   pub later : before ≤ now
 
 -- the lines of the first names' files are made

@@ -6,7 +6,8 @@ use Rattle.std.proofs.lemmas.Bool.{false≢true}
 use Rattle.std.proofs.lemmas.List.{take-append-drop, append_cancel_left, length-append}
 use Rattle.std.proofs.lemmas.List.Elements.{All-head, All-tail}
 use Rattle.std.proofs.Math.Seq.{take-append_seam, get_or-append_seam}
-use Rattle.aisrun.specs.SessionScript.{IsBody, IsBodyByte, NoBody, NoLine, Spells, opening_lines, before_body, after_body, closing_lines, write_lines}
+use Rattle.aisrun.specs.SessionScript.{IsBody, IsBodyByte, Spells, opening_lines, before_body, after_body, closing_lines, write_lines}
+use Rattle.aisrun.specs.SessionReading.{NoBody, NoLine}
 
 -- a text whose head passes the test is the front and the rest
 pub found_front : (text front : List ℕ) → pointwise nat_eq (take (length front) text) front ≡ true → text ≡ front ++ drop (length front) text

@@ -1,4 +1,4 @@
--- The words of the command line that the program knows.
+-- Words of public clauses: the words of the command line that the program knows.
 use Rattle.std.specs.Prelude.{ℕ, Bool, false, not, ◌&&◌, ◌==◌, List, [], ◌∷◌, Option, Some, None, option_map, if◌then◌else◌, nat_eq, codes}
 use Rattle.std.specs.Cmp.Lexicographic.{pointwise}
 use Rattle.ais_values.specs.declared.kind.StreamKind.{StreamKind}

@@ -1,4 +1,5 @@
--- How a run ends, by its status: what was read, what is printed, and what it leaves of the disk.
+-- Words of public clauses: how a run ends, which is its status with what was read, what is printed, and what it leaves of
+-- the disk.
 use Rattle.std.specs.Prelude.{◌≡◌, ℕ, ◌+◌, ◌≤◌, List, ◌++◌, length, Option, MatchOption, ◌⊎◌, codes}
 use Rattle.std.specs.Io.KnownBytes.{Appends}
 use Rattle.ais_values.specs.Causes.{Rose}
@@ -6,7 +7,7 @@ use Rattle.disk_model.specs.Disk.{Files}
 use Rattle.io_edge.specs.Reads.{TakesAll, TakesSome}
 use Rattle.io_edge.specs.Writes.{AppendsFront}
 use Rattle.aisrun.specs.declared.status.Status8.{Status8}
-use Rattle.aisrun.specs.declared.status.Status8.TheVariants.{Done, ScriptRefused, Usage, Memory, ReadFault, WriteFault, DiskFault, RootNotEmpty, TooLong}
+use Rattle.aisrun.specs.declared.status.Status8.TheVariants.{Done, ScriptRefused, Usage, Memory, ReadFault, WriteFault, TooLong}
 use Rattle.aisrun.specs.declared.command.Command.{Command}
 use Rattle.aisrun.specs.declared.command.Command.TheVariants.{Run, Check, Expr}
 use Rattle.aisrun.specs.Commands.{command_of, text_of}
@@ -21,7 +22,7 @@ use Rattle.script.specs.Refusals.{why_word}
 use Rattle.script.specs.Scripts.{IsScriptOf, IsBadAt}
 use Rattle.std.specs.Fmt.{decimal}
 use Rattle.aisrun.specs.SessionScript.{Spells}
-use Rattle.aisrun.specs.Sessions.{IsWhole, IsNotEmpty, IsBroken}
+use Rattle.aisrun.specs.Sessions.{Plays, LacksMemory}
 
 -- the most bytes of an input: 16 MiB
 unfoldable pub input_limit : ℕ
@@ -37,6 +38,11 @@ pub record SourceFailed (left left_after : Option (List ℕ)) (faults faults_aft
 pub record InputTooLong (left left_after : Option (List ℕ)) (text : List ℕ) : Type 0 where
   pub taken : TakesSome left left_after (λ count. count ≡ input_limit + 1)
   pub printed : text ≡ codes "script too long\n"
+
+-- the input was not read to its end
+pub data InputRefused (left left_after : Option (List ℕ)) (faults faults_after : ℕ) (status : Status8) (text : List ℕ) : Type 0 where
+  Unread : status ≡ ReadFault → SourceFailed left left_after faults faults_after text → InputRefused left left_after faults faults_after status text
+  Overlong : status ≡ TooLong → InputTooLong left left_after text → InputRefused left left_after faults faults_after status text
 
 -- what a run was given and what it leaves: its source, its disk, and what is said of them
 pub record Given (S D : Type 0) : Type 0 where
@@ -65,42 +71,16 @@ pub record ReadsOther {S D : Type 0} (run : Given S D) : Type 0 where
 abbrev pub LeavesDisk : {S D : Type 0} → Given S D → Type 0
 LeavesDisk run = run.disk_after ≡ run.disk
 
--- the session of the script was whole
-pub record SessionDone {S D : Type 0} (run : Given S D) (text : List ℕ) : Type 0 where
-  pub bodies : List (List ℕ)
-  pub read : ReadsSession run bodies
-  pub whole : IsWhole bodies (run.files run.disk) (run.files run.disk_after) text
-
--- the script is refused
-pub record SessionRefused {S D : Type 0} (run : Given S D) (text : List ℕ) : Type 0 where
-  pub read : ReadsOther run
-  pub printed : text ≡ codes "script not built\n"
-  pub disk : LeavesDisk run
-
--- the disk held a file at the start
-pub record SessionUnopened {S D : Type 0} (run : Given S D) (text : List ℕ) : Type 0 where
-  pub bodies : List (List ℕ)
-  pub read : ReadsSession run bodies
-  pub found : IsNotEmpty (run.files run.disk) (run.files run.disk_after) text
-
--- the disk failed
-pub record SessionBroken {S D : Type 0} (run : Given S D) (text : List ℕ) : Type 0 where
-  pub bodies : List (List ℕ)
-  pub read : ReadsSession run bodies
-  pub rose : Rose (run.faults run.disk) (run.faults run.disk_after)
-  pub broken : IsBroken bodies (run.files run.disk) (run.files run.disk_after) text
-
--- how the running of a script ends
-abbrev pub SessionEnds : {S D : Type 0} → Given S D → Status8 → List ℕ → Type 0
-SessionEnds run Done text = SessionDone run text
-SessionEnds run ScriptRefused text = SessionRefused run text
-SessionEnds run ReadFault text = LeavesDisk run × SourceFailed (run.left run.source) (run.left run.source_after) (run.reads run.source) (run.reads run.source_after) text
-SessionEnds run TooLong text = LeavesDisk run × InputTooLong (run.left run.source) (run.left run.source_after) text
-SessionEnds run RootNotEmpty text = SessionUnopened run text
-SessionEnds run DiskFault text = SessionBroken run text
-SessionEnds run Usage text = ⊥
-SessionEnds run Memory text = ⊥
-SessionEnds run WriteFault text = ⊥
+-- how the running of a script ends: its session is played, or it is none that is accepted, or it was not read to its end
+pub data SessionEnds {S D : Type 0} (run : Given S D) (status : Status8) (text : List ℕ) : Type 0 where
+  Played :
+      (bodies : List (List ℕ)) → ReadsSession run bodies
+      → Plays bodies (run.files run.disk) (run.files run.disk_after) (run.faults run.disk) (run.faults run.disk_after) status text
+      → SessionEnds run status text
+  NotBuilt : status ≡ ScriptRefused → ReadsOther run → text ≡ codes "script not built\n" → LeavesDisk run → SessionEnds run status text
+  NotRead :
+      InputRefused (run.left run.source) (run.left run.source_after) (run.reads run.source) (run.reads run.source_after) status text
+      → LeavesDisk run → SessionEnds run status text
 
 -- the lines of a script are counted: all but blank lines and comments
 pub record ScriptPasses (bytes text : List ℕ) : Type 0 where
@@ -117,24 +97,14 @@ pub record ScriptFails (bytes text : List ℕ) : Type 0 where
   pub printed : text ≡ codes "script line " ++ (decimal number ++ (codes ": " ++ (why_word reason ++ codes "\n")))
 
 -- how the bytes of an input are judged
-abbrev pub Judged : List ℕ → Status8 → List ℕ → Type 0
-Judged bytes Done text = ScriptPasses bytes text
-Judged bytes ScriptRefused text = ScriptFails bytes text
-Judged bytes _ text = ⊥
+pub data Judged (bytes : List ℕ) (status : Status8) (text : List ℕ) : Type 0 where
+  IsScript : status ≡ Done → ScriptPasses bytes text → Judged bytes status text
+  IsNoScript : status ≡ ScriptRefused → ScriptFails bytes text → Judged bytes status text
 
--- the input was read to its end and judged
-pub record InputJudged (left left_after : Option (List ℕ)) (status : Status8) (text : List ℕ) : Type 0 where
-  pub bytes : List ℕ
-  pub read : TakesAll left left_after input_limit bytes
-  pub judged : Judged bytes status text
-
--- how the checking of a script ends
-abbrev pub CheckEnds : Option (List ℕ) → Option (List ℕ) → ℕ → ℕ → Status8 → List ℕ → Type 0
-CheckEnds left left_after faults faults_after Done text = InputJudged left left_after Done text
-CheckEnds left left_after faults faults_after ScriptRefused text = InputJudged left left_after ScriptRefused text
-CheckEnds left left_after faults faults_after ReadFault text = SourceFailed left left_after faults faults_after text
-CheckEnds left left_after faults faults_after TooLong text = InputTooLong left left_after text
-CheckEnds left left_after faults faults_after _ text = ⊥
+-- how the checking of a script ends: the input was read to its end and judged, or it was not read to its end
+pub data CheckEnds (left left_after : Option (List ℕ)) (faults faults_after : ℕ) (status : Status8) (text : List ℕ) : Type 0 where
+  Checked : (bytes : List ℕ) → TakesAll left left_after input_limit bytes → Judged bytes status text → CheckEnds left left_after faults faults_after status text
+  Unchecked : InputRefused left left_after faults faults_after status text → CheckEnds left left_after faults faults_after status text
 
 -- the text is an expression: its pieces are counted, and it has no fault
 pub record TextPasses (kind : StreamKind) (text printed : List ℕ) : Type 0 where
@@ -150,47 +120,54 @@ pub record TextFails (kind : StreamKind) (text printed : List ℕ) : Type 0 wher
   pub shown : printed ≡ codes "bad " ++ (decimal fault.place ++ (codes " " ++ (word_of fault.why ++ codes "\n")))
 
 -- how the checking of an expression ends
-abbrev pub ExprEnds : StreamKind → List ℕ → Status8 → List ℕ → Type 0
-ExprEnds kind text Done printed = TextPasses kind text printed
-ExprEnds kind text ScriptRefused printed = TextFails kind text printed
-ExprEnds kind text _ printed = ⊥
+pub data ExprEnds (kind : StreamKind) (text : List ℕ) (status : Status8) (printed : List ℕ) : Type 0 where
+  IsExpression : status ≡ Done → TextPasses kind text printed → ExprEnds kind text status printed
+  IsNoExpression : status ≡ ScriptRefused → TextFails kind text printed → ExprEnds kind text status printed
+
+-- the source was not asked for anything
+abbrev pub LeavesSource : {S D : Type 0} → Given S D → Type 0
+LeavesSource run = run.source_after ≡ run.source
 
 -- the words are none of the program's
-pub record UsageShown {S D : Type 0} (run : Given S D) (text : List ℕ) : Type 0 where
+pub record UnknownEnds {S D : Type 0} (run : Given S D) (status : Status8) (text : List ℕ) : Type 0 where
+  pub status_is : status ≡ Usage
   pub printed : text ≡ codes "usage: aisrun run, check, expr KIND TEXT or gen COUNT SEED\n"
-  pub source : run.source_after ≡ run.source
+  pub source : LeavesSource run
   pub disk : LeavesDisk run
-
-abbrev pub UnknownEnds : {S D : Type 0} → Given S D → Status8 → List ℕ → Type 0
-UnknownEnds run Usage text = UsageShown run text
-UnknownEnds run _ text = ⊥
 
 -- how each command ends; `expr` leaves the source unread
 abbrev pub CommandEnds : {S D : Type 0} → Command → List (List ℕ) → Given S D → Status8 → List ℕ → Type 0
 CommandEnds Run words run status text = SessionEnds run status text
 CommandEnds Check words run status text =
     LeavesDisk run × CheckEnds (run.left run.source) (run.left run.source_after) (run.reads run.source) (run.reads run.source_after) status text
-CommandEnds (Expr kind) words run status text = LeavesDisk run × (run.source_after ≡ run.source) × ExprEnds kind (text_of words) status text
+CommandEnds (Expr kind) words run status text = LeavesDisk run × LeavesSource run × ExprEnds kind (text_of words) status text
 
 -- how a run of these words ends, but for the writing of its text
 abbrev pub Ends : {S D : Type 0} → List (List ℕ) → Given S D → Status8 → List ℕ → Type 0
 Ends words run status text = MatchOption (command_of words) (UnknownEnds run status text) (λ command. CommandEnds command words run status text)
 
--- the end that the run came to, and its text, all of which was written
-pub record EndsWritten {S D : Type 0} (words : List (List ℕ)) (run : Given S D) (status : Status8) (before after : Option (List ℕ)) : Type 0 where
-  pub text : List ℕ
-  pub ended : Ends words run status text
-  pub written : Appends before after text
+-- what is left where memory ran out while a script was run: the disk was not asked for anything, or the session lacked memory
+pub data SessionLacksMemory {S D : Type 0} (run : Given S D) : Type 0 where
+  Unasked : LeavesDisk run → SessionLacksMemory run
+  Playing :
+      (bodies : List (List ℕ)) → ReadsSession run bodies
+      → LacksMemory bodies (run.files run.disk) (run.files run.disk_after) (run.faults run.disk) (run.faults run.disk_after)
+      → SessionLacksMemory run
 
--- the end that the run came to, and its text, of which a front and not all was written
-pub record EndsUnwritten {S D : Type 0} (words : List (List ℕ)) (run : Given S D) (before after : Option (List ℕ)) : Type 0 where
-  pub status : Status8
-  pub text : List ℕ
-  pub ended : Ends words run status text
-  pub written : AppendsFront before after text
+-- what is left where memory ran out before the text was whole
+abbrev pub CommandLacksMemory : {S D : Type 0} → Command → Given S D → Type 0
+CommandLacksMemory Run run = SessionLacksMemory run
+CommandLacksMemory Check run = LeavesDisk run
+CommandLacksMemory (Expr kind) run = LeavesDisk run × LeavesSource run
 
--- how a run ends: its text is written, or the sink failed as it was; nothing else is said where memory ran out
-abbrev pub RunEnds : {S D : Type 0} → List (List ℕ) → Given S D → Status8 → Option (List ℕ) → Option (List ℕ) → Type 0
-RunEnds words run Memory before after = (after ≡ before) ⊎ EndsUnwritten words run before after
-RunEnds words run WriteFault before after = EndsUnwritten words run before after
-RunEnds words run status before after = EndsWritten words run status before after
+abbrev pub EndLacksMemory : {S D : Type 0} → List (List ℕ) → Given S D → Type 0
+EndLacksMemory words run = MatchOption (command_of words) (LeavesDisk run × LeavesSource run) (λ command. CommandLacksMemory command run)
+
+-- how a run ends: its text is written; or a front of it and not all, as the sink failed or memory ran out; or memory ran
+-- out before, and nothing was written
+pub data RunEnds {S D : Type 0} (words : List (List ℕ)) (run : Given S D) (status : Status8) (before after : Option (List ℕ)) : Type 0 where
+  Written : (text : List ℕ) → Ends words run status text → Appends before after text → RunEnds words run status before after
+  Unwritten :
+      (status ≡ WriteFault) ⊎ (status ≡ Memory) → (end : Status8) (text : List ℕ) → Ends words run end text → AppendsFront before after text
+      → RunEnds words run status before after
+  Unended : status ≡ Memory → EndLacksMemory words run → after ≡ before → RunEnds words run status before after

@@ -1,4 +1,4 @@
--- The exit status of each end.
+-- Words of public clauses: the exit status of each end.
 use Rattle.std.specs.Prelude.{ℕ}
 use Rattle.aisrun.specs.declared.status.Status8.{Status8}
 use Rattle.aisrun.specs.declared.status.Status8.TheVariants.{Done, ScriptRefused, Usage, Memory, ReadFault, WriteFault, DiskFault, RootNotEmpty, TooLong}

@@ -1,8 +1,8 @@
--- The files of a session: three well-known streams, and the records of the system stream.
+-- Words of public clauses: the files of a session, which are those of three well-known streams, and its deeds.
 use Rattle.std.specs.Prelude.{ℕ, ◌+◌, ◌-◌, ◌*◌, List, [], ◌∷◌, ◌++◌, length, replicate, codes}
 use Rattle.std.specs.Fmt.{decimal}
 use Rattle.std.specs.FinMap as map
-use Rattle.disk_model.specs.Disk.{File, Files}
+use Rattle.disk_model.specs.Disk.{File, Files, settled_file}
 use Rattle.stream_layout.specs.declared.deed.Deed.{Deed}
 use Rattle.stream_layout.specs.declared.deed.Deed.TheVariants as deed
 
@@ -57,10 +57,6 @@ notification_cfg = cfg_text (codes "notification") (codes "@Cr @Ct @Nt @Ne6 @No3
 unfoldable pub system_cfg : List ℕ
 system_cfg = cfg_text (codes "system") (codes "@Cr @Cb")
 
--- a file of which nothing is loose
-abbrev pub settled_file : List ℕ → File
-settled_file bytes = record { bytes = bytes; loose = []; settled = length bytes }
-
 -- the files with their names, by the bytes of the system stream's log
 unfoldable pub stored_entries : List ℕ → List (List ℕ × File)
 stored_entries log =
@@ -90,3 +86,12 @@ opening_deeds =
 -- what stores the record of a body behind so many others
 abbrev pub record_deed : ℕ → List ℕ → Deed
 record_deed count body = deed.Write system_log_name (256 * count) (record_of (count + 1) body)
+
+-- what stores the records of these bodies behind so many others
+abbrev pub record_deeds : ℕ → List (List ℕ) → List Deed
+record_deeds count [] = []
+record_deeds count (body ∷ bodies) = record_deed count body ∷ record_deeds (count + 1) bodies
+
+-- all deeds of a session, in order
+abbrev pub session_deeds : List (List ℕ) → List Deed
+session_deeds bodies = opening_deeds ++ record_deeds 0 bodies

@@ -1,4 +1,4 @@
--- The scripts that `run` accepts: one client opens the system stream and writes one to thirty records to it.
+-- Words of public clauses: the scripts that `run` accepts: one client opens the system stream and writes one to thirty records to it.
 use Rattle.std.specs.Prelude.{◌≡◌, ◌≢◌, ℕ, ◌≤◌, List, [], ◌∷◌, ◌++◌, length, codes}
 use Rattle.std.specs.List.{AllByRecursion}
 
@@ -39,15 +39,3 @@ pub record Spells (bodies : List (List ℕ)) (bytes : List ℕ) : Type 0 where
   pub bound : length bodies ≤ 30
   pub each : AllByRecursion IsBody bodies
   pub text : bytes ≡ opening_lines ++ write_lines bodies closing_lines
-
--- no write line stands at the head of the text
-abbrev pub NoLine : List ℕ → Type 0
-NoLine text = (body rest : List ℕ) → IsBody body → text ≡ before_body ++ (body ++ (after_body ++ rest)) → ⊥
-
--- no body that a quote and a line feed end stands at the head of the text
-abbrev pub NoBody : List ℕ → Type 0
-NoBody text = (body rest : List ℕ) → IsBody body → text ≡ body ++ (after_body ++ rest) → ⊥
-
--- the text begins with a quote
-abbrev pub IsAtQuote : List ℕ → Type 0
-IsAtQuote text = (rest : List ℕ) × (text ≡ 34 ∷ rest)

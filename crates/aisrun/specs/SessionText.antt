@@ -1,4 +1,4 @@
--- What is printed of a session of so many calls: their requests, what became of them, and the files.
+-- Words of public clauses: what is printed of a session of so many calls: their requests, what became of them, and the files.
 use Rattle.std.specs.Prelude.{ℕ, suc, zero, ◌+◌, ◌*◌, List, [], ◌∷◌, ◌++◌, codes}
 use Rattle.std.specs.Fmt.{decimal}
 

@@ -1,14 +1,15 @@
--- How a session ends over a disk: with its files stored, at a root that is not empty, or at a disk fault.
+-- Words of public clauses: how a session ends over a disk, with its files stored, at a root that is not empty, at a disk
+-- fault, or for want of memory.
 use Rattle.std.specs.Prelude.{◌≡◌, ℕ, ◌+◌, List, [], ◌∷◌, ◌++◌, length, Option, Some, None, IfSome, ⊤, option_map, codes}
 use Rattle.std.specs.List.{filter_map}
-use Rattle.std.specs.Option.{option_to_list}
 use Rattle.std.specs.FinMap as files
 use Rattle.disk_model.specs.Disk.{Files, no_files, length_of}
-use Rattle.stream_files.specs.Deeds.{calls_of, calls_of_all, StopsIn}
+use Rattle.disk_model.specs.DeviceCalls.{FailsAfter, DoesFront}
+use Rattle.stream_layout.specs.Deeds.{calls_of, calls_of_all}
 use Rattle.ais_values.specs.Causes.{Rose}
 use Rattle.aisrun.specs.declared.status.Status8.{Status8}
 use Rattle.aisrun.specs.declared.status.Status8.TheVariants.{Done, DiskFault, RootNotEmpty}
-use Rattle.aisrun.specs.SessionFiles.{opening_deeds, record_deed, stored_files}
+use Rattle.aisrun.specs.SessionFiles.{opening_deeds, record_deed, session_deeds, stored_files}
 use Rattle.aisrun.specs.SessionText.{request_lines, answered_lines, accepted_line, session_lines, file_lines, stored_lines, fault_line}
 
 -- P holds of the files that the disk holds now; nothing is said where it tells them neither now nor before
@@ -17,6 +18,10 @@ HoldsNow None new P = new ≡ None
 HoldsNow (Some old) None P = ⊥
 HoldsNow (Some old) (Some new) P = P new
 
+-- these files, where the disk tells what it holds
+abbrev pub told_as : Option Files → Files → Option Files
+told_as old f = option_map (λ _. f) old
+
 -- the disk held no file, where it tells them
 abbrev pub HeldNone : Option Files → Type 0
 HeldNone old = IfSome old (λ f. f ≡ no_files)
@@ -24,12 +29,6 @@ HeldNone old = IfSome old (λ f. f ≡ no_files)
 -- the files with their lengths, as far as the disk tells a length of a name
 abbrev pub sizes_of : Files → List (List ℕ) → List (List ℕ × ℕ)
 sizes_of f names = filter_map (λ name. option_map (λ size. (name, size)) (length_of f name)) names
-
--- the line of a name's file was added, if the file has a length
-pub record AddsLine (held : Option Files) (name before after : List ℕ) : Type 0 where
-  pub size : Option ℕ
-  pub added : after ≡ before ++ file_lines (option_to_list (option_map (λ length. (name, length)) size))
-  pub told : IfSome held (λ f. size ≡ length_of f name)
 
 -- the lines of the files of a disk, in byte order of their names; any files where it does not tell them
 pub record ListsFiles (held : Option Files) (text : List ℕ) : Type 0 where
@@ -46,27 +45,10 @@ pub record IsWhole (bodies : List (List ℕ)) (old new : Option Files) (text : L
   pub stored : HoldsNow old new (λ f. f ≡ stored_files bodies)
   pub told : IfSome new (λ f. files_text ≡ stored_lines (length bodies))
 
--- the same behind the opening
-pub record PlaysOpened (bodies : List (List ℕ)) (old new : Option Files) (text : List ℕ) : Type 0 where
-  pub files_text : List ℕ
-  pub printed : text ≡ session_lines (length bodies) ++ files_text
-  pub listed : ListsFiles new files_text
-  pub stored : HoldsNow old new (λ f. f ≡ stored_files bodies)
-
--- the streams were made on a disk without files
-pub record OpensStreams (old new : Option Files) : Type 0 where
-  pub empty : HeldNone old
-  pub stored : HoldsNow old new (λ f. f ≡ stored_files [])
-
 -- the disk held a file, of which this is the least name, and was not changed
 pub record FindsFile (name : List ℕ) (old new : Option Files) : Type 0 where
   pub least : IfSome old (λ f. (others : List (List ℕ)) × (files.keys f ≡ name ∷ others))
   pub same : new ≡ old
-
--- the disk failed as its names were asked for, or in the deeds that make the streams
-pub data BreaksOpening (old new : Option Files) : Type 0 where
-  Unasked : new ≡ old → BreaksOpening old new
-  Unopened : HeldNone old → HoldsNow old new (StopsIn (calls_of_all opening_deeds) no_files) → BreaksOpening old new
 
 -- the disk held a file at the start: the least name is printed, and the files stay
 pub record IsNotEmpty (old new : Option Files) (text : List ℕ) : Type 0 where
@@ -93,9 +75,10 @@ printed_at AtListing bodies = session_lines (length bodies)
 -- what the fault leaves of the files: the deeds before it are done, and the one that it came in is broken off
 abbrev pub LeftAt : Place → List (List ℕ) → Option Files → Option Files → Type 0
 LeftAt AtNames bodies old new = new ≡ old
-LeftAt AtOpening bodies old new = HoldsNow old new (StopsIn (calls_of_all opening_deeds) no_files)
+LeftAt AtOpening bodies old new = (count : ℕ) × FailsAfter (calls_of_all opening_deeds) count old new
 LeftAt (AtRecord done body others) bodies old new =
-    (bodies ≡ done ++ body ∷ others) × HoldsNow old new (StopsIn (calls_of (record_deed (length done) body)) (stored_files done))
+    (bodies ≡ done ++ body ∷ others)
+    × ((count : ℕ) × FailsAfter (calls_of (record_deed (length done) body)) count (told_as old (stored_files done)) new)
 LeftAt AtListing bodies old new = HoldsNow old new (λ f. f ≡ stored_files bodies)
 
 -- only as the names are asked for may the disk have held a file before
@@ -110,22 +93,15 @@ pub record IsBroken (bodies : List (List ℕ)) (old new : Option Files) (text : 
   pub empty : EmptyAt place old
   pub left : LeftAt place bodies old new
 
--- the place lies behind the opening
-abbrev pub IsOpened : Place → Type 0
-IsOpened AtNames = ⊥
-IsOpened AtOpening = ⊥
-IsOpened _ = ⊤
-
--- the same behind the opening, before its own line is printed
-pub record BreaksOpened (bodies : List (List ℕ)) (old new : Option Files) (text : List ℕ) : Type 0 where
-  pub place : Place
-  pub printed : text ≡ printed_at place bodies
-  pub opened : IsOpened place
-  pub left : LeftAt place bodies old new
-
 -- how a session over a disk ends, with its text; a disk fault only where the disk's count of faults rose
-abbrev pub Plays : List (List ℕ) → Option Files → Option Files → ℕ → ℕ → Status8 → List ℕ → Type 0
-Plays bodies old new before now Done text = IsWhole bodies old new text
-Plays bodies old new before now RootNotEmpty text = IsNotEmpty old new text
-Plays bodies old new before now DiskFault text = Rose before now × IsBroken bodies old new text
-Plays bodies old new before now _ text = ⊥
+pub data Plays (bodies : List (List ℕ)) (old new : Option Files) (before now : ℕ) (status : Status8) (text : List ℕ) : Type 0 where
+  Whole : status ≡ Done → IsWhole bodies old new text → Plays bodies old new before now status text
+  Held : status ≡ RootNotEmpty → IsNotEmpty old new text → Plays bodies old new before now status text
+  Broke : status ≡ DiskFault → Rose before now → IsBroken bodies old new text → Plays bodies old new before now status text
+
+-- what a session that lacked memory leaves of the files: they stay; or, on a disk without files, some calls of its
+-- deeds from the front were done; or the disk failed before, and memory was wanting for what is printed then
+pub data LacksMemory (bodies : List (List ℕ)) (old new : Option Files) (before now : ℕ) : Type 0 where
+  Untouched : new ≡ old → LacksMemory bodies old new before now
+  Partly : HeldNone old → DoesFront (calls_of_all (session_deeds bodies)) old new → LacksMemory bodies old new before now
+  Faulted : Rose before now → (place : Place) → EmptyAt place old → LeftAt place bodies old new → LacksMemory bodies old new before now

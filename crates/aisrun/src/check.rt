@@ -4,19 +4,12 @@ ghost use Rattle.std.specs.Fmt.{decimal};
 ghost use Rattle.aisrun.specs.Endings.{CheckEnds, Judged};
 ghost use Rattle.aisrun.specs.Refusals.{why_word};
 
-use crate::input::{INPUT_LIMIT, READ_FAULT, TOO_LONG, end_with};
-use crate::session::End;
+use crate::ending::{End, end_with, passed};
+use crate::input::{Input, read_input};
 use crate::status::Status8;
-use io_edge::{ReadAnswer, Source, read_all};
+use io_edge::Source;
 use script::{ScriptAnswer, ScriptWhy, parse_script};
 use std::alloc::{AllocError, Global};
-
-// The line for a script of so many lines.
-fn passed(alloc: Global, lines: usize) -> Result<String, AllocError>
-    ensures { IfOk result (λ line. string_bytes line ≡ codes "ok " ++ (decimal lines ++ codes "\n")) }
-{
-    format!(in alloc; "ok {lines}\n")
-}
 
 // The line for a script that is bad at a line.
 fn failed(alloc: Global, line: u32, why: ScriptWhy) -> Result<String, AllocError>
@@ -32,8 +25,7 @@ fn judge(alloc: Global, bytes: &[u8]) -> Result<End, AllocError>
 {
     match parse_script(alloc, bytes) {
         Ok(lines) => {
-            let line = passed(alloc, lines.as_slice().len())?;
-            let end = end_with(alloc, Status8::Done, line.as_bytes())?;
+            let end = passed(alloc, lines.as_slice().len())?;
             Ok(end)
         }
         Err(ScriptAnswer::Memory) => Err(AllocError),
@@ -51,19 +43,12 @@ fn judge(alloc: Global, bytes: &[u8]) -> Result<End, AllocError>
 pub fn check_script<S: Source>(alloc: Global, source: &mut S) -> Result<End, AllocError>
     ensures ends { IfOk result (λ end. CheckEnds (S.left source.old) (S.left source.new) (S.faults source.old) (S.faults source.new) end.status end.text.items) }
 {
-    match read_all(alloc, source, INPUT_LIMIT) {
-        Ok(bytes) => {
+    match read_input(alloc, source) {
+        Ok(Input::Bytes(bytes)) => {
             let end = judge(alloc, bytes.as_slice())?;
             Ok(end)
         }
-        Err(ReadAnswer::Memory) => Err(AllocError),
-        Err(ReadAnswer::ReadFault) => {
-            let end = end_with(alloc, Status8::ReadFault, READ_FAULT)?;
-            Ok(end)
-        }
-        Err(ReadAnswer::TooLong) => {
-            let end = end_with(alloc, Status8::TooLong, TOO_LONG)?;
-            Ok(end)
-        }
+        Ok(Input::Refused(end)) => Ok(end),
+        Err(_) => Err(AllocError),
     }
 }

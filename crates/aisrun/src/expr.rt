@@ -4,19 +4,11 @@ ghost use Rattle.std.specs.Fmt.{decimal};
 ghost use Rattle.aisrun.specs.Endings.{ExprEnds};
 ghost use Rattle.aisrun.specs.Faults.{word_of};
 
-use crate::input::end_with;
-use crate::session::End;
+use crate::ending::{End, end_with, passed};
 use crate::status::Status8;
 use ais_values::StreamKind;
 use format_expr::{ExprAnswer, ExprFault, parse_expr};
 use std::alloc::{AllocError, Global};
-
-// The line for an expression of so many pieces.
-fn passed(alloc: Global, pieces: usize) -> Result<String, AllocError>
-    ensures { IfOk result (λ line. string_bytes line ≡ codes "ok " ++ (decimal pieces ++ codes "\n")) }
-{
-    format!(in alloc; "ok {pieces}\n")
-}
 
 // The line for a text with a fault.
 fn failed(alloc: Global, fault: ExprFault) -> Result<String, AllocError>
@@ -35,8 +27,7 @@ pub fn check_text(alloc: Global, kind: StreamKind, text: &[u8]) -> Result<End, A
 {
     match parse_expr(alloc, kind, text) {
         Ok(expr) => {
-            let line = passed(alloc, expr.pieces.as_slice().len())?;
-            let end = end_with(alloc, Status8::Done, line.as_bytes())?;
+            let end = passed(alloc, expr.pieces.as_slice().len())?;
             Ok(end)
         }
         Err(ExprAnswer::Memory) => Err(AllocError),

@@ -1,24 +1,40 @@
-//! What the commands that read the source have in common.
-ghost use Rattle.std.specs.Prelude.{◌≡◌, IfOk};
+//! Reading the input of a command.
+ghost use Rattle.std.specs.Prelude.{IfOk};
+ghost use Rattle.aisrun.specs.Inputs.{InputRead};
 
-use crate::session::End;
+use crate::ending::{End, end_with};
 use crate::status::Status8;
+use io_edge::{ReadAnswer, Source, read_all};
 use std::alloc::{AllocError, Global};
 
 /// The most bytes of an input: 16 MiB.
-pub const INPUT_LIMIT: usize = 16_777_216;
+const INPUT_LIMIT: usize = 16_777_216;
 
-/// What is printed where the source failed.
-pub const READ_FAULT: &[u8] = b"read fault\n";
+/// What reading an input gave.
+#[derive(Drop)]
+pub enum Input {
+    /// Its bytes, to its end.
+    Bytes(Vec<u8>),
+    /// The end of a run whose input was not read to its end.
+    Refused(End),
+}
 
-/// What is printed of an input above the limit.
-pub const TOO_LONG: &[u8] = b"script too long\n";
-
-/// An end with this text.
-pub fn end_with(alloc: Global, status: Status8, text: &[u8]) -> Result<End, AllocError>
-    ensures status { IfOk result (λ end. end.status ≡ status) }
-    ensures text { IfOk result (λ end. end.text.items ≡ text.now) }
+/// Reads the source to its end, up to the limit.
+///
+/// `Err` only where memory ran out.
+pub fn read_input<S: Source>(alloc: Global, source: &mut S) -> Result<Input, AllocError>
+    ensures { IfOk result (λ input. InputRead (S.left source.old) (S.left source.new) (S.faults source.old) (S.faults source.new) input) }
 {
-    let text = text.to_vec(alloc)?;
-    Ok(End { status, text })
+    match read_all(alloc, source, INPUT_LIMIT) {
+        Ok(bytes) => Ok(Input::Bytes(bytes)),
+        Err(ReadAnswer::Memory) => Err(AllocError),
+        Err(ReadAnswer::ReadFault) => {
+            let end = end_with(alloc, Status8::ReadFault, b"read fault\n")?;
+            Ok(Input::Refused(end))
+        }
+        Err(ReadAnswer::TooLong) => {
+            let end = end_with(alloc, Status8::TooLong, b"script too long\n")?;
+            Ok(Input::Refused(end))
+        }
+    }
 }

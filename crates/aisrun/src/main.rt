@@ -5,6 +5,7 @@
 
 mod check;
 mod command;
+mod ending;
 mod expr;
 mod input;
 mod run;

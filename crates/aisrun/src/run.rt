@@ -7,7 +7,8 @@ ghost use Rattle.aisrun.specs.Faults.{IsFault};
 ghost use Rattle.format_expr.specs.declared.fault.ExprFault.{ExprFault};
 ghost use Rattle.ais_values.specs.declared.kind.StreamKind.{StreamKind};
 ghost use Rattle.aisrun.specs.declared.command.Command.{Command};
-ghost use Rattle.aisrun.specs.Endings.{Ends, RunEnds, SessionEnds};
+ghost use Rattle.aisrun.specs.Endings.{RunEnds};
+ghost use Rattle.aisrun.specs.RunSteps.{ScriptGives, WordsGive};
 ghost use Rattle.aisrun.specs.Scripts.{IsScriptOf};
 ghost use Rattle.aisrun.specs.SessionScript.{Spells};
 ghost use Rattle.script.specs.declared.line.Line.{Line};
@@ -15,13 +16,14 @@ ghost use Rattle.aisrun.specs.declared.status.Status8.{Status8};
 
 use crate::check::check_script;
 use crate::command::{Command, command_of, text_of};
+use crate::ending::{End, end_with};
 use crate::expr::check_text;
-use crate::input::{INPUT_LIMIT, READ_FAULT, TOO_LONG, end_with};
-use crate::session::{End, play};
+use crate::input::{Input, read_input};
+use crate::session::play;
 use crate::session_script::read_bodies;
 use crate::status::Status8;
 use disk_model::SharedDisk;
-use io_edge::{ReadAnswer, Sink, SinkAnswer, Source, read_all, write_all};
+use io_edge::{Sink, SinkAnswer, Source, write_all};
 use std::alloc::{AllocError, Global};
 
 /// What is printed where the words are none of the program's.
@@ -33,29 +35,16 @@ fn run_script<S: Source, D: SharedDisk>(
     source: &mut S,
     disk: &mut D,
 ) -> Result<End, AllocError>
-    ensures ends { IfOk result (λ end. SessionEnds (record { left = S.left; reads = S.faults; files = D.files; faults = D.faults; source = source.old; source_after = source.new; disk = disk.old; disk_after = disk.new }) end.status end.text.items) }
+    ensures { ScriptGives (record { left = S.left; reads = S.faults; files = D.files; faults = D.faults; source = source.old; source_after = source.new; disk = disk.old; disk_after = disk.new }) result }
 {
-    match read_all(alloc, source, INPUT_LIMIT) {
-        Ok(bytes) => match read_bodies(alloc, bytes.as_slice()) {
-            Ok(Some(bodies)) => {
-                let end = play(alloc, disk, bodies.as_slice())?;
-                Ok(end)
-            }
-            Ok(None) => {
-                let end = end_with(alloc, Status8::ScriptRefused, b"script not built\n")?;
-                Ok(end)
-            }
+    match read_input(alloc, source) {
+        Ok(Input::Bytes(bytes)) => match read_bodies(alloc, bytes.as_slice()) {
+            Ok(Some(bodies)) => play(alloc, disk, bodies.as_slice()),
+            Ok(None) => end_with(alloc, Status8::ScriptRefused, b"script not built\n"),
             Err(_) => Err(AllocError),
         },
-        Err(ReadAnswer::Memory) => Err(AllocError),
-        Err(ReadAnswer::ReadFault) => {
-            let end = end_with(alloc, Status8::ReadFault, READ_FAULT)?;
-            Ok(end)
-        }
-        Err(ReadAnswer::TooLong) => {
-            let end = end_with(alloc, Status8::TooLong, TOO_LONG)?;
-            Ok(end)
-        }
+        Ok(Input::Refused(end)) => Ok(end),
+        Err(_) => Err(AllocError),
     }
 }
 
@@ -66,25 +55,13 @@ fn end_of<S: Source, D: SharedDisk>(
     source: &mut S,
     disk: &mut D,
 ) -> Result<End, AllocError>
-    ensures ends { IfOk result (λ end. Ends (map (λ word. string_bytes word) words.now) (record { left = S.left; reads = S.faults; files = D.files; faults = D.faults; source = source.old; source_after = source.new; disk = disk.old; disk_after = disk.new }) end.status end.text.items) }
+    ensures { WordsGive (map (λ word. string_bytes word) words.now) (record { left = S.left; reads = S.faults; files = D.files; faults = D.faults; source = source.old; source_after = source.new; disk = disk.old; disk_after = disk.new }) result }
 {
     match command_of(words) {
-        None => {
-            let end = end_with(alloc, Status8::Usage, USAGE)?;
-            Ok(end)
-        }
-        Some(Command::Run) => {
-            let end = run_script(alloc, source, disk)?;
-            Ok(end)
-        }
-        Some(Command::Check) => {
-            let end = check_script(alloc, source)?;
-            Ok(end)
-        }
-        Some(Command::Expr { kind }) => {
-            let end = check_text(alloc, kind, text_of(words))?;
-            Ok(end)
-        }
+        None => end_with(alloc, Status8::Usage, USAGE),
+        Some(Command::Run) => run_script(alloc, source, disk),
+        Some(Command::Check) => check_script(alloc, source),
+        Some(Command::Expr { kind }) => check_text(alloc, kind, text_of(words)),
     }
 }
 
@@ -94,9 +71,11 @@ fn end_of<S: Source, D: SharedDisk>(
 /// of the script's records. The words `check` read it to its end and tell whether it is a script. The words
 /// `expr KIND TEXT` tell whether the text is a format expression; the source stays unread.
 ///
-/// The clause `ends` says by cases over the status what was read, what is written and what stands on the disk.
+/// The clause `ends` says of each status what was read, what is written and what stands on the disk.
 /// `WriteFault` comes only where the sink's count of faults rose; a front of the text was written then. Where
-/// memory ran out, `Memory`, nothing was written or a front of the text.
+/// memory ran out, `Memory`, nothing was written or a front of the text; `check` and words that are none of
+/// the program's leave the disk as it is all the same, `expr` the source too, and of what a `run` does to the
+/// disk some calls from the front were done.
 pub fn run<S: Source, K: Sink, D: SharedDisk>(
     alloc: Global,
     words: &[String],

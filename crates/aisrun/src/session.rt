@@ -3,16 +3,18 @@ ghost use Rattle.std.specs.Prelude.{◌≡◌, ◌+◌, ◌-◌, ◌<◌, ◌≤
 ghost use Rattle.std.specs.List.{AllByRecursion};
 ghost use Rattle.std.specs.FinMap as files;
 ghost use Rattle.aisrun.specs.Causes.{HasCauseOf, Rose};
-ghost use Rattle.aisrun.specs.Deeds.{calls_of, calls_of_all, all_applied, StopsIn};
+ghost use Rattle.aisrun.specs.Deeds.{calls_of, calls_of_all};
+ghost use Rattle.aisrun.specs.DeviceCalls.{all_applied, FailsAfter, DoesFront};
 ghost use Rattle.aisrun.specs.Disk.{no_files, length_of};
-ghost use Rattle.aisrun.specs.Failures.{WhereTold};
-ghost use Rattle.aisrun.specs.SessionFiles.{opening_deeds, record_deed, stored_files};
+ghost use Rattle.aisrun.specs.SessionFiles.{opening_deeds, record_deed, record_deeds, stored_files};
 ghost use Rattle.aisrun.specs.SessionScript.{IsBody};
 ghost use Rattle.aisrun.specs.SessionText.{accepted_line, posted_line, reply_line, request_lines, session_lines, fault_line};
-ghost use Rattle.aisrun.specs.Sessions.{AddsLine, BreaksOpened, HoldsNow, BreaksOpening, FindsFile, ListsFiles, OpensStreams, Plays, PlaysOpened};
+ghost use Rattle.aisrun.specs.Sessions.{HoldsNow, FindsFile, ListsFiles};
+ghost use Rattle.aisrun.specs.SessionSteps.{AddsLine, BreaksOpened, BreaksOpening, CallsGive, OpensFront, OpensStreams, PlaysOpened, SessionGives};
 ghost use Rattle.disk_model.specs.declared.answers.DiskAnswer.{DiskAnswer};
 ghost use Rattle.aisrun.specs.declared.status.Status8.{Status8};
 
+use crate::ending::End;
 use crate::session_files::{opening_deeds, record_deeds};
 use crate::session_text::{push_accepted, push_file, push_replied, push_requests};
 use crate::status::Status8;
@@ -34,7 +36,8 @@ fn store_record<D: SharedDisk>(
     requires count { count < 2 ^ 32 - 1 }
     requires body { length body.now ≤ 244 }
     ensures done { OnOk result (D.files disk.new ≡ option_map (all_applied (calls_of (record_deed count body.now))) (D.files disk.old)) }
-    ensures failed { IsErrOf result DiskAnswer.Failed → WhereTold (StopsIn (calls_of (record_deed count body.now))) (D.files disk.old) (D.files disk.new) }
+    ensures failed { IsErrOf result DiskAnswer.Failed → (calls : ℕ) × FailsAfter (calls_of (record_deed count body.now)) calls (D.files disk.old) (D.files disk.new) }
+    ensures memory { IsErrOf result DiskAnswer.Memory → DoesFront (calls_of (record_deed count body.now)) (D.files disk.old) (D.files disk.new) }
     ensures cause { HasCauseOf (D.faults disk.old) (D.faults disk.new) result DiskAnswer.Failed }
 {
     let deeds = record_deeds(alloc, count, body)?;
@@ -64,7 +67,8 @@ fn write_call<D: SharedDisk>(
     ensures text { OnOk result (text.new.items ≡ text.old.items ++ (accepted_line (count + 3) ++ (posted_line calls (count + 3) ++ reply_line (count + 3)))) }
     ensures done { OnOk result (D.files disk.new ≡ option_map (all_applied (calls_of (record_deed count body.now))) (D.files disk.old)) }
     ensures failed_text { IsErrOf result DiskAnswer.Failed → text.new.items ≡ text.old.items ++ accepted_line (count + 3) }
-    ensures failed { IsErrOf result DiskAnswer.Failed → WhereTold (StopsIn (calls_of (record_deed count body.now))) (D.files disk.old) (D.files disk.new) }
+    ensures failed { IsErrOf result DiskAnswer.Failed → (calls : ℕ) × FailsAfter (calls_of (record_deed count body.now)) calls (D.files disk.old) (D.files disk.new) }
+    ensures memory { IsErrOf result DiskAnswer.Memory → DoesFront (calls_of (record_deed count body.now)) (D.files disk.old) (D.files disk.new) }
     ensures cause { HasCauseOf (D.faults disk.old) (D.faults disk.new) result DiskAnswer.Failed }
 {
     let call = count + 3;
@@ -87,7 +91,9 @@ fn answer_calls<D: SharedDisk>(
     requires opened { IfSome (D.files disk.old) (λ f. f ≡ stored_files []) }
     ensures text { OnOk result (text.new.items ≡ session_lines (length bodies.now)) }
     ensures stored { OnOk result (HoldsNow (D.files disk.old) (D.files disk.new) (λ f. f ≡ stored_files bodies.now)) }
+    ensures done { OnOk result (D.files disk.new ≡ option_map (all_applied (calls_of_all (record_deeds 0 bodies.now))) (D.files disk.old)) }
     ensures failed { IsErrOf result DiskAnswer.Failed → BreaksOpened bodies.now (D.files disk.old) (D.files disk.new) text.new.items }
+    ensures memory { IsErrOf result DiskAnswer.Memory → DoesFront (calls_of_all (record_deeds 0 bodies.now)) (D.files disk.old) (D.files disk.new) }
     ensures cause { HasCauseOf (D.faults disk.old) (D.faults disk.new) result DiskAnswer.Failed }
 {
     let calls = bodies.len() as u32 + 2;
@@ -144,13 +150,6 @@ fn lines_of_files<D: SharedDisk>(alloc: Global, disk: &mut D) -> Result<Vec<u8>,
     Ok(lines)
 }
 
-/// How a session ended: its status, and what is printed of it.
-#[derive(Drop)]
-pub struct End {
-    pub status: Status8,
-    pub text: Vec<u8>,
-}
-
 // The calls of a session whose streams are open, and then the files.
 fn play_opened<D: SharedDisk>(
     alloc: Global,
@@ -164,6 +163,7 @@ fn play_opened<D: SharedDisk>(
     requires opened { IfSome (D.files disk.old) (λ f. f ≡ stored_files []) }
     ensures done { OnOk result (PlaysOpened bodies.now (D.files disk.old) (D.files disk.new) text.new.items) }
     ensures failed { IsErrOf result DiskAnswer.Failed → BreaksOpened bodies.now (D.files disk.old) (D.files disk.new) text.new.items }
+    ensures memory { IsErrOf result DiskAnswer.Memory → DoesFront (calls_of_all (record_deeds 0 bodies.now)) (D.files disk.old) (D.files disk.new) }
     ensures cause { HasCauseOf (D.faults disk.old) (D.faults disk.new) result DiskAnswer.Failed }
 {
     let calls = bodies.len() as u32 + 2;
@@ -185,6 +185,7 @@ fn play_opened<D: SharedDisk>(
 fn open_streams<D: SharedDisk>(alloc: Global, disk: &mut D) -> Result<Option<Text>, DiskAnswer>
     ensures done { IfOk result (λ found. MatchOption found (OpensStreams (D.files disk.old) (D.files disk.new)) (λ name. FindsFile name (D.files disk.old) (D.files disk.new))) }
     ensures failed { IsErrOf result DiskAnswer.Failed → BreaksOpening (D.files disk.old) (D.files disk.new) }
+    ensures memory { IsErrOf result DiskAnswer.Memory → OpensFront (D.files disk.old) (D.files disk.new) }
     ensures cause { HasCauseOf (D.faults disk.old) (D.faults disk.new) result DiskAnswer.Failed }
 {
     let names = match disk.names(alloc) {
@@ -206,7 +207,8 @@ fn open_streams<D: SharedDisk>(alloc: Global, disk: &mut D) -> Result<Option<Tex
 // Performs the deeds that make the streams.
 fn make_streams<D: SharedDisk>(alloc: Global, disk: &mut D) -> Result<(), DiskAnswer>
     ensures done { OnOk result (D.files disk.new ≡ option_map (all_applied (calls_of_all opening_deeds)) (D.files disk.old)) }
-    ensures failed { IsErrOf result DiskAnswer.Failed → WhereTold (StopsIn (calls_of_all opening_deeds)) (D.files disk.old) (D.files disk.new) }
+    ensures failed { IsErrOf result DiskAnswer.Failed → (calls : ℕ) × FailsAfter (calls_of_all opening_deeds) calls (D.files disk.old) (D.files disk.new) }
+    ensures memory { IsErrOf result DiskAnswer.Memory → DoesFront (calls_of_all opening_deeds) (D.files disk.old) (D.files disk.new) }
     ensures cause { HasCauseOf (D.faults disk.old) (D.faults disk.new) result DiskAnswer.Failed }
 {
     let deeds = opening_deeds(alloc)?;
@@ -238,20 +240,17 @@ fn broken(mut text: Vec<u8>) -> Result<End, AllocError>
     })
 }
 
-/// Plays the session that writes these bodies on a disk: opens the streams, stores the records, lists the files.
-///
-/// `Err` only where memory ran out.
-pub fn play<D: SharedDisk>(alloc: Global, disk: &mut D, bodies: &[Text]) -> Result<End, AllocError>
+// The calls of a session whose streams are open, the files, and the end that this comes to.
+fn play_calls<D: SharedDisk>(
+    alloc: Global,
+    disk: &mut D,
+    bodies: &[Text],
+) -> Result<End, AllocError>
     requires bound { length bodies.now ≤ 30 }
     requires each { AllByRecursion IsBody bodies.now }
-    ensures ends { IfOk result (λ end. Plays bodies.now (D.files disk.old) (D.files disk.new) (D.faults disk.old) (D.faults disk.new) end.status end.text.items) }
+    requires opened { IfSome (D.files disk.old) (λ f. f ≡ stored_files []) }
+    ensures { CallsGive bodies.now (D.files disk.old) (D.files disk.new) (D.faults disk.old) (D.faults disk.new) result }
 {
-    match open_streams(alloc, disk) {
-        Ok(None) => {}
-        Ok(Some(name)) => return not_empty(alloc, name.as_slice()),
-        Err(DiskAnswer::Memory) => return Err(AllocError),
-        Err(DiskAnswer::Failed) => return broken(Vec::new(alloc)),
-    }
     let mut text = Vec::new(alloc);
     match play_opened(alloc, disk, &mut text, bodies) {
         Ok(()) => Ok(End {
@@ -260,5 +259,21 @@ pub fn play<D: SharedDisk>(alloc: Global, disk: &mut D, bodies: &[Text]) -> Resu
         }),
         Err(DiskAnswer::Memory) => Err(AllocError),
         Err(DiskAnswer::Failed) => broken(text),
+    }
+}
+
+/// Plays the session that writes these bodies on a disk: opens the streams, stores the records, lists the files.
+///
+/// `Err` only where memory ran out.
+pub fn play<D: SharedDisk>(alloc: Global, disk: &mut D, bodies: &[Text]) -> Result<End, AllocError>
+    requires bound { length bodies.now ≤ 30 }
+    requires each { AllByRecursion IsBody bodies.now }
+    ensures { SessionGives bodies.now (D.files disk.old) (D.files disk.new) (D.faults disk.old) (D.faults disk.new) result }
+{
+    match open_streams(alloc, disk) {
+        Ok(None) => play_calls(alloc, disk, bodies),
+        Ok(Some(name)) => not_empty(alloc, name.as_slice()),
+        Err(DiskAnswer::Memory) => Err(AllocError),
+        Err(DiskAnswer::Failed) => broken(Vec::new(alloc)),
     }
 }

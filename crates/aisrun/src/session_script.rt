@@ -1,7 +1,8 @@
 //! The reader of the accepted scripts.
 ghost use Rattle.std.specs.Prelude.{◌≡◌, ◌≢◌, ◌<◌, ◌≤◌, ◌++◌, ◌∷◌, length, List, ℕ, All, IfOk, IfSome, IfNone, MatchOption, IsTrue, ◌↔◌};
 ghost use Rattle.std.specs.List.{AllByRecursion};
-ghost use Rattle.aisrun.specs.SessionScript.{IsBody, IsAtQuote, IsBodyByte, NoBody, NoLine, Spells, before_body, after_body, closing_lines, write_lines};
+ghost use Rattle.aisrun.specs.SessionScript.{IsBody, IsBodyByte, Spells, before_body, after_body, closing_lines, write_lines};
+ghost use Rattle.aisrun.specs.SessionReading.{IsAtQuote, NoBody, NoLine};
 
 use ais_values::{Seq, Text};
 use std::alloc::{AllocError, Global};

@@ -2,9 +2,9 @@
 use Rattle.std.proofs.Common.{◌≡◌, ℕ, ◌+◌, ◌<◌, List, [], ◌∷◌, ◌++◌, length, get_or, take, drop, Option, option_map, Ok, refl, sym, ap, subst, ◌∙◌, append_assoc}
 use Rattle.std.proofs.lemmas.List.{take_more, drop_more, take-append-drop, append-nil}
 use Rattle.disk_model.specs.Disk.{Files}
-use Rattle.disk_model.specs.DeviceCalls.{all_applied, Breaks}
+use Rattle.disk_model.specs.DeviceCalls.{all_applied, DoesFront, Breaks}
 use Rattle.disk_model.specs.declared.answers.DiskAnswer.{DiskAnswer}
-use Rattle.disk_model.proofs.Breaking.{breaks_within, performs_after}
+use Rattle.disk_model.proofs.Breaking.{breaks_within, does_within, performs_after}
 use Rattle.stream_layout.specs.declared.deed.Deed.{Deed}
 use Rattle.stream_layout.specs.Deeds.{calls_of, calls_of_all}
 
@@ -49,3 +49,13 @@ breaks_deed deeds i deed e old middle new within read before one =
     ∙ ap (λ d. calls_of_all (take i deeds) ++ (calls_of d ++ calls_of_all (drop (i + 1) deeds))) (sym read) in
     subst (λ c. Breaks e c old new) (sym calls)
     (breaks_within (calls_of_all (take i deeds)) (calls_of deed) (calls_of_all (drop (i + 1) deeds)) e old middle new before one)
+
+-- some calls of a deed of a list were done, after those of the deeds before it
+pub does_deed : (deeds : List Deed) (i : ℕ) (deed : Deed) (old middle new : Option Files) → i < length deeds → deed ≡ get_or deeds i deed
+    → middle ≡ option_map (all_applied (calls_of_all (take i deeds))) old → DoesFront (calls_of deed) middle new → DoesFront (calls_of_all deeds) old new
+does_deed deeds i deed old middle new within read before one =
+    let calls : calls_of_all deeds ≡ calls_of_all (take i deeds) ++ (calls_of deed ++ calls_of_all (drop (i + 1) deeds)) =
+    calls_around deeds i deed within
+    ∙ ap (λ d. calls_of_all (take i deeds) ++ (calls_of d ++ calls_of_all (drop (i + 1) deeds))) (sym read) in
+    subst (λ c. DoesFront c old new) (sym calls)
+    (does_within (calls_of_all (take i deeds)) (calls_of deed) (calls_of_all (drop (i + 1) deeds)) old middle new before one)
