@@ -1,5 +1,5 @@
 -- The deeds of an event carry its stream's files before it to those after it.
-use Rattle.std.proofs.Common.{◌≡◌, ◌≢◌, ℕ, ◌+◌, ◌-◌, ◌*◌, ◌/◌, ◌%◌, ◌<◌, ◌≤◌, min, ℤ, Bool, true, false, List, [], ◌∷◌, ◌++◌, length, take, drop, Option, Some, None, is_some, refl, sym, ap, subst, ◌∙◌, arith}
+use Rattle.std.proofs.Common.{◌≡◌, ℕ, ◌+◌, ◌-◌, ◌*◌, ◌/◌, ◌%◌, ◌<◌, ◌≤◌, ℤ, true, false, List, [], ◌∷◌, ◌++◌, length, take, drop, Some, None, refl, sym, ap, subst, ◌∙◌, arith}
 use Rattle.std.specs.List.{concat}
 use Rattle.std.specs.FinMap.{get}
 use Rattle.std.proofs.lemmas.List.{nil_from_length, take_all, drop_all}
@@ -7,8 +7,6 @@ use Rattle.disk_model.specs.Disk.{Files, created, written_at, synced, renamed}
 use Rattle.disk_model.specs.DeviceCalls.{all_applied}
 use Rattle.stream_config.specs.declared.attrs.FullAction.{FullAction}
 use Rattle.stream_config.specs.declared.attrs.FullAction.TheVariants.{Wrap, Halt, Rotate}
-use Rattle.stream_config.specs.declared.attrs.StreamAttrs.{StreamAttrs}
-use Rattle.stream_config.specs.declared.attrs.StreamName.{StreamName}
 use Rattle.stream_config.specs.declared.state.LogFile.{LogFile}
 use Rattle.stream_config.specs.declared.state.StreamState.{StreamState}
 use Rattle.stream_config.specs.declared.event.Stamps.{Stamps}
@@ -18,15 +16,14 @@ use Rattle.stream_config.specs.Cfg.{cfg_of}
 use Rattle.stream_config.specs.Events.{open_file, file_closed, last_closed, standing, files_changed}
 use Rattle.stream_config.specs.Fit.{file_count, changes_file}
 use Rattle.stream_config.specs.Sizes.{records_per_file}
-use Rattle.stream_layout.specs.declared.deed.Deed.{Deed}
-use Rattle.stream_layout.specs.declared.deed.Deed.TheVariants.{Put, Create, Write, Rename, Remove}
+use Rattle.stream_layout.specs.declared.deed.Deed.TheVariants.{Write}
 use Rattle.stream_layout.specs.Names.{log_name, cfg_name}
 use Rattle.stream_layout.specs.Spots.{spot_in, spot_of}
-use Rattle.stream_layout.specs.LogFiles.{round_of, overlaid, records_in, log_entries, cfg_entry}
+use Rattle.stream_layout.specs.LogFiles.{round_of, records_in, log_entries, cfg_entry}
 use Rattle.stream_layout.specs.Deeds.{calls_of_all, current_file, removal, change_of_file, deeds_of}
-use Rattle.stream_layout.specs.Carrying.{IsFitStream, IsFitMade, IsFitStored, IsFitEvent, IsFitEnded, AreRecordsOf, Stand, replaced, CarryOn}
-use Rattle.stream_layout.proofs.CurrentFile.{HasCurrent, has_current, current_file-append, last_closed-append}
-use Rattle.stream_layout.proofs.EntryLaws.{bytes_in, entries_from-one}
+use Rattle.stream_layout.specs.Carrying.{IsFitStream, IsFitMade, IsFitEvent, AreRecordsOf, Stand, replaced, CarryOn}
+use Rattle.stream_layout.proofs.CurrentFile.{has_current, current_file-append, last_closed-append}
+use Rattle.stream_layout.proofs.EntryLaws.{entries_from-one}
 use Rattle.stream_layout.proofs.EventLaws.{IsLaidOut, laid_out, later_entries, stored_law, ended_law, changes_rotates, IsChange, changed, change_law}
 use Rattle.stream_layout.proofs.FileLaws.{carry_made}
 use Rattle.stream_layout.proofs.NameLaws.{cfg_apart}
@@ -43,8 +40,8 @@ ended_on state closed records files fit count stand q =
     let found = has_current state.files fit.standing.last_open in
     let out = subst (IsLaidOut attrs found.front found.current) (sym count) (laid_out state fit found) in
     let P : List LogFile → Type 0 = λ fs. Stand (log_entries attrs records fs) files
-      → get (renamed files (log_name attrs (current_file fs)) (log_name attrs (file_closed closed (current_file fs)))) q
-      ≡ replaced (log_entries attrs records fs) (log_entries attrs records (last_closed closed fs)) files q in
+    → get (renamed files (log_name attrs (current_file fs)) (log_name attrs (file_closed closed (current_file fs)))) q
+    ≡ replaced (log_entries attrs records fs) (log_entries attrs records (last_closed closed fs)) files q in
     subst P (sym found.whole) (λ stand. ended_law attrs found.front found.current records closed files out stand q) stand
 
 -- a record goes to the current file
@@ -61,13 +58,13 @@ stored_on state bytes records files fit are whole room stays stand q =
     let found = has_current state.files fit.standing.last_open in
     let out = subst (IsLaidOut attrs found.front found.current) (sym count) (laid_out state fit found) in
     let P : List LogFile → Type 0 = λ fs. Stand (log_entries attrs records fs) files
-      → get (synced (written_at files (log_name attrs (current_file fs)) (spot_of attrs (length records)).at bytes) (log_name attrs (current_file fs))) q
-      ≡ replaced (log_entries attrs records fs) (log_entries attrs (records ++ bytes ∷ []) fs) files q in
+    → get (synced (written_at files (log_name attrs (current_file fs)) (spot_of attrs (length records)).at bytes) (log_name attrs (current_file fs))) q
+    ≡ replaced (log_entries attrs records fs) (log_entries attrs (records ++ bytes ∷ []) fs) files q in
     ap (λ k. get (synced (written_at files (log_name attrs (current_file state.files)) (spot_of attrs k).at bytes) (log_name attrs (current_file state.files))) q) (sym count)
     ∙ subst P (sym found.whole)
-      (λ stand. stored_law attrs found.front found.current records bytes files out (ap (changes_file attrs.action n) count ∙ stays) are.sizes whole
-        (λ halts. let h = room halts in omega arith) stand q)
-      stand
+    (λ stand. stored_law attrs found.front found.current records bytes files out (ap (changes_file attrs.action n) count ∙ stays) are.sizes whole
+    (λ halts. let h = room halts in omega arith) stand q)
+    stand
 
 none : (size : ℕ) → 0 * size ≡ 0
 none size = omega arith
@@ -90,22 +87,22 @@ changed_on state bytes stamps records files fit are changes stand free q =
     let rotates = changes_rotates attrs.action n state.taken changes in
     let begins = begins_round n (length records) out.some (ap (λ a. changes_file a n (length records)) (sym rotates) ∙ ap (changes_file attrs.action n) count ∙ changes) in
     let start : (spot_of attrs state.taken).at ≡ 0 =
-      ap (λ a. (spot_in a n attrs.record_size state.taken).at) rotates ∙ ap (λ k. k % n * attrs.record_size) (sym count) ∙ ap (λ k. k * attrs.record_size) begins.rest ∙ none attrs.record_size in
+    ap (λ a. (spot_in a n attrs.record_size state.taken).at) rotates ∙ ap (λ k. k % n * attrs.record_size) (sym count) ∙ ap (λ k. k * attrs.record_size) begins.rest ∙ none attrs.record_size in
     let P : List LogFile → Type 0 = λ fs. Stand (log_entries attrs records fs) files → get files (log_name attrs (file_closed stamps.closed (current_file fs))) ≡ None
-      → get (all_applied (calls_of_all (change_of_file attrs fs (Some stamps) ++ Write (log_name attrs (open_file stamps.created)) (spot_of attrs state.taken).at bytes ∷ [])) files) q
-      ≡ replaced (log_entries attrs records fs) (log_entries attrs (records ++ bytes ∷ []) (files_changed attrs (Some stamps) fs)) files q in
+    → get (all_applied (calls_of_all (change_of_file attrs fs (Some stamps) ++ Write (log_name attrs (open_file stamps.created)) (spot_of attrs state.taken).at bytes ∷ [])) files) q
+    ≡ replaced (log_entries attrs records fs) (log_entries attrs (records ++ bytes ∷ []) (files_changed attrs (Some stamps) fs)) files q in
     subst P (sym found.whole)
-      (λ stand free.
-        let last = current_file-append front current in
-        let shut = last_closed-append stamps.closed front current in
-        let change : IsChange attrs front current records bytes files stamps =
-          record { out = out; rotates = rotates; begins = begins; stand = stand; free = ap (λ f. get files (log_name attrs (file_closed stamps.closed f))) (sym last) ∙ free } in
-        ap (λ f. get (changed attrs f stamps (spot_of attrs state.taken).at bytes (removal attrs (last_closed stamps.closed (front ++ current ∷ []) ++ open_file stamps.created ∷ [])) files) q) last
-        ∙ ap (λ fs. get (changed attrs current stamps (spot_of attrs state.taken).at bytes (removal attrs (fs ++ open_file stamps.created ∷ [])) files) q) shut
-        ∙ ap (λ at. get (changed attrs current stamps at bytes (removal attrs ((front ++ file_closed stamps.closed current ∷ []) ++ open_file stamps.created ∷ [])) files) q) start
-        ∙ change_law attrs front current records bytes files stamps q change
-        ∙ ap (λ fs. replaced (log_entries attrs records (front ++ current ∷ [])) (log_entries attrs (records ++ bytes ∷ []) (standing attrs (fs ++ open_file stamps.created ∷ []))) files q) (sym shut))
-      stand free
+    (λ stand free.
+    let last = current_file-append front current in
+    let shut = last_closed-append stamps.closed front current in
+    let change : IsChange attrs front current records bytes files stamps =
+    record { out = out; rotates = rotates; begins = begins; stand = stand; free = ap (λ f. get files (log_name attrs (file_closed stamps.closed f))) (sym last) ∙ free } in
+    ap (λ f. get (changed attrs f stamps (spot_of attrs state.taken).at bytes (removal attrs (last_closed stamps.closed (front ++ current ∷ []) ++ open_file stamps.created ∷ [])) files) q) last
+    ∙ ap (λ fs. get (changed attrs current stamps (spot_of attrs state.taken).at bytes (removal attrs (fs ++ open_file stamps.created ∷ [])) files) q) shut
+    ∙ ap (λ at. get (changed attrs current stamps at bytes (removal attrs ((front ++ file_closed stamps.closed current ∷ []) ++ open_file stamps.created ∷ [])) files) q) start
+    ∙ change_law attrs front current records bytes files stamps q change
+    ∙ ap (λ fs. replaced (log_entries attrs records (front ++ current ∷ [])) (log_entries attrs (records ++ bytes ∷ []) (standing attrs (fs ++ open_file stamps.created ∷ []))) files q) (sym shut))
+    stand free
 
 no_round : (n round : ℕ) → round_of n round [] ≡ []
 no_round n round = ap (take n) (drop_all (round * n) [] (omega arith)) ∙ take_all n [] (omega arith)
@@ -140,10 +137,10 @@ made_on state records files fit are q =
     let sole : state.files ≡ found.current ∷ [] = found.whole ∙ ap (λ fs. fs ++ found.current ∷ []) (nil_from_length found.front (omega arith)) in
     let number = (0 - 1) / n + 1 - 1 in
     let entries : log_entries attrs records state.files ≡ (log_name attrs (current_file state.files), []) ∷ [] =
-      ap (λ rs. log_entries attrs rs state.files) none ∙ ap (log_entries attrs []) sole
-      ∙ later_entries attrs [] number (found.current ∷ []) refl ∙ entries_from-one attrs [] number found.current
-      ∙ ap (λ bs. (log_name attrs found.current, bs) ∷ []) (no_records attrs.action n number)
-      ∙ ap (λ fs. (log_name attrs (current_file fs), []) ∷ []) (sym sole) in
+    ap (λ rs. log_entries attrs rs state.files) none ∙ ap (log_entries attrs []) sole
+    ∙ later_entries attrs [] number (found.current ∷ []) refl ∙ entries_from-one attrs [] number found.current
+    ∙ ap (λ bs. (log_name attrs found.current, bs) ∷ []) (no_records attrs.action n number)
+    ∙ ap (λ fs. (log_name attrs (current_file fs), []) ∷ []) (sym sole) in
     carry_made (cfg_name attrs) (log_name attrs (current_file state.files)) text files (λ same. cfg_apart attrs attrs (current_file state.files) (sym same)) q
     ∙ ap (λ es. replaced [] (cfg_entry state.name attrs ∷ es) files q) (sym entries)
 

@@ -1,5 +1,5 @@
 -- The files of a living stream: those that are closed, and the current one behind them.
-use Rattle.std.proofs.Common.{◌≡◌, ◌≢◌, ℕ, suc, ℤ, ◌<ℤ◌, int_lt, Bool, true, ◌&&◌, List, [], ◌∷◌, ◌++◌, length, Option, Some, None, is_some, is_none, refl, sym, ap, subst, ◌∙◌, arith}
+use Rattle.std.proofs.Common.{◌≡◌, ◌≢◌, suc, ℤ, ◌<ℤ◌, int_lt, true, List, [], ◌∷◌, ◌++◌, length, Option, Some, None, is_some, is_none, refl, ap, subst, arith}
 use Rattle.std.specs.List.{All}
 use Rattle.std.specs.Option.{option_to_list}
 use Rattle.std.proofs.lemmas.Bool.{and_parts}
@@ -26,14 +26,20 @@ none_from (Some value) is = cc
 pub has_current : (files : List LogFile) → is_last_open files ≡ true → HasCurrent files
 has_current [] is = cc
 has_current (file ∷ []) is = record {
-  front = []; current = file; whole = refl; unclosed = none_from file.closed is;
+  front = [];
+  current = file;
+  whole = refl;
+  unclosed = none_from file.closed is;
   shut = All-nil (λ (f : LogFile). is_some f.closed ≡ true);
 }
 has_current (file ∷ next ∷ files) is =
     let parts = and_parts (is_some file.closed) (is_last_open (next ∷ files)) is in
     let more = has_current (next ∷ files) parts.1 in
     record {
-      front = file ∷ more.front; current = more.current; whole = ap (λ fs. file ∷ fs) more.whole; unclosed = more.unclosed;
+      front = file ∷ more.front;
+      current = more.current;
+      whole = ap (λ fs. file ∷ fs) more.whole;
+      unclosed = more.unclosed;
       shut = All-cons (λ (f : LogFile). is_some f.closed ≡ true) file more.front parts.0 more.shut;
     }
 
@@ -75,7 +81,7 @@ first_is_least stamp (next ∷ stamps) is =
     let parts = and_parts (int_lt stamp next) (rises (next ∷ stamps)) is in
     let less = earlier stamp next parts.0 in
     All-cons (λ s. stamp <ℤ s) next stamps less
-      (All-weaker (λ s. next <ℤ s) (λ s. stamp <ℤ s) (λ s later. omega (arith, ints)) stamps (first_is_least next stamps parts.1))
+    (All-weaker (λ s. next <ℤ s) (λ s. stamp <ℤ s) (λ s later. omega (arith, ints)) stamps (first_is_least next stamps parts.1))
 
 pub behind_front : {X : Type 0} (P : X → Type 0) (front xs : List X) → All P (front ++ xs) → All P xs
 behind_front P front xs all = subst (All P) (drop_at front xs (length front) refl) (All-drop P (length front) (front ++ xs) all)
@@ -86,14 +92,14 @@ created_all P [] all = All-nil (λ (file : LogFile). P file.created)
 created_all P (file ∷ files) all =
     let behind = All-tail P file.created (option_to_list file.closed ++ stamps_of files) all in
     All-cons (λ (f : LogFile). P f.created) file files (All-head P file.created (option_to_list file.closed ++ stamps_of files) all)
-      (created_all P files (behind_front P (option_to_list file.closed) (stamps_of files) behind))
+    (created_all P files (behind_front P (option_to_list file.closed) (stamps_of files) behind))
 
 -- the first of some files was made before all others
 pub first_made : (file : LogFile) (files : List LogFile) → rises (stamps_of (file ∷ files)) ≡ true → All (λ (f : LogFile). file.created <ℤ f.created) files
 first_made file files is =
     created_all (λ s. file.created <ℤ s) files
-      (behind_front (λ s. file.created <ℤ s) (option_to_list file.closed) (stamps_of files)
-        (first_is_least file.created (option_to_list file.closed ++ stamps_of files) is))
+    (behind_front (λ s. file.created <ℤ s) (option_to_list file.closed) (stamps_of files)
+    (first_is_least file.created (option_to_list file.closed ++ stamps_of files) is))
 
 -- files without the first rise too
 pub others_rise : (file : LogFile) (files : List LogFile) → rises (stamps_of (file ∷ files)) ≡ true → rises (stamps_of files) ≡ true
@@ -106,9 +112,9 @@ pub last_made : (front : List LogFile) (current : LogFile) → rises (stamps_of 
 last_made [] current is = All-nil (λ (f : LogFile). f.created <ℤ current.created)
 last_made (file ∷ front) current is =
     All-cons (λ (f : LogFile). f.created <ℤ current.created) file front
-      (All-head (λ (f : LogFile). file.created <ℤ f.created) current []
-        (behind_front (λ (f : LogFile). file.created <ℤ f.created) front (current ∷ []) (first_made file (front ++ current ∷ []) is)))
-      (last_made front current (others_rise file (front ++ current ∷ []) is))
+    (All-head (λ (f : LogFile). file.created <ℤ f.created) current []
+    (behind_front (λ (f : LogFile). file.created <ℤ f.created) front (current ∷ []) (first_made file (front ++ current ∷ []) is)))
+    (last_made front current (others_rise file (front ++ current ∷ []) is))
 
 pub front_all : {X : Type 0} (P : X → Type 0) (front xs : List X) → All P (front ++ xs) → All P front
 front_all P [] xs all = All-nil P

@@ -1,17 +1,13 @@
 -- The entries of the files that are closed, and of the current one behind them.
-use Rattle.std.proofs.Common.{◌≡◌, ◌≢◌, ℕ, suc, ◌+◌, ◌-◌, ◌*◌, ◌/◌, ◌<◌, ◌≤◌, ℤ, ◌<ℤ◌, true, List, [], ◌∷◌, ◌++◌, length, Some, None, is_some, cond, refl, sym, ap, subst, ◌∙◌, arith, length-append}
+use Rattle.std.proofs.Common.{◌≡◌, ◌≢◌, ℕ, suc, ◌+◌, ◌*◌, ◌≤◌, ◌<ℤ◌, true, List, [], ◌∷◌, ◌++◌, length, Some, None, is_some, cond, refl, sym, ap, subst, ◌∙◌, arith}
 use Rattle.std.specs.List.{concat, All, slice_index_or}
-use Rattle.std.specs.Str.{bytes_eq}
 use Rattle.std.proofs.lemmas.List.Elements.{All-head, All-tail}
-use Rattle.stream_config.specs.declared.attrs.FullAction.{FullAction}
 use Rattle.stream_config.specs.declared.attrs.FullAction.TheVariants.{Rotate}
 use Rattle.stream_config.specs.declared.attrs.StreamAttrs.{StreamAttrs}
 use Rattle.stream_config.specs.declared.state.LogFile.{LogFile}
-use Rattle.stream_config.specs.Events.{open_file, file_closed}
-use Rattle.stream_config.specs.Fit.{file_count}
 use Rattle.stream_config.specs.Sizes.{records_per_file}
 use Rattle.stream_layout.specs.Names.{log_name}
-use Rattle.stream_layout.specs.LogFiles.{Entries, records_in, entries_from, log_entries}
+use Rattle.stream_layout.specs.LogFiles.{records_in, entries_from}
 use Rattle.stream_layout.specs.Carrying.{IsStamp, entry_at}
 use Rattle.stream_layout.proofs.FileLaws.{apart}
 use Rattle.stream_layout.proofs.NameLaws.{created_apart, closed_apart}
@@ -29,8 +25,8 @@ entries_from-append attrs records number [] more = let same : number ≡ number 
 entries_from-append attrs records number (file ∷ files) more =
     let same : number + 1 + length files ≡ number + suc (length files) = omega arith in
     ap (λ es. (log_name attrs file, bytes_in attrs number records) ∷ es)
-      (entries_from-append attrs records (number + 1) files more
-      ∙ ap (λ n. entries_from attrs records (number + 1) files ++ entries_from attrs records n more) same)
+    (entries_from-append attrs records (number + 1) files more
+    ∙ ap (λ n. entries_from attrs records (number + 1) files ++ entries_from attrs records n more) same)
 
 pub entries_from-one : (attrs : StreamAttrs) (records : List (List ℕ)) (number : ℕ) (file : LogFile)
     → entries_from attrs records number (file ∷ []) ≡ (log_name attrs file, bytes_in attrs number records) ∷ []
@@ -82,7 +78,7 @@ unfolding entries_from
 absent attrs records number [] name others = refl
 absent attrs records number (file ∷ files) name others =
     ap (λ b. cond b (Some (bytes_in attrs number records)) (entry_at (entries_from attrs records (number + 1) files) name))
-      (apart name (log_name attrs file) (All-head (λ (f : LogFile). name ≢ log_name attrs f) file files others))
+    (apart name (log_name attrs file) (All-head (λ (f : LogFile). name ≢ log_name attrs f) file files others))
     ∙ absent attrs records (number + 1) files name (All-tail (λ (f : LogFile). name ≢ log_name attrs f) file files others)
 
 -- a file that is not closed among closed ones
@@ -90,7 +86,7 @@ pub absent_open : (attrs : StreamAttrs) (records : List (List ℕ)) (number : �
     → All (λ (f : LogFile). is_some f.closed ≡ true) files → file.closed ≡ None → entry_at (entries_from attrs records number files) (log_name attrs file) ≡ None
 absent_open attrs records number files file shut unshut =
     absent attrs records number files (log_name attrs file)
-      (λ k d inside same. closed_apart attrs (slice_index_or files k d) file (shut k d inside) unshut (sym same))
+    (λ k d inside same. closed_apart attrs (slice_index_or files k d) file (shut k d inside) unshut (sym same))
 
 -- a file that was made behind others
 pub absent_later : (attrs : StreamAttrs) (records : List (List ℕ)) (number : ℕ) (files : List LogFile) (file : LogFile)
@@ -98,8 +94,8 @@ pub absent_later : (attrs : StreamAttrs) (records : List (List ℕ)) (number : �
     → entry_at (entries_from attrs records number files) (log_name attrs file) ≡ None
 absent_later attrs records number files file stamps stamp earlier =
     absent attrs records number files (log_name attrs file)
-      (λ k d inside same. created_apart attrs (slice_index_or files k d) file (stamps k d inside) stamp
-        (unlike (slice_index_or files k d).created file.created (earlier k d inside)) (sym same))
+    (λ k d inside same. created_apart attrs (slice_index_or files k d) file (stamps k d inside) stamp
+    (unlike (slice_index_or files k d).created file.created (earlier k d inside)) (sym same))
 
 -- a file that was made before others
 pub absent_earlier : (attrs : StreamAttrs) (records : List (List ℕ)) (number : ℕ) (files : List LogFile) (file : LogFile)
@@ -107,5 +103,5 @@ pub absent_earlier : (attrs : StreamAttrs) (records : List (List ℕ)) (number :
     → entry_at (entries_from attrs records number files) (log_name attrs file) ≡ None
 absent_earlier attrs records number files file stamps stamp later =
     absent attrs records number files (log_name attrs file)
-      (λ k d inside. created_apart attrs file (slice_index_or files k d) stamp (stamps k d inside)
-        (unlike file.created (slice_index_or files k d).created (later k d inside)))
+    (λ k d inside. created_apart attrs file (slice_index_or files k d) stamp (stamps k d inside)
+    (unlike file.created (slice_index_or files k d).created (later k d inside)))

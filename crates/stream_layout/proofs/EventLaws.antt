@@ -1,12 +1,12 @@
 -- What the deeds of each event make of the files of its stream.
-use Rattle.std.proofs.Common.{◌≡◌, ◌≢◌, ℕ, suc, ◌+◌, ◌-◌, ◌*◌, ◌/◌, ◌%◌, ◌<◌, ◌≤◌, min, ℤ, ◌<ℤ◌, Bool, true, false, nat_lt, List, [], ◌∷◌, ◌++◌, length, drop, Option, Some, None, is_some, cond, refl, sym, ap, subst, ◌∙◌, inl, inr, arith, append_assoc, length-append}
+use Rattle.std.proofs.Common.{◌≡◌, ℕ, suc, ◌+◌, ◌-◌, ◌*◌, ◌/◌, ◌<◌, ◌≤◌, ℤ, ◌<ℤ◌, true, false, nat_lt, List, [], ◌∷◌, ◌++◌, length, drop, Option, None, is_some, refl, sym, ap, subst, ◌∙◌, inl, inr, arith, append_assoc}
 use Rattle.std.specs.List.{concat, All}
 use Rattle.std.specs.FinMap.{get}
 use Rattle.std.proofs.lemmas.Bool.{cases_lt, cond-true, cond-false, lt-ltb, le-ltb}
 use Rattle.std.proofs.lemmas.List.{length_push, nil_from_length}
 use Rattle.std.proofs.lemmas.List.Elements.{All-head, All-tail}
 use Rattle.std.proofs.lemmas.Nat.{div-add-mod', le-div}
-use Rattle.disk_model.specs.Disk.{File, Files, settled_file, overwritten, created, written_at, synced, renamed, removed}
+use Rattle.disk_model.specs.Disk.{File, Files, overwritten, written_at, synced, renamed}
 use Rattle.disk_model.specs.DeviceCalls.{all_applied}
 use Rattle.stream_config.specs.declared.attrs.FullAction.{FullAction}
 use Rattle.stream_config.specs.declared.attrs.FullAction.TheVariants.{Wrap, Halt, Rotate}
@@ -14,26 +14,23 @@ use Rattle.stream_config.specs.declared.attrs.StreamAttrs.{StreamAttrs}
 use Rattle.stream_config.specs.declared.state.LogFile.{LogFile}
 use Rattle.stream_config.specs.declared.state.StreamState.{StreamState}
 use Rattle.stream_config.specs.declared.event.Stamps.{Stamps}
-use Rattle.stream_config.specs.declared.event.StreamEvent.{StreamEvent}
-use Rattle.stream_config.specs.declared.event.StreamEvent.TheVariants.{Made, Stored, Ended}
 use Rattle.stream_config.specs.Attributes.{IsSized}
-use Rattle.stream_config.specs.Cfg.{cfg_of}
-use Rattle.stream_config.specs.Events.{open_file, file_closed, last_closed, most_files, standing, files_changed}
-use Rattle.stream_config.specs.Fit.{stamps_of, rises, file_count, changes_file, HasFitFiles}
+use Rattle.stream_config.specs.Events.{open_file, file_closed, last_closed, most_files, standing}
+use Rattle.stream_config.specs.Fit.{stamps_of, rises, file_count, changes_file}
 use Rattle.stream_config.specs.Sizes.{records_per_file}
 use Rattle.stream_layout.specs.declared.deed.Deed.{Deed}
-use Rattle.stream_layout.specs.declared.deed.Deed.TheVariants.{Put, Create, Write, Rename, Remove}
-use Rattle.stream_layout.specs.Names.{log_name, cfg_name}
-use Rattle.stream_layout.specs.Spots.{spot_in, spot_of}
+use Rattle.stream_layout.specs.declared.deed.Deed.TheVariants.{Create, Write, Rename, Remove}
+use Rattle.stream_layout.specs.Names.{log_name}
+use Rattle.stream_layout.specs.Spots.{spot_of}
 use Rattle.stream_layout.specs.LogFiles.{Entries, records_in, entries_from, log_entries}
-use Rattle.stream_layout.specs.Deeds.{calls_of_all, current_file, removal, change_of_file, deeds_of}
-use Rattle.stream_layout.specs.Carrying.{IsStamp, IsFitStream, IsFitEvent, AreRecordsOf, entry_at, Stand, replaced, CarryOn}
-use Rattle.stream_layout.proofs.CurrentFile.{HasCurrent, has_current, unlike, current_file-append, last_closed-append, first_made, last_made, created_all, behind_front, front_all}
+use Rattle.stream_layout.specs.Deeds.{calls_of_all, current_file, removal}
+use Rattle.stream_layout.specs.Carrying.{IsStamp, IsFitStream, entry_at, Stand, replaced}
+use Rattle.stream_layout.proofs.CurrentFile.{HasCurrent, unlike, current_file-append, last_closed-append, first_made, last_made, created_all, behind_front, front_all}
 use Rattle.stream_layout.proofs.EntryLaws.{bytes_in, entries_from-nil, entries_from-one, entries_from-cons, entries_from-last, entries_from-full, absent_open, absent_later, absent_earlier}
-use Rattle.stream_layout.proofs.FileLaws.{carry_write, carry_rename, carry_change, carry_rotation, carry_sole, carry_made}
-use Rattle.stream_layout.proofs.NameLaws.{created_apart, closed_apart, cfg_apart}
+use Rattle.stream_layout.proofs.FileLaws.{carry_write, carry_rename, carry_change, carry_rotation, carry_sole}
+use Rattle.stream_layout.proofs.NameLaws.{created_apart, closed_apart}
 use Rattle.stream_layout.proofs.Rounds.{AreOfSize}
-use Rattle.stream_layout.proofs.StoredBytes.{same_round, BeginsRound, begins_round, IsPut, put_record, round_begun}
+use Rattle.stream_layout.proofs.StoredBytes.{same_round, BeginsRound, put_record, round_begun}
 
 -- a living stream's files, split at the current one
 pub record IsLaidOut (attrs : StreamAttrs) (front : List LogFile) (current : LogFile) (taken : ℕ) : Type 0 where
@@ -69,7 +66,7 @@ laid_out state fit found =
       stamps = front_all (λ (file : LogFile). IsStamp file.created) front (current ∷ []) both;
       made_last = last_made front current rising;
       made_first = λ file others is.
-        front_all (λ (other : LogFile). file.created <ℤ other.created) others (current ∷ [])
+          front_all (λ (other : LogFile). file.created <ℤ other.created) others (current ∷ [])
           (first_made file (others ++ current ∷ []) (subst (λ fs. rises (stamps_of (fs ++ current ∷ [])) ≡ true) is rising));
       count = sym (length_push front current) ∙ sym (ap length found.whole) ∙ fit.standing.count;
     }
@@ -107,10 +104,10 @@ ended_law attrs front current records closed files out stand q =
     let after = ap (log_entries attrs records) (last_closed-append closed front current) ∙ log_entries-last attrs records front shut in
     ap (λ f. get (renamed files (log_name attrs f) (log_name attrs (file_closed closed f))) q) (current_file-append front current)
     ∙ by_entries _ _ _ _ files q _ before after
-      (carry_rename entries (log_name attrs current) (log_name attrs shut) bytes files
-        (absent_open attrs records number front current out.shut out.unclosed)
-        (absent_later attrs records number front shut out.stamps out.stamp out.made_last)
-        (subst (λ es. Stand es files) before stand) q)
+    (carry_rename entries (log_name attrs current) (log_name attrs shut) bytes files
+    (absent_open attrs records number front current out.shut out.unclosed)
+    (absent_later attrs records number front shut out.stamps out.stamp out.made_last)
+    (subst (λ es. Stand es files) before stand) q)
 
 -- the entries behind a record that goes to the one file of a stream
 one_file_after : (attrs : StreamAttrs) (front : List LogFile) (current : LogFile) (records : List (List ℕ)) (bytes : List ℕ) (number : ℕ)
@@ -123,7 +120,7 @@ one_file_after attrs front current records bytes number none same =
     log_entries-last attrs all front current
     ∙ ap (λ fs. entries_from attrs all first fs ++ (log_name attrs current, bytes_in attrs (first + length front) all) ∷ []) none
     ∙ ap (λ es. es ++ (log_name attrs current, bytes_in attrs (first + length front) all) ∷ [])
-      (entries_from-nil attrs all first ∙ sym (entries_from-nil attrs records number) ∙ ap (entries_from attrs records number) (sym none))
+    (entries_from-nil attrs all first ∙ sym (entries_from-nil attrs records number) ∙ ap (entries_from attrs records number) (sym none))
     ∙ ap (λ bs. entries_from attrs records number front ++ (log_name attrs current, bs) ∷ []) (same (first + length front) (number + length front))
 
 -- behind the full files of a stream that rotates
@@ -155,11 +152,11 @@ stored_after : (action : FullAction) (attrs : StreamAttrs) (front : List LogFile
 stored_after Wrap attrs front current records bytes is out stays =
     let count = out.count ∙ ap (λ a. file_count a attrs.rotated (records_per_file attrs) (length records)) is in
     one_file_after attrs front current records bytes (first_number attrs records (length front + 1)) (nil_from_length front (omega arith))
-      (λ one other. ap (λ a. concat (records_in a (records_per_file attrs) one (records ++ bytes ∷ []))) is ∙ sym (ap (λ a. concat (records_in a (records_per_file attrs) other (records ++ bytes ∷ []))) is))
+    (λ one other. ap (λ a. concat (records_in a (records_per_file attrs) one (records ++ bytes ∷ []))) is ∙ sym (ap (λ a. concat (records_in a (records_per_file attrs) other (records ++ bytes ∷ []))) is))
 stored_after Halt attrs front current records bytes is out stays =
     let count = out.count ∙ ap (λ a. file_count a attrs.rotated (records_per_file attrs) (length records)) is in
     one_file_after attrs front current records bytes (first_number attrs records (length front + 1)) (nil_from_length front (omega arith))
-      (λ one other. ap (λ a. concat (records_in a (records_per_file attrs) one (records ++ bytes ∷ []))) is ∙ sym (ap (λ a. concat (records_in a (records_per_file attrs) other (records ++ bytes ∷ []))) is))
+    (λ one other. ap (λ a. concat (records_in a (records_per_file attrs) one (records ++ bytes ∷ []))) is ∙ sym (ap (λ a. concat (records_in a (records_per_file attrs) other (records ++ bytes ∷ []))) is))
 stored_after Rotate attrs front current records bytes is out stays =
     let count = out.count ∙ ap (λ a. file_count a attrs.rotated (records_per_file attrs) (length records)) is in
     let same = same_round (records_per_file attrs) (length records) out.some (ap (λ a. changes_file a (records_per_file attrs) (length records)) (sym is) ∙ stays) in
@@ -191,9 +188,9 @@ stored_law attrs front current records bytes files out stays sizes whole room st
     let after = stored_after attrs.action attrs front current records bytes refl out stays in
     ap (λ f. get (synced (written_at files (log_name attrs f) at bytes) (log_name attrs f)) q) (current_file-append front current)
     ∙ by_entries _ _ (entries ++ (name, old) ∷ []) (entries ++ (name, overwritten old at bytes) ∷ []) files q _ before
-      (after ∙ ap (λ bs. entries ++ (name, bs) ∷ []) (sym put.bytes_are))
-      (carry_write entries name old at bytes files (absent_open attrs records number front current out.shut out.unclosed)
-        (subst (λ es. Stand es files) before stand) put.within q)
+    (after ∙ ap (λ bs. entries ++ (name, bs) ∷ []) (sym put.bytes_are))
+    (carry_write entries name old at bytes files (absent_open attrs records number front current out.shut out.unclosed)
+    (subst (λ es. Stand es files) before stand) put.within q)
 
 -- a change of file
 
@@ -203,11 +200,11 @@ changes_rotates Halt n taken is = cc
 changes_rotates Rotate n taken is = refl
 
 -- nothing is removed where no more stand than may
-removal_none : (attrs : StreamAttrs) (files : List LogFile) → length files ≤ attrs.rotated → removal attrs files ≡ []
+pub removal_none : (attrs : StreamAttrs) (files : List LogFile) → length files ≤ attrs.rotated → removal attrs files ≡ []
 removal_none attrs [] few = refl
 removal_none attrs (oldest ∷ files) few = cond-false (nat_lt attrs.rotated (length (oldest ∷ files))) (Remove (log_name attrs oldest) ∷ []) [] (le-ltb attrs.rotated (length (oldest ∷ files)) few)
 
-removal_oldest : (attrs : StreamAttrs) (oldest : LogFile) (files : List LogFile) → attrs.rotated < length (oldest ∷ files) → removal attrs (oldest ∷ files) ≡ Remove (log_name attrs oldest) ∷ []
+pub removal_oldest : (attrs : StreamAttrs) (oldest : LogFile) (files : List LogFile) → attrs.rotated < length (oldest ∷ files) → removal attrs (oldest ∷ files) ≡ Remove (log_name attrs oldest) ∷ []
 removal_oldest attrs oldest files more = cond-true (nat_lt attrs.rotated (length (oldest ∷ files))) (Remove (log_name attrs oldest) ∷ []) [] (lt-ltb attrs.rotated (length (oldest ∷ files)) more)
 
 -- the files from this number on, behind a record with which a new file begins
@@ -225,11 +222,11 @@ changed_entries attrs number front shut fresh records bytes rotates some begins 
     let whole = begins.full in
     let full : (number + length closed) * n ≤ length records = subst (λ v. v * n ≤ length records) (sym last) (omega arith) in
     let filled : bytes_in attrs (number + length closed) all ≡ bytes =
-      ap (λ v. bytes_in attrs v all) last ∙ ap (λ a. concat (records_in a n (length records / n) all)) rotates ∙ round_begun n records bytes some begins in
+    ap (λ v. bytes_in attrs v all) last ∙ ap (λ a. concat (records_in a n (length records / n) all)) rotates ∙ round_begun n records bytes some begins in
     entries_from-last attrs all number closed fresh
     ∙ ap (λ bs. entries_from attrs all number closed ++ (log_name attrs fresh, bs) ∷ []) filled
     ∙ ap (λ es. es ++ (log_name attrs fresh, bytes) ∷ [])
-      (entries_from-full attrs records (bytes ∷ []) number closed rotates full ∙ entries_from-last attrs records number front shut)
+    (entries_from-full attrs records (bytes ∷ []) number closed rotates full ∙ entries_from-last attrs records number front shut)
     ∙ append_assoc (entries_from attrs records number front) ((log_name attrs shut, bytes_in attrs (number + length front) records) ∷ []) ((log_name attrs fresh, bytes) ∷ [])
 
 -- what is common to the ways in which a file changes
@@ -277,19 +274,19 @@ change_kept attrs front current records bytes files stamps q change few =
     let reached = last_number attrs front current records out change.rotates in
     let next = change.begins.next in
     let stays : standing attrs whole ≡ whole =
-      ap (λ a. drop (length whole - most_files a attrs.rotated) whole) change.rotates ∙ ap (λ k. drop k whole) (let none : length whole - attrs.rotated ≡ 0 = omega arith in none) in
+    ap (λ a. drop (length whole - most_files a attrs.rotated) whole) change.rotates ∙ ap (λ k. drop k whole) (let none : length whole - attrs.rotated ≡ 0 = omega arith in none) in
     let again : (length all - 1) / n + 1 - length whole ≡ number = ap (λ m. m / n + 1 - length whole) pushed ∙ omega arith in
     let after = ap (log_entries attrs all) stays ∙ later_entries attrs all number whole again
-      ∙ changed_entries attrs number front shut fresh records bytes change.rotates out.some change.begins (omega arith) in
+    ∙ changed_entries attrs number front shut fresh records bytes change.rotates out.some change.begins (omega arith) in
     let before = log_entries-last attrs records front current in
     ap (λ gone. get (changed attrs current stamps 0 bytes gone files) q) (removal_none attrs whole (omega arith))
     ∙ by_entries _ _ _ _ files q _ before after
-      (carry_change (entries_from attrs records number front) (log_name attrs current) (log_name attrs shut) (log_name attrs fresh) (bytes_in attrs (number + length front) records) bytes files
-        (absent_open attrs records number front current out.shut out.unclosed)
-        (absent_later attrs records number front shut out.stamps out.stamp out.made_last)
-        (absent_open attrs records number front fresh out.shut refl)
-        (closed_apart attrs shut fresh refl refl)
-        (subst (λ es. Stand es files) before change.stand) q)
+    (carry_change (entries_from attrs records number front) (log_name attrs current) (log_name attrs shut) (log_name attrs fresh) (bytes_in attrs (number + length front) records) bytes files
+    (absent_open attrs records number front current out.shut out.unclosed)
+    (absent_later attrs records number front shut out.stamps out.stamp out.made_last)
+    (absent_open attrs records number front fresh out.shut refl)
+    (closed_apart attrs shut fresh refl refl)
+    (subst (λ es. Stand es files) before change.stand) q)
 
 -- one file is kept
 change_sole : (attrs : StreamAttrs) (current : LogFile) (records : List (List ℕ)) (bytes : List ℕ) (files : Files) (stamps : Stamps) (q : List ℕ)
@@ -302,19 +299,19 @@ change_sole attrs current records bytes files stamps q change one =
     let fresh = open_file stamps.created in
     let pushed : length all - 1 ≡ length records = ap (λ l. l - 1) (length_push records bytes) ∙ omega arith in
     let stays : standing attrs (shut ∷ fresh ∷ []) ≡ fresh ∷ [] =
-      ap (λ a. drop (2 - most_files a attrs.rotated) (shut ∷ fresh ∷ [])) change.rotates ∙ ap (λ r. drop (2 - r) (shut ∷ fresh ∷ [])) one in
+    ap (λ a. drop (2 - most_files a attrs.rotated) (shut ∷ fresh ∷ [])) change.rotates ∙ ap (λ r. drop (2 - r) (shut ∷ fresh ∷ [])) one in
     let again : (length all - 1) / n + 1 - 1 ≡ length records / n = ap (λ m. m / n + 1 - 1) pushed ∙ omega arith in
     let filled : bytes_in attrs (length records / n) all ≡ bytes =
-      ap (λ a. concat (records_in a n (length records / n) all)) change.rotates ∙ round_begun n records bytes out.some change.begins in
+    ap (λ a. concat (records_in a n (length records / n) all)) change.rotates ∙ round_begun n records bytes out.some change.begins in
     let after = ap (log_entries attrs all) stays ∙ later_entries attrs all (length records / n) (fresh ∷ []) again
-      ∙ entries_from-one attrs all (length records / n) fresh ∙ ap (λ bs. (log_name attrs fresh, bs) ∷ []) filled in
+    ∙ entries_from-one attrs all (length records / n) fresh ∙ ap (λ bs. (log_name attrs fresh, bs) ∷ []) filled in
     let number = first_number attrs records 1 in
     let before : log_entries attrs records (current ∷ []) ≡ (log_name attrs current, bytes_in attrs number records) ∷ [] =
-      later_entries attrs records number (current ∷ []) refl ∙ entries_from-one attrs records number current in
+    later_entries attrs records number (current ∷ []) refl ∙ entries_from-one attrs records number current in
     ap (λ gone. get (changed attrs current stamps 0 bytes gone files) q) (removal_oldest attrs shut (fresh ∷ []) (omega arith))
     ∙ by_entries _ _ _ _ files q _ before after
-      (carry_sole (log_name attrs current) (log_name attrs shut) (log_name attrs fresh) (bytes_in attrs number records) bytes files
-        (closed_apart attrs shut fresh refl refl) change.free (subst (λ es. Stand es files) before change.stand) q)
+    (carry_sole (log_name attrs current) (log_name attrs shut) (log_name attrs fresh) (bytes_in attrs number records) bytes files
+    (closed_apart attrs shut fresh refl refl) change.free (subst (λ es. Stand es files) before change.stand) q)
 
 -- the oldest of several goes
 change_rotated : (attrs : StreamAttrs) (oldest : LogFile) (front : List LogFile) (current : LogFile) (records : List (List ℕ)) (bytes : List ℕ) (files : Files) (stamps : Stamps) (q : List ℕ)
@@ -334,19 +331,19 @@ change_rotated attrs oldest front current records bytes files stamps q change ke
     let count = out.count ∙ ap (λ a. file_count a attrs.rotated n (length records)) change.rotates in
     let one : suc (length rest) - attrs.rotated ≡ 1 = omega arith in
     let stays : standing attrs (oldest ∷ rest) ≡ rest =
-      ap (λ a. drop (length (oldest ∷ rest) - most_files a attrs.rotated) (oldest ∷ rest)) change.rotates ∙ ap (λ k. drop k (oldest ∷ rest)) one in
+    ap (λ a. drop (length (oldest ∷ rest) - most_files a attrs.rotated) (oldest ∷ rest)) change.rotates ∙ ap (λ k. drop k (oldest ∷ rest)) one in
     let again : (length all - 1) / n + 1 - length rest ≡ number + 1 = ap (λ m. m / n + 1 - length rest) pushed ∙ omega arith in
     let after = ap (log_entries attrs all) stays ∙ later_entries attrs all (number + 1) rest again
-      ∙ changed_entries attrs (number + 1) front shut fresh records bytes change.rotates out.some change.begins (omega arith) in
+    ∙ changed_entries attrs (number + 1) front shut fresh records bytes change.rotates out.some change.begins (omega arith) in
     let bytes_old = bytes_in attrs (number + 1 + length front) records in
     let gone_bytes = bytes_in attrs number records in
     let entries = entries_from attrs records (number + 1) front in
     let split = entries_from-cons attrs records number oldest front in
     let place : number + suc (length front) ≡ number + 1 + length front = omega arith in
     let before : log_entries attrs records (oldest ∷ front ++ current ∷ []) ≡ (log_name attrs oldest, gone_bytes) ∷ entries ++ (log_name attrs current, bytes_old) ∷ [] =
-      log_entries-last attrs records (oldest ∷ front) current
-      ∙ ap (λ es. es ++ (log_name attrs current, bytes_in attrs (number + suc (length front)) records) ∷ []) split
-      ∙ ap (λ v. (log_name attrs oldest, gone_bytes) ∷ entries ++ (log_name attrs current, bytes_in attrs v records) ∷ []) place in
+    log_entries-last attrs records (oldest ∷ front) current
+    ∙ ap (λ es. es ++ (log_name attrs current, bytes_in attrs (number + suc (length front)) records) ∷ []) split
+    ∙ ap (λ v. (log_name attrs oldest, gone_bytes) ∷ entries ++ (log_name attrs current, bytes_in attrs v records) ∷ []) place in
     let first = out.made_first oldest front refl in
     let stamp = All-head (λ (file : LogFile). IsStamp file.created) oldest front out.stamps in
     let stamps_behind = All-tail (λ (file : LogFile). IsStamp file.created) oldest front out.stamps in
@@ -354,15 +351,15 @@ change_rotated attrs oldest front current records bytes files stamps q change ke
     let less = All-head (λ (file : LogFile). file.created <ℤ current.created) oldest front out.made_last in
     ap (λ gone. get (changed attrs current stamps 0 bytes gone files) q) (removal_oldest attrs oldest rest (omega arith))
     ∙ by_entries _ _ _ _ files q _ before after
-      (carry_rotation (log_name attrs oldest) gone_bytes entries (log_name attrs current) (log_name attrs shut) (log_name attrs fresh) bytes_old bytes files
-        (subst (λ es. entry_at es (log_name attrs current) ≡ None) split (absent_open attrs records number (oldest ∷ front) current out.shut out.unclosed))
-        (subst (λ es. entry_at es (log_name attrs shut) ≡ None) split (absent_later attrs records number (oldest ∷ front) shut out.stamps out.stamp out.made_last))
-        (subst (λ es. entry_at es (log_name attrs fresh) ≡ None) split (absent_open attrs records number (oldest ∷ front) fresh out.shut refl))
-        (absent_earlier attrs records (number + 1) front oldest stamps_behind stamp first)
-        (closed_apart attrs shut fresh refl refl)
-        (λ same. closed_apart attrs oldest fresh shut_first refl (sym same))
-        (λ same. created_apart attrs oldest shut stamp out.stamp (unlike oldest.created current.created less) (sym same))
-        (subst (λ es. Stand es files) before change.stand) q)
+    (carry_rotation (log_name attrs oldest) gone_bytes entries (log_name attrs current) (log_name attrs shut) (log_name attrs fresh) bytes_old bytes files
+    (subst (λ es. entry_at es (log_name attrs current) ≡ None) split (absent_open attrs records number (oldest ∷ front) current out.shut out.unclosed))
+    (subst (λ es. entry_at es (log_name attrs shut) ≡ None) split (absent_later attrs records number (oldest ∷ front) shut out.stamps out.stamp out.made_last))
+    (subst (λ es. entry_at es (log_name attrs fresh) ≡ None) split (absent_open attrs records number (oldest ∷ front) fresh out.shut refl))
+    (absent_earlier attrs records (number + 1) front oldest stamps_behind stamp first)
+    (closed_apart attrs shut fresh refl refl)
+    (λ same. closed_apart attrs oldest fresh shut_first refl (sym same))
+    (λ same. created_apart attrs oldest shut stamp out.stamp (unlike oldest.created current.created less) (sym same))
+    (subst (λ es. Stand es files) before change.stand) q)
 
 pub change_law : (attrs : StreamAttrs) (front : List LogFile) (current : LogFile) (records : List (List ℕ)) (bytes : List ℕ) (files : Files) (stamps : Stamps) (q : List ℕ)
     → IsChange attrs front current records bytes files stamps → ChangeLaw attrs front current records bytes files stamps q

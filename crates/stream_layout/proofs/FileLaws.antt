@@ -1,5 +1,5 @@
 -- What is found under each name after the device calls of an event, over any names and bytes.
-use Rattle.std.proofs.Common.{◌≡◌, ◌≢◌, ℕ, ◌+◌, ◌≤◌, Bool, true, false, cond, List, [], ◌∷◌, ◌++◌, length, take, drop, Option, Some, None, option_map, is_some, if◌then◌else◌, refl, sym, ap, ◌∙◌, append-nil, arith}
+use Rattle.std.proofs.Common.{◌≡◌, ◌≢◌, ℕ, ◌+◌, ◌≤◌, Bool, true, false, cond, List, [], ◌∷◌, ◌++◌, length, Option, Some, None, option_map, is_some, if◌then◌else◌, refl, sym, ap, ◌∙◌, append-nil, arith}
 use Rattle.std.specs.Option.{option_map_or}
 use Rattle.std.specs.Str.{bytes_eq}
 use Rattle.std.specs.FinMap.{get}
@@ -7,7 +7,7 @@ use Rattle.std.proofs.lemmas.Bool.{cond-true, le-leb}
 use Rattle.std.proofs.lemmas.List.{drop_all}
 use Rattle.std.proofs.lemmas.Map.Text.{is_eq-slice_cmp}
 use Rattle.std.proofs.lemmas.Slice.Eq.{bytes_eq-Decides}
-use Rattle.disk_model.specs.Disk.{File, Files, empty_file, settled_file, overwritten, file_written, file_synced, adjusted, created, written_at, synced, renamed, removed}
+use Rattle.disk_model.specs.Disk.{File, Files, empty_file, settled_file, overwritten, file_written, file_synced, created, written_at, synced, renamed, removed}
 use Rattle.disk_model.proofs.Changes.{same_name, get-created, get-removed, get-adjusted, get-renamed, adjusted_twice}
 use Rattle.stream_layout.specs.LogFiles.{Entries}
 use Rattle.stream_layout.specs.Carrying.{entry_at, Stand, replaced}
@@ -76,7 +76,7 @@ found-made : (files : Files) (name bytes q : List ℕ)
     → get (synced (written_at (created files name) name 0 bytes) name) q ≡ cond (bytes_eq q name) (Some (settled_file bytes)) (get files q)
 found-made files name bytes q =
     let stands : get (created files name) name ≡ Some (settled_file []) =
-      found-created files name name ∙ ap (λ b. cond b (Some (settled_file [])) (get files name)) (itself name) in
+    found-created files name name ∙ ap (λ b. cond b (Some (settled_file [])) (get files name)) (itself name) in
     found-written (created files name) name 0 bytes [] stands (omega arith) q
     ∙ ap (λ v. cond (bytes_eq q name) (Some (settled_file v)) (get (created files name) q)) (filled bytes)
     ∙ ap (λ o. cond (bytes_eq q name) (Some (settled_file bytes)) o) (found-created files name q)
@@ -145,9 +145,9 @@ carry_write front name old at bytes files none stand within q =
     let new = overwritten old at bytes in
     found-written files name at bytes old (last_stands front name old files none stand) within q
     ∙ split_found [] front ((name, old) ∷ []) ((name, new) ∷ []) files q (cond (bytes_eq q name) (Some (settled_file new)) (get files q))
-      (λ kept some. ap (λ b. cond b (Some (settled_file new)) (get files q)) (found_elsewhere front q name kept some none)
-        ∙ stand q kept (entry_at-front front ((name, old) ∷ []) q kept some))
-      (λ _. written_choice (bytes_eq q name) old new (get files q))
+    (λ kept some. ap (λ b. cond b (Some (settled_file new)) (get files q)) (found_elsewhere front q name kept some none)
+    ∙ stand q kept (entry_at-front front ((name, old) ∷ []) q kept some))
+    (λ _. written_choice (bytes_eq q name) old new (get files q))
 
 -- the last of some files gets another name
 renamed_choice : (to from : Bool) (old : List ℕ) (found : Option File)
@@ -163,11 +163,11 @@ pub carry_rename : (front : Entries) (from to old : List ℕ) (files : Files)
 carry_rename front from to old files no_from no_to stand q =
     found-renamed files from to (settled_file old) (last_stands front from old files no_from stand) q
     ∙ split_found [] front ((from, old) ∷ []) ((to, old) ∷ []) files q (cond (bytes_eq q to) (Some (settled_file old)) (cond (bytes_eq q from) None (get files q)))
-      (λ kept some.
-        ap (λ b. cond b (Some (settled_file old)) (cond (bytes_eq q from) None (get files q))) (found_elsewhere front q to kept some no_to)
-        ∙ ap (λ b. cond b None (get files q)) (found_elsewhere front q from kept some no_from)
-        ∙ stand q kept (entry_at-front front ((from, old) ∷ []) q kept some))
-      (λ _. renamed_choice (bytes_eq q to) (bytes_eq q from) old (get files q))
+    (λ kept some.
+    ap (λ b. cond b (Some (settled_file old)) (cond (bytes_eq q from) None (get files q))) (found_elsewhere front q to kept some no_to)
+    ∙ ap (λ b. cond b None (get files q)) (found_elsewhere front q from kept some no_from)
+    ∙ stand q kept (entry_at-front front ((from, old) ∷ []) q kept some))
+    (λ _. renamed_choice (bytes_eq q to) (bytes_eq q from) old (get files q))
 
 -- the calls of a change of file, without those that remove
 found-changed : (files : Files) (from to new : List ℕ) (old bytes : List ℕ) → get files from ≡ Some (settled_file old) → (q : List ℕ)
@@ -193,13 +193,13 @@ found-refilled : (files : Files) (name gone bytes : List ℕ) → name ≢ gone 
     ≡ cond (bytes_eq q name) (Some (settled_file bytes)) (cond (bytes_eq q gone) None (get files q))
 found-refilled files name gone bytes differ q =
     let stands : get (removed (created files name) gone) name ≡ Some (settled_file []) =
-      found-removed (created files name) gone name
-      ∙ ap (λ b. cond b None (get (created files name) name)) (apart name gone differ)
-      ∙ found-created files name name ∙ ap (λ b. cond b (Some (settled_file [])) (get files name)) (itself name) in
+    found-removed (created files name) gone name
+    ∙ ap (λ b. cond b None (get (created files name) name)) (apart name gone differ)
+    ∙ found-created files name name ∙ ap (λ b. cond b (Some (settled_file [])) (get files name)) (itself name) in
     found-written (removed (created files name) gone) name 0 bytes [] stands (omega arith) q
     ∙ ap (λ v. cond (bytes_eq q name) (Some (settled_file v)) (get (removed (created files name) gone) q)) (filled bytes)
     ∙ ap (cond (bytes_eq q name) (Some (settled_file bytes)))
-      (found-removed (created files name) gone q ∙ ap (cond (bytes_eq q gone) None) (found-created files name q))
+    (found-removed (created files name) gone q ∙ ap (cond (bytes_eq q gone) None) (found-created files name q))
     ∙ refilled_choice (bytes_eq q name) (bytes_eq q gone) (Some (settled_file bytes)) (Some (settled_file [])) (get files q)
 
 -- the last of some files is closed, and a new one comes behind it
@@ -220,13 +220,13 @@ pub carry_change : (front : Entries) (from to new : List ℕ) (old bytes : List 
 carry_change front from to new old bytes files no_from no_to no_new differ stand q =
     found-changed files from to new old bytes (last_stands front from old files no_from stand) q
     ∙ split_found [] front ((from, old) ∷ []) ((to, old) ∷ (new, bytes) ∷ []) files q
-      (cond (bytes_eq q new) (Some (settled_file bytes)) (cond (bytes_eq q to) (Some (settled_file old)) (cond (bytes_eq q from) None (get files q))))
-      (λ kept some.
-        ap (λ b. cond b (Some (settled_file bytes)) (cond (bytes_eq q to) (Some (settled_file old)) (cond (bytes_eq q from) None (get files q)))) (found_elsewhere front q new kept some no_new)
-        ∙ ap (λ b. cond b (Some (settled_file old)) (cond (bytes_eq q from) None (get files q))) (found_elsewhere front q to kept some no_to)
-        ∙ ap (λ b. cond b None (get files q)) (found_elsewhere front q from kept some no_from)
-        ∙ stand q kept (entry_at-front front ((from, old) ∷ []) q kept some))
-      (λ _. changed_choice (bytes_eq q new) (bytes_eq q to) (bytes_eq q from) old bytes (get files q) (not_both q to new differ))
+    (cond (bytes_eq q new) (Some (settled_file bytes)) (cond (bytes_eq q to) (Some (settled_file old)) (cond (bytes_eq q from) None (get files q))))
+    (λ kept some.
+    ap (λ b. cond b (Some (settled_file bytes)) (cond (bytes_eq q to) (Some (settled_file old)) (cond (bytes_eq q from) None (get files q)))) (found_elsewhere front q new kept some no_new)
+    ∙ ap (λ b. cond b (Some (settled_file old)) (cond (bytes_eq q from) None (get files q))) (found_elsewhere front q to kept some no_to)
+    ∙ ap (λ b. cond b None (get files q)) (found_elsewhere front q from kept some no_from)
+    ∙ stand q kept (entry_at-front front ((from, old) ∷ []) q kept some))
+    (λ _. changed_choice (bytes_eq q new) (bytes_eq q to) (bytes_eq q from) old bytes (get files q) (not_both q to new differ))
 
 -- the same, and the oldest of the files goes
 rotated_choice : (new gone to from : Bool) (old bytes oldest : List ℕ) (found : Option File) → (to ≡ true → new ≡ false) → (to ≡ true → gone ≡ false)
@@ -251,16 +251,16 @@ carry_rotation gone oldest front from to new old bytes files no_from no_to no_ne
     let behind : (name : List ℕ) → entry_at whole name ≡ None → entry_at front name ≡ None = λ name none. not_first (bytes_eq name gone) oldest (entry_at front name) none in
     found-refilled (renamed files from to) new gone bytes unlike q
     ∙ ap (λ o. cond (bytes_eq q new) (Some (settled_file bytes)) (cond (bytes_eq q gone) None o))
-      (found-renamed files from to (settled_file old) (last_stands whole from old files no_from stand) q)
+    (found-renamed files from to (settled_file old) (last_stands whole from old files no_from stand) q)
     ∙ split_found ((gone, oldest) ∷ []) front ((from, old) ∷ []) ((to, old) ∷ (new, bytes) ∷ []) files q
-      (cond (bytes_eq q new) (Some (settled_file bytes)) (cond (bytes_eq q gone) None (cond (bytes_eq q to) (Some (settled_file old)) (cond (bytes_eq q from) None (get files q)))))
-      (λ kept some.
-        ap (λ b. cond b (Some (settled_file bytes)) (cond (bytes_eq q gone) None (cond (bytes_eq q to) (Some (settled_file old)) (cond (bytes_eq q from) None (get files q))))) (found_elsewhere front q new kept some (behind new no_new))
-        ∙ ap (λ b. cond b None (cond (bytes_eq q to) (Some (settled_file old)) (cond (bytes_eq q from) None (get files q)))) (found_elsewhere front q gone kept some once)
-        ∙ ap (λ b. cond b (Some (settled_file old)) (cond (bytes_eq q from) None (get files q))) (found_elsewhere front q to kept some (behind to no_to))
-        ∙ ap (λ b. cond b None (get files q)) (found_elsewhere front q from kept some (behind from no_from))
-        ∙ stand q kept (ap (λ b. cond b (Some oldest) (entry_at (front ++ (from, old) ∷ []) q)) (found_elsewhere front q gone kept some once) ∙ entry_at-front front ((from, old) ∷ []) q kept some))
-      (λ _. rotated_choice (bytes_eq q new) (bytes_eq q gone) (bytes_eq q to) (bytes_eq q from) old bytes oldest (get files q) (not_both q to new differ) (not_both q to gone other))
+    (cond (bytes_eq q new) (Some (settled_file bytes)) (cond (bytes_eq q gone) None (cond (bytes_eq q to) (Some (settled_file old)) (cond (bytes_eq q from) None (get files q)))))
+    (λ kept some.
+    ap (λ b. cond b (Some (settled_file bytes)) (cond (bytes_eq q gone) None (cond (bytes_eq q to) (Some (settled_file old)) (cond (bytes_eq q from) None (get files q))))) (found_elsewhere front q new kept some (behind new no_new))
+    ∙ ap (λ b. cond b None (cond (bytes_eq q to) (Some (settled_file old)) (cond (bytes_eq q from) None (get files q)))) (found_elsewhere front q gone kept some once)
+    ∙ ap (λ b. cond b (Some (settled_file old)) (cond (bytes_eq q from) None (get files q))) (found_elsewhere front q to kept some (behind to no_to))
+    ∙ ap (λ b. cond b None (get files q)) (found_elsewhere front q from kept some (behind from no_from))
+    ∙ stand q kept (ap (λ b. cond b (Some oldest) (entry_at (front ++ (from, old) ∷ []) q)) (found_elsewhere front q gone kept some once) ∙ entry_at-front front ((from, old) ∷ []) q kept some))
+    (λ _. rotated_choice (bytes_eq q new) (bytes_eq q gone) (bytes_eq q to) (bytes_eq q from) old bytes oldest (get files q) (not_both q to new differ) (not_both q to gone other))
 
 -- the same, where the file that is closed is the oldest
 sole_choice : (new to from : Bool) (old bytes : List ℕ) (found : Option File) → (to ≡ true → new ≡ false) → (to ≡ true → found ≡ None)
@@ -279,9 +279,9 @@ pub carry_sole : (from to new : List ℕ) (old bytes : List ℕ) (files : Files)
 carry_sole from to new old bytes files differ free stand q =
     found-refilled (renamed files from to) new to bytes (λ e. differ (sym e)) q
     ∙ ap (λ o. cond (bytes_eq q new) (Some (settled_file bytes)) (cond (bytes_eq q to) None o))
-      (found-renamed files from to (settled_file old) (last_stands [] from old files refl stand) q)
+    (found-renamed files from to (settled_file old) (last_stands [] from old files refl stand) q)
     ∙ sole_choice (bytes_eq q new) (bytes_eq q to) (bytes_eq q from) old bytes (get files q) (not_both q to new differ)
-      (λ is. ap (get files) ((bytes_eq-Decides q to).0 is) ∙ free)
+    (λ is. ap (get files) ((bytes_eq-Decides q to).0 is) ∙ free)
 
 -- a stream is made: its cfg, and an empty file
 made_choice : (cfg log : Bool) (text : List ℕ) (found : Option File) → (cfg ≡ true → log ≡ false)

@@ -1,4 +1,5 @@
 pub mod CurrentFile
+pub mod DeedLaws
 pub mod EntryLaws
 pub mod CarryLaws
 pub mod EventLaws

@@ -1,5 +1,5 @@
 -- Which names of files differ.
-use Rattle.std.proofs.Common.{◌≡◌, ◌≢◌, ℕ, suc, ◌+◌, ◌≤◌, ℤ, pos, negsuc, ◌≤ℤ◌, Bool, true, false, List, [], ◌∷◌, ◌++◌, nat_lt, length, take, drop, get_or, Option, Some, None, is_some, if◌then◌else◌, codes, refl, sym, ap, ◌∙◌, arith, append_assoc, length-append}
+use Rattle.std.proofs.Common.{◌≡◌, ◌≢◌, ℕ, suc, ◌+◌, ◌≤◌, ℤ, pos, negsuc, true, List, ◌++◌, nat_lt, length, take, drop, get_or, Option, Some, None, is_some, if◌then◌else◌, codes, refl, sym, ap, ◌∙◌, arith, append_assoc, length-append}
 use Rattle.std.specs.Int.RustNames.{unsigned_abs}
 use Rattle.std.proofs.lemmas.Bool.{false≢true}
 use Rattle.std.proofs.lemmas.Int.{ints}
@@ -47,10 +47,10 @@ created_apart attrs one other is is' differ same =
     let stamp = stamp_of (unsigned_abs one.created) in
     let stamp' = stamp_of (unsigned_abs other.created) in
     let rest = append_cancel_left front (stamp ++ behind) (stamp' ++ behind')
-      (sym (log_name-split attrs one) ∙ same ∙ log_name-split attrs other) in
+    (sym (log_name-split attrs one) ∙ same ∙ log_name-split attrs other) in
     differ (stamps_apart one.created other.created is is'
-      (sym (take_at stamp behind 15 (length-stamp_of (unsigned_abs one.created))) ∙ ap (take 15) rest
-      ∙ take_at stamp' behind' 15 (length-stamp_of (unsigned_abs other.created))))
+    (sym (take_at stamp behind 15 (length-stamp_of (unsigned_abs one.created))) ∙ ap (take 15) rest
+    ∙ take_at stamp' behind' 15 (length-stamp_of (unsigned_abs other.created))))
 
 length-closing_part : (closed : Option ℤ) → length (closing_part closed) ≡ (if is_some closed then 16 else 0)
 length-closing_part None = refl
@@ -123,4 +123,4 @@ last_apart attrs attrs' one other is is' differ same =
     let fifteen' = length-stamp_of (unsigned_abs (last_stamp other)) in
     let tails = same_tails end.0 end'.0 (stamp ++ codes ".log") (stamp' ++ codes ".log") (omega arith) (sym end.1 ∙ same ∙ end'.1) in
     differ (stamps_apart (last_stamp one) (last_stamp other) is is'
-      (sym (take_at stamp (codes ".log") 15 fifteen) ∙ ap (take 15) tails ∙ take_at stamp' (codes ".log") 15 fifteen'))
+    (sym (take_at stamp (codes ".log") 15 fifteen) ∙ ap (take 15) tails ∙ take_at stamp' (codes ".log") 15 fifteen'))

@@ -1,5 +1,5 @@
 -- What one more record does to the records of a round and to those of a file.
-use Rattle.std.proofs.Common.{◌≡◌, ℕ, zero, suc, ◌+◌, ◌-◌, ◌*◌, ◌/◌, ◌%◌, ◌<◌, ◌≤◌, List, [], ◌∷◌, ◌++◌, length, take, drop, refl, sym, ap, ◌∙◌, inl, inr, ◌⊎◌, arith, append_assoc, append-nil, length-append, length-drop, length-take}
+use Rattle.std.proofs.Common.{◌≡◌, ℕ, zero, suc, ◌+◌, ◌-◌, ◌*◌, ◌/◌, ◌%◌, ◌<◌, ◌≤◌, List, [], ◌∷◌, ◌++◌, length, take, drop, refl, sym, ap, ◌∙◌, inl, inr, arith, append_assoc, length-append, length-drop, length-take}
 use Rattle.std.specs.List.{concat, All}
 use Rattle.std.proofs.lemmas.Bool.{cases_eq}
 use Rattle.std.proofs.lemmas.List.{take-append-drop, take_all, take_at, take-append-le, drop-drop, drop_at, drop-append-le, drop_all, length_push}
@@ -80,7 +80,7 @@ pub round_more : (n round k : ℕ) (records : List (List ℕ)) (bytes : List ℕ
 round_more n round k records bytes small is =
     ap (take n) (drop-append-le (round * n) records (bytes ∷ []) (omega arith))
     ∙ take_all n (drop (round * n) records ++ bytes ∷ [])
-      (let long = length-running n round k records is in let one = length_push (drop (round * n) records) bytes in omega arith)
+    (let long = length-running n round k records is in let one = length_push (drop (round * n) records) bytes in omega arith)
 
 -- the one file by its last round and the round before
 overlaid_is : (n round k : ℕ) (records : List (List ℕ)) → k < n → length records ≡ round * n + k
@@ -96,9 +96,9 @@ before_stays : (n round k : ℕ) (records : List (List ℕ)) (bytes : List ℕ) 
 before_stays n zero k records bytes small is =
     ap (drop (k + 1)) (round_more n 0 k records bytes small is)
     ∙ drop_all (k + 1) (drop (0 * n) records ++ bytes ∷ [])
-      (let long = length-running n 0 k records is in let one = length_push (drop (0 * n) records) bytes in omega arith)
+    (let long = length-running n 0 k records is in let one = length_push (drop (0 * n) records) bytes in omega arith)
     ∙ sym (drop_all (k + 1) (round_of n 0 records)
-      (let same = ap length (round_last n 0 k records small is) in let long = length-running n 0 k records is in omega arith))
+    (let same = ap length (round_last n 0 k records small is) in let long = length-running n 0 k records is in omega arith))
 before_stays n (suc round) k records bytes small is =
     let one : suc round - 1 ≡ round = omega arith in
     ap (drop (k + 1)) (ap (λ r. round_of n r (records ++ bytes ∷ [])) one ∙ round_full n round records (bytes ∷ []) (omega arith) ∙ ap (λ r. round_of n r records) (sym one))
@@ -113,7 +113,7 @@ overlaid_split n round k records bytes small is =
     ap (λ rs. take k rs ++ bytes ∷ drop (k + 1) rs) (overlaid_is n round k records small is)
     ∙ ap (λ rs. rs ++ bytes ∷ drop (k + 1) (running ++ behind)) (take_at running behind k long)
     ∙ ap (λ rs. running ++ bytes ∷ rs)
-      (sym (drop-drop 1 k (running ++ behind)) ∙ ap (drop 1) (drop_at running behind k long) ∙ drop-drop 1 k (round_of n (round - 1) records))
+    (sym (drop-drop 1 k (running ++ behind)) ∙ ap (drop 1) (drop_at running behind k long) ∙ drop-drop 1 k (round_of n (round - 1) records))
 
 -- the last place of the round is taken
 overlaid_full : (n round k : ℕ) (records : List (List ℕ)) (bytes : List ℕ) → k < n → k + 1 ≡ n → length records ≡ round * n + k

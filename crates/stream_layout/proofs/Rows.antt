@@ -1,5 +1,5 @@
 -- Worked rows of the files of a stream.
-use Rattle.std.proofs.Common.{◌≡◌, refl, pos, List, ℕ, [], ◌∷◌, Some, None, codes}
+use Rattle.std.proofs.Common.{◌≡◌, refl, pos, List, ℕ, [], ◌∷◌, codes}
 use Rattle.civil_time.specs.Fields.{civil_of, year_of, month_of, year_from, month_from}
 use Rattle.civil_time.specs.Stamps.{stamp_of}
 use Rattle.stream_config.specs.declared.attrs.FullAction.{FullAction}
@@ -12,7 +12,14 @@ use Rattle.stream_layout.specs.LogFiles.{entries_from, log_entries}
 -- a stream of two records a file, of one byte each
 row_attrs : FullAction → List ℕ → StreamAttrs
 row_attrs action path = record {
-  file = codes "saLogSystem"; path = path; max_file = 2; record_size = 1; ha = 0; action = action; rotated = 1; expr = [];
+  file = codes "saLogSystem";
+  path = path;
+  max_file = 2;
+  record_size = 1;
+  ha = 0;
+  action = action;
+  rotated = 1;
+  expr = [];
 }
 
 -- a full file of a HALT stream

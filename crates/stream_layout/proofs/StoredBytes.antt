@@ -1,7 +1,7 @@
 -- The bytes of the file that a record goes to.
-use Rattle.std.proofs.Common.{◌≡◌, ◌≢◌, ℕ, zero, suc, ◌+◌, ◌-◌, ◌*◌, ◌/◌, ◌%◌, ◌<◌, ◌≤◌, Bool, true, false, ◌&&◌, ◌==◌, nat_lt, List, [], ◌∷◌, ◌++◌, length, take, drop, refl, sym, ap, subst, ◌∙◌, inl, inr, ◌⊎◌, arith, append-nil, length-drop}
-use Rattle.std.specs.List.{concat, All}
-use Rattle.std.proofs.lemmas.Bool.{cases_eq, and_parts, and_cases, ltb-true, ltb-false, eqb-true, eqb-false}
+use Rattle.std.proofs.Common.{◌≡◌, ℕ, zero, suc, ◌+◌, ◌-◌, ◌*◌, ◌/◌, ◌%◌, ◌<◌, ◌≤◌, true, false, ◌==◌, nat_lt, List, [], ◌∷◌, ◌++◌, length, take, drop, refl, sym, ap, subst, ◌∙◌, inl, inr, arith, append-nil}
+use Rattle.std.specs.List.{concat}
+use Rattle.std.proofs.lemmas.Bool.{and_parts, and_cases, ltb-true, ltb-false, eqb-true, eqb-false}
 use Rattle.std.proofs.lemmas.List.{take_all, drop_all}
 use Rattle.std.proofs.lemmas.List.Elements.{All-drop}
 use Rattle.std.proofs.lemmas.Nat.{div-add-mod'}
@@ -10,10 +10,9 @@ use Rattle.disk_model.specs.Disk.{overwritten}
 use Rattle.stream_config.specs.declared.attrs.FullAction.{FullAction}
 use Rattle.stream_config.specs.declared.attrs.FullAction.TheVariants.{Wrap, Halt, Rotate}
 use Rattle.stream_config.specs.Fit.{changes_file}
-use Rattle.stream_layout.specs.declared.spot.Spot.{Spot}
 use Rattle.stream_layout.specs.Spots.{spot_in}
 use Rattle.stream_layout.specs.LogFiles.{round_of, overlaid, records_in}
-use Rattle.stream_layout.proofs.Rounds.{quotient, AreOfSize, length-concat, overwritten-concat, round_full, round_last, length-running, round_more, overlaid_more, overlaid_reaches, overlaid_sizes}
+use Rattle.stream_layout.proofs.Rounds.{quotient, AreOfSize, length-concat, overwritten-concat, round_last, length-running, round_more, overlaid_more, overlaid_reaches, overlaid_sizes}
 
 -- a number by its quotient and rest
 divided : (n m : ℕ) → m ≡ m / n * n + m % n
@@ -76,7 +75,7 @@ put_over : (n size round k : ℕ) (records : List (List ℕ)) (bytes : List ℕ)
     → IsPut (overlaid n records) (k * size) bytes (overlaid n (records ++ bytes ∷ []))
 put_over n size round k records bytes sizes whole small is =
     put_at size k (overlaid n records) (overlaid n (records ++ bytes ∷ [])) bytes (overlaid_sizes size n records sizes) whole
-      (overlaid_reaches n round k records small is) (overlaid_more n round k records bytes small is)
+    (overlaid_reaches n round k records small is) (overlaid_more n round k records bytes small is)
 
 -- behind the records of the running round
 put_behind : (n size round k : ℕ) (records : List (List ℕ)) (bytes : List ℕ) → AreOfSize size records → length bytes ≡ size → k < n → length records ≡ round * n + k
@@ -85,10 +84,10 @@ put_behind n size round k records bytes sizes whole small is =
     let running = drop (round * n) records in
     let long : length running ≡ k = length-running n round k records is in
     let new : running ++ bytes ∷ [] ≡ take k running ++ bytes ∷ drop (k + 1) running =
-      ap (λ rs. rs ++ bytes ∷ []) (sym (take_all k running (omega arith))) ∙ ap (λ rs. take k running ++ bytes ∷ rs) (sym (drop_all (k + 1) running (omega arith))) in
+    ap (λ rs. rs ++ bytes ∷ []) (sym (take_all k running (omega arith))) ∙ ap (λ rs. take k running ++ bytes ∷ rs) (sym (drop_all (k + 1) running (omega arith))) in
     subst (λ old. IsPut old (k * size) bytes (round_of n round (records ++ bytes ∷ []))) (sym (round_last n round k records small is))
-      (put_at size k running (round_of n round (records ++ bytes ∷ [])) bytes (All-drop (λ r. length r ≡ size) (round * n) records sizes) whole (omega arith)
-        (round_more n round k records bytes small is ∙ new))
+    (put_at size k running (round_of n round (records ++ bytes ∷ [])) bytes (All-drop (λ r. length r ≡ size) (round * n) records sizes) whole (omega arith)
+    (round_more n round k records bytes small is ∙ new))
 
 -- the record that comes, where the file stays
 pub put_record : (action : FullAction) (n size number : ℕ) (records : List (List ℕ)) (bytes : List ℕ)
@@ -102,7 +101,7 @@ put_record Halt n size number records bytes some sizes whole stays room last =
 put_record Rotate n size number records bytes some sizes whole stays room last =
     let round : number ≡ length records / n = last refl ∙ same_round n (length records) some stays in
     subst (λ r. IsPut (round_of n r records) (length records % n * size) bytes (round_of n r (records ++ bytes ∷ []))) (sym round)
-      (put_behind n size (length records / n) (length records % n) records bytes sizes whole (omega arith) (divided n (length records)))
+    (put_behind n size (length records / n) (length records % n) records bytes sizes whole (omega arith) (divided n (length records)))
 
 -- the record with which a new file begins
 pub round_begun : (n : ℕ) (records : List (List ℕ)) (bytes : List ℕ) → 0 < n → BeginsRound n (length records)
@@ -110,5 +109,5 @@ pub round_begun : (n : ℕ) (records : List (List ℕ)) (bytes : List ℕ) → 0
 round_begun n records bytes some begins =
     let full = begins.full in
     ap concat (round_more n (length records / n) 0 records bytes some (omega arith)
-      ∙ ap (λ rs. rs ++ bytes ∷ []) (drop_all (length records / n * n) records (omega arith)))
+    ∙ ap (λ rs. rs ++ bytes ∷ []) (drop_all (length records / n * n) records (omega arith)))
     ∙ append-nil bytes

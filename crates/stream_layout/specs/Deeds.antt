@@ -1,9 +1,8 @@
 -- The deeds of what happens to a stream, and the device calls of deeds.
-use Rattle.std.specs.Prelude.{ℕ, ℤ, pos, nat_lt, if◌then◌else◌, List, [], ◌∷◌, ◌++◌, length, Option, Some, None}
+use Rattle.std.specs.Prelude.{ℤ, pos, nat_lt, if◌then◌else◌, List, [], ◌∷◌, ◌++◌, length, Option, Some, None}
 use Rattle.disk_model.specs.DeviceCalls.{DeviceCall, CallCreate, CallWrite, CallSync, CallRename, CallRemove}
 use Rattle.stream_config.specs.declared.attrs.StreamAttrs.{StreamAttrs}
 use Rattle.stream_config.specs.declared.state.LogFile.{LogFile}
-use Rattle.stream_config.specs.declared.state.StreamState.{StreamState}
 use Rattle.stream_config.specs.declared.event.Stamps.{Stamps}
 use Rattle.stream_config.specs.declared.event.StreamEvent.{StreamEvent}
 use Rattle.stream_config.specs.declared.event.StreamEvent.TheVariants.{Made, Stored, Ended}
@@ -11,7 +10,6 @@ use Rattle.stream_config.specs.Cfg.{cfg_of}
 use Rattle.stream_config.specs.Events.{open_file, file_closed, last_closed}
 use Rattle.stream_layout.specs.declared.deed.Deed.{Deed}
 use Rattle.stream_layout.specs.declared.deed.Deed.TheVariants.{Put, Create, Write, Rename, Remove}
-use Rattle.stream_layout.specs.declared.spot.Spot.{Spot}
 use Rattle.stream_layout.specs.Names.{log_name, cfg_name}
 use Rattle.stream_layout.specs.Spots.{spot_of}
 

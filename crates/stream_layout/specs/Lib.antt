@@ -1,5 +1,6 @@
+pub mod Carrying
+pub mod Deeds
+pub mod Inside
+pub mod LogFiles
 pub mod Names
 pub mod Spots
-pub mod LogFiles
-pub mod Deeds
-pub mod Carrying

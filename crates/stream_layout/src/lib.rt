@@ -2,7 +2,11 @@
 #![tactic(auto)]
 
 mod deed;
+mod listing;
+mod names;
 mod spot;
 
 pub use deed::Deed;
+pub use listing::deeds;
+pub use names::file_name;
 pub use spot::{Spot, place};
