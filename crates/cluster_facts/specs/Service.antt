@@ -1,6 +1,6 @@
 -- The plain service as the cluster sees it: what it answers, makes and holds after a history. A history is a list of entries
 -- whose newest comes first.
-use Rattle.std.specs.Prelude.{◌≡◌, ℕ, suc, ◌⊎◌, Bool, true, ◌&&◌, ◌==◌, nat_lt, nat_le, if◌then◌else◌, ℤ, Some, List, [], ◌∷◌, ◌++◌, length, slice_get}
+use Rattle.std.specs.Prelude.{◌≡◌, ℕ, suc, ◌<◌, ◌⊎◌, Bool, true, ◌&&◌, ◌==◌, nat_lt, nat_le, if◌then◌else◌, ℤ, Some, List, [], ◌∷◌, ◌++◌, length, slice_get}
 use Rattle.std.specs.List.{AllByRecursion}
 use Rattle.cluster_facts.specs.Types.{Call, NtfSubscribe, NtfUnsubscribe, NtfFini, Reply, Refused, Status, Content, Entry, Called, Receipted, Message, Delivery, Receipt}
 use Rattle.cluster_facts.specs.Lists.{Stands, IsNumbered, without}
@@ -60,10 +60,10 @@ abbrev pub IsMade : Plain → List Entry → ℕ → ℕ → ℕ → Content →
 IsMade plain past client key number content =
     (before : ℕ) × (number ≡ suc before) × (slice_get (plain.made past client key) before ≡ Some content)
 
--- a message is an item that was made for a subscription that stands
+-- a message is an item without receipt that was made for a subscription that stands
 abbrev pub IsHeldItem : Plain → List Entry → Message → Type 0
 IsHeldItem plain past (Delivery client key item) =
-    (plain.lasts past client key ≡ true) × IsMade plain past client key item.number item.content
+    (plain.lasts past client key ≡ true) × (plain.through past client key < item.number) × IsMade plain past client key item.number item.content
 IsHeldItem plain past _ = ⊥
 
 -- what the cluster asks of a service

@@ -1,0 +1,4 @@
+pub mod Sound
+pub mod Carrying
+pub mod Telling
+pub mod Measuring

@@ -1,0 +1,275 @@
+-- What lines say goes on from one event to the next.
+use Rattle.std.proofs.Common.{◌≡◌, ℕ, suc, ◌+◌, ◌<◌, Bool, true, false, ◌==◌, if◌then◌else◌, Some, None, List, [], ◌∷◌, ◌++◌, length, refl, ap, sym, ◌∙◌, subst, arith, append_assoc, append-nil, length-append}
+use Rattle.std.specs.List.{AllByRecursion}
+use Rattle.cluster_facts.specs.Types.{Call, LogWrite, Reply, Item, Content, Single, Losses, Entry, Called, Callback, Written, Message, Request, Answer, Delivery, Receipt}
+use Rattle.cluster_facts.specs.Lists.{Stands, EndsIn, without}
+use Rattle.cluster_facts.specs.Messages.{sent_by}
+use Rattle.cluster_facts.specs.Service.{Plain, answers_in}
+use Rattle.cluster_facts.specs.Agents.{Living, Agent, fed_of, kept_call, callbacks_of, after_call, after_reply, after_item, callback_of, status_of}
+use Rattle.cluster_facts.specs.History.{Empty, committed}
+use Rattle.cluster_facts.specs.World.{World, with_agent}
+use Rattle.cluster_facts.specs.Facts.{IsSound, IsOfRun}
+use Rattle.cluster_facts.proofs.Words.{by_test, each_client, All-at, All-map, All-append, EndsIn-same, EndsIn-stands, IsNumbered-bound}
+use Rattle.cluster_facts.proofs.Clients.{kept_call-stands}
+use Rattle.cluster_events.specs.Lines.{Told, Posted, Replied, Ignored, Why}
+use Rattle.cluster_events.specs.Saying.{gathered, post_in, entry_in, reply_in, callback_in, write_in, replies_told, writes_told, IsNumberedFrom, seconds, Grows, IsDone, IsOnce, TellsReplies, of_write, writes_in, Says}
+use Rattle.cluster_events.specs.Servers.{State, Servers, drain}
+use Rattle.cluster_events.specs.Serving.{IsSteady, IsCarried}
+use Rattle.cluster_events.proofs.Carrying.{Keeps-sent, EndsIn-both}
+
+pub gathered-append : {X : Type 0} (read : Told → List X) (second first : List Told) → gathered read (second ++ first) ≡ gathered read second ++ gathered read first
+gathered-append read [] first = refl
+gathered-append read (line ∷ second) first =
+    ap (λ rest. read line ++ rest) (gathered-append read second first) ∙ sym (append_assoc (read line) (gathered read second) (gathered read first))
+
+-- Lists that grow.
+
+seconds-append : {X : Type 0} (xs ys : List (ℕ × X)) → seconds (xs ++ ys) ≡ seconds xs ++ seconds ys
+seconds-append [] ys = refl
+seconds-append (x ∷ xs) ys = ap (λ rest. x.1 ∷ rest) (seconds-append xs ys)
+
+seconds-length : {X : Type 0} (xs : List (ℕ × X)) → length (seconds xs) ≡ length xs
+seconds-length [] = refl
+seconds-length (x ∷ xs) = ap suc (seconds-length xs)
+
+IsNumberedFrom-append : {X : Type 0} (start middle : ℕ) (second first : List (ℕ × X)) → middle ≡ start + length first → IsNumberedFrom middle second → IsNumberedFrom start first → IsNumberedFrom start (second ++ first)
+IsNumberedFrom-append start middle [] first from two one = one
+IsNumberedFrom-append start middle (x ∷ second) first from two one =
+    let longer = length-append second first in
+    let number = two.0 in
+    (omega arith, IsNumberedFrom-append start middle second first from two.1 one)
+
+pub Grows-same : {X : Type 0} (xs : List X) → Grows xs xs []
+Grows-same xs = record { numbered = tt; grown = refl }
+
+pub Grows-one : {X : Type 0} (x : X) (xs : List X) → Grows xs (x ∷ xs) ((suc (length xs), x) ∷ [])
+Grows-one x xs = record { numbered = (omega arith, tt); grown = refl }
+
+pub Grows-both : {X : Type 0} (one two three : List X) (first second : List (ℕ × X)) → Grows one two first → Grows two three second → Grows one three (second ++ first)
+Grows-both one two three first second grows more =
+    let whole = ap length grows.grown in
+    let longer = length-append (seconds first) one in
+    let count = seconds-length first in
+    record {
+      numbered = IsNumberedFrom-append (length one) (length two) second first (omega arith) more.numbered grows.numbered;
+      grown = more.grown ∙ ap (λ xs. seconds second ++ xs) grows.grown ∙ sym (ap (λ xs. xs ++ one) (seconds-append second first) ∙ append_assoc (seconds second) (seconds first) one);
+    }
+
+grows-told : {X : Type 0} (read : Told → List (ℕ × X)) (one two three : List X) (first second : List Told) → Grows one two (gathered read first) → Grows two three (gathered read second) → Grows one three (gathered read (second ++ first))
+grows-told read one two three first second grows more =
+    subst (λ lines. Grows one three lines) (sym (gathered-append read second first)) (Grows-both one two three (gathered read first) (gathered read second) grows more)
+
+-- Replies.
+
+IsOnce-append : {X : Type 0} (P : ℕ → Type 0) (second first : List (ℕ × X)) → AllByRecursion (λ (x : ℕ × X). P x.0 → ⊥) second → AllByRecursion (λ (x : ℕ × X). P x.0) first → IsOnce second → IsOnce first → IsOnce (second ++ first)
+IsOnce-append P [] first apart here two one = one
+IsOnce-append {X = X} P (x ∷ second) first apart here two one = (
+  All-append (λ (y : ℕ × X). (y.0 ≡ x.0) → ⊥) second first two.0 (All-map (λ (y : ℕ × X). P y.0) (λ (y : ℕ × X). (y.0 ≡ x.0) → ⊥) first (λ y holds same. apart.0 (subst P same holds)) here),
+  IsOnce-append P second first apart.1 here two.1 one,
+)
+
+pub TellsReplies-both : (one two three : Agent) (before after : List (ℕ × Reply)) (first second : List (ℕ × Reply)) → EndsIn after before → TellsReplies one two before first → TellsReplies two three after second → TellsReplies one three after (second ++ first)
+TellsReplies-both one two three before after first second grows tells more = record {
+  later = λ number done. more.later number (tells.later number done);
+  fresh = All-append (λ (reply : ℕ × Reply). IsDone one reply.0 → ⊥) second first (All-map (λ (reply : ℕ × Reply). IsDone two reply.0 → ⊥) (λ (reply : ℕ × Reply). IsDone one reply.0 → ⊥) second (λ reply apart done. apart (tells.later reply.0 done)) more.fresh) tells.fresh;
+  done = All-append (λ (reply : ℕ × Reply). IsDone three reply.0) second first more.done (All-map (λ (reply : ℕ × Reply). IsDone two reply.0) (λ (reply : ℕ × Reply). IsDone three reply.0) first (λ reply done. more.later reply.0 done) tells.done);
+  once = IsOnce-append (λ number. IsDone two number) second first more.fresh tells.done more.once tells.once;
+  right = All-append (λ (reply : ℕ × Reply). Stands reply after) second first more.right (All-map (λ (reply : ℕ × Reply). Stands reply before) (λ (reply : ℕ × Reply). Stands reply after) first (λ reply stands. EndsIn-stands reply after before grows stands) tells.right);
+}
+
+-- the same calls are done
+pub TellsReplies-none : (one two : Agent) (answers : List (ℕ × Reply)) → ((number : ℕ) → IsDone one number → IsDone two number) → TellsReplies one two answers []
+TellsReplies-none one two answers later = record { later = later; fresh = tt; done = tt; once = tt; right = tt }
+
+answers-step : (plain : Plain) (client : ℕ) (entry : Entry) (past : List Entry) → EndsIn (answers_in plain client (entry ∷ past)) (answers_in plain client past)
+answers-step plain client (Called caller number time call) past =
+    elim (caller == client) as (λ b. EndsIn (if b then (number, plain.reply past caller number time call) ∷ answers_in plain client past else answers_in plain client past) (answers_in plain client past)) [
+      | true ↦ ((number, plain.reply past caller number time call) ∷ [], refl)
+      | false ↦ EndsIn-same (answers_in plain client past)
+    ]
+answers-step plain client _ past = EndsIn-same (answers_in plain client past)
+
+answers-more : (plain : Plain) (client : ℕ) (more past : List Entry) → EndsIn (answers_in plain client (more ++ past)) (answers_in plain client past)
+answers-more plain client [] past = EndsIn-same (answers_in plain client past)
+answers-more plain client (entry ∷ more) past =
+    EndsIn-both (answers_in plain client past) (answers_in plain client (more ++ past)) (answers_in plain client (entry ∷ (more ++ past))) (answers-more plain client more past) (answers-step plain client entry (more ++ past))
+
+-- a longer history has the replies of a shorter one
+pub answers-ends : (plain : Plain) (client : ℕ) (new old : List Entry) → EndsIn new old → EndsIn (answers_in plain client new) (answers_in plain client old)
+answers-ends plain client new old ends =
+    let E : List Entry → Type 0 = λ past. EndsIn (answers_in plain client past) (answers_in plain client old) in
+    subst E (sym ends.1) (answers-more plain client ends.0 old)
+
+-- Calls that are done.
+
+kept_call-without : (number : ℕ) (test : ℕ × Call → Bool) (kept : List (ℕ × Call)) → kept_call number kept ≡ None → kept_call number (without test kept) ≡ None
+kept_call-without number test [] none = refl
+kept_call-without number test (first ∷ kept) none =
+    let P : Bool → Type 0 = λ b. (if b then Some first.1 else kept_call number kept) ≡ None → kept_call number (without test (first ∷ kept)) ≡ None in
+    let Q : Bool → Type 0 = λ b. kept_call number (if b then without test kept else first ∷ without test kept) ≡ None in
+    by_test P first.0 number (λ same never. cc) (λ different rest.
+    let deeper = kept_call-without number test kept rest in
+    let S : Bool → Type 0 = λ b. (if b then Some first.1 else kept_call number (without test kept)) ≡ None in
+    let keeps : Q false = by_test S first.0 number (λ same. absurd (different same)) (λ other. deeper) in
+    let cases : (b : Bool) → Q b = elim [ true ↦ deeper | false ↦ keeps ] in
+    cases (test first)) none
+
+kept_call-taken : (number : ℕ) (kept : List (ℕ × Call)) → kept_call number (without (λ (call : ℕ × Call). call.0 == number) kept) ≡ None
+kept_call-taken number [] = refl
+kept_call-taken number (first ∷ kept) =
+    let deeper = kept_call-taken number kept in
+    let Q : Bool → Type 0 = λ b. kept_call number (if b then without (λ (call : ℕ × Call). call.0 == number) kept else first ∷ without (λ (call : ℕ × Call). call.0 == number) kept) ≡ None in
+    let S : Bool → Type 0 = λ b. (if b then Some first.1 else kept_call number (without (λ (call : ℕ × Call). call.0 == number) kept)) ≡ None in
+    by_test Q first.0 number (λ same. deeper) (λ different. by_test S first.0 number (λ same. absurd (different same)) (λ other. deeper))
+
+-- a call that is kept was sent
+kept_call-sent : (plain : Plain) (client number : ℕ) (call : Call) (world : World) → IsSound plain world → kept_call number (world.agents client).kept ≡ Some call → number < (world.agents client).next
+kept_call-sent plain client number call world sound kept =
+    let own = sound.facts.clients client in
+    let stands = Keeps-sent (number, call) own.awaits.keeps (kept_call-stands number (world.agents client).kept call kept) in
+    let bound = IsNumbered-bound (number, call) (sent_by client world.net) own.sends.numbered stands in
+    let next_is = own.sends.next_is in
+    omega arith
+
+TellsReplies-reply : (plain : Plain) (client number : ℕ) (call : Call) (reply : Reply) (world : World) → IsSound plain world → kept_call number (world.agents client).kept ≡ Some call → Stands (Answer client number reply) world.net → TellsReplies (world.agents client) (after_reply number call reply (world.agents client)) (answers_in plain client world.core.answered) ((number, reply) ∷ [])
+TellsReplies-reply plain client number call reply world sound kept stands =
+    let agent = world.agents client in
+    record {
+      later = λ other done. record { sent = done.sent; taken = kept_call-without other (λ (call : ℕ × Call). call.0 == number) agent.kept done.taken };
+      fresh = (λ done. let none = done.taken in cc, tt);
+      done = (record { sent = kept_call-sent plain client number call world sound kept; taken = kept_call-taken number agent.kept }, tt);
+      once = (tt, tt);
+      right = (All-at (IsOfRun plain world.core.answered) (Answer client number reply) world.net sound.facts.run stands, tt);
+    }
+
+pub IsDone-call : (agent : Agent) (call : Call) (number : ℕ) → IsDone agent number → IsDone (after_call call agent) number
+IsDone-call agent call number done =
+    let below = done.sent in
+    let S : Bool → Type 0 = λ b. (if b then Some call else kept_call number agent.kept) ≡ None in
+    record { sent = omega arith; taken = by_test S agent.next number (λ same. absurd (omega arith)) (λ different. done.taken) }
+
+-- Callbacks of writes.
+
+writes_in-append : (xs ys : List Callback) → writes_in (xs ++ ys) ≡ writes_in xs ++ writes_in ys
+writes_in-append [] ys = refl
+writes_in-append (x ∷ xs) ys = ap (λ rest. of_write x ++ rest) (writes_in-append xs ys) ∙ sym (append_assoc (of_write x) (writes_in xs) (writes_in ys))
+
+writes_in-reply : (call : Call) (reply : Reply) → writes_in (callbacks_of call reply) ≡ callbacks_of call reply
+writes_in-reply (LogWrite stream invocation flags time header body) reply =
+    elim (flags == 1) as (λ b. writes_in (if b then Written invocation (status_of reply) ∷ [] else []) ≡ (if b then Written invocation (status_of reply) ∷ [] else [])) [ true ↦ refl | false ↦ refl ]
+writes_in-reply _ reply = refl
+
+of_write-item : (id : ℕ) (content : Content) → of_write (callback_of id content) ≡ []
+of_write-item id (Single notification) = refl
+of_write-item id (Losses lost) = refl
+
+-- What lines say.
+
+-- events that leave agents and history, and whose lines are posts at most
+says-net : (plain : Plain) (world : World) (message : Message) → Says plain world (record world { net = message ∷ world.net }) (Posted (suc (length world.net)) message ∷ [])
+says-net plain world message = record {
+  posts = Grows-one message world.net;
+  entries = Grows-same (committed world.core);
+  answers = EndsIn-same world.core.answered;
+  replies = λ client. TellsReplies-none (world.agents client) (world.agents client) (answers_in plain client world.core.answered) (λ number done. done);
+  callbacks = λ client. Grows-same (world.agents client).handed;
+  writes = λ client. refl;
+}
+
+pub Says-same : (plain : Plain) (world : World) → Says plain world world []
+Says-same plain world = record {
+  posts = Grows-same world.net;
+  entries = Grows-same (committed world.core);
+  answers = EndsIn-same world.core.answered;
+  replies = λ client. TellsReplies-none (world.agents client) (world.agents client) (answers_in plain client world.core.answered) (λ number done. done);
+  callbacks = λ client. Grows-same (world.agents client).handed;
+  writes = λ client. refl;
+}
+
+pub Says-ignored : (plain : Plain) (world : World) (place : ℕ) (why : Why) → Says plain world world (Ignored place why ∷ [])
+Says-ignored plain world place why = record {
+  posts = Grows-same world.net;
+  entries = Grows-same (committed world.core);
+  answers = EndsIn-same world.core.answered;
+  replies = λ client. TellsReplies-none (world.agents client) (world.agents client) (answers_in plain client world.core.answered) (λ number done. done);
+  callbacks = λ client. Grows-same (world.agents client).handed;
+  writes = λ client. refl;
+}
+
+pub Says-both : (plain : Plain) (one two three : World) (first second : List Told) → Says plain one two first → Says plain two three second → Says plain one three (second ++ first)
+Says-both plain one two three first second says more = record {
+  posts = grows-told post_in one.net two.net three.net first second says.posts more.posts;
+  entries = grows-told entry_in (committed one.core) (committed two.core) (committed three.core) first second says.entries more.entries;
+  answers = EndsIn-both one.core.answered two.core.answered three.core.answered says.answers more.answers;
+  replies = λ client.
+      let T : List (ℕ × Reply) → Type 0 = λ lines. TellsReplies (one.agents client) (three.agents client) (answers_in plain client three.core.answered) lines in
+      subst T (sym (gathered-append (reply_in client) second first)) (TellsReplies-both (one.agents client) (two.agents client) (three.agents client) (answers_in plain client two.core.answered) (answers_in plain client three.core.answered) (replies_told client first) (replies_told client second) (answers-ends plain client three.core.answered two.core.answered more.answers) (says.replies client) (more.replies client));
+  callbacks = λ client. grows-told (callback_in client) (one.agents client).handed (two.agents client).handed (three.agents client).handed first second (says.callbacks client) (more.callbacks client);
+  writes = λ client.
+      more.writes client ∙ ap (λ rest. writes_told client second ++ rest) (says.writes client) ∙ sym (append_assoc (writes_told client second) (writes_told client first) (writes_in (fed_of (one.agents client)))) ∙ ap (λ lines. lines ++ writes_in (fed_of (one.agents client))) (sym (gathered-append (write_in client) second first));
+}
+
+says-reply : (plain : Plain) (world : World) (client number : ℕ) (call : Call) (reply : Reply) → IsSound plain world → kept_call number (world.agents client).kept ≡ Some call → Stands (Answer client number reply) world.net → Says plain world (record world { agents = with_agent client (after_reply number call reply (world.agents client)) world.agents }) (Replied client number call reply ∷ [])
+says-reply plain world client number call reply sound kept stands =
+    let agent = world.agents client in
+    let after = after_reply number call reply agent in
+    record {
+      posts = Grows-same world.net;
+      entries = Grows-same (committed world.core);
+      answers = EndsIn-same world.core.answered;
+      replies = each_client (λ other b. TellsReplies (world.agents other) (if b then after else world.agents other) (answers_in plain other world.core.answered) ((if b then (number, reply) ∷ [] else []) ++ [])) client
+          (TellsReplies-reply plain client number call reply world sound kept stands)
+          (λ other. TellsReplies-none (world.agents other) (world.agents other) (answers_in plain other world.core.answered) (λ number done. done));
+      callbacks = each_client (λ other b. Grows (world.agents other).handed (if b then after else world.agents other).handed []) client (Grows-same agent.handed) (λ other. Grows-same (world.agents other).handed);
+      writes = each_client (λ other b. writes_in (fed_of (if b then after else world.agents other)) ≡ ((if b then callbacks_of call reply else []) ++ []) ++ writes_in (fed_of (world.agents other))) client
+          (ap writes_in (append_assoc (callbacks_of call reply) agent.queue agent.handed) ∙ writes_in-append (callbacks_of call reply) (fed_of agent) ∙ ap (λ rest. rest ++ writes_in (fed_of agent)) (writes_in-reply call reply ∙ sym (append-nil (callbacks_of call reply))))
+          (λ other. refl);
+    }
+
+says-item : (plain : Plain) (world : World) (client key : ℕ) (item : Item) (found : Living) → Says plain world (record world { net = Receipt client key item.number ∷ world.net; agents = with_agent client (after_item key found.id item.content (world.agents client)) world.agents }) (Posted (suc (length world.net)) (Receipt client key item.number) ∷ [])
+says-item plain world client key item found =
+    let agent = world.agents client in
+    let after = after_item key found.id item.content agent in
+    record {
+      posts = Grows-one (Receipt client key item.number) world.net;
+      entries = Grows-same (committed world.core);
+      answers = EndsIn-same world.core.answered;
+      replies = each_client (λ other b. TellsReplies (world.agents other) (if b then after else world.agents other) (answers_in plain other world.core.answered) []) client
+          (TellsReplies-none agent after (answers_in plain client world.core.answered) (λ number done. record { sent = done.sent; taken = done.taken }))
+          (λ other. TellsReplies-none (world.agents other) (world.agents other) (answers_in plain other world.core.answered) (λ number done. done));
+      callbacks = each_client (λ other b. Grows (world.agents other).handed (if b then after else world.agents other).handed []) client (Grows-same agent.handed) (λ other. Grows-same (world.agents other).handed);
+      writes = each_client (λ other b. writes_in (fed_of (if b then after else world.agents other)) ≡ writes_in (fed_of (world.agents other))) client
+          (ap (λ rest. rest ++ writes_in (fed_of agent)) (of_write-item found.id item.content))
+          (λ other. refl);
+    }
+
+-- what lines say is carried through rounds, where accepting and draining say it
+pub Says-carried : {P : Type 0} (plain : Plain) (servers : Servers P) (Good : State P → Type 0) → ((entry : Entry) (state : State P) → IsSteady plain Good state → state.world.core.hand ≡ Empty → Says plain state.world (servers.accept entry state).state.world (servers.accept entry state).told) → ((state : State P) → IsSteady plain Good state → Says plain state.world (drain servers state).state.world (drain servers state).told) → IsCarried plain servers Good (Says plain)
+Says-carried plain servers Good accepts drains = record {
+  same = Says-same plain;
+  both = λ one two three first second says more. Says-both plain one two three first second says more;
+  ignored = Says-ignored plain;
+  answer = λ world client number reply sound stands. says-net plain world (Answer client number reply);
+  pushed = λ world client key item sound is. says-net plain world (Delivery client key item);
+  reply = λ world client number call reply sound kept place stands. says-reply plain world client number call reply sound kept stands;
+  item = λ world client key item found sound here next place stands. says-item plain world client key item found;
+  accept = λ entry state steady empty may at stands. accepts entry state steady empty;
+  drain = drains;
+}
+
+-- Events that no round has.
+
+pub Says-send : (plain : Plain) (world : World) (client : ℕ) (call : Call) (clients : List ℕ) → Says plain world (record world { net = Request client (world.agents client).next call ∷ world.net; agents = with_agent client (after_call call (world.agents client)) world.agents; clients = clients }) (Posted (suc (length world.net)) (Request client (world.agents client).next call) ∷ [])
+Says-send plain world client call clients =
+    let agent = world.agents client in
+    let after = after_call call agent in
+    record {
+      posts = Grows-one (Request client agent.next call) world.net;
+      entries = Grows-same (committed world.core);
+      answers = EndsIn-same world.core.answered;
+      replies = each_client (λ other b. TellsReplies (world.agents other) (if b then after else world.agents other) (answers_in plain other world.core.answered) []) client
+          (TellsReplies-none agent after (answers_in plain client world.core.answered) (IsDone-call agent call))
+          (λ other. TellsReplies-none (world.agents other) (world.agents other) (answers_in plain other world.core.answered) (λ number done. done));
+      callbacks = each_client (λ other b. Grows (world.agents other).handed (if b then after else world.agents other).handed []) client (Grows-same agent.handed) (λ other. Grows-same (world.agents other).handed);
+      writes = each_client (λ other b. writes_in (fed_of (if b then after else world.agents other)) ≡ writes_in (fed_of (world.agents other))) client refl (λ other. refl);
+    }

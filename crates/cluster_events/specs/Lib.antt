@@ -1,0 +1,9 @@
+pub mod Lines
+pub mod Outcomes
+pub mod Servers
+pub mod ClientEvents
+pub mod Events
+pub mod Settling
+pub mod Saying
+pub mod Serving
+pub mod Measure

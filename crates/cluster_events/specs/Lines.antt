@@ -1,0 +1,71 @@
+-- The lines that events print.
+use Rattle.std.specs.Prelude.{ℕ, Bool, true, false, List, Option}
+use Rattle.script_lines.specs.declared.line.Line.{Line}
+use Rattle.script_lines.specs.declared.line.Server.{Server}
+use Rattle.cluster_facts.specs.Types.{Call, Reply, Status, Entry, Callback, Message, Receipt}
+
+-- what a line tells of a server
+pub data ServerRole : Type 0 where
+  Active : ServerRole
+  Armed : ServerRole
+  Standby : ServerRole
+  Joining : ServerRole
+  Down : ServerRole
+
+-- why a delivered message had no effect: the request is older than those whose replies are saved, or is ahead of the next; the
+-- entry of this number is in hand; the receipt is not new; the call is answered; the callback queue is full; the item was
+-- taken; the item is ahead of the next; the subscription does not live
+pub data Why : Type 0 where
+  OldRequest : Why
+  AheadRequest : Why
+  Busy : (number : ℕ) → Why
+  DoneReceipt : Why
+  AnsweredReply : Why
+  Left : Why
+  TakenItem : Why
+  AheadItem : Why
+  GoneItem : Why
+
+-- what a line on a refused event tells: the servers' roles, the lengths of net, link and back, and the number of the entry in hand
+pub record Standing : Type 0 where
+  pub role_of_a : ServerRole
+  pub role_of_b : ServerRole
+  pub net : ℕ
+  pub link : ℕ
+  pub back : ℕ
+  pub in_hand : Option ℕ
+
+-- a line
+pub data Told : Type 0 where
+  -- a message enters the net under this number
+  Posted : (number : ℕ) (message : Message) → Told
+  -- the entry of this number is committed
+  Committed : (number : ℕ) (entry : Entry) → Told
+  -- a client's agent takes the reply to its call of this number; the call itself is not printed
+  Replied : (client number : ℕ) (call : Call) (reply : Reply) → Told
+  -- a client's agent refuses what is asked of it
+  Declined : (client : ℕ) (status : Status) → Told
+  -- a client's callback of this number is handed out; a dispatch handed out so many
+  HandedOut : (client number : ℕ) (callback : Callback) → Told
+  Dispatched : (client count : ℕ) → Told
+  -- the delivered message of this number had no effect
+  Ignored : (place : ℕ) (why : Why) → Told
+  -- the event of a script's line is refused
+  Refused : (line : Line) (standing : Standing) → Told
+  -- a server's role
+  Stood : (server : Server) (role : ServerRole) → Told
+  -- a file and its length; a line of a file
+  Listed : (name : List ℕ) (length : ℕ) → Told
+  Shown : (text : List ℕ) → Told
+
+-- whether the line is one on a message without effect
+abbrev pub is_ignored : Told → Bool
+is_ignored (Ignored place why) = true
+is_ignored _ = false
+
+-- whether the line tells that an entry was committed, a reply taken or an item taken, of which a receipt is posted
+abbrev pub is_progress : Told → Bool
+is_progress (Committed number entry) = true
+is_progress (Replied client number call reply) = true
+is_progress (Posted number (Receipt client key through)) = true
+is_progress _ = false

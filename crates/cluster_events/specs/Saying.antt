@@ -1,0 +1,104 @@
+-- What the lines of events say of history, replies, callbacks and net.
+use Rattle.std.specs.Prelude.{◌≡◌, ℕ, suc, ◌+◌, ◌<◌, ◌==◌, if◌then◌else◌, None, List, [], ◌∷◌, ◌++◌, length}
+use Rattle.std.specs.List.{AllByRecursion}
+use Rattle.cluster_facts.specs.Types.{Reply, Entry, Callback, Written, Message}
+use Rattle.cluster_facts.specs.Lists.{Stands, EndsIn}
+use Rattle.cluster_facts.specs.Service.{Plain, answers_in}
+use Rattle.cluster_facts.specs.Agents.{Agent, fed_of, kept_call, callbacks_of}
+use Rattle.cluster_facts.specs.History.{committed}
+use Rattle.cluster_facts.specs.World.{World}
+use Rattle.cluster_events.specs.Lines.{Told, Posted, Committed, Replied, HandedOut}
+
+-- what is read of each line, joined
+abbrev pub gathered : {X : Type 0} → (Told → List X) → List Told → List X
+gathered read [] = []
+gathered read (line ∷ told) = read line ++ gathered read told
+
+abbrev pub post_in : Told → List (ℕ × Message)
+post_in (Posted number message) = (number, message) ∷ []
+post_in _ = []
+
+abbrev pub entry_in : Told → List (ℕ × Entry)
+entry_in (Committed number entry) = (number, entry) ∷ []
+entry_in _ = []
+
+abbrev pub reply_in : ℕ → Told → List (ℕ × Reply)
+reply_in client (Replied other number call reply) = if other == client then (number, reply) ∷ [] else []
+reply_in client _ = []
+
+abbrev pub callback_in : ℕ → Told → List (ℕ × Callback)
+callback_in client (HandedOut other number callback) = if other == client then (number, callback) ∷ [] else []
+callback_in client _ = []
+
+abbrev pub write_in : ℕ → Told → List Callback
+write_in client (Replied other number call reply) = if other == client then callbacks_of call reply else []
+write_in client _ = []
+
+-- the `post` lines, the `acc` lines, and the client's `reply` and `callback` lines, each with its number; and the callbacks that
+-- the replies of the client's `reply` lines gave
+abbrev pub posts_told : List Told → List (ℕ × Message)
+posts_told told = gathered post_in told
+
+abbrev pub entries_told : List Told → List (ℕ × Entry)
+entries_told told = gathered entry_in told
+
+abbrev pub replies_told : ℕ → List Told → List (ℕ × Reply)
+replies_told client told = gathered (reply_in client) told
+
+abbrev pub callbacks_told : ℕ → List Told → List (ℕ × Callback)
+callbacks_told client told = gathered (callback_in client) told
+
+abbrev pub writes_told : ℕ → List Told → List Callback
+writes_told client told = gathered (write_in client) told
+
+-- lines are numbered on from a start
+abbrev pub IsNumberedFrom : {X : Type 0} → ℕ → List (ℕ × X) → Type 0
+IsNumberedFrom start [] = Unit {0}
+IsNumberedFrom start (x ∷ xs) = (x.0 ≡ suc (start + length xs)) × IsNumberedFrom start xs
+
+abbrev pub seconds : {X : Type 0} → List (ℕ × X) → List X
+seconds [] = []
+seconds (x ∷ xs) = x.1 ∷ seconds xs
+
+-- a list grew by what the lines tell, under the numbers that they tell
+pub record Grows {X : Type 0} (old new : List X) (lines : List (ℕ × X)) : Type 0 where
+  pub numbered : IsNumberedFrom (length old) lines
+  pub grown : new ≡ seconds lines ++ old
+
+-- the client's call of this number was sent, and its reply taken
+pub record IsDone (agent : Agent) (number : ℕ) : Type 0 where
+  pub sent : number < agent.next
+  pub taken : kept_call number agent.kept ≡ None
+
+-- no number stands twice
+abbrev pub IsOnce : {X : Type 0} → List (ℕ × X) → Type 0
+IsOnce [] = Unit {0}
+IsOnce {X} (x ∷ xs) = AllByRecursion (λ (y : ℕ × X). (y.0 ≡ x.0) → ⊥) xs × IsOnce xs
+
+-- the reply lines of a client: each is of a call that was not done before and is done after, no two are of one call, and each
+-- tells the service's reply
+pub record TellsReplies (old new : Agent) (answers replies : List (ℕ × Reply)) : Type 0 where
+  pub later : (number : ℕ) → IsDone old number → IsDone new number
+  pub fresh : AllByRecursion (λ (reply : ℕ × Reply). IsDone old reply.0 → ⊥) replies
+  pub done : AllByRecursion (λ (reply : ℕ × Reply). IsDone new reply.0) replies
+  pub once : IsOnce replies
+  pub right : AllByRecursion (λ (reply : ℕ × Reply). Stands reply answers) replies
+
+-- the callbacks of writes among a client's callbacks
+abbrev pub of_write : Callback → List Callback
+of_write (Written invocation status) = Written invocation status ∷ []
+of_write _ = []
+
+abbrev pub writes_in : List Callback → List Callback
+writes_in [] = []
+writes_in (callback ∷ callbacks) = of_write callback ++ writes_in callbacks
+
+-- what lines say of the worlds before and after them: the net grew by the `post` lines, the history by the `acc` lines, the
+-- callbacks handed out by the `callback` lines; replies are told rightly; and the callbacks of writes came by `reply` lines
+pub record Says (plain : Plain) (old new : World) (told : List Told) : Type 0 where
+  pub posts : Grows old.net new.net (posts_told told)
+  pub entries : Grows (committed old.core) (committed new.core) (entries_told told)
+  pub answers : EndsIn new.core.answered old.core.answered
+  pub replies : (client : ℕ) → TellsReplies (old.agents client) (new.agents client) (answers_in plain client new.core.answered) (replies_told client told)
+  pub callbacks : (client : ℕ) → Grows (old.agents client).handed (new.agents client).handed (callbacks_told client told)
+  pub writes : (client : ℕ) → writes_in (fed_of (new.agents client)) ≡ writes_told client told ++ writes_in (fed_of (old.agents client))

@@ -1,0 +1,159 @@
+-- The active server alone serves as servers must, and its lines say what lines must.
+use Rattle.std.proofs.Common.{◌≡◌, ℕ, suc, ◌⊎◌, inl, inr, Bool, true, false, ◌||◌, ◌==◌, if◌then◌else◌, Option, Some, None, List, [], ◌∷◌, ◌++◌, length, refl, ap, sym, ◌∙◌, subst}
+use Rattle.cluster_facts.specs.Types.{Call, Reply, Entry, Called, Receipted, Message, Answer}
+use Rattle.cluster_facts.specs.Lists.{Stands}
+use Rattle.cluster_facts.specs.Service.{Plain, IsPlain, answers_in}
+use Rattle.cluster_facts.specs.History.{Core, Hand, Empty, Waiting, Applied, Ready, accepted, committed}
+use Rattle.cluster_facts.specs.World.{World, knows}
+use Rattle.cluster_facts.specs.Facts.{Facts, IsSound}
+use Rattle.cluster_facts.proofs.Words.{by_test, EndsIn-same}
+use Rattle.cluster_facts.proofs.Posting.{posted-keeps}
+use Rattle.cluster_facts.proofs.Keeping.{Facts-answered, Facts-post_answer}
+use Rattle.cluster_events.specs.Lines.{Told, Posted, Committed, is_progress}
+use Rattle.cluster_events.specs.Servers.{State, drain}
+use Rattle.cluster_events.specs.Settling.{is_loud}
+use Rattle.cluster_events.specs.Saying.{Grows, Says}
+use Rattle.cluster_events.specs.Serving.{Drains, IsServing, IsCarried}
+use Rattle.cluster_events.proofs.Telling.{Grows-same, Grows-one, TellsReplies-none, Says-carried}
+use Rattle.lone_cluster.specs.Lone.{Alone, accept_alone, net_answering, answer_of, lone, IsLone, IsGoodAlone}
+
+-- the entry's reply is among those of the history with it
+reply-stands : (plain : Plain) (past : List Entry) (client number : ℕ) (time : Rattle.std.proofs.Common.ℤ) (call : Call) → Stands (number, plain.reply past client number time call) (answers_in plain client (Called client number time call ∷ past))
+reply-stands plain past client number time call =
+    let told : ℕ × Reply = (number, plain.reply past client number time call) in
+    let P : Bool → Type 0 = λ b. Stands told (if b then told ∷ answers_in plain client past else answers_in plain client past) in
+    by_test P client client (λ same. inl refl) (λ different. absurd (different refl))
+
+answer-facts : (plain : Plain) → IsPlain plain → (now : Rattle.std.proofs.Common.ℤ) (past : List Entry) (entry : Entry) (net : List Message) (agents : ℕ → Rattle.cluster_facts.specs.Agents.Agent) → Facts plain now (entry ∷ past) past net agents → Facts plain now (entry ∷ past) (entry ∷ past) (net_answering plain past entry net) agents
+answer-facts plain is_plain now past (Called client number time call) net agents facts =
+    Facts-post_answer plain is_plain now (Called client number time call ∷ past) (Called client number time call ∷ past) net agents client number (plain.reply past client number time call) (reply-stands plain past client number time call) (Facts-answered plain is_plain now (Called client number time call ∷ past) past net agents (Called client number time call) facts)
+answer-facts plain is_plain now past (Receipted client key through time) net agents facts =
+    Facts-answered plain is_plain now (Receipted client key through time ∷ past) past net agents (Receipted client key through time) facts
+
+answer-net : (plain : Plain) → IsPlain plain → (past : List Entry) (entry : Entry) (net : List Message) (message : Message) → Stands message net → Stands message (net_answering plain past entry net)
+answer-net plain is_plain past (Called client number time call) net message stands = posted-keeps plain is_plain (Answer client number (plain.reply past client number time call)) message net stands
+answer-net plain is_plain past (Receipted client key through time) net message stands = stands
+
+-- a drain, by the hand. The world is written with its hand, so that each case computes
+abbrev world_with : World → Hand → World
+world_with world hand = record world { core = record { answered = world.core.answered; hand = hand } }
+
+abbrev state_with : State Alone → Hand → State Alone
+state_with state hand = record { world = world_with state.world hand; peers = state.peers }
+
+drains-by : (plain : Plain) → IsPlain plain → (state : State Alone) (hand : Hand) → IsLone hand → IsSound plain (world_with state.world hand) → Drains plain IsGoodAlone (state_with state hand) (drain (lone plain) (state_with state hand)).state
+drains-by plain is_plain state Empty good sound = record {
+  empty = refl;
+  done = refl;
+  agents = refl;
+  stays = record { net = λ message stands. stands; answered = EndsIn-same state.world.core.answered; clients = refl; now = refl; places = refl };
+  steady = record { sound = sound; good = tt };
+  idle = λ empty. refl;
+}
+drains-by plain is_plain state (Ready entry) good sound = record {
+  empty = refl;
+  done = refl;
+  agents = refl;
+  stays = record {
+    net = answer-net plain is_plain state.world.core.answered entry state.world.net;
+    answered = (entry ∷ [], refl);
+    clients = refl;
+    now = refl;
+    places = refl;
+  };
+  steady = record {
+    sound = record {
+      facts = answer-facts plain is_plain state.world.now state.world.core.answered entry state.world.net state.world.agents sound.facts;
+      listed = sound.listed;
+    };
+    good = tt;
+  };
+  idle = λ empty. cc;
+}
+drains-by plain is_plain state (Waiting entry) good sound = elim good [ ]
+drains-by plain is_plain state (Applied entry) good sound = elim good [ ]
+
+-- lines behind a commitment are loud
+loud-last : (told : List Told) (number : ℕ) (entry : Entry) → is_loud (told ++ Committed number entry ∷ []) ≡ true
+loud-last [] number entry = refl
+loud-last (line ∷ told) number entry =
+    let deeper = loud-last told number entry in
+    let cases : (b : Bool) → (b || true) ≡ true = elim [ true ↦ refl | false ↦ refl ] in
+    ap (λ rest. is_progress line || rest) deeper ∙ cases (is_progress line)
+
+commits-by : (plain : Plain) (entry : Entry) (state : State Alone) → is_loud ((drain (lone plain) (accept_alone entry state).state).told ++ (accept_alone entry state).told) ≡ true
+commits-by plain (Called client number time call) state = loud-last (drain (lone plain) (accept_alone (Called client number time call) state).state).told (suc (length state.world.core.answered)) (Called client number time call)
+commits-by plain (Receipted client key through time) state = refl
+
+pub lone-serves : (plain : Plain) → IsPlain plain → IsServing plain (lone plain) IsGoodAlone
+lone-serves plain is_plain = record {
+  front = λ state world core good. subst (λ (c : Core). IsLone c.hand) (sym core) good;
+  accepts = λ entry state empty good. record { hand = Ready entry; accepted = refl; world = refl; good = tt };
+  drains = λ state steady. drains-by plain is_plain state state.world.core.hand steady.good steady.sound;
+  commits = λ entry state empty good. commits-by plain entry state;
+}
+
+-- What its lines say.
+
+answer-says : (plain : Plain) (state : State Alone) (entry : Entry) → Says plain (world_with state.world (Ready entry)) (answer_of plain entry (state_with state (Ready entry))).state.world (answer_of plain entry (state_with state (Ready entry))).told
+answer-says plain state (Called client number time call) =
+    let world = state.world in
+    let past = world.core.answered in
+    let entry = Called client number time call in
+    let message = Answer client number (plain.reply past client number time call) in
+    let after : Bool → World = λ b. record world { core = record { answered = entry ∷ past; hand = Empty }; net = if b then world.net else message ∷ world.net } in
+    elim (knows plain message world.net) as (λ b. Says plain (world_with world (Ready entry)) (after b) (if b then [] else Posted (suc (length world.net)) message ∷ [])) [
+      | true ↦ record {
+        posts = Grows-same world.net;
+        entries = Grows-same (entry ∷ past);
+        answers = (entry ∷ [], refl);
+        replies = λ other. TellsReplies-none (world.agents other) (world.agents other) (answers_in plain other (entry ∷ past)) (λ number done. done);
+        callbacks = λ other. Grows-same (world.agents other).handed;
+        writes = λ other. refl;
+      }
+      | false ↦ record {
+        posts = Grows-one message world.net;
+        entries = Grows-same (entry ∷ past);
+        answers = (entry ∷ [], refl);
+        replies = λ other. TellsReplies-none (world.agents other) (world.agents other) (answers_in plain other (entry ∷ past)) (λ number done. done);
+        callbacks = λ other. Grows-same (world.agents other).handed;
+        writes = λ other. refl;
+      }
+    ]
+answer-says plain state (Receipted client key through time) =
+    let world = state.world in
+    let past = world.core.answered in
+    let entry = Receipted client key through time in
+    record {
+      posts = Grows-same world.net;
+      entries = Grows-same (entry ∷ past);
+      answers = (entry ∷ [], refl);
+      replies = λ other. TellsReplies-none (world.agents other) (world.agents other) (answers_in plain other (entry ∷ past)) (λ number done. done);
+      callbacks = λ other. Grows-same (world.agents other).handed;
+      writes = λ other. refl;
+    }
+
+accept-says : (plain : Plain) (entry : Entry) (state : State Alone) → state.world.core.hand ≡ Empty → Says plain state.world (accept_alone entry state).state.world (accept_alone entry state).told
+accept-says plain entry state empty =
+    let world = state.world in
+    let past = world.core.answered in
+    let G : Hand → Type 0 = λ hand. Grows (Rattle.cluster_facts.specs.History.committed_by past hand) (entry ∷ past) ((suc (length past), entry) ∷ []) in
+    record {
+      posts = Grows-same world.net;
+      entries = subst G (sym empty) (Grows-one entry past);
+      answers = EndsIn-same past;
+      replies = λ other. TellsReplies-none (world.agents other) (world.agents other) (answers_in plain other past) (λ number done. done);
+      callbacks = λ other. Grows-same (world.agents other).handed;
+      writes = λ other. refl;
+    }
+
+drain-says : (plain : Plain) (state : State Alone) (hand : Hand) → IsLone hand → Says plain (world_with state.world hand) (drain (lone plain) (state_with state hand)).state.world (drain (lone plain) (state_with state hand)).told
+drain-says plain state Empty good = Rattle.cluster_events.proofs.Telling.Says-same plain (world_with state.world Empty)
+drain-says plain state (Ready entry) good = answer-says plain state entry
+drain-says plain state (Waiting entry) good = elim good [ ]
+drain-says plain state (Applied entry) good = elim good [ ]
+
+pub lone-says : (plain : Plain) → IsCarried plain (lone plain) IsGoodAlone (Says plain)
+lone-says plain = Says-carried plain (lone plain) IsGoodAlone
+    (λ entry state steady empty. accept-says plain entry state empty)
+    (λ state steady. drain-says plain state state.world.core.hand steady.good)
