@@ -68,4 +68,11 @@ mod tests {
             assert_eq!(rt; civil_at(second).weekday, weekday, "at {second}");
         }
     }
+
+    /// Laws are calls that do nothing.
+    #[test]
+    fn calls_laws() {
+        crate::stamps_tell_seconds();
+        crate::law_of_civil_times();
+    }
 }

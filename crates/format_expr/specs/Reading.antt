@@ -1,4 +1,4 @@
--- Words of bodies, of the law of pieces, and of definitions above this crate: the pieces of a text as a function of it. Of an expression they are its pieces.
+-- Words of public clauses, those of the law of pieces, and of bodies: the pieces of a text as a function of it. Of an expression they are its pieces.
 use Rattle.std.specs.Prelude.{ℕ, zero, suc, ◌+◌, ◌-◌, ◌*◌, ◌∷◌, [], List, length, take, drop, min, ◌==◌, if◌then◌else◌, Option, Some, None, slice_get}
 use Rattle.std.specs.Option.{option_map_or}
 use Rattle.format_expr.specs.declared.token.Token.{Token}

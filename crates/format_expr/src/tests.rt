@@ -124,3 +124,10 @@ fn parsed_texts(rt: HostRuntime) -> Result<(), Fail> {
     );
     Ok(())
 }
+
+/// Laws are calls that do nothing.
+#[test]
+fn calls_laws() {
+    crate::law_of_pieces();
+    crate::law_of_tokens();
+}

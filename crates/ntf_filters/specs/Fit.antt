@@ -1,4 +1,4 @@
--- What a set of filters must be to be used: the words of the public clauses of `check_filters`.
+-- Words of public clauses: what a set of filters must be to be used.
 use Rattle.std.specs.Prelude.{◌≡◌, ◌⊎◌, [], IsSome, IfSome}
 use Rattle.ntf_filters.specs.declared.filter.Filter.{Filter}
 use Rattle.ntf_filters.specs.declared.filter.FilterSet.{FilterSet}

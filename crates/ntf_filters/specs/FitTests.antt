@@ -1,4 +1,4 @@
--- The same as a test that computes, which definitions above this crate cite. No clause of this crate names it.
+-- Words of definitions above this crate: what may be used, as a test that computes. A law says that it decides the same.
 use Rattle.std.specs.Prelude.{Bool, true, ◌&&◌, ◌||◌, ◌==◌, length, Option, Some, None, is_some}
 use Rattle.ntf_filters.specs.declared.filter.Filter.{Filter}
 use Rattle.ntf_filters.specs.declared.filter.FilterSet.{FilterSet}

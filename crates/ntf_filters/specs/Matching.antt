@@ -1,4 +1,4 @@
--- The same as tests that compute: what the bodies follow, and what definitions above this crate cite. No public clause names them.
+-- Words of bodies, and of definitions above this crate: what a set asks for, as tests that compute. A law says that they decide the same.
 use Rattle.std.specs.Prelude.{ℕ, Bool, false, ◌&&◌, ◌||◌, ◌==◌, nat_eq, List, length, Option, Some, None}
 use Rattle.std.specs.List.{list_any}
 use Rattle.std.specs.Str.{bytes_eq}

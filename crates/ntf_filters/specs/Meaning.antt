@@ -1,4 +1,4 @@
--- Which notifications a set of filters asks for: the words of the public clause of `matches`.
+-- Words of public clauses: which notifications a set of filters asks for.
 use Rattle.std.specs.Prelude.{◌≡◌, ℕ, ◌⊎◌, List, [], Contains, Option, Some, None, IsSomeAnd}
 use Rattle.ntf_types.specs.declared.notification.Body.{Body}
 use Rattle.ntf_types.specs.declared.notification.Body.TheVariants.{Objects, Attributes, States, Alarm, Security}

@@ -199,3 +199,9 @@ fn asks_by_type(rt: HostRuntime) -> Result<(), Fail> {
     }
     Ok(())
 }
+
+/// Laws are calls that do nothing.
+#[test]
+fn calls_laws() {
+    crate::law_of_equality();
+}

@@ -1,4 +1,4 @@
--- The same as a test that computes, which definitions above this crate cite. No clause of this crate names it.
+-- Words of definitions above this crate: what may be sent, as a test that computes. A law says that it decides the same.
 use Rattle.std.specs.Prelude.{ℕ, Bool, true, ◌&&◌, nat_eq, nat_le, List, length, Option, Some, None}
 use Rattle.std.specs.List.{list_all, list_any}
 use Rattle.ais_values.specs.TimeTests.{is_time}

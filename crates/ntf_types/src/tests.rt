@@ -274,3 +274,9 @@ fn knows_types(rt: HostRuntime) -> Result<(), Fail> {
     }
     Ok(())
 }
+
+/// Laws are calls that do nothing.
+#[test]
+fn calls_laws() {
+    crate::law_of_equality();
+}

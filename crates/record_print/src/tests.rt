@@ -244,3 +244,10 @@ fn tested_writes(rt: HostRuntime) -> Result<(), Fail> {
     }
     Ok(())
 }
+
+/// Laws are calls that do nothing.
+#[test]
+fn calls_laws() {
+    crate::law_of_cut_marks();
+    crate::law_of_equality();
+}

@@ -1,4 +1,6 @@
-use crate::{Content, Item, Lost, SubQueue, law_of_calls, law_of_marks};
+use crate::{
+    Content, Item, Lost, SubQueue, law_of_calls, law_of_counts, law_of_equality, law_of_marks,
+};
 use ais_values::{ClassId, Duplicate, Name, Seq, Text};
 use ntf_types::{Body, Notification};
 use std::alloc::{AllocError, Global};
@@ -118,5 +120,7 @@ fn rebuilds(rt: HostRuntime) -> Result<(), Fail> {
     assert!(rt; queue.lost().is_empty());
     law_of_marks();
     law_of_calls();
+    law_of_counts();
+    law_of_equality();
     Ok(())
 }
