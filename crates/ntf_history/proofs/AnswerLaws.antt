@@ -1,5 +1,5 @@
 -- What the answers and the receipts ask of the history, the kept table tells.
-use Rattle.std.proofs.Common.{◌≡◌, ℕ, suc, ◌==◌, nat_lt, Bool, true, false, ◌&&◌, ◌||◌, cond, List, [], ◌∷◌, map, length, refl, ap, sym, ◌∙◌, arith}
+use Rattle.std.proofs.Common.{◌≡◌, ℕ, suc, ◌<◌, ◌==◌, nat_lt, Bool, true, false, ◌&&◌, ◌||◌, cond, List, [], ◌∷◌, map, length, refl, ap, sym, ◌∙◌, arith}
 use Rattle.std.specs.Prelude.{Option, Some, None, find, option_map, is_some}
 use Rattle.std.specs.List.{list_any}
 use Rattle.sub_queue.specs.Queue.{IsCapacity}
@@ -9,10 +9,10 @@ use Rattle.ntf_history.specs.declared.subscription.Subscription.{Subscription}
 use Rattle.ntf_history.specs.Changes.{Sub, NtfChange, is_using, users}
 use Rattle.ntf_history.specs.Subscriptions.{has_key, has_id, subs, sub_at, happened, account, is_new}
 use Rattle.ntf_history.specs.Possible.{ArePossible}
-use Rattle.ntf_history.specs.Tables.{HaveCapacity, IsSoundTable, has_item, is_kept_at, is_kept_under, is_new_for, is_new_in, kept_of, table_of}
+use Rattle.ntf_history.specs.Tables.{HaveQueues, IsSoundTable, has_item, is_kept_at, is_kept_under, is_new_for, is_new_in, kept_of, table_of}
 use Rattle.ntf_history.proofs.KeyLaws.{has_key-is, sub_at-stands}
 use Rattle.ntf_history.proofs.TableLaws.{has_item-queue_for}
-use Rattle.ntf_history.proofs.FitLaws.{has-users, users-rising, kept-rising, length-subs}
+use Rattle.ntf_history.proofs.FitLaws.{has-users, users-rising, kept-rising, length-subs, queues-sound}
 
 -- whether a client has a subscription of an id
 list_any-kept : (capacity : ℕ) (past : List NtfChange) (client id : ℕ) (xs : List Sub) → list_any (is_kept_under client id) (map (kept_of capacity past) xs) ≡ list_any (has_id client id) xs
@@ -50,16 +50,17 @@ is_new-kept capacity past client key through =
           let named = has_key-is client key sub (sub_at-stands past client key sub is).1 in
           has_item-queue_for capacity through (account capacity past sub.client sub.key) ∙ ap (λ c. is_new_receipt through (account capacity past c sub.key)) named.0 ∙ ap (λ k. is_new_receipt through (account capacity past client k)) named.1
 
-HaveCapacity-kept : (capacity : ℕ) (past : List NtfChange) (xs : List Sub) → HaveCapacity capacity (map (kept_of capacity past) xs)
-HaveCapacity-kept capacity past [] = tt
-HaveCapacity-kept capacity past (x ∷ xs) = (refl, HaveCapacity-kept capacity past xs)
+HaveQueues-kept : (capacity : ℕ) (past : List NtfChange) (xs : List Sub) → IsCapacity capacity → length past < 4294967295 → HaveQueues capacity (map (kept_of capacity past) xs)
+HaveQueues-kept capacity past [] fits few = tt
+HaveQueues-kept capacity past (x ∷ xs) fits few =
+    (refl, queues-sound capacity past x.client x.key fits few, HaveQueues-kept capacity past xs fits few)
 
 -- the table of changes that could follow one another is sound
-pub table_of-sound : (capacity : ℕ) (past : List NtfChange) → IsCapacity capacity → ArePossible past → IsSoundTable (table_of capacity past)
-table_of-sound capacity past fits possible = record {
+pub table_of-sound : (capacity : ℕ) (past : List NtfChange) → IsCapacity capacity → ArePossible past → length past < 4294967295 → IsSoundTable (table_of capacity past)
+table_of-sound capacity past fits possible short = record {
   capacity = fits;
   users = users-rising past;
   order = kept-rising capacity past;
-  queues = HaveCapacity-kept capacity past (subs past);
+  queues = HaveQueues-kept capacity past (subs past) fits short;
   few = omega (arith, length-kept capacity past, length-subs past possible);
 }

@@ -82,7 +82,7 @@ subs-users (Sent notification record_number ∷ past) possible sub stands = subs
 subs-users (Receipted other key through ∷ past) possible sub stands = subs-users past possible.1 sub stands
 
 -- at most 64 subscriptions last
-length-put : {X : Type 0} (before : X → X → Bool) (x : X) (xs : List X) → length (put before x xs) ≤ length xs + 1
+pub length-put : {X : Type 0} (before : X → X → Bool) (x : X) (xs : List X) → length (put before x xs) ≤ length xs + 1
 length-put before x [] = omega arith
 length-put {X} before x (y ∷ ys) = placed (before x y) (before y x) (length-put before x ys) where
   placed : (below above : Bool) → length (put before x ys) ≤ length ys + 1 → length (cond below (x ∷ y ∷ ys) (cond above (y ∷ put before x ys) (x ∷ ys))) ≤ length (y ∷ ys) + 1
@@ -90,7 +90,7 @@ length-put {X} before x (y ∷ ys) = placed (before x y) (before y x) (length-pu
   placed false true rest = omega (arith, rest)
   placed false false rest = omega arith
 
-length-without : {X : Type 0} (test : X → Bool) (xs : List X) → length (without test xs) ≤ length xs
+pub length-without : {X : Type 0} (test : X → Bool) (xs : List X) → length (without test xs) ≤ length xs
 length-without test [] = omega arith
 length-without {X} test (x ∷ xs) = left (test x) (length-without test xs) where
   left : (passes : Bool) → length (without test xs) ≤ length xs → length (cond passes (without test xs) (x ∷ without test xs)) ≤ length (x ∷ xs)

@@ -9,13 +9,13 @@ use Rattle.ntf_history.specs.Changes.{Sub, NtfChange}
 use Rattle.ntf_history.specs.Changes.NtfChange.{Began, Ended, Subscribed, Unsubscribed, Sent, Receipted}
 use Rattle.ntf_history.specs.Subscriptions.{has_key, has_id, is_of, key_first, comes_first, subs, sub_at}
 
-key_first-self : (client key : ℕ) → key_first client key client key ≡ false
+pub key_first-self : (client key : ℕ) → key_first client key client key ≡ false
 key_first-self client key = grind (arith, nat_tests)
 
-key_first-onward : (c k d l e m : ℕ) → key_first c k d l ≡ true → key_first d l e m ≡ true → key_first c k e m ≡ true
+pub key_first-onward : (c k d l e m : ℕ) → key_first c k d l ≡ true → key_first d l e m ≡ true → key_first c k e m ≡ true
 key_first-onward c k d l e m first second = grind (arith, nat_tests)
 
-key_first-beside : (c k d l e m : ℕ) → key_first c k d l ≡ false → key_first d l c k ≡ false → key_first d l e m ≡ true → key_first c k e m ≡ true
+pub key_first-beside : (c k d l e m : ℕ) → key_first c k d l ≡ false → key_first d l c k ≡ false → key_first d l e m ≡ true → key_first c k e m ≡ true
 key_first-beside c k d l e m one other second = grind (arith, nat_tests)
 
 -- keys of which the first comes before the second differ

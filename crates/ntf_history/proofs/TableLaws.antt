@@ -54,7 +54,7 @@ both true false e = cc
 both false b e = cc
 
 -- a receipt is new for a queue exactly where the queue has the item
-has_item-decides : (through : ℕ) (queue : Queue) → Decides (has_item through queue) (IsNew through queue)
+pub has_item-decides : (through : ℕ) (queue : Queue) → Decides (has_item through queue) (IsNew through queue)
 has_item-decides through queue = (
   λ e. let tests = both (nat_le queue.first through) (nat_lt through (next_number queue)) e in record { from = leb-true queue.first through tests.0; below = leb-true (suc through) (next_number queue) tests.1 },
   λ new. both_true (le-leb queue.first through new.from) (le-leb (suc through) (next_number queue) new.below),

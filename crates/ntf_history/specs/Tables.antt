@@ -3,7 +3,7 @@ use Rattle.std.specs.Prelude.{◌≡◌, ℕ, ◌+◌, ◌==◌, ◌≤◌, nat_
 use Rattle.ntf_types.specs.declared.notification.Notification.{Notification}
 use Rattle.ntf_filters.specs.declared.filter.FilterSet.{FilterSet}
 use Rattle.ntf_filters.specs.Matching.{matches}
-use Rattle.sub_queue.specs.Queue.{Queue, IsCapacity, empty_queue, next_number, offered, received}
+use Rattle.sub_queue.specs.Queue.{Queue, IsCapacity, IsSound, empty_queue, next_number, offered, received}
 use Rattle.sub_queue.specs.History.{queue_for}
 use Rattle.client_set.specs.Rising.{put, without, IsRising}
 use Rattle.ntf_history.specs.declared.subscription.Subscription.{Subscription}
@@ -68,27 +68,32 @@ abbrev pub received_sub : ℕ → ℕ → ℕ → Subscription → Subscription
 received_sub client key through kept =
     requeued kept (if is_kept_at client key kept && has_item through kept.queue then received through kept.queue else kept.queue)
 
--- each subscription has a queue of this capacity
-abbrev pub HaveCapacity : ℕ → List Subscription → Type 0
-HaveCapacity capacity [] = ⊤
-HaveCapacity capacity (kept ∷ others) = (kept.queue.capacity ≡ capacity) × HaveCapacity capacity others
+-- each subscription has a queue of this capacity that can be rebuilt
+abbrev pub HaveQueues : ℕ → List Subscription → Type 0
+HaveQueues capacity [] = ⊤
+HaveQueues capacity (kept ∷ others) =
+    (kept.queue.capacity ≡ capacity) × IsSound kept.queue × HaveQueues capacity others
 
 -- what holds of a table that the service keeps
 pub record IsSoundTable (table : NtfTable) : Type 0 where
   pub capacity : IsCapacity table.capacity
   pub users : IsRising nat_lt table.users
   pub order : IsRising kept_first table.subs
-  pub queues : HaveCapacity table.capacity table.subs
+  pub queues : HaveQueues table.capacity table.subs
   pub few : length table.subs ≤ 64
+
+-- the table of these parts
+abbrev pub table_with : ℕ → List ℕ → ℕ → List Subscription → NtfTable
+table_with capacity users last_id kept = record {
+  capacity = capacity;
+  users = users;
+  last_id = last_id;
+  subs = kept;
+}
 
 -- the table of a service that nobody has used
 abbrev pub empty_table : ℕ → NtfTable
-empty_table capacity = record {
-  capacity = capacity;
-  users = [];
-  last_id = 0;
-  subs = [];
-}
+empty_table capacity = table_with capacity [] 0 []
 
 -- whether a receipt through a number is new for a subscription, if there is one
 abbrev pub is_new_for : Option Subscription → ℕ → Bool

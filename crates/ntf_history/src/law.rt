@@ -58,7 +58,7 @@ pub fn law_of_tables()
     ensures receipts { (capacity : ℕ) (past : List NtfChange) (client key through : ℕ) →
         is_new_in (table_of capacity past) client key through ≡ is_new capacity past client key through }
     ensures sound { (capacity : ℕ) (past : List NtfChange) → IsCapacity capacity → ArePossible past →
-        IsSoundTable (table_of capacity past) }
+        length past < 4294967295 → IsSoundTable (table_of capacity past) }
     ensures empty { (capacity : ℕ) → table_of capacity [] ≡ empty_table capacity }
 {}
 

@@ -2,3 +2,4 @@ pub mod Accounts
 pub mod Equality
 pub mod Keeping
 pub mod Numbering
+pub mod Retracting

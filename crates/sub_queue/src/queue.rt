@@ -1,8 +1,10 @@
 //! The queue of one subscription.
-ghost use Rattle.std.specs.Prelude.{◌≡◌, ◌+◌, ◌<◌, ◌≤◌, ◌↔◌, [], ◌∷◌, ◌++◌, drop, length, IsTrue, IsOk, IfOk, OnOk, OnErr, vec_len};
+ghost use Rattle.std.specs.Prelude.{◌≡◌, ◌+◌, ◌-◌, ◌<◌, ◌≤◌, ◌↔◌, [], ◌∷◌, ◌++◌, drop, take, length, IsTrue, IsOk, IfOk, OnOk, OnErr, vec_len};
 ghost use Rattle.std.specs.Vec.{vec_capacity};
 ghost use Rattle.sub_queue.specs.Items.{mark_of, numbered, discarded};
-ghost use Rattle.sub_queue.specs.Queue.{IsCapacity, IsSound, IsNew, HasNumberLeft, empty_queue, queue_of_parts, has_room, offered, received};
+ghost use Rattle.ntf_types.specs.declared.notification.Notification.{Notification};
+ghost use Rattle.sub_queue.specs.Inside.{front};
+ghost use Rattle.sub_queue.specs.Queue.{Queue, IsCapacity, IsSound, IsNew, HasNumberLeft, empty_queue, queue_of_parts, has_room, offered, received};
 
 use crate::{Content, Item, Lost};
 use ais_values::Seq;
@@ -53,6 +55,24 @@ fn lose(lost: &mut Seq<Lost>, notification: Notification) -> Result<(), AllocErr
     let kind = kind_of(&notification);
     let id = notification.id;
     lost.push(Lost { kind, id })
+}
+
+/// Removes the last item.
+fn remove_last(items: &mut Vec<Item>)
+    ensures items { items.new.items ≡ take (vec_len items.old - 1) items.old.items }
+    ensures capacity { vec_capacity items.new ≡ vec_capacity items.old }
+{
+    let rest = items.len().saturating_sub(1);
+    items.truncate(rest);
+}
+
+/// Removes the last of those lost.
+fn unlose(alloc: Global, lost: &mut Seq<Lost>)
+    ensures { lost.new ≡ front lost.old }
+{
+    let mut marks = mem::replace(lost, Seq::new(alloc)).into_vec();
+    let _ = marks.pop();
+    *lost = Seq::from_vec(marks);
 }
 
 /// Adds an item of what was lost, where anything was. It takes the place of a removed one.
@@ -141,6 +161,19 @@ impl SubQueue {
             Ok(())
         } else {
             lose(&mut self.lost, notification)
+        }
+    }
+
+    /// Takes the last offer back, if nothing else came since: the queue is as it was before. It takes no
+    /// memory.
+    pub fn take_back(&mut self)
+        ensures { (before : Queue) (notification : Notification) → IsSound before →
+            self.old ≡ offered notification before → self.new ≡ before }
+    {
+        if self.lost.as_slice().is_empty() {
+            remove_last(&mut self.items);
+        } else {
+            unlose(self.alloc, &mut self.lost);
         }
     }
 
