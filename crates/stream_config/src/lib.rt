@@ -16,3 +16,6 @@ pub use defaults::{default_format, well_known};
 pub use event::{Stamps, StreamEvent};
 pub use sizes::{per_file, stamp};
 pub use state::{LogFile, StreamState};
+
+#[cfg(test)]
+mod tests;
