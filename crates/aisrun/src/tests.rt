@@ -22,6 +22,23 @@ const CLUSTER: &str = "cluster start=1704067200000000000 queue=2 callbacks=8\n";
 
 const USAGE: &str = "usage: aisrun run, check, expr KIND TEXT or gen COUNT SEED\n";
 
+/// What of the script is changed, and behind `>` to what, parted by `;`: each is refused.
+const CHANGED: &str =
+    "files\n>files;files\n>files\r\n;files\n>files \n;files\n>files\n\n;files\n>files\nfiles\n;settle\nfiles\n>settle\n;settle\nfiles\n>files\nsettle\n;settle\n>settle\r\n;settle\n>settle\n#\n;cluster> cluster;cluster>#\ncluster;start=1704067200000000000>start=1704067200000000001;queue=2 >queue=2  ;log 1 init A.2.1\n>;log 1 init A.2.1\n>log 1 init A.2.1 \n;init A.2.1\nlog 1 open system>open system\nlog 1 init A.2.1;body=\"a\"\n>body=\"a\" \n;body=\"a\"\n>body=\"a\n;body=\"a\"\n>body=a\n;body=\"a\"\n>body=\"a\"\"\n;body=\"a\"\n>body=\"a\"\nlog 1 open system\n;flags=0>flags=1;log 1 write>log 2 write";
+
+/// Words that are none of the program's, one row a line.
+const OTHER_WORDS: &str =
+    "\n-run\n--\nRun\nru\nrun \nrunning\nrun,\nrun,run\n-,run\nexpr,system,-1\nexpr,System,a\nexpr,system\ncheck,check\nexpr,alarm,a,b";
+
+/// The words, what follows the cluster line in the input, the exit status and the text, parted by `;`.
+const CHECKED: &str =
+    "check||0|ok 1\n;check|settle\n# a comment\n\nfiles|0|ok 3\n;check|time 5x\n|1|script line 2: grammar\n;check|time 5\n|1|script line 2: time\n;check|cluster start=1 queue=2 callbacks=8\n|1|script line 2: cluster\n;check|files \n|1|script line 2: grammar\n;expr,system,@Cr @Cb||0|ok 3\n;expr,notification,||0|ok 0\n;expr,alarm,@Sv||1|bad 1 WrongClass\n;expr,system,ab@||1|bad 3 LoneAt\n;expr,alarm,@Nq||1|bad 2 UnknownToken\n;expr,system,@Cb256||1|bad 5 BadWidth\n;expr,application,@Cb0||1|bad 3 BadWidth\n";
+
+/// One digit each for the records of the script, the failing call of the source and of the sink, whether there is a
+/// file and the exit status; then the word and the text, one row a line. The disk's first changing call fails.
+const REASONS: &str =
+    "01012|run,run|usage: aisrun run, check, expr KIND TEXT or gen COUNT SEED\n;01014|run|read fault\n;00011|run|script not built\n;10017|run|root not empty: x\n;10006|run|disk fault\n;01115|run,run|;01115|run|;00115|run|;10115|run|;10105|run|";
+
 /// The most bytes of a piece that a sink takes.
 const PIECE: usize = 100;
 
@@ -79,16 +96,15 @@ fn prepared(alloc: Global, input: Vec<u8>, failing: Failing) -> Result<Stage, Al
     Ok(Stage { source, out, disk })
 }
 
-// The words are run, over the stage.
-fn play(alloc: Global, stage: &mut Stage, words: &[&str]) -> Result<Status8, AllocError> {
+// The words, parted by commas, are run over the stage.
+fn play(alloc: Global, stage: &mut Stage, words: &str) -> Result<Status8, AllocError> {
     let mut list = Vec::new(alloc);
-    for word in words {
+    for word in words.split(',') {
         list.push(String::from_str(alloc, word)?)?;
     }
-    let words = list.as_slice();
     Ok(run(
         alloc,
-        words,
+        list.as_slice(),
         &mut stage.source,
         &mut stage.out,
         &mut stage.disk,
@@ -107,40 +123,44 @@ fn files_of(alloc: Global, disk: &mut MemDisk) -> Result<Vec<u8>, DiskAnswer> {
     Ok(files)
 }
 
-/// How a run is to end: its status, what it printed, and the disk's files in one text.
+/// How a run is to end: its exit status, what it printed, and the disk's files in one text.
 #[derive(Clone, Copy)]
-struct End<'a>(Status8, &'a [u8], &'a [u8]);
+struct End<'a>(u8, &'a [u8], &'a [u8]);
 
 // The words are run over the stage, and end as is wanted in this row of a table.
 fn ends(
     rt: &impl Abort,
     alloc: Global,
     stage: &mut Stage,
-    words: &[&str],
-    row: u64,
+    words: &str,
     wanted: End,
 ) -> Result<(), DiskAnswer> {
     let End(status, printed, files) = wanted;
     let found = play(alloc, stage, words)?;
-    assert_eq!(rt; found, status, "row {row}");
-    assert_eq!(rt; stage.out.inner.written(), printed, "row {row}");
+    assert_eq!(rt; found.code(), status, "{words}");
+    assert_eq!(rt; stage.out.inner.written(), printed, "{words}");
     let found = files_of(alloc, &mut stage.disk)?;
-    assert_eq!(rt; found.as_slice(), files, "row {row}");
+    assert_eq!(rt; found.as_slice(), files, "{words}");
     Ok(())
 }
 
 // The script is refused, and no file is made.
-fn refused(rt: &impl Abort, alloc: Global, input: Vec<u8>, row: u64) -> Result<(), DiskAnswer> {
+fn refused(rt: &impl Abort, alloc: Global, input: Vec<u8>) -> Result<(), DiskAnswer> {
     let mut stage = prepared(alloc, input, NONE)?;
-    let end = End(Status8::ScriptRefused, b"script not built\n", b"");
-    ends(rt, alloc, &mut stage, &["run"], row, end)
+    let end = End(1, b"script not built\n", b"");
+    ends(rt, alloc, &mut stage, "run", end)
+}
+
+// The number that one digit writes.
+fn digit(text: &[u8], place: usize) -> u8 {
+    text.get(place).copied().unwrap_or(b'9').wrapping_sub(b'0')
 }
 
 #[test]
 fn one_record_is_printed_and_stored(rt: HostRuntime) -> Result<(), Fail> {
     let alloc = rt.alloc();
     let mut stage = prepared(alloc, INPUT.as_bytes().to_vec(alloc)?, NONE)?;
-    assert_eq!(rt; play(alloc, &mut stage, &["run"])?, Status8::Done);
+    assert_eq!(rt; play(alloc, &mut stage, "run")?, Status8::Done);
     assert_eq!(rt; stage.out.inner.written(), PRINTED.as_bytes());
     assert_eq!(rt; stage.source.unread().len(), 0);
     let mut record = [b' '; 256];
@@ -159,8 +179,8 @@ fn played(rt: &impl Abort, alloc: Global, records: u8, length: u8) -> Result<(),
     let mut stage = prepared(alloc, script(alloc, records, length)?, NONE)?;
     let text = session_text(alloc, records)?;
     let files = session_files(alloc, records, length)?;
-    let end = End(Status8::Done, text.as_bytes(), files.as_slice());
-    ends(rt, alloc, &mut stage, &["run"], u64::from(records), end)
+    let end = End(0, text.as_bytes(), files.as_slice());
+    ends(rt, alloc, &mut stage, "run", end)
 }
 
 #[test]
@@ -179,12 +199,7 @@ fn one_to_thirty_records_of_any_body_are_played(rt: HostRuntime) -> Result<(), F
         played(&rt, alloc, records, length)?;
     }
     for (records, length) in [(0, 1), (1, 245), (30, 245), (31, 1)] {
-        refused(
-            &rt,
-            alloc,
-            script(alloc, records, length)?,
-            u64::from(records),
-        )?;
+        refused(&rt, alloc, script(alloc, records, length)?)?;
     }
     Ok(())
 }
@@ -199,49 +214,29 @@ fn a_body_has_printable_bytes(rt: HostRuntime) -> Result<(), Fail> {
             b' '..=b'~' => Status8::Done,
             _ => Status8::ScriptRefused,
         };
-        assert_eq!(rt; play(alloc, &mut stage, &["run"])?, wanted, "byte {byte}");
+        assert_eq!(rt; play(alloc, &mut stage, "run")?, wanted, "byte {byte}");
     }
+    Ok(())
+}
+
+// The script with its change is refused.
+fn change_refused(rt: &impl Abort, alloc: Global, row: &str) -> Result<(), Fail> {
+    let (old, new) = row
+        .split_once('>')
+        .ok_or("a row has an old and a new text")?;
+    let (front, rest) = INPUT.split_once(old).ok_or("each row changes the script")?;
+    let input = format!(in alloc; "{front}{new}{rest}")?;
+    refused(rt, alloc, input.into_bytes())?;
     Ok(())
 }
 
 #[test]
 fn other_scripts_are_refused(rt: HostRuntime) -> Result<(), Fail> {
     let alloc = rt.alloc();
-    // What of the script is changed, and to what.
-    let rows = [
-        (INPUT, ""),
-        (INPUT, "\n"),
-        ("files\n", "files"),
-        ("files\n", "files\r\n"),
-        ("files\n", "files \n"),
-        ("files\n", "files\n\n"),
-        ("files\n", "files\nfiles\n"),
-        ("settle\nfiles\n", "settle\n"),
-        ("settle\nfiles\n", "files\nsettle\n"),
-        ("settle\n", "settle\r\n"),
-        ("settle\n", "settle\n#\n"),
-        ("cluster", " cluster"),
-        ("cluster", "#\ncluster"),
-        ("start=1704067200000000000", "start=1704067200000000001"),
-        ("queue=2 ", "queue=2  "),
-        ("log 1 init A.2.1\n", ""),
-        ("log 1 init A.2.1\n", "log 1 init A.2.1 \n"),
-        (
-            "init A.2.1\nlog 1 open system",
-            "open system\nlog 1 init A.2.1",
-        ),
-        ("body=\"a\"\n", "body=\"a\" \n"),
-        ("body=\"a\"\n", "body=\"a\n"),
-        ("body=\"a\"\n", "body=a\n"),
-        ("body=\"a\"\n", "body=\"a\"\"\n"),
-        ("body=\"a\"\n", "body=\"a\"\nlog 1 open system\n"),
-        ("flags=0", "flags=1"),
-        ("log 1 write", "log 2 write"),
-    ];
-    for (row, (old, new)) in (1..26).zip(rows) {
-        let (front, rest) = INPUT.split_once(old).ok_or("each row changes the script")?;
-        let input = format!(in alloc; "{front}{new}{rest}")?;
-        refused(&rt, alloc, input.into_bytes(), row)?;
+    refused(&rt, alloc, Vec::new(alloc))?;
+    refused(&rt, alloc, b"\n".to_vec(alloc)?)?;
+    for row in CHANGED.split(';') {
+        change_refused(&rt, alloc, row)?;
     }
     Ok(())
 }
@@ -249,108 +244,46 @@ fn other_scripts_are_refused(rt: HostRuntime) -> Result<(), Fail> {
 #[test]
 fn other_words_are_refused(rt: HostRuntime) -> Result<(), Fail> {
     let alloc = rt.alloc();
-    let rows: [&[&str]; 11] = [
-        &[],
-        &[""],
-        &["-run"],
-        &["--"],
-        &["Run"],
-        &["ru"],
-        &["run "],
-        &["running"],
-        &["run", ""],
-        &["run", "run"],
-        &["-", "run"],
-    ];
-    for (row, words) in (1..12).zip(rows) {
+    for words in OTHER_WORDS.split('\n') {
         let mut stage = prepared(alloc, INPUT.as_bytes().to_vec(alloc)?, NONE)?;
-        let end = End(Status8::Usage, USAGE.as_bytes(), b"");
-        ends(&rt, alloc, &mut stage, words, row, end)?;
-        assert_eq!(rt; stage.source.unread(), INPUT.as_bytes(), "row {row}");
+        ends(&rt, alloc, &mut stage, words, End(2, USAGE.as_bytes(), b""))?;
+        assert_eq!(rt; stage.source.unread(), INPUT.as_bytes(), "{words}");
     }
+    Ok(())
+}
+
+#[test]
+fn no_words_are_refused(rt: HostRuntime) -> Result<(), Fail> {
+    let alloc = rt.alloc();
+    let mut stage = prepared(alloc, Vec::new(alloc), NONE)?;
+    let status = run(
+        alloc,
+        &[],
+        &mut stage.source,
+        &mut stage.out,
+        &mut stage.disk,
+    );
+    assert_eq!(rt; status, Status8::Usage);
+    Ok(())
+}
+
+// The words, over the input of a row, end as it says.
+fn row_ends(rt: &impl Abort, alloc: Global, row: &str) -> Result<(), Fail> {
+    let (words, row) = row.split_once('|').ok_or("a row has words")?;
+    let (rest, row) = row.split_once('|').ok_or("a row has an input")?;
+    let (status, text) = row.split_once('|').ok_or("a row has a status and a text")?;
+    let input = format!(in alloc; "{CLUSTER}{rest}")?;
+    let mut stage = prepared(alloc, input.into_bytes(), NONE)?;
+    let end = End(digit(status.as_bytes(), 0), text.as_bytes(), b"");
+    ends(rt, alloc, &mut stage, words, end)?;
     Ok(())
 }
 
 #[test]
 fn scripts_and_expressions_are_checked(rt: HostRuntime) -> Result<(), Fail> {
     let alloc = rt.alloc();
-    let check: &[&str] = &["check"];
-    // The words, what follows the cluster line in the input, the status and the text.
-    let rows: [(&[&str], &str, Status8, &str); 18] = [
-        (check, "", Status8::Done, "ok 1\n"),
-        (
-            check,
-            "settle\n# a comment\n\nfiles",
-            Status8::Done,
-            "ok 3\n",
-        ),
-        (
-            check,
-            "time 5x\n",
-            Status8::ScriptRefused,
-            "script line 2: grammar\n",
-        ),
-        (
-            check,
-            "time 5\n",
-            Status8::ScriptRefused,
-            "script line 2: time\n",
-        ),
-        (
-            check,
-            CLUSTER,
-            Status8::ScriptRefused,
-            "script line 2: cluster\n",
-        ),
-        (
-            check,
-            "files \n",
-            Status8::ScriptRefused,
-            "script line 2: grammar\n",
-        ),
-        (&["expr", "system", "@Cr @Cb"], "", Status8::Done, "ok 3\n"),
-        (&["expr", "notification", ""], "", Status8::Done, "ok 0\n"),
-        (
-            &["expr", "alarm", "@Sv"],
-            "",
-            Status8::ScriptRefused,
-            "bad 1 WrongClass\n",
-        ),
-        (
-            &["expr", "system", "ab@"],
-            "",
-            Status8::ScriptRefused,
-            "bad 3 LoneAt\n",
-        ),
-        (
-            &["expr", "alarm", "@Nq"],
-            "",
-            Status8::ScriptRefused,
-            "bad 2 UnknownToken\n",
-        ),
-        (
-            &["expr", "system", "@Cb256"],
-            "",
-            Status8::ScriptRefused,
-            "bad 5 BadWidth\n",
-        ),
-        (
-            &["expr", "application", "@Cb0"],
-            "",
-            Status8::ScriptRefused,
-            "bad 3 BadWidth\n",
-        ),
-        (&["expr", "system", "-1"], "", Status8::Usage, USAGE),
-        (&["expr", "System", "a"], "", Status8::Usage, USAGE),
-        (&["expr", "system"], "", Status8::Usage, USAGE),
-        (&["check", "check"], "", Status8::Usage, USAGE),
-        (&["expr", "alarm", "a", "b"], "", Status8::Usage, USAGE),
-    ];
-    for (row, (words, rest, status, text)) in (1..19).zip(rows) {
-        let input = format!(in alloc; "{CLUSTER}{rest}")?;
-        let mut stage = prepared(alloc, input.into_bytes(), NONE)?;
-        let end = End(status, text.as_bytes(), b"");
-        ends(&rt, alloc, &mut stage, words, row, end)?;
+    for row in CHECKED.split(';') {
+        row_ends(&rt, alloc, row)?;
     }
     Ok(())
 }
@@ -363,58 +296,38 @@ fn the_least_name_on_the_disk_is_printed(rt: HostRuntime) -> Result<(), Fail> {
     stage.disk.hold(b"x", Vec::new(alloc))?;
     stage.disk.hold(b"x/saLogSystem.cfg", Vec::new(alloc))?;
     let files = b"x 0\nx/saLogSystem.cfg 0\ny 4\nkept";
-    let end = End(Status8::RootNotEmpty, b"root not empty: x\n", files);
-    ends(&rt, alloc, &mut stage, &["run"], 1, end)?;
+    let end = End(7, b"root not empty: x\n", files);
+    ends(&rt, alloc, &mut stage, "run", end)?;
+    Ok(())
+}
+
+// The run with the failing calls of a row ends as it says.
+fn reason_ends(rt: &impl Abort, alloc: Global, row: &str) -> Result<(), Fail> {
+    let (digits, row) = row.split_once('|').ok_or("a row has digits")?;
+    let (words, text) = row.split_once('|').ok_or("a row has words and a text")?;
+    let digits = digits.as_bytes();
+    let failing = Failing {
+        read: u64::from(digit(digits, 1)),
+        write: u64::from(digit(digits, 2)),
+        change: 1,
+        look: 0,
+    };
+    let mut stage = prepared(alloc, script(alloc, digit(digits, 0), 1)?, failing)?;
+    let mut files: &[u8] = b"";
+    if digit(digits, 3) == 1 {
+        stage.disk.hold(b"x", Vec::new(alloc))?;
+        files = b"x 0\n";
+    }
+    let end = End(digit(digits, 4), text.as_bytes(), files);
+    ends(rt, alloc, &mut stage, words, end)?;
     Ok(())
 }
 
 #[test]
 fn the_first_reason_ends_the_run(rt: HostRuntime) -> Result<(), Fail> {
     let alloc = rt.alloc();
-    // The word, the records, the failing calls of source and sink, whether there is a file, the status, the text.
-    let rows = [
-        ("walk", 0, 1, 0, true, Status8::Usage, USAGE),
-        ("run", 0, 1, 0, true, Status8::ReadFault, "read fault\n"),
-        (
-            "run",
-            0,
-            0,
-            0,
-            true,
-            Status8::ScriptRefused,
-            "script not built\n",
-        ),
-        (
-            "run",
-            1,
-            0,
-            0,
-            true,
-            Status8::RootNotEmpty,
-            "root not empty: x\n",
-        ),
-        ("run", 1, 0, 0, false, Status8::DiskFault, "disk fault\n"),
-        ("walk", 0, 1, 1, true, Status8::WriteFault, ""),
-        ("run", 0, 1, 1, true, Status8::WriteFault, ""),
-        ("run", 0, 0, 1, true, Status8::WriteFault, ""),
-        ("run", 1, 0, 1, true, Status8::WriteFault, ""),
-        ("run", 1, 0, 1, false, Status8::WriteFault, ""),
-    ];
-    for (row, (word, records, read, write, file, status, text)) in (1..11).zip(rows) {
-        let failing = Failing {
-            read,
-            write,
-            change: 1,
-            look: 0,
-        };
-        let mut stage = prepared(alloc, script(alloc, records, 1)?, failing)?;
-        let mut files: &[u8] = b"";
-        if file {
-            stage.disk.hold(b"x", Vec::new(alloc))?;
-            files = b"x 0\n";
-        }
-        let end = End(status, text.as_bytes(), files);
-        ends(&rt, alloc, &mut stage, &[word], row, end)?;
+    for row in REASONS.split(';') {
+        reason_ends(&rt, alloc, row)?;
     }
     Ok(())
 }
@@ -425,8 +338,8 @@ fn each_read_of_the_source_fails_in_turn(rt: HostRuntime) -> Result<(), Fail> {
     // The input is read in two pieces, and then its end.
     for read in 1..4 {
         let mut stage = prepared(alloc, script(alloc, 30, 244)?, Failing { read, ..NONE })?;
-        let end = End(Status8::ReadFault, b"read fault\n", b"");
-        ends(&rt, alloc, &mut stage, &["run"], read, end)?;
+        let end = End(4, b"read fault\n", b"");
+        ends(&rt, alloc, &mut stage, "run", end)?;
     }
     Ok(())
 }
@@ -439,8 +352,8 @@ fn each_write_of_the_sink_fails_in_turn(rt: HostRuntime) -> Result<(), Fail> {
     let mut written = Vec::new(alloc);
     for (write, piece) in (1..20).zip(text.as_bytes().chunks(PIECE)) {
         let mut stage = prepared(alloc, script(alloc, 1, 1)?, Failing { write, ..NONE })?;
-        let end = End(Status8::WriteFault, written.as_slice(), files.as_slice());
-        ends(&rt, alloc, &mut stage, &["run"], write, end)?;
+        let end = End(5, written.as_slice(), files.as_slice());
+        ends(&rt, alloc, &mut stage, "run", end)?;
         written.extend_from_slice(piece)?;
     }
     assert_eq!(rt; written.as_slice(), text.as_bytes());
@@ -453,8 +366,8 @@ fn breaks_off(rt: &impl Abort, alloc: Global, records: u8, change: u64) -> Resul
     let mut stage = prepared(alloc, script(alloc, records, 3)?, failing)?;
     let text = fault_text(alloc, records, change)?;
     let files = files_after(alloc, change.saturating_sub(1), records, 3)?;
-    let end = End(Status8::DiskFault, text.as_bytes(), files.as_slice());
-    ends(rt, alloc, &mut stage, &["run"], change, end)
+    let end = End(6, text.as_bytes(), files.as_slice());
+    ends(rt, alloc, &mut stage, "run", end)
 }
 
 #[test]
@@ -476,11 +389,11 @@ fn each_read_of_the_disk_fails_in_turn(rt: HostRuntime) -> Result<(), Fail> {
     // The names are asked for twice, and then the lengths of six files.
     for look in 1..9 {
         let mut stage = prepared(alloc, script(alloc, 2, 1)?, Failing { look, ..NONE })?;
-        let mut end = End(Status8::DiskFault, text.as_bytes(), files.as_slice());
+        let mut end = End(6, text.as_bytes(), files.as_slice());
         if look == 1 {
-            end = End(Status8::DiskFault, b"disk fault\n", b"");
+            end = End(6, b"disk fault\n", b"");
         }
-        ends(&rt, alloc, &mut stage, &["run"], look, end)?;
+        ends(&rt, alloc, &mut stage, "run", end)?;
     }
     Ok(())
 }
@@ -488,30 +401,12 @@ fn each_read_of_the_disk_fails_in_turn(rt: HostRuntime) -> Result<(), Fail> {
 #[test]
 fn an_input_has_at_most_16_mebibytes(rt: HostRuntime) -> Result<(), Fail> {
     let alloc = rt.alloc();
-    refused(&rt, alloc, vec![in alloc; b'#'; 16_777_216]?, 0)?;
+    refused(&rt, alloc, vec![in alloc; b'#'; 16_777_216]?)?;
     for (size, unread) in [(16_777_217, 0), (16_777_220, 3)] {
         let mut stage = prepared(alloc, vec![in alloc; b'#'; size]?, NONE)?;
-        let end = End(Status8::TooLong, b"script too long\n", b"");
-        ends(&rt, alloc, &mut stage, &["run"], 0, end)?;
+        let end = End(8, b"script too long\n", b"");
+        ends(&rt, alloc, &mut stage, "run", end)?;
         assert_eq!(rt; stage.source.unread().len(), unread);
     }
     Ok(())
-}
-
-#[test]
-fn each_status_has_its_code(rt: HostRuntime) {
-    let rows = [
-        (Status8::Done, 0),
-        (Status8::ScriptRefused, 1),
-        (Status8::Usage, 2),
-        (Status8::Memory, 3),
-        (Status8::ReadFault, 4),
-        (Status8::WriteFault, 5),
-        (Status8::DiskFault, 6),
-        (Status8::RootNotEmpty, 7),
-        (Status8::TooLong, 8),
-    ];
-    for (status, code) in rows {
-        assert_eq!(rt; status.code(), code);
-    }
 }
