@@ -6,3 +6,4 @@ pub mod FitLaws
 pub mod AlarmLaws
 pub mod ReaderLaws
 pub mod AnswerLaws
+mod Rows
