@@ -1,15 +1,12 @@
--- Which calls of an object in memory fail.
-use Rattle.std.specs.Prelude.{ℕ, ◌+◌, ◌-◌, ◌^◌, min, List, Contains}
+-- Words of public clauses: which calls of an object in memory fail.
+use Rattle.std.specs.Prelude.{ℕ, List, Contains}
+use Rattle.ais_values.specs.Causes.{one_more}
 
 -- the numbers of the calls that fail, counted from 1; how many calls were made, and how many of them failed
 pub record Plan : Type 0 where
   pub failing : List ℕ
   pub calls : ℕ
   pub faults : ℕ
-
--- one more, up to the greatest u64
-abbrev pub one_more : ℕ → ℕ
-one_more count = min (count + 1) (2 ^ 64 - 1)
 
 -- before the first call
 abbrev pub first_plan : List ℕ → Plan

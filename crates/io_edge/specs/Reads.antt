@@ -1,4 +1,4 @@
--- What a whole read takes of a source, by the bytes that are left to read, where the source tells them.
+-- Words of public clauses: what a whole read takes of a source, by the bytes that are left to read, where the source tells them.
 use Rattle.std.specs.Prelude.{◌≡◌, ℕ, ◌+◌, ◌≤◌, List, length, Option, Result, Ok, Err, Vec}
 use Rattle.std.specs.declared.alloc.Global.{Global}
 use Rattle.std.specs.Io.KnownBytes.{Consumes, IsAtEnd}

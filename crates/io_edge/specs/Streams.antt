@@ -1,4 +1,4 @@
--- What a contract sees of the sources and sinks of this crate.
+-- Words of public clauses: what a contract sees of the sources and sinks of this crate.
 use Rattle.std.specs.Prelude.{ℕ, List, Option}
 use Rattle.io_edge.specs.Plans.{Plan}
 

@@ -1,4 +1,4 @@
--- What a whole write hands to a sink, by the bytes that it holds, where the sink tells them.
+-- Words of public clauses: what a whole write hands to a sink, by the bytes that it holds, where the sink tells them.
 use Rattle.std.specs.Prelude.{ℕ, ◌<◌, List, length, take, Option, Result, Ok, Err}
 use Rattle.std.specs.Io.KnownBytes.{Appends}
 

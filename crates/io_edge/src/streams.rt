@@ -2,8 +2,7 @@
 ghost use Rattle.std.specs.Prelude.{◌≡◌, ◌<◌, ◌≤◌, length, IfOk, IsErrOf, MatchResult};
 ghost use Rattle.std.specs.Io.{ReadsAtMost, WritesAtMost};
 ghost use Rattle.std.specs.Io.KnownBytes.{ReadConsumes, WriteAppends};
-ghost use Rattle.ais_values.specs.Causes.{HasCauseOf};
-ghost use Rattle.io_edge.specs.Plans.{one_more};
+ghost use Rattle.ais_values.specs.Causes.{HasCauseOf, one_more};
 
 use crate::{IoFault, Sink, SinkAnswer, Source};
 use std::io;
