@@ -7,3 +7,6 @@ pub mod Settling
 pub mod Saying
 pub mod Serving
 pub mod Measure
+pub mod Settled
+pub mod Running
+pub mod Promises

@@ -1,1 +1,3 @@
 pub mod Serving
+pub mod Running
+pub mod Rows

@@ -16,6 +16,15 @@ use Rattle.cluster_events.specs.Saying.{Grows, Says}
 use Rattle.cluster_events.specs.Serving.{Drains, IsServing, IsCarried}
 use Rattle.cluster_events.proofs.Telling.{Grows-same, Grows-one, TellsReplies-none, Says-carried}
 use Rattle.lone_cluster.specs.Lone.{Alone, accept_alone, net_answering, answer_of, lone, IsLone, IsGoodAlone}
+use Rattle.std.proofs.Common.{arith}
+use Rattle.cluster_events.specs.Outcomes.{Outcome}
+use Rattle.cluster_events.specs.Serving.{IsSteady}
+use Rattle.cluster_facts.specs.Messages.{message_of}
+use Rattle.cluster_facts.specs.History.{IsLegal, MayFollow, accepted_by, committed_by}
+use Rattle.cluster_events.specs.Measure.{Spends, unheard}
+use Rattle.cluster_events.proofs.Measuring.{unheard-accepted, may-waits, Spends-carried}
+use Rattle.cluster_events.proofs.Promised.{IsStepped}
+use Rattle.lone_cluster.specs.Lone.{work_by, work_alone}
 
 -- the entry's reply is among those of the history with it
 reply-stands : (plain : Plain) (past : List Entry) (client number : ℕ) (time : Rattle.std.proofs.Common.ℤ) (call : Call) → Stands (number, plain.reply past client number time call) (answers_in plain client (Called client number time call ∷ past))
@@ -157,3 +166,58 @@ pub lone-says : (plain : Plain) → IsCarried plain (lone plain) IsGoodAlone (Sa
 lone-says plain = Says-carried plain (lone plain) IsGoodAlone
     (λ entry state steady empty. accept-says plain entry state empty)
     (λ state steady. drain-says plain state state.world.core.hand steady.good)
+
+-- What it spends.
+
+answer-spends : (plain : Plain) (state : State Alone) (entry : Entry) → Spends (world_with state.world (Ready entry)) (answer_of plain entry (state_with state (Ready entry))).state.world (answer_of plain entry (state_with state (Ready entry))).told
+answer-spends plain state (Called client number time call) =
+    let world = state.world in
+    let past = world.core.answered in
+    let entry = Called client number time call in
+    let message = Answer client number (plain.reply past client number time call) in
+    let after : Bool → World = λ b. record world { core = record { answered = entry ∷ past; hand = Empty }; net = if b then world.net else message ∷ world.net } in
+    elim (knows plain message world.net) as (λ b. Spends (world_with world (Ready entry)) (after b) (if b then [] else Posted (suc (length world.net)) message ∷ [])) [
+      | true ↦ record { paid = omega arith }
+      | false ↦ record { paid = omega arith }
+    ]
+answer-spends plain state (Receipted client key through time) = record { paid = omega arith }
+
+accept-spends : (plain : Plain) → IsPlain plain → (entry : Entry) (state : State Alone) → IsSteady plain IsGoodAlone state → state.world.core.hand ≡ Empty → MayFollow plain state.world.core.answered entry → Stands (message_of entry) state.world.net → Spends state.world (accept_alone entry state).state.world (accept_alone entry state).told
+accept-spends plain is_plain entry state steady empty may stands =
+    let world = state.world in
+    let past = world.core.answered in
+    let L : Hand → Type 0 = λ hand. IsLegal plain world.now (accepted_by past hand) in
+    let legal = subst L empty steady.sound.facts.legal in
+    let fewer = unheard-accepted world.net entry past (may-waits plain is_plain world.now past entry legal may) stands in
+    let same : unheard world.net (committed world.core) ≡ unheard world.net past = ap (λ (hand : Hand). unheard world.net (committed_by past hand)) empty in
+    record { paid = omega arith }
+
+drain-spends : (plain : Plain) (state : State Alone) (hand : Hand) → IsLone hand → Spends (world_with state.world hand) (drain (lone plain) (state_with state hand)).state.world (drain (lone plain) (state_with state hand)).told
+drain-spends plain state Empty good = record { paid = omega arith }
+drain-spends plain state (Ready entry) good = answer-spends plain state entry
+drain-spends plain state (Waiting entry) good = elim good [ ]
+drain-spends plain state (Applied entry) good = elim good [ ]
+
+pub lone-spends : (plain : Plain) → IsPlain plain → IsCarried plain (lone plain) IsGoodAlone Spends
+lone-spends plain is_plain = Spends-carried plain (lone plain) IsGoodAlone
+    (λ entry state steady empty may stands. accept-spends plain is_plain entry state steady empty may stands)
+    (λ state steady. drain-spends plain state state.world.core.hand steady.good)
+
+-- Its steps.
+
+work_by-kept : (plain : Plain) → IsPlain plain → (state : State Alone) (hand : Hand) (outcome : Outcome (State Alone)) → work_by plain hand (state_with state hand) ≡ Some outcome → IsSound plain (world_with state.world hand) → IsSteady plain IsGoodAlone outcome.state × Says plain (world_with state.world hand) outcome.state.world outcome.told
+work_by-kept plain is_plain state (Ready entry) outcome is sound =
+    let before = state_with state (Ready entry) in
+    let K : Outcome (State Alone) → Type 0 = λ o. IsSteady plain IsGoodAlone o.state × Says plain before.world o.state.world o.told in
+    let same : answer_of plain entry before ≡ outcome = cc in
+    let drains = drains-by plain is_plain state (Ready entry) tt sound in
+    subst K same (drains.steady, answer-says plain state entry)
+work_by-kept plain is_plain state Empty outcome is sound = cc
+work_by-kept plain is_plain state (Waiting entry) outcome is sound = cc
+work_by-kept plain is_plain state (Applied entry) outcome is sound = cc
+
+pub lone-works : (plain : Plain) → IsPlain plain → IsStepped plain (lone plain) IsGoodAlone (work_alone plain)
+lone-works plain is_plain = record { steps = λ state outcome is steady. work_by-kept plain is_plain state state.world.core.hand outcome is steady.sound }
+
+pub never-steps : (plain : Plain) → IsStepped plain (lone plain) IsGoodAlone (λ state. None)
+never-steps plain = record { steps = λ state outcome is steady. cc }

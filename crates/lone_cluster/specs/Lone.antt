@@ -1,9 +1,9 @@
 -- The active server alone, its partner being down.
-use Rattle.std.specs.Prelude.{ℕ, suc, Option, Some, None, List, [], ◌∷◌, length}
+use Rattle.std.specs.Prelude.{ℕ, ℤ, suc, Option, Some, None, List, [], ◌∷◌, length}
 use Rattle.cluster_facts.specs.Types.{Entry, Called, Receipted, Answer, Message}
 use Rattle.cluster_facts.specs.Service.{Plain}
 use Rattle.cluster_facts.specs.History.{Hand, Empty, Ready}
-use Rattle.cluster_facts.specs.World.{posted}
+use Rattle.cluster_facts.specs.World.{posted, empty_world}
 use Rattle.cluster_events.specs.Lines.{Told, Committed, Standing}
 use Rattle.cluster_events.specs.Lines.ServerRole.{Active, Down}
 use Rattle.cluster_events.specs.Outcomes.{Outcome}
@@ -90,3 +90,7 @@ IsLone _ = ⊥
 
 abbrev pub IsGoodAlone : State Alone → Type 0
 IsGoodAlone state = IsLone state.world.core.hand
+
+-- the start of a run: nothing was asked yet
+abbrev pub lone_start : ℤ → ℕ → State Alone
+lone_start now places = record { world = empty_world now places; peers = alone }
