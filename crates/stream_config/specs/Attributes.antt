@@ -1,4 +1,4 @@
--- What attributes a stream may have.
+-- Words of public clauses: what attributes a stream may have.
 use Rattle.std.specs.Prelude.{◌≡◌, ℕ, ◌≤◌, ◌⊎◌, List, length, Bool, ◌&&◌, ◌||◌, ◌==◌, nat_le, IsTrue, All, codes}
 use Rattle.ais_values.specs.declared.kind.StreamKind.{StreamKind}
 use Rattle.ais_values.specs.declared.kind.StreamKind.TheVariants as kinds

@@ -1,4 +1,4 @@
--- The text of a stream's cfg file: eight lines.
+-- Words of public clauses: the text of a stream's cfg file, eight lines.
 use Rattle.std.specs.Prelude.{ℕ, List, ◌++◌, codes}
 use Rattle.std.specs.Fmt.{decimal}
 use Rattle.stream_config.specs.declared.attrs.FullAction.{FullAction}

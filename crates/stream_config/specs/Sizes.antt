@@ -1,4 +1,4 @@
--- How many records a file of a stream holds.
+-- Words of public clauses: how many records a file of a stream holds.
 use Rattle.std.specs.Prelude.{ℕ, ◌/◌}
 use Rattle.stream_config.specs.declared.attrs.StreamAttrs.{StreamAttrs}
 

@@ -1,4 +1,4 @@
--- The stamps of the service: seconds, which rise strictly.
+-- Words of public clauses: the stamps of the service, which are seconds and rise strictly.
 use Rattle.std.specs.Prelude.{ℕ, ◌+◌, ◌/◌, max}
 
 -- the stamp of a second behind the last stamp: that second, or the last stamp plus one second if that is later

@@ -1,4 +1,4 @@
--- The attributes that the well-known streams have unless other ones are given.
+-- Words of public clauses: the attributes that the well-known streams have unless other ones are given.
 use Rattle.std.specs.Prelude.{ℕ, List, [], codes}
 use Rattle.ais_values.specs.declared.kind.StreamKind.{StreamKind}
 use Rattle.ais_values.specs.declared.kind.StreamKind.TheVariants.{Alarm, Notification, System, Application}
