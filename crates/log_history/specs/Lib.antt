@@ -8,3 +8,4 @@ pub mod Files
 pub mod KeptAnswers
 pub mod Names
 pub mod Firsts
+pub mod Times
