@@ -1,0 +1,170 @@
+-- Worked rows: what the definitions give on small histories.
+use Rattle.std.proofs.Common.{◌≡◌, ℕ, ◌+◌, ◌*◌, Bool, true, false, List, [], ◌∷◌, map, refl}
+use Rattle.std.specs.Prelude.{Option, Some, None, ℤ, pos, codes}
+use Rattle.ais_values.specs.declared.kind.StreamKind.TheVariants as kind
+use Rattle.ais_values.specs.declared.status.Status.TheVariants as status
+use Rattle.stream_config.specs.declared.attrs.StreamAttrs.{StreamAttrs}
+use Rattle.stream_config.specs.declared.attrs.StreamName.TheVariants.{System}
+use Rattle.stream_config.specs.declared.attrs.FullAction.TheVariants.{Rotate}
+use Rattle.stream_config.specs.WellKnown.{default_attrs}
+use Rattle.record_print.specs.declared.record.Header.TheVariants.{Generic}
+use Rattle.ntf_types.specs.declared.notification.Body.TheVariants.{Alarm}
+use Rattle.ntf_types.specs.declared.notification.Notification.{Notification}
+use Rattle.ntf_types.specs.SoundTests.{is_sound}
+use Rattle.ntf_filters.specs.declared.filter.FilterSet.{FilterSet}
+use Rattle.ntf_filters.specs.Matching.{admits, admits_option, admits_common, admits_body}
+use Rattle.ntf_filters.specs.FitTests.{is_fit}
+use Rattle.sub_queue.specs.declared.item.Lost.{Lost}
+use Rattle.sub_queue.specs.declared.item.Content.TheVariants.{Notified, Discarded}
+use Rattle.calls.specs.declared.call.Call.{Call}
+use Rattle.calls.specs.declared.call.Call.TheVariants.{LogInit, LogOpen, LogWrite, NtfInit, NtfSend, NtfSubscribe, NtfUnsubscribe, ReaderStart, ReaderRead, ReaderEnd, NtfFini}
+use Rattle.calls.specs.declared.reply.Reply.{Reply}
+use Rattle.calls.specs.declared.reply.Reply.TheVariants.{Refused, Done, Sent, Found}
+use Rattle.calls.specs.declared.entry.Entry.{Entry}
+use Rattle.calls.specs.declared.entry.Entry.TheVariants.{Called, Receipted}
+use Rattle.calls.specs.declared.entry.Held.{Held}
+use Rattle.plain_service.specs.Setups.{Setup}
+use Rattle.plain_service.specs.Replies.{reply_of, next_number}
+use Rattle.plain_service.specs.Items.{items_of, held_for, is_new_receipt}
+
+-- 2024-01-01T00:00:00 UTC
+abbrev now : ℤ
+now = pos 1704067200000000000
+
+abbrev with_alarm : StreamAttrs → Setup
+with_alarm attrs = record {
+  start = now;
+  capacity = 2;
+  alarm = attrs;
+  notification = default_attrs kind.Notification;
+  system = default_attrs kind.System;
+}
+
+abbrev setup : Setup
+setup = with_alarm (default_attrs kind.Alarm)
+
+-- an alarm at a time
+abbrev alarm : (id : ℕ) → ℤ → List ℕ → Notification
+alarm id time text = record {
+  id = id;
+  event_type = 0x4001;
+  object = codes "node1";
+  notifier = codes "hw";
+  class = record { vendor = 1; major = 2; minor = 3 };
+  event_time = time;
+  correlated = [];
+  text = text;
+  info = [];
+  body = Alarm 5 4;
+}
+
+abbrev alarms : FilterSet
+alarms = record {
+  objects = None;
+  attributes = None;
+  states = None;
+  alarms = Some (record { types = []; objects = []; notifiers = []; classes = []; sources = []; causes = []; severities = [] });
+  security = None;
+}
+
+-- the client's next call
+abbrev called : ℕ → Call → List Entry → List Entry
+called client call past = Called client (next_number client past) now call ∷ past
+
+-- five alarms to a subscription of capacity 2: two are items, and three are lost
+abbrev subscribed : List Entry
+subscribed = called 2 NtfInit (called 1 (NtfSubscribe 9 alarms) (called 1 NtfInit []))
+
+abbrev sent : List Entry → List Entry
+sent past = called 2 (NtfSend (alarm 0 now (codes "f"))) past
+
+abbrev five_sent : List Entry
+five_sent = sent (sent (sent (sent (sent subscribed))))
+
+abbrev item : ℕ → Held
+item number = held_for 1 2 (record { number = number; content = Notified (alarm number now (codes "f")) })
+
+two_held : items_of setup five_sent ≡ item 1 ∷ item 2 ∷ []
+unfolding items_of is_fit is_sound admits admits_option admits_common admits_body
+two_held = refl
+
+-- a receipt through the second is new, and then one item holds the three that were lost
+is_first_new : is_new_receipt setup five_sent 1 2 2 ≡ true
+unfolding is_new_receipt is_fit is_sound admits admits_option admits_common admits_body
+is_first_new = refl
+
+abbrev one_receipt : List Entry
+one_receipt = Receipted 1 2 2 now ∷ five_sent
+
+abbrev lost : ℕ → Lost
+lost id = record { kind = 0x4000; id = id }
+
+lost_held : items_of setup one_receipt ≡ held_for 1 2 (record { number = 3; content = Discarded (lost 3 ∷ lost 4 ∷ lost 5 ∷ []) }) ∷ []
+unfolding items_of is_fit is_sound admits admits_option admits_common admits_body
+lost_held = refl
+
+is_second_old : is_new_receipt setup one_receipt 1 2 2 ≡ false
+unfolding is_new_receipt is_fit is_sound admits admits_option admits_common admits_body
+is_second_old = refl
+
+none_held : items_of setup (Receipted 1 2 3 now ∷ one_receipt) ≡ []
+unfolding items_of is_fit is_sound admits admits_option admits_common admits_body
+none_held = refl
+
+-- a reader at the first of two alarms of one time reads both and goes back, and finds none before the first
+abbrev reading : List Entry
+reading =
+    called 1 (ReaderStart 2 (pos 100) alarms)
+    (called 1 (NtfSend (alarm 0 (pos 100) (codes "y"))) (called 1 (NtfSend (alarm 0 (pos 100) (codes "x"))) (called 1 NtfInit [])))
+
+first_read : reply_of setup reading 1 (ReaderRead 2) ≡ Found (alarm 1 (pos 100) (codes "x"))
+unfolding reply_of is_fit is_sound admits admits_option admits_common admits_body
+first_read = refl
+
+second_read : reply_of setup (called 1 (ReaderRead 2) reading) 1 (ReaderRead 2) ≡ Found (alarm 2 (pos 100) (codes "y"))
+unfolding reply_of is_fit is_sound admits admits_option admits_common admits_body
+second_read = refl
+
+third_read : reply_of setup (called 1 (ReaderRead 2) (called 1 (ReaderRead 2) reading)) 1 (ReaderRead 1) ≡ Found (alarm 1 (pos 100) (codes "x"))
+unfolding reply_of is_fit is_sound admits admits_option admits_common admits_body
+third_read = refl
+
+fourth_read : reply_of setup (called 1 (ReaderRead 1) (called 1 (ReaderRead 2) (called 1 (ReaderRead 2) reading))) 1 (ReaderRead 1) ≡ Refused status.NotExist
+unfolding reply_of is_fit is_sound admits admits_option admits_common admits_body
+fourth_read = refl
+
+-- the alarm stream keeps one record: the reader's alarm is gone, and it goes on from where that stood
+abbrev one_kept : Setup
+one_kept = with_alarm (record (default_attrs kind.Alarm) { record_size = 64; max_file = 64; rotated = 1 })
+
+abbrev rotated : List Entry
+rotated =
+    called 1 (NtfSend (alarm 0 (pos 200) (codes "y")))
+    (called 1 (ReaderStart 7 (pos 0) alarms) (called 1 (NtfSend (alarm 0 (pos 100) (codes "x"))) (called 1 NtfInit [])))
+
+none_before : reply_of one_kept rotated 1 (ReaderRead 1) ≡ Refused status.NotExist
+unfolding reply_of is_fit is_sound admits admits_option admits_common admits_body
+none_before = refl
+
+one_behind : reply_of one_kept (called 1 (ReaderRead 1) rotated) 1 (ReaderRead 2) ≡ Found (alarm 2 (pos 200) (codes "y"))
+unfolding reply_of is_fit is_sound admits admits_option admits_common admits_body
+one_behind = refl
+
+-- a service that is not begun refuses, and one that is begun is not begun again
+not_begun : reply_of setup [] 1 (NtfUnsubscribe 1) ≡ Refused status.BadHandle
+unfolding reply_of
+not_begun = refl
+
+begun_once : reply_of setup (called 1 LogInit []) 1 LogInit ≡ Refused status.NoResources
+unfolding reply_of
+begun_once = refl
+
+-- a use that ended takes the subscriptions and the reader with it
+ended : reply_of setup (called 1 NtfInit (called 1 NtfFini reading)) 1 ReaderEnd ≡ Refused status.BadHandle
+unfolding reply_of is_fit is_sound admits admits_option admits_common admits_body
+ended = refl
+
+-- ids are those of the sends that were answered ok
+third_id : reply_of setup (called 1 (NtfSend (record (alarm 0 now []) { event_type = 1 })) reading) 1 (NtfSend (alarm 0 now [])) ≡ Sent 3
+unfolding reply_of is_fit is_sound admits admits_option admits_common admits_body
+third_id = refl

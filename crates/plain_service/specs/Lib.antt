@@ -1,0 +1,11 @@
+pub mod Setups
+pub mod Pasts
+pub mod Alarms
+pub mod Answers
+pub mod Changing
+pub mod Replies
+pub mod Items
+pub mod Storing
+pub mod Legal
+pub mod Values
+pub mod Fitness

@@ -1,0 +1,81 @@
+-- Words of public clauses: replies, and what is kept of the calls of each client.
+use Rattle.std.specs.Prelude.{ℕ, ◌+◌, ℤ, nat_lt, ◌==◌, if◌then◌else◌, List, [], ◌∷◌, length, take, reverse, map, Option, Some, None}
+use Rattle.client_set.specs.Rising.{put}
+use Rattle.ais_values.specs.declared.status.Status.{Status}
+use Rattle.ais_values.specs.declared.status.Status.TheVariants as status
+use Rattle.ntf_types.specs.declared.notification.Notification.{Notification}
+use Rattle.calls.specs.declared.call.Call.{Call}
+use Rattle.calls.specs.declared.call.Call.TheVariants.{NtfSend, ReaderRead}
+use Rattle.calls.specs.declared.reply.Reply.{Reply}
+use Rattle.calls.specs.declared.reply.Reply.TheVariants.{Refused, Done, Sent, Found}
+use Rattle.calls.specs.declared.entry.Entry.{Entry}
+use Rattle.calls.specs.declared.entry.Entry.TheVariants.{Called, Receipted}
+use Rattle.calls.specs.declared.saved.SavedWindow.{SavedWindow}
+use Rattle.ntf_history.specs.Changes.{last_id}
+use Rattle.ntf_history.specs.Readers.{reader_of}
+use Rattle.ntf_history.specs.Rows.{read_by}
+use Rattle.plain_service.specs.Setups.{Setup}
+use Rattle.plain_service.specs.Pasts.{Past}
+use Rattle.plain_service.specs.Alarms.{alarms_stored}
+use Rattle.plain_service.specs.Answers.{status_of}
+use Rattle.plain_service.specs.Changing.{past_of}
+
+-- the reply with the alarm that was read
+abbrev pub found_reply : Option Notification → Reply
+found_reply None = Done
+found_reply (Some alarm) = Found alarm
+
+-- what an ok call is told: a send its notification's id, a read the alarm, and all others nothing more
+abbrev pub ok_reply : Setup → Past → (client : ℕ) → Call → Reply
+ok_reply setup past client (NtfSend notification) = Sent (last_id past.ntf + 1)
+ok_reply setup past client (ReaderRead direction) =
+    found_reply (read_by (reader_of past.readings client) direction (alarms_stored setup past))
+ok_reply setup past client _ = Done
+
+-- the reply of a status
+abbrev pub reply_by : Status → Reply → Reply
+reply_by status.Ok told = told
+reply_by refusal told = Refused refusal
+
+-- the reply to a client's call after all that happened
+abbrev pub reply_after : Setup → Past → (client : ℕ) → Call → Reply
+reply_after setup past client call = reply_by (status_of setup past client call) (ok_reply setup past client call)
+
+-- the reply to a client's call after a history
+unfoldable pub reply_of : Setup → List Entry → (client : ℕ) → Call → Reply
+reply_of setup past client call = reply_after setup (past_of setup past) client call
+
+-- the client's calls, the newest first
+abbrev pub calls_of : ℕ → List Entry → List Call
+calls_of client [] = []
+calls_of client (Called caller seq now call ∷ past) =
+    if caller == client then call ∷ calls_of client past else calls_of client past
+calls_of client (Receipted caller key through now ∷ past) = calls_of client past
+
+-- the number of the client's next call
+abbrev pub next_number : ℕ → List Entry → ℕ
+next_number client past = length (calls_of client past) + 1
+
+-- the replies to the client's calls, the newest first
+abbrev pub replies_to : Setup → ℕ → List Entry → List Reply
+replies_to setup client [] = []
+replies_to setup client (Called caller seq now call ∷ past) =
+    if caller == client then reply_of setup past caller call ∷ replies_to setup client past else replies_to setup client past
+replies_to setup client (Receipted caller key through now ∷ past) = replies_to setup client past
+
+-- the clients that made a call, rising
+abbrev pub callers : List Entry → List ℕ
+callers [] = []
+callers (Called client seq now call ∷ past) = put nat_lt client (callers past)
+callers (Receipted client key through now ∷ past) = callers past
+
+-- what is kept of a client's calls: the number of the next one, and the last 32 replies, the oldest first
+abbrev pub window_of : Setup → List Entry → ℕ → SavedWindow
+window_of setup past client = record {
+  client = client;
+  next = next_number client past;
+  replies = reverse (take 32 (replies_to setup client past));
+}
+
+abbrev pub windows_of : Setup → List Entry → List SavedWindow
+windows_of setup past = map (window_of setup past) (callers past)
