@@ -145,10 +145,6 @@ create_deed : (es next : Entries) (name : List ℕ) → HasPlace es name → pla
     → all_applied (CallCreate name ∷ []) (files_from es) ≡ files_from next
 create_deed es next name place same = created-files_from es name place ∙ ap files_from same
 
-pub all_applied-append : (first second : List DeviceCall) (files : Files) → all_applied (first ++ second) files ≡ all_applied second (all_applied first files)
-all_applied-append [] second files = refl
-all_applied-append (call ∷ calls) second files = all_applied-append calls second (applied call files)
-
 -- the opening deeds make the six files, none with a record
 pub opened : all_applied (calls_of_all opening_deeds) no_files ≡ stored_files []
 unfolding opening_deeds stored_files

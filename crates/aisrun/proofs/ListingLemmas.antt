@@ -142,13 +142,6 @@ whole_session bodies old mid new text each bound opens plays = record {
   told = told_lines bodies mid new plays.files_text each bound plays.stored plays.listed;
 }
 
--- the streams of a disk that opened them hold no record
-pub opened_now : (old mid : Option Files) → OpensStreams old mid → IfSome mid (λ f. f ≡ stored_files [])
-opened_now None None opens = tt
-opened_now None (Some f) opens = let none : Some f ≡ None = opens.stored in cc
-opened_now (Some o) None opens = tt
-opened_now (Some o) (Some f) opens = opens.stored
-
 -- an error is the same whatever the value would have been
 pub same_error : {X Y E : Type 0} (one other : E) → IsErrOf {T = X} (Err one) other → IsErrOf {T = Y} (Err one) other
 same_error one other same = let e : one ≡ other = cc in ap Err e

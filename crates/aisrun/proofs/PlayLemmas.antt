@@ -76,13 +76,6 @@ session_after bodies old mid new before middle now (Err e) each bound opens late
     Faulted (rose_before before middle now later rose) breaks.place (empty_at breaks.place old breaks.opened opens.empty)
     (left_from_start bodies breaks.place old mid new breaks.opened opens breaks.left)
 
--- a root that holds a file
-pub not_empty_gives : {E : Type 0} (bodies : List (List ℕ)) (old new : Option Files) (before now : ℕ) (name : List ℕ) (r : Result End E)
-    → IfOk r (λ end. (end.status ≡ RootNotEmpty) × (end.text.items ≡ codes "root not empty: " ++ (name ++ codes "\n")))
-    → FindsFile name old new → SessionGives bodies old new before now r
-not_empty_gives bodies old new before now name (Ok end) is found = Held is.0 (record { name = name; printed = is.1; found = found })
-not_empty_gives bodies old new before now name (Err e) is found = Untouched found.same
-
 -- a fault as the streams were opened
 pub broken_opening_gives : {E : Type 0} (bodies : List (List ℕ)) (old new : Option Files) (before now : ℕ) (r : Result End E)
     → IfOk r (λ end. (end.status ≡ DiskFault) × (end.text.items ≡ [] ++ fault_line)) → Rose before now → BreaksOpening old new

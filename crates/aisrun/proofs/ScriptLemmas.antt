@@ -57,10 +57,6 @@ no_other_body text front quoted after is none quote bad body rest good same =
     bad (subst IsBody (sym (same_split front body (10 ∷ after) (10 ∷ rest) none good.bytes whole).0) good)
 
 -- the line of a body and what follows it are found in one way
-no_quote_in : (body : List ℕ) → AllByRecursion IsBodyByte body → AllByRecursion (λ byte. byte ≢ 34) body
-no_quote_in [] good = tt
-no_quote_in (x ∷ xs) good = (good.0.no_quote, no_quote_in xs good.1)
-
 same_bodies : (xs ys r s : List ℕ) → AllByRecursion IsBodyByte xs → AllByRecursion IsBodyByte ys → xs ++ 34 ∷ r ≡ ys ++ 34 ∷ s → (xs ≡ ys) × (r ≡ s)
 same_bodies [] [] r s good fine same = (refl, cc)
 same_bodies [] (y ∷ ys) r s good fine same = absurd (fine.0.no_quote cc)

@@ -1,5 +1,6 @@
 //! The files of a session: the well-known streams, and the records of the system stream.
 ghost use Rattle.std.specs.Prelude.{◌≡◌, ◌+◌, ◌-◌, ◌<◌, ◌≤◌, ◌^◌, [], ◌∷◌, ◌++◌, length, IfOk, OnOk};
+ghost use Rattle.ais_values.specs.Texts.{IsText};
 ghost use Rattle.aisrun.specs.SessionFiles.{record_text, record_of, opening_deeds, record_deed};
 ghost use Rattle.stream_layout.specs.declared.deed.Deed.TheVariants as deed;
 
@@ -42,9 +43,9 @@ fn push_stream(
     cfg: &[u8],
     log_name: &[u8],
 ) -> Result<(), AllocError>
-    requires cfg_name { length cfg_name.now ≤ 16384 }
-    requires cfg { length cfg.now ≤ 16384 }
-    requires log_name { length log_name.now ≤ 16384 }
+    requires cfg_name { IsText cfg_name.now }
+    requires cfg { IsText cfg.now }
+    requires log_name { IsText log_name.now }
     ensures { OnOk result (deeds.new.items ≡ deeds.old.items ++ (deed.Put cfg_name.now cfg.now ∷ deed.Create log_name.now ∷ [])) }
 {
     let name = Text::from_vec(cfg_name.to_vec(alloc)?);

@@ -23,21 +23,78 @@ const CLUSTER: &str = "cluster start=1704067200000000000 queue=2 callbacks=8\n";
 const USAGE: &str = "usage: aisrun run, check, expr KIND TEXT or gen COUNT SEED\n";
 
 /// What of the script is changed, and behind `>` to what, parted by `;`: each is refused.
-const CHANGED: &str =
-    "files\n>files;files\n>files\r\n;files\n>files \n;files\n>files\n\n;files\n>files\nfiles\n;settle\nfiles\n>settle\n;settle\nfiles\n>files\nsettle\n;settle\n>settle\r\n;settle\n>settle\n#\n;cluster> cluster;cluster>#\ncluster;start=1704067200000000000>start=1704067200000000001;queue=2 >queue=2  ;log 1 init A.2.1\n>;log 1 init A.2.1\n>log 1 init A.2.1 \n;init A.2.1\nlog 1 open system>open system\nlog 1 init A.2.1;body=\"a\"\n>body=\"a\" \n;body=\"a\"\n>body=\"a\n;body=\"a\"\n>body=a\n;body=\"a\"\n>body=\"a\"\"\n;body=\"a\"\n>body=\"a\"\nlog 1 open system\n;flags=0>flags=1;log 1 write>log 2 write";
+const CHANGED: &str = "\
+    files\n>files;\
+    files\n>files\r\n;\
+    files\n>files \n;\
+    files\n>files\n\n;\
+    files\n>files\nfiles\n;\
+    settle\nfiles\n>settle\n;\
+    settle\nfiles\n>files\nsettle\n;\
+    settle\n>settle\r\n;\
+    settle\n>settle\n#\n;\
+    cluster> cluster;\
+    cluster>#\ncluster;\
+    start=1704067200000000000>start=1704067200000000001;\
+    queue=2 >queue=2  ;\
+    log 1 init A.2.1\n>;\
+    log 1 init A.2.1\n>log 1 init A.2.1 \n;\
+    init A.2.1\nlog 1 open system>open system\nlog 1 init A.2.1;\
+    body=\"a\"\n>body=\"a\" \n;\
+    body=\"a\"\n>body=\"a\n;\
+    body=\"a\"\n>body=a\n;\
+    body=\"a\"\n>body=\"a\"\"\n;\
+    body=\"a\"\n>body=\"a\"\nlog 1 open system\n;\
+    flags=0>flags=1;\
+    log 1 write>log 2 write";
 
 /// Words that are none of the program's, one row a line.
-const OTHER_WORDS: &str =
-    "\n-run\n--\nRun\nru\nrun \nrunning\nrun,\nrun,run\n-,run\nexpr,system,-1\nexpr,System,a\nexpr,system\ncheck,check\nexpr,alarm,a,b";
+const OTHER_WORDS: &str = "\
+    \n\
+    -run\n\
+    --\n\
+    Run\n\
+    ru\n\
+    run \n\
+    running\n\
+    run,\n\
+    run,run\n\
+    -,run\n\
+    expr,system,-1\n\
+    expr,System,a\n\
+    expr,system\n\
+    check,check\n\
+    expr,alarm,a,b";
 
 /// The words, what follows the cluster line in the input, the exit status and the text, parted by `;`.
-const CHECKED: &str =
-    "check||0|ok 1\n;check|settle\n# a comment\n\nfiles|0|ok 3\n;check|time 5x\n|1|script line 2: grammar\n;check|time 5\n|1|script line 2: time\n;check|cluster start=1 queue=2 callbacks=8\n|1|script line 2: cluster\n;check|files \n|1|script line 2: grammar\n;expr,system,@Cr @Cb||0|ok 3\n;expr,notification,||0|ok 0\n;expr,alarm,@Sv||1|bad 1 WrongClass\n;expr,system,ab@||1|bad 3 LoneAt\n;expr,alarm,@Nq||1|bad 2 UnknownToken\n;expr,system,@Cb256||1|bad 5 BadWidth\n;expr,application,@Cb0||1|bad 3 BadWidth\n";
+const CHECKED: &str = "\
+    check||0|ok 1\n;\
+    check|settle\n# a comment\n\nfiles|0|ok 3\n;\
+    check|time 5x\n|1|script line 2: grammar\n;\
+    check|time 5\n|1|script line 2: time\n;\
+    check|cluster start=1 queue=2 callbacks=8\n|1|script line 2: cluster\n;\
+    check|files \n|1|script line 2: grammar\n;\
+    expr,system,@Cr @Cb||0|ok 3\n;\
+    expr,notification,||0|ok 0\n;\
+    expr,alarm,@Sv||1|bad 1 WrongClass\n;\
+    expr,system,ab@||1|bad 3 LoneAt\n;\
+    expr,alarm,@Nq||1|bad 2 UnknownToken\n;\
+    expr,system,@Cb256||1|bad 5 BadWidth\n;\
+    expr,application,@Cb0||1|bad 3 BadWidth\n";
 
 /// One digit each for the records of the script, the failing call of the source and of the sink, whether there is a
 /// file and the exit status; then the word and the text, one row a line. The disk's first changing call fails.
-const REASONS: &str =
-    "01012|run,run|usage: aisrun run, check, expr KIND TEXT or gen COUNT SEED\n;01014|run|read fault\n;00011|run|script not built\n;10017|run|root not empty: x\n;10006|run|disk fault\n;01115|run,run|;01115|run|;00115|run|;10115|run|;10105|run|";
+const REASONS: &str = "\
+    01012|run,run|usage: aisrun run, check, expr KIND TEXT or gen COUNT SEED\n;\
+    01014|run|read fault\n;\
+    00011|run|script not built\n;\
+    10017|run|root not empty: x\n;\
+    10006|run|disk fault\n;\
+    01115|run,run|;\
+    01115|run|;\
+    00115|run|;\
+    10115|run|;\
+    10105|run|";
 
 /// The most bytes of a piece that a sink takes.
 const PIECE: usize = 100;
