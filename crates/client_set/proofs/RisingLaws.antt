@@ -136,7 +136,7 @@ Stands-put {X} before s x (y ∷ ys) stands = placed (before x y) (before y x) (
   placed : (below above : Bool) → (Stands s (put before x ys) → (s ≡ x) ⊎ Stands s ys) → Stands s (cond below (x ∷ y ∷ ys) (cond above (y ∷ put before x ys) (x ∷ ys))) → (s ≡ x) ⊎ Stands s (y ∷ ys)
   placed true above rest there = there
   placed false true rest (inl same) = inr (inl same)
-  placed false true rest (inr there) = elim (rest there) [ | inl same ↦ inl same | inr later ↦ inr (inr later) ]
+  placed false true rest (inr there) = elim (rest there) [ inl same ↦ inl same | inr later ↦ inr (inr later) ]
   placed false false rest (inl same) = inl same
   placed false false rest (inr there) = inr (inr there)
 
