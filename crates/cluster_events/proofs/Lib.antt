@@ -5,3 +5,5 @@ pub mod Measuring
 pub mod Quiet
 pub mod Ending
 pub mod Promised
+pub mod Filed
+pub mod Broken

@@ -192,7 +192,7 @@ Says-later plain now world = record {
 -- What lines that say what lies between the start and a sound world promise.
 
 -- the committed history is the accepted one, or that without its last entry
-committed-legal : (plain : Plain) (now : ℤ) (past : List Entry) (hand : Hand) → IsLegal plain now (accepted_by past hand) → IsLegal plain now (committed_by past hand)
+pub committed-legal : (plain : Plain) (now : ℤ) (past : List Entry) (hand : Hand) → IsLegal plain now (accepted_by past hand) → IsLegal plain now (committed_by past hand)
 committed-legal plain now past Empty legal = legal
 committed-legal plain now past (Waiting entry) legal = IsLegal-before plain now entry past legal
 committed-legal plain now past (Applied entry) legal = legal
@@ -205,7 +205,7 @@ calls-before client sent (Rattle.cluster_facts.specs.Types.Called caller number 
     cases (caller == client) first
 calls-before client sent (Rattle.cluster_facts.specs.Types.Receipted caller key through time) past first = first
 
-committed-order : (client : ℕ) (sent : List (ℕ × Call)) (past : List Entry) (hand : Hand) → EndsIn sent (calls_in client (accepted_by past hand)) → EndsIn sent (calls_in client (committed_by past hand))
+pub committed-order : (client : ℕ) (sent : List (ℕ × Call)) (past : List Entry) (hand : Hand) → EndsIn sent (calls_in client (accepted_by past hand)) → EndsIn sent (calls_in client (committed_by past hand))
 committed-order client sent past Empty first = first
 committed-order client sent past (Waiting entry) first = calls-before client sent entry past first
 committed-order client sent past (Applied entry) first = first

@@ -55,7 +55,7 @@ Grows-both one two three first second grows more =
       grown = more.grown ∙ ap (λ xs. seconds second ++ xs) grows.grown ∙ sym (ap (λ xs. xs ++ one) (seconds-append second first) ∙ append_assoc (seconds second) (seconds first) one);
     }
 
-grows-told : {X : Type 0} (read : Told → List (ℕ × X)) (one two three : List X) (first second : List Told) → Grows one two (gathered read first) → Grows two three (gathered read second) → Grows one three (gathered read (second ++ first))
+pub grows-told : {X : Type 0} (read : Told → List (ℕ × X)) (one two three : List X) (first second : List Told) → Grows one two (gathered read first) → Grows two three (gathered read second) → Grows one three (gathered read (second ++ first))
 grows-told read one two three first second grows more =
     subst (λ lines. Grows one three lines) (sym (gathered-append read second first)) (Grows-both one two three (gathered read first) (gathered read second) grows more)
 

@@ -10,3 +10,5 @@ pub mod Measure
 pub mod Settled
 pub mod Running
 pub mod Promises
+pub mod Filing
+pub mod Breaking
