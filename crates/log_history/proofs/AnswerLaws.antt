@@ -36,7 +36,7 @@ makes-stream setup past client name attrs new ok =
     let none = none_is (living_stream setup past name) new in
     let rows = open_rows (is_using past client) None (is_place_taken setup past attrs) (is_crowded setup past) name (Some attrs) in
     let answered : answer rows ≡ status.Ok =
-        ap (λ living. answer (open_rows (is_using past client) (option_map (λ (stream : Stream). stream.attrs) living) (is_place_taken setup past attrs) (is_crowded setup past) name (Some attrs))) (sym none) ∙ ok in
+    ap (λ living. answer (open_rows (is_using past client) (option_map (λ (stream : Stream). stream.attrs) living) (is_place_taken setup past attrs) (is_crowded setup past) name (Some attrs))) (sym none) ∙ ok in
     let told = open-rows (is_using past client) (is_application name) (passes_attrs (kind_of name) attrs) (is_place_taken setup past attrs) (is_crowded setup past) answered in
     record {
       using = told.0;

@@ -22,11 +22,11 @@ module _ (name : StreamName) (ends : Stream → Bool) where
   find-all_ended_none last second [] none = refl
   find-all_ended_none last second (stream ∷ streams) none =
       by_case (λ l h. find-all_ended_none l second streams h) (is_living name stream) refl none (ends stream) where
-    by_case : ((l : ℕ) → find (is_living name) streams ≡ None → find (is_living name) (all_ended ends l second streams) ≡ None) → (b : Bool) → is_living name stream ≡ b → cond b (Some stream) (find (is_living name) streams) ≡ None → (e : Bool) → find (is_living name) (cond e (with_end (stamp_after last second) stream ∷ all_ended ends (stamp_after last second) second streams) (stream ∷ all_ended ends last second streams)) ≡ None
-    by_case behind true is found e = cc
-    by_case behind false is none_behind true = behind (stamp_after last second) none_behind
-    by_case behind false is none_behind false =
-        ap (λ b. cond b (Some stream) (find (is_living name) (all_ended ends last second streams))) is ∙ behind last none_behind
+        by_case : ((l : ℕ) → find (is_living name) streams ≡ None → find (is_living name) (all_ended ends l second streams) ≡ None) → (b : Bool) → is_living name stream ≡ b → cond b (Some stream) (find (is_living name) streams) ≡ None → (e : Bool) → find (is_living name) (cond e (with_end (stamp_after last second) stream ∷ all_ended ends (stamp_after last second) second streams) (stream ∷ all_ended ends last second streams)) ≡ None
+        by_case behind true is found e = cc
+        by_case behind false is none_behind true = behind (stamp_after last second) none_behind
+        by_case behind false is none_behind false =
+            ap (λ b. cond b (Some stream) (find (is_living name) (all_ended ends last second streams))) is ∙ behind last none_behind
 
   pub AtMostOne-all_ended : (last second : ℕ) (streams : List Stream) → AtMostOne (is_living name) streams → AtMostOne (is_living name) (all_ended ends last second streams)
   AtMostOne-all_ended last second [] single = tt
@@ -41,15 +41,15 @@ module _ (name : StreamName) (ends : Stream → Bool) where
   find-all_ended last second [] found was none = cc
   find-all_ended last second (stream ∷ streams) found was none =
       by_case (λ l. find-all_ended l second streams found) (is_living name stream) refl was (ends stream) refl none where
-    by_case : ((l : ℕ) → find (is_living name) streams ≡ Some found → find (is_living name) (all_ended ends l second streams) ≡ None → (ends found ≡ true) × (is_living name found ≡ true)) → (b : Bool) → is_living name stream ≡ b → cond b (Some stream) (find (is_living name) streams) ≡ Some found → (e : Bool) → ends stream ≡ e → find (is_living name) (cond e (with_end (stamp_after last second) stream ∷ all_ended ends (stamp_after last second) second streams) (stream ∷ all_ended ends last second streams)) ≡ None → (ends found ≡ true) × (is_living name found ≡ true)
-    by_case behind true is same true ended none_there =
-        let e : stream ≡ found = cc in
-        subst (λ (s : Stream). (ends s ≡ true) × (is_living name s ≡ true)) e (ended, is)
-    by_case behind true is same false stays none_there =
-        let still : Some stream ≡ None = ap (λ b. cond b (Some stream) (find (is_living name) (all_ended ends last second streams))) (sym is) ∙ none_there in cc
-    by_case behind false is later true ended none_there = behind (stamp_after last second) later none_there
-    by_case behind false is later false stays none_there =
-        behind last later (ap (λ b. cond b (Some stream) (find (is_living name) (all_ended ends last second streams))) (sym is) ∙ none_there)
+        by_case : ((l : ℕ) → find (is_living name) streams ≡ Some found → find (is_living name) (all_ended ends l second streams) ≡ None → (ends found ≡ true) × (is_living name found ≡ true)) → (b : Bool) → is_living name stream ≡ b → cond b (Some stream) (find (is_living name) streams) ≡ Some found → (e : Bool) → ends stream ≡ e → find (is_living name) (cond e (with_end (stamp_after last second) stream ∷ all_ended ends (stamp_after last second) second streams) (stream ∷ all_ended ends last second streams)) ≡ None → (ends found ≡ true) × (is_living name found ≡ true)
+        by_case behind true is same true ended none_there =
+            let e : stream ≡ found = cc in
+            subst (λ (s : Stream). (ends s ≡ true) × (is_living name s ≡ true)) e (ended, is)
+        by_case behind true is same false stays none_there =
+            let still : Some stream ≡ None = ap (λ b. cond b (Some stream) (find (is_living name) (all_ended ends last second streams))) (sym is) ∙ none_there in cc
+        by_case behind false is later true ended none_there = behind (stamp_after last second) later none_there
+        by_case behind false is later false stays none_there =
+            behind last later (ap (λ b. cond b (Some stream) (find (is_living name) (all_ended ends last second streams))) (sym is) ∙ none_there)
 
 -- those that live afterwards are those that lived and did not end
 module _ (idle : Stream → Bool) where
@@ -57,16 +57,17 @@ module _ (idle : Stream → Bool) where
   filter-all_ended last second [] = refl
   filter-all_ended last second (stream ∷ streams) =
       by_case (λ l. filter-all_ended l second streams) (lives stream) refl (idle stream) refl where
-    test : Stream → Bool
-    test s = lives s && idle s
-    by_case : ((l : ℕ) → filter lives (all_ended (λ s. lives s && idle s) l second streams) ≡ filter (λ s. not (idle s)) (filter lives streams)) → (k : Bool) → lives stream ≡ k → (e : Bool) → idle stream ≡ e → filter lives (cond (k && e) (with_end (stamp_after last second) stream ∷ all_ended (λ s. lives s && idle s) (stamp_after last second) second streams) (stream ∷ all_ended (λ s. lives s && idle s) last second streams)) ≡ filter (λ s. not (idle s)) (cond k (stream ∷ filter lives streams) (filter lives streams))
-    by_case behind true living true none =
-        behind (stamp_after last second)
-        ∙ ap (λ b. cond (not b) (stream ∷ filter (λ s. not (idle s)) (filter lives streams)) (filter (λ s. not (idle s)) (filter lives streams))) (sym none)
-    by_case behind true living false some =
-        ap (λ b. cond b (stream ∷ filter lives (all_ended (λ s. lives s && idle s) last second streams)) (filter lives (all_ended (λ s. lives s && idle s) last second streams))) living
-        ∙ ap (λ rest. stream ∷ rest) (behind last)
-        ∙ ap (λ b. cond (not b) (stream ∷ filter (λ s. not (idle s)) (filter lives streams)) (filter (λ s. not (idle s)) (filter lives streams))) (sym some)
-    by_case behind false dead e is =
-        ap (λ b. cond b (stream ∷ filter lives (all_ended (λ s. lives s && idle s) last second streams)) (filter lives (all_ended (λ s. lives s && idle s) last second streams))) dead
-        ∙ behind last
+        test : Stream → Bool
+        test s = lives s && idle s
+
+        by_case : ((l : ℕ) → filter lives (all_ended (λ s. lives s && idle s) l second streams) ≡ filter (λ s. not (idle s)) (filter lives streams)) → (k : Bool) → lives stream ≡ k → (e : Bool) → idle stream ≡ e → filter lives (cond (k && e) (with_end (stamp_after last second) stream ∷ all_ended (λ s. lives s && idle s) (stamp_after last second) second streams) (stream ∷ all_ended (λ s. lives s && idle s) last second streams)) ≡ filter (λ s. not (idle s)) (cond k (stream ∷ filter lives streams) (filter lives streams))
+        by_case behind true living true none =
+            behind (stamp_after last second)
+            ∙ ap (λ b. cond (not b) (stream ∷ filter (λ s. not (idle s)) (filter lives streams)) (filter (λ s. not (idle s)) (filter lives streams))) (sym none)
+        by_case behind true living false some =
+            ap (λ b. cond b (stream ∷ filter lives (all_ended (λ s. lives s && idle s) last second streams)) (filter lives (all_ended (λ s. lives s && idle s) last second streams))) living
+            ∙ ap (λ rest. stream ∷ rest) (behind last)
+            ∙ ap (λ b. cond (not b) (stream ∷ filter (λ s. not (idle s)) (filter lives streams)) (filter (λ s. not (idle s)) (filter lives streams))) (sym some)
+        by_case behind false dead e is =
+            ap (λ b. cond b (stream ∷ filter lives (all_ended (λ s. lives s && idle s) last second streams)) (filter lives (all_ended (λ s. lives s && idle s) last second streams))) dead
+            ∙ behind last

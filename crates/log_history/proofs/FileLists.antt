@@ -35,12 +35,12 @@ last_ones-changed rotated closed files file new some =
     let within : k ≤ length files = omega arith in
     let front : last_ones rotated (files ++ file ∷ []) ≡ drop k files ++ file ∷ [] = drop-append-le k files (file ∷ []) within in
     let shut_front : last_closed closed (last_ones rotated (files ++ file ∷ [])) ≡ drop k files ++ shut ∷ [] =
-        ap (last_closed closed) front ∙ last_closed-push closed (drop k files) file in
+    ap (last_closed closed) front ∙ last_closed-push closed (drop k files) file in
     let all : List LogFile = (files ++ shut ∷ []) ++ new ∷ [] in
     let shut_long = length-append files (shut ∷ []) in
     let all_long = length-append (files ++ shut ∷ []) (new ∷ []) in
     let whole : drop k all ≡ (drop k files ++ shut ∷ []) ++ new ∷ [] =
-        drop-append-le k (files ++ shut ∷ []) (new ∷ []) (omega arith) ∙ ap (λ rest. rest ++ new ∷ []) (drop-append-le k files (shut ∷ []) within) in
+    drop-append-le k (files ++ shut ∷ []) (new ∷ []) (omega arith) ∙ ap (λ rest. rest ++ new ∷ []) (drop-append-le k files (shut ∷ []) within) in
     ap (λ rest. last_ones rotated (rest ++ new ∷ [])) shut_front
     ∙ ap (last_ones rotated) (sym whole)
     ∙ last_ones-kept rotated k all (omega arith)

@@ -69,18 +69,18 @@ module _ {X : Type 0} (keep named : X → Bool) where
   filter-change_first change keeps [] = refl
   filter-change_first change keeps (x ∷ xs) =
       by_case (filter-change_first change keeps xs) (keep x) refl (named x) refl where
-    by_case : filter keep (change_first (λ y. keep y && named y) change xs) ≡ change_first named change (filter keep xs) → (k : Bool) → keep x ≡ k → (n : Bool) → named x ≡ n → filter keep (cond (k && n) (change x ∷ xs) (x ∷ change_first (λ y. keep y && named y) change xs)) ≡ change_first named change (cond k (x ∷ filter keep xs) (filter keep xs))
-    by_case rest_is true kept true is =
-        let stays : keep (change x) ≡ true = keeps x ∙ kept in
-        ap (λ b. cond b (change x ∷ filter keep xs) (filter keep xs)) stays
-        ∙ ap (λ b. cond b (change x ∷ filter keep xs) (x ∷ change_first named change (filter keep xs))) (sym is)
-    by_case rest_is true kept false is =
-        ap (λ b. cond b (x ∷ filter keep (change_first (λ y. keep y && named y) change xs)) (filter keep (change_first (λ y. keep y && named y) change xs))) kept
-        ∙ ap (λ rest. x ∷ rest) rest_is
-        ∙ ap (λ b. cond b (change x ∷ filter keep xs) (x ∷ change_first named change (filter keep xs))) (sym is)
-    by_case rest_is false kept n is =
-        ap (λ b. cond b (x ∷ filter keep (change_first (λ y. keep y && named y) change xs)) (filter keep (change_first (λ y. keep y && named y) change xs))) kept
-        ∙ rest_is
+        by_case : filter keep (change_first (λ y. keep y && named y) change xs) ≡ change_first named change (filter keep xs) → (k : Bool) → keep x ≡ k → (n : Bool) → named x ≡ n → filter keep (cond (k && n) (change x ∷ xs) (x ∷ change_first (λ y. keep y && named y) change xs)) ≡ change_first named change (cond k (x ∷ filter keep xs) (filter keep xs))
+        by_case rest_is true kept true is =
+            let stays : keep (change x) ≡ true = keeps x ∙ kept in
+            ap (λ b. cond b (change x ∷ filter keep xs) (filter keep xs)) stays
+            ∙ ap (λ b. cond b (change x ∷ filter keep xs) (x ∷ change_first named change (filter keep xs))) (sym is)
+        by_case rest_is true kept false is =
+            ap (λ b. cond b (x ∷ filter keep (change_first (λ y. keep y && named y) change xs)) (filter keep (change_first (λ y. keep y && named y) change xs))) kept
+            ∙ ap (λ rest. x ∷ rest) rest_is
+            ∙ ap (λ b. cond b (change x ∷ filter keep xs) (x ∷ change_first named change (filter keep xs))) (sym is)
+        by_case rest_is false kept n is =
+            ap (λ b. cond b (x ∷ filter keep (change_first (λ y. keep y && named y) change xs)) (filter keep (change_first (λ y. keep y && named y) change xs))) kept
+            ∙ rest_is
 
   pub AtMostOne-filter : (xs : List X) → AtMostOne (λ x. keep x && named x) xs → AtMostOne named (filter keep xs)
   AtMostOne-filter [] single = tt
@@ -153,11 +153,11 @@ module _ {X Y : Type 0} (f : X → Y) (test : X → Bool) (test' : Y → Bool) (
   map-at_first g change' at beside (x ∷ xs) single =
       by_case (map-at_first g change' at beside xs single.1) (test x) refl
       ∙ ap (λ b. cond b (change' (f x) ∷ map f xs) (f x ∷ change_first test' change' (map f xs))) (sym (same x)) where
-    by_case : map g xs ≡ change_first test' change' (map f xs) → (b : Bool) → test x ≡ b → g x ∷ map g xs ≡ cond b (change' (f x) ∷ map f xs) (f x ∷ change_first test' change' (map f xs))
-    by_case behind true is =
-        ap (λ first. first ∷ map g xs) (at x is) ∙ ap (λ rest. change' (f x) ∷ rest) (map-beside g beside xs (single.0 is))
-    by_case behind false is =
-        ap (λ first. first ∷ map g xs) (beside x is) ∙ ap (λ rest. f x ∷ rest) behind
+        by_case : map g xs ≡ change_first test' change' (map f xs) → (b : Bool) → test x ≡ b → g x ∷ map g xs ≡ cond b (change' (f x) ∷ map f xs) (f x ∷ change_first test' change' (map f xs))
+        by_case behind true is =
+            ap (λ first. first ∷ map g xs) (at x is) ∙ ap (λ rest. change' (f x) ∷ rest) (map-beside g beside xs (single.0 is))
+        by_case behind false is =
+            ap (λ first. first ∷ map g xs) (beside x is) ∙ ap (λ rest. f x ∷ rest) behind
 
   pub list_any-map : (xs : List X) → list_any test' (map f xs) ≡ list_any test xs
   list_any-map [] = refl
@@ -194,11 +194,13 @@ module _ {X : Type 0} (test : X → Bool) where
     behind : (b : Bool) → cond b (Some y) (find test xs) ≡ None → find test xs ≡ None
     behind true found = cc
     behind false none_behind = none_behind
+
     not_both : (b : Bool) → test y ≡ true → test x ≡ b → find test (xs ++ x ∷ []) ≡ None
     not_both true is too =
         let found : cond (test y) (Some y) (find test xs) ≡ None = none too in
         let first_is : Some y ≡ None = ap (λ b. cond b (Some y) (find test xs)) (sym is) ∙ found in cc
     not_both false is beside = find-push_none xs x (single.0 is) beside
+
     first : test y ≡ true → find test (xs ++ x ∷ []) ≡ None
     first is = not_both (test x) is refl
 
@@ -221,6 +223,7 @@ module _ {X : Type 0} (test : X → Bool) where
     AtMostOne-change_first (x ∷ xs) single = by_case (AtMostOne-change_first xs single.1) (named x) where
       none_too : find test xs ≡ None → find test (change_first named change xs) ≡ None
       none_too none = none_is (find test (change_first named change xs)) (find-change_first_none xs ∙ ap is_some none)
+
       by_case : AtMostOne test (change_first named change xs) → (b : Bool) → AtMostOne test (cond b (change x ∷ xs) (x ∷ change_first named change xs))
       by_case behind true = ((λ is. single.0 (sym (keeps x) ∙ is)), single.1)
       by_case behind false = ((λ is. none_too (single.0 is)), behind)

@@ -96,13 +96,13 @@ module _ (setup : LogSetup) (past : List LogChange) where
   has-opener legal name client =
       ap (λ found. option_map_or (λ (stream : OpenStream). has client stream.openers) found false) (find-living name past (chronicle setup past).streams)
       ∙ by_case (living_stream setup past name) refl where
-    by_case : (found : Option Stream) → living_stream setup past name ≡ found → option_map_or (λ (stream : OpenStream). has client stream.openers) (option_map (open_stream past) found) false ≡ is_open past name client
-    by_case None none =
-        ap (has client) (sym ((reached setup past legal).unopened name none)) ∙ has-openers past name client
-    by_case (Some stream) found =
-        let named = (Each-find (λ (_ : Stream). Unit {0}) (is_living name) (chronicle setup past).streams stream (Each-all (chronicle setup past).streams) found).1 in
-        let same : stream.name ≡ name = (decides_name stream.name name).0 (both-true (lives stream) (same_name stream.name name) named).1 in
-        ap (λ (n : StreamName). has client (openers past n)) same ∙ has-openers past name client
+        by_case : (found : Option Stream) → living_stream setup past name ≡ found → option_map_or (λ (stream : OpenStream). has client stream.openers) (option_map (open_stream past) found) false ≡ is_open past name client
+        by_case None none =
+            ap (has client) (sym ((reached setup past legal).unopened name none)) ∙ has-openers past name client
+        by_case (Some stream) found =
+            let named = (Each-find (λ (_ : Stream). Unit {0}) (is_living name) (chronicle setup past).streams stream (Each-all (chronicle setup past).streams) found).1 in
+            let same : stream.name ≡ name = (decides_name stream.name name).0 (both-true (lives stream) (same_name stream.name name) named).1 in
+            ap (λ (n : StreamName). has client (openers past n)) same ∙ has-openers past name client
 
   -- the answers
 
@@ -132,6 +132,6 @@ module _ (setup : LogSetup) (past : List LogChange) where
       ∙ ap (λ attrs. answer (open_rows (is_using past client) attrs (option_map_or (has_place (table setup past).streams) create false) (is_crowd (table setup past).streams) name create)) (kept-attrs name)
       ∙ ap (λ taken. answer (open_rows (is_using past client) (living_attrs setup past name) taken (is_crowd (table setup past).streams) name create)) (same-place create)
       ∙ ap (λ crowded. answer (open_rows (is_using past client) (living_attrs setup past name) (option_map_or (is_place_taken setup past) create false) crowded name create)) is-crowd where
-    same-place : (making : Option StreamAttrs) → option_map_or (has_place (table setup past).streams) making false ≡ option_map_or (is_place_taken setup past) making false
-    same-place None = refl
-    same-place (Some attrs) = has-place attrs
+        same-place : (making : Option StreamAttrs) → option_map_or (has_place (table setup past).streams) making false ≡ option_map_or (is_place_taken setup past) making false
+        same-place None = refl
+        same-place (Some attrs) = has-place attrs

@@ -91,6 +91,7 @@ Reached-made past client made attrs second created streams reached new passes = 
 } where
   stream : Stream
   stream = new_stream made attrs created
+
   unopened : IsUnopened (Opened client made (Some attrs) second ∷ past) (streams ++ new_stream made attrs created ∷ [])
   unopened name none =
       let none_both = find-push (is_living name) streams (new_stream made attrs created) none in

@@ -31,8 +31,14 @@ start = 1704067200
 
 abbrev attrs : (max rotated : ℕ) → FullAction → StreamAttrs
 attrs max rotated action = record {
-  file = codes "saLogSystem"; path = codes "."; max_file = max; record_size = 32; ha = 0;
-  action = action; rotated = rotated; expr = codes "@Cb";
+  file = codes "saLogSystem";
+  path = codes ".";
+  max_file = max;
+  record_size = 32;
+  ha = 0;
+  action = action;
+  rotated = rotated;
+  expr = codes "@Cb";
 }
 
 abbrev setup : StreamAttrs → LogSetup
@@ -89,7 +95,14 @@ keeps = refl
 -- two application streams end in one finalisation, in order of creation
 abbrev of_application : List ℕ → StreamAttrs
 of_application file = record {
-  file = file; path = codes "web"; max_file = 64; record_size = 32; ha = 0; action = Wrap; rotated = 1; expr = codes "@Cb";
+  file = file;
+  path = codes "web";
+  max_file = 64;
+  record_size = 32;
+  ha = 0;
+  action = Wrap;
+  rotated = 1;
+  expr = codes "@Cb";
 }
 
 abbrev making : (name file : List ℕ) → List LogChange → List LogChange

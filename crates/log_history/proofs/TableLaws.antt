@@ -77,14 +77,14 @@ made-streams past client name attrs second created streams new nobody some =
     let stream = new_stream name attrs created in
     let none : find (is_called name) (living streams) ≡ None = sym (find-filter lives (is_called name) streams) ∙ new in
     let others : map now (living streams) ≡ map (open_stream past) (living streams) =
-        map-beside (open_stream past) (is_called name) (is_named name) (λ _. refl) now
-        (λ other is. ap (λ b. let opened : OpenStream = record { state = state_of other; openers = cond b (put nat_lt client (openers past other.name)) (openers past other.name) } in opened) is)
-        (living streams) none in
+    map-beside (open_stream past) (is_called name) (is_named name) (λ _. refl) now
+    (λ other is. ap (λ b. let opened : OpenStream = record { state = state_of other; openers = cond b (put nat_lt client (openers past other.name)) (openers past other.name) } in opened) is)
+    (living streams) none in
     let made_openers : cond (same_name name name) (put nat_lt client (openers past name)) (openers past name) ≡ client ∷ [] =
-        ap (λ b. cond b (put nat_lt client (openers past name)) (openers past name)) ((decides_name name name).1 refl) ∙ ap (put nat_lt client) nobody in
+    ap (λ b. cond b (put nat_lt client (openers past name)) (openers past name)) ((decides_name name name).1 refl) ∙ ap (put nat_lt client) nobody in
     let made : now stream ≡ opened_stream client name attrs created =
-        ap (λ (files : List LogFile). let opened : OpenStream = record { state = record { name = name; attrs = attrs; taken = 0; files = files }; openers = cond (same_name name name) (put nat_lt client (openers past name)) (openers past name) } in opened) (standing-one attrs (open_file (pos created)) some)
-        ∙ ap (λ (clients : List ℕ). let opened : OpenStream = record { state = new_state name attrs created; openers = clients } in opened) made_openers in
+    ap (λ (files : List LogFile). let opened : OpenStream = record { state = record { name = name; attrs = attrs; taken = 0; files = files }; openers = cond (same_name name name) (put nat_lt client (openers past name)) (openers past name) } in opened) (standing-one attrs (open_file (pos created)) some)
+    ∙ ap (λ (clients : List ℕ). let opened : OpenStream = record { state = new_state name attrs created; openers = clients } in opened) made_openers in
     ap (map now) (filter-append lives streams (stream ∷ []))
     ∙ map-append now (living streams) (stream ∷ [])
     ∙ ap (λ front. front ++ now stream ∷ []) others
@@ -104,11 +104,11 @@ stored-stream past past' last second rec stream same some living =
     let closing = stamp_after last second in
     let created = stamp_after closing second in
     let made : Option ℕ → ℕ → List LogFile → List ℕ → OpenStream =
-        λ ended taken files clients. record { state = record { name = stream.name; attrs = stream.attrs; taken = taken; files = files }; openers = clients } in
+    λ ended taken files clients. record { state = record { name = stream.name; attrs = stream.attrs; taken = taken; files = files }; openers = clients } in
     let now = λ (ended : Option ℕ). standing stream.attrs (map closed_file (cond (is_due stream) (stream.full ++ (stream.current, closing) ∷ []) stream.full) ++ record { created = pos (cond (is_due stream) created stream.current); closed = option_map pos ended } ∷ []) in
     let then = λ (ended : Option ℕ). files_changed stream.attrs (due_stamps last second (state_of stream)) (standing stream.attrs (map closed_file stream.full ++ record { created = pos stream.current; closed = option_map pos ended } ∷ [])) in
     let files_are : now stream.ended ≡ then stream.ended =
-        ap now living ∙ files-with_record (is_due stream) stream.attrs closing created stream.full stream.current some ∙ ap then (sym living) in
+    ap now living ∙ files-with_record (is_due stream) stream.attrs closing created stream.full stream.current some ∙ ap then (sym living) in
     ap (λ taken. made None taken (now stream.ended) (openers past' stream.name)) (length-append stream.records (rec ∷ []))
     ∙ ap (λ files. made None (length stream.records + 1) files (openers past' stream.name)) files_are
     ∙ ap (λ clients. made None (length stream.records + 1) (then stream.ended) clients) same
@@ -123,16 +123,17 @@ stored-streams past past' name last second rec streams same passing =
     let kept : Each (λ stream. Passes stream × (lives stream ≡ true)) (living streams) = Each-filter Passes lives streams passing in
     ap (map (open_stream past')) (filter-change_first lives (is_called name) (with_record last second rec) (λ _. refl) streams)
     ∙ map-change_first (open_stream past') (is_called name) (is_named name) (λ _. refl) (λ stream. Passes stream × (lives stream ≡ true)) (with_record last second rec) (with_stored last second rec)
-      (λ stream holds. stored-again stream holds) (living streams) kept
+    (λ stream holds. stored-again stream holds) (living streams) kept
     ∙ ap (λ front. change_first (is_named name) (with_stored last second rec) front) (map-same (living streams)) where
-  map-same : (these : List Stream) → map (open_stream past') these ≡ map (open_stream past) these
-  map-same [] = refl
-  map-same (stream ∷ these) =
-      ap (λ (clients : List ℕ). let first : OpenStream = record { state = state_of stream; openers = clients } in first ∷ map (open_stream past') these) (same stream.name)
-      ∙ ap (λ rest. open_stream past stream ∷ rest) (map-same these)
-  stored-again : (stream : Stream) → Passes stream × (lives stream ≡ true) → open_stream past' (with_record last second rec stream) ≡ with_stored last second rec (open_stream past' stream)
-  stored-again stream holds =
-      stored-stream past' past' last second rec stream refl holds.0.some_rotated (none-ended stream.ended holds.1)
+      map-same : (these : List Stream) → map (open_stream past') these ≡ map (open_stream past) these
+      map-same [] = refl
+      map-same (stream ∷ these) =
+          ap (λ (clients : List ℕ). let first : OpenStream = record { state = state_of stream; openers = clients } in first ∷ map (open_stream past') these) (same stream.name)
+          ∙ ap (λ rest. open_stream past stream ∷ rest) (map-same these)
+
+      stored-again : (stream : Stream) → Passes stream × (lives stream ≡ true) → open_stream past' (with_record last second rec stream) ≡ with_stored last second rec (open_stream past' stream)
+      stored-again stream holds =
+          stored-stream past' past' last second rec stream refl holds.0.some_rotated (none-ended stream.ended holds.1)
 
 -- the last stamp once a record is stored
 stored-last : (past : List LogChange) (name : StreamName) (last second : ℕ) (streams : List Stream) → option_map_or (last_with_record last second) (find (is_living name) streams) last ≡ option_map_or (λ (stream : OpenStream). last_after_due last second stream.state) (find (is_named name) (map (open_stream past) (living streams))) last
@@ -160,9 +161,10 @@ ended-last past last second (stream ∷ streams) =
 
 -- what is kept once streams have ended, of changes by which the kept streams are these
 ended-table : (setup : LogSetup) (past : List LogChange) (second : ℕ) (before : Chronicle) (kept : List OpenStream) → map (open_stream past) (living before.streams) ≡ kept → ((after_ends past second before).last ≡ last_after_ends before.last second kept) × (map (open_stream past) (living (after_ends past second before).streams) ≡ kept_streams kept)
-ended-table setup past second before kept is =
-    (ended-last past before.last second before.streams ∙ ap (last_after_ends before.last second) is,
-     ended-streams past before.last second before.streams ∙ ap kept_streams is)
+ended-table setup past second before kept is = (
+  ended-last past before.last second before.streams ∙ ap (last_after_ends before.last second) is,
+  ended-streams past before.last second before.streams ∙ ap kept_streams is,
+)
 
 -- **one more change carries what is kept as it should**
 pub table-after : (setup : LogSetup) (change : LogChange) (past : List LogChange) → IsLogHistory setup (change ∷ past) → table setup (change ∷ past) ≡ table_after change (table setup past)

@@ -100,7 +100,7 @@ begin_answer setup past client = answer (begin_rows (is_using past client))
 abbrev pub open_answer : LogSetup → List LogChange → (client : ℕ) → StreamName → (create : Option StreamAttrs) → Status
 open_answer setup past client name create =
     answer (open_rows (is_using past client) (living_attrs setup past name)
-        (option_map_or (is_place_taken setup past) create false) (is_crowded setup past) name create)
+    (option_map_or (is_place_taken setup past) create false) (is_crowded setup past) name create)
 
 abbrev pub write_answer : LogSetup → List LogChange → (client : ℕ) → StreamName → (flags : ℕ) (time : ℤ) → Header → Status
 write_answer setup past client name flags time header =

@@ -43,12 +43,12 @@ begin_status kept client = answer (begin_rows (has client kept.users))
 abbrev pub open_status : LogTable → (client : ℕ) → StreamName → (create : Option StreamAttrs) → Status
 open_status kept client name create =
     answer (open_rows (has client kept.users) (kept_attrs kept.streams name)
-        (option_map_or (has_place kept.streams) create false) (is_crowd kept.streams) name create)
+    (option_map_or (has_place kept.streams) create false) (is_crowd kept.streams) name create)
 
 abbrev pub write_status : LogTable → (client : ℕ) → StreamName → (flags : ℕ) (time : ℤ) → Header → Status
 write_status kept client name flags time header =
     answer (write_rows (has client kept.users) (has_opener kept.streams name client) (is_filled kept.streams name)
-        (kind_of name) flags time header)
+    (kind_of name) flags time header)
 
 abbrev pub close_status : LogTable → (client : ℕ) → StreamName → Status
 close_status kept client name = answer (close_rows (has client kept.users) (has_opener kept.streams name client))
