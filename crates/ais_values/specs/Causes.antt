@@ -1,4 +1,4 @@
--- When a fault may be told: only where the count of faults of the object that was handed in rose in the call.
+-- Words of public clauses: when a fault may be told: only where the count of faults of the object that was handed in rose in the call.
 use Rattle.std.specs.Prelude.{ℕ, ◌+◌, ◌-◌, ◌^◌, ◌≤◌, min, IsErrOf}
 use Rattle.std.specs.Prelude.{Result}
 

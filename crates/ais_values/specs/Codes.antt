@@ -1,4 +1,4 @@
--- Tables of codes: which rows a table has, and that its names and its codes differ.
+-- Words of public clauses, of tables of codes: which rows a table has, and that its names and its codes differ.
 use Rattle.std.specs.Prelude.{◌≡◌, ℕ, Bool, true, not, ◌&&◌, ◌==◌, ◌⊎◌, List, [], ◌∷◌}
 use Rattle.std.specs.List.{list_any}
 use Rattle.std.specs.Str.{bytes_eq}

@@ -1,4 +1,4 @@
--- What a name is: 1 to 256 bytes, each a printable one of ASCII.
+-- Words of public clauses: what a name is, 1 to 256 bytes, each a printable one of ASCII.
 use Rattle.std.specs.Prelude.{ℕ, ◌≤◌, List, length, All}
 
 -- a printable byte of ASCII, the blank among them

@@ -1,4 +1,4 @@
--- The answers' numbers and printed words, and the versions that the services support.
+-- Words of public clauses: the answers' numbers and printed words, and the versions that the services support.
 use Rattle.std.specs.Prelude.{◌≡◌, ℕ, ◌≤◌, List, codes}
 use Rattle.ais_values.specs.declared.kind.Which.{Which}
 use Rattle.ais_values.specs.declared.kind.Which.TheVariants.{Log, Ntf}

@@ -1,4 +1,4 @@
--- The same as a test that computes, which definitions above this crate cite. No clause of this crate names it.
+-- Words of definitions above alone: the same as a test that computes. No clause of this crate names it.
 use Rattle.std.specs.Prelude.{Bool, not, ◌||◌, ℤ}
 use Rattle.std.specs.Int.{is_negative}
 use Rattle.std.specs.Ordering.{int_eq}

@@ -1,4 +1,4 @@
--- The alarms that are kept, in order of their records.
+-- Words of public clauses: the alarms that are kept, in order of their records.
 use Rattle.std.specs.Prelude.{ℕ, ◌+◌, ◌<◌, ◌≤◌, nat_le, ⊤, List, [], ◌∷◌, map, filter}
 use Rattle.ntf_types.specs.declared.notification.Body.{Body}
 use Rattle.ntf_types.specs.declared.notification.Body.TheVariants.{Objects, Attributes, States, Alarm, Security}

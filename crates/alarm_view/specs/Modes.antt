@@ -1,4 +1,4 @@
--- The codes of search modes and directions.
+-- Words of public clauses: the codes of search modes and directions.
 use Rattle.std.specs.Prelude.{ℕ, ◌==◌, Option, Some, None, List, [], ◌∷◌}
 use Rattle.ais_values.specs.FirstRow.{first_row}
 use Rattle.alarm_view.specs.declared.mode.SearchMode.{SearchMode}

@@ -1,4 +1,4 @@
--- Which alarm a search starts at, and which one is read next: the first on the way of those that are asked for. The words of the public clauses of `start` and `next`.
+-- Words of public clauses: which alarm a search starts at, and which one is read next: the first on the way of those that are asked for.
 use Rattle.std.specs.Prelude.{◌≡◌, ℤ, pos, ◌≤ℤ◌, ◌<ℤ◌, ⊤, true, false, List, Option, MatchOption}
 use Rattle.std.specs.Bool.{MatchBool}
 use Rattle.ntf_types.specs.declared.notification.Notification.{Notification}

@@ -1,7 +1,7 @@
 //! Where a reader of alarms stands.
 
-/// A reader's point in the order of alarms: the event time and the id of the last alarm that was read,
-/// or of the starting alarm while it is fresh, that is while none was read.
+/// A reader's point in the order of alarms: the event time and the id of the last alarm that was
+/// read, or of the starting alarm while it is fresh, that is while none was read.
 #[derive(Clone, Copy, PartialEq, Eq, Debug)]
 pub struct Cursor {
     pub time: i64,

@@ -10,24 +10,29 @@ ghost use Rattle.alarm_view.specs.Order.{Point, comes_before};
 ghost use Rattle.alarm_view.specs.Alarms.{notifications, AreInOrder};
 ghost use Rattle.alarm_view.specs.Nearest.{IsStart, IsNext};
 
-/// In each direction the places are in an order: none is met before itself, of two with different ids
-/// exactly one is met first, and what is met before one that is met before a third is met before it.
+/// In each direction the places are in an order: none is met before itself, of two with different
+/// ids exactly one is met first, and what is met before one that is met before a third is met
+/// before it.
 pub fn law_of_order()
     ensures self_apart { (way : Direction) (one : Point) → comes_before way one one ≡ false }
     ensures one_way { (way : Direction) (one other : Point) →
         comes_before way one other ≡ true → comes_before way other one ≡ false }
     ensures total { (way : Direction) (one other : Point) →
-        comes_before way one other ≡ false → comes_before way other one ≡ false → one.id ≡ other.id }
+        comes_before way one other ≡ false → comes_before way other one ≡ false →
+        one.id ≡ other.id }
     ensures onward { (way : Direction) (one other last : Point) →
-        comes_before way one other ≡ true → comes_before way other last ≡ true → comes_before way one last ≡ true }
+        comes_before way one other ≡ true → comes_before way other last ≡ true →
+        comes_before way one last ≡ true }
 {}
 
 /// There is one starting alarm at most, and one alarm at most that is read next.
 pub fn law_of_nearest()
-    ensures start { (mode : SearchMode) (value : ℤ) (filters : FilterSet) (alarms : List KeptAlarm) →
-        AreInOrder alarms → (one other : Notification) → IsStart mode value filters (notifications alarms) one →
+    ensures start { (mode : SearchMode) (value : ℤ) (filters : FilterSet)
+        (alarms : List KeptAlarm) → AreInOrder alarms → (one other : Notification) →
+        IsStart mode value filters (notifications alarms) one →
         IsStart mode value filters (notifications alarms) other → one ≡ other }
-    ensures next { (cursor : Cursor) (way : Direction) (filters : FilterSet) (alarms : List KeptAlarm) →
-        AreInOrder alarms → (one other : Notification) → IsNext cursor way filters (notifications alarms) one →
+    ensures next { (cursor : Cursor) (way : Direction) (filters : FilterSet)
+        (alarms : List KeptAlarm) → AreInOrder alarms → (one other : Notification) →
+        IsNext cursor way filters (notifications alarms) one →
         IsNext cursor way filters (notifications alarms) other → one ≡ other }
 {}

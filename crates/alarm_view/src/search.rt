@@ -14,7 +14,8 @@ use ntf_types::Notification;
 
 /// Whether the first place, a time and an id, is older than the second.
 fn is_older(time: i64, id: u64, other_time: i64, other_id: u64) -> bool
-    ensures { result ≡ is_older (record { time = time; id = id }) (record { time = other_time; id = other_id }) }
+    ensures { result
+        ≡ is_older (record { time = time; id = id }) (record { time = other_time; id = other_id }) }
 {
     time < other_time || (other_time >= time && id < other_id)
 }
@@ -154,7 +155,8 @@ fn first_with<'a, T: Test>(
     alarm: &'a Notification,
     found: Option<&'a Notification>,
 ) -> Option<&'a Notification>
-    ensures { option_copied result ≡ first_with way (T.passes test.now) alarm.now (option_copied found.entry) }
+    ensures { option_copied result
+        ≡ first_with way (T.passes test.now) alarm.now (option_copied found.entry) }
 {
     if test.passes(alarm) {
         Some(nearer(way, alarm, found))
@@ -169,7 +171,8 @@ pub(crate) fn first_in<'a, T: Test>(
     way: Direction,
     test: &T,
 ) -> Option<&'a Notification>
-    ensures { option_copied result ≡ first_in way (T.passes test.now) (reverse (notifications alarms.now)) }
+    ensures { option_copied result
+        ≡ first_in way (T.passes test.now) (reverse (notifications alarms.now)) }
 {
     let mut found = None;
     for alarm in alarms {

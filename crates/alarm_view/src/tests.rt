@@ -84,7 +84,8 @@ fn start_of(view: &AlarmView, code: u32, value: i64, filters: &FilterSet) -> u64
     }
 }
 
-/// The id of the next alarm in the direction of a code, or 0 where there is none; the cursor moves there.
+/// The id of the next alarm in the direction of a code, or 0 where there is none; the cursor moves
+/// there.
 fn read(view: &AlarmView, cursor: &mut Cursor, code: u32, filters: &FilterSet) -> u64 {
     let Some(way) = Direction::of(code) else {
         return 0;

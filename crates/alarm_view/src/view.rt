@@ -65,11 +65,12 @@ impl AlarmView {
         self.alarms.retain(|alarm| is_from(alarm, number));
     }
 
-    /// The cursor at the alarm that a search starts at: the first on the mode's way of those that match
-    /// the filters and whose time or id is what the mode asks for. None exactly where there is no such
-    /// alarm. It takes no memory.
+    /// The cursor at the alarm that a search starts at: the first on the mode's way of those that
+    /// match the filters and whose time or id is what the mode asks for. None exactly where there
+    /// is no such alarm. It takes no memory.
     pub fn start(&self, mode: SearchMode, value: i64, filters: &FilterSet) -> Option<Cursor>
-        ensures found { IfSome result (λ cursor. IsStartAt mode value filters.now (notifications self.now) cursor) }
+        ensures found { IfSome result
+            (λ cursor. IsStartAt mode value filters.now (notifications self.now) cursor) }
         ensures none { IfNone result (IsNone (CanStart mode value filters.now) (notifications self.now)) }
         ensures order { AreInOrder self.now }
     {
@@ -84,16 +85,17 @@ impl AlarmView {
         }
     }
 
-    /// The alarm that is read next, and the cursor behind it: the first in the direction of those that
-    /// match the filters and lie at the cursor or beyond where it is fresh, and else beyond it. None
-    /// exactly where there is no such alarm. It takes no memory.
+    /// The alarm that is read next, and the cursor behind it: the first in the direction of those
+    /// that match the filters and lie at the cursor or beyond where it is fresh, and else beyond
+    /// it. None exactly where there is no such alarm. It takes no memory.
     pub fn next(
         &self,
         cursor: Cursor,
         way: Direction,
         filters: &FilterSet,
     ) -> Option<(Cursor, &Notification)>
-        ensures found { IfSome result (λ found. IsNext cursor way filters.now (notifications self.now) found.1.now) }
+        ensures found { IfSome result
+            (λ found. IsNext cursor way filters.now (notifications self.now) found.1.now) }
         ensures after { IfSome result (λ found. found.0 ≡ cursor_after found.1.now) }
         ensures none { IfNone result (IsNone (CanFollow way cursor filters.now) (notifications self.now)) }
         ensures order { AreInOrder self.now }
@@ -117,10 +119,11 @@ impl AlarmView {
         self.alarms.len() as u32
     }
 
-    /// The alarm at a place, from 0, in order of records, with the number of its record. None exactly
-    /// where fewer are kept.
+    /// The alarm at a place, from 0, in order of records, with the number of its record. None
+    /// exactly where fewer are kept.
     pub fn alarm_at(&self, place: u32) -> Option<(u32, &Notification)>
-        ensures { MatchOption result (slice_get self.now place ≡ None) (λ found. slice_get self.now place ≡ Some (kept_alarm found.0 found.1.now)) }
+        ensures { MatchOption result (slice_get self.now place ≡ None)
+            (λ found. slice_get self.now place ≡ Some (kept_alarm found.0 found.1.now)) }
     {
         let alarm = self.alarms.get(place as usize)?;
         Some((alarm.number, &alarm.notification))

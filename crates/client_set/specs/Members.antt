@@ -1,4 +1,4 @@
--- Membership by recursion on the list, and by a test.
+-- Words of public clauses: membership by recursion on the list, and by a test.
 use Rattle.std.specs.Prelude.{◌≡◌, ℕ, ◌==◌, Bool, ◌⊎◌, List, [], ◌∷◌}
 use Rattle.std.specs.List.{list_any}
 

@@ -1,4 +1,4 @@
--- Lists whose elements stand in order, each at one place.
+-- Words of public clauses: lists whose elements stand in order, each at one place.
 use Rattle.std.specs.Prelude.{◌≡◌, Bool, true, false, ⊤, if◌then◌else◌, List, [], ◌∷◌}
 
 -- the element in its place; it takes the part of one that has the same place

@@ -1,4 +1,4 @@
--- Where a number stands in a rising list, or belongs. The body's own words: no public clause cites them.
+-- Words of bodies alone: where a number stands in a rising list, or belongs.
 use Rattle.std.specs.Prelude.{◌≡◌, ℕ, ◌<◌, ◌≤◌, ◌==◌, nat_lt, true, false, List, length, insert, remove}
 use Rattle.client_set.specs.Members.{has}
 use Rattle.client_set.specs.Rising.{put, without}

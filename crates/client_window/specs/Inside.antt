@@ -1,4 +1,4 @@
--- How a window is stored: its replies in a queue with room for 32.
+-- Words of bodies alone: how a window is stored, its replies in a queue with room for 32.
 use Rattle.std.specs.Prelude.{◌≤◌, length}
 use Rattle.std.specs.VecDeque.{deque_capacity}
 use Rattle.client_window.specs.declared.window.Window.TheInside.{Inside}

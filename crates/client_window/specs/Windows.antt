@@ -1,4 +1,4 @@
--- What is kept of the calls of one client, by all replies that were ever taken, the newest first. The first call has number 1.
+-- Words of public clauses: what is kept of the calls of one client, by all replies that were ever taken, the newest first. The first call has number 1.
 use Rattle.std.specs.Prelude.{◌≡◌, ℕ, ◌+◌, ◌-◌, ◌≤◌, min, List, length, take, reverse}
 
 -- the number of the next call, and the last replies, the newest first

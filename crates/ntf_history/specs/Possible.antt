@@ -1,4 +1,4 @@
--- Which changes can follow others. The rows of answers see to it; the laws of histories rest on it.
+-- Words of public clauses: which changes can follow others. The rows of answers see to it; the laws of histories rest on it.
 use Rattle.std.specs.Prelude.{◌≡◌, ℕ, ◌+◌, ◌<◌, Bool, true, false, ⊤, List, [], ◌∷◌, length}
 use Rattle.std.specs.List.{list_any}
 use Rattle.ntf_types.specs.declared.notification.Notification.{Notification}

@@ -1,4 +1,4 @@
--- Subscriptions, and all that happened to each.
+-- Words of public clauses: subscriptions, and all that happened to each.
 use Rattle.std.specs.Prelude.{◌≡◌, ℕ, ◌==◌, nat_lt, Bool, true, false, ◌&&◌, ◌||◌, if◌then◌else◌, List, [], ◌∷◌, ◌++◌, Option, Some, None, is_some, find, filter}
 use Rattle.ntf_types.specs.declared.notification.Notification.{Notification}
 use Rattle.ntf_filters.specs.Matching.{matches}

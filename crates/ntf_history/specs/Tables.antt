@@ -1,4 +1,4 @@
--- What the service keeps, what each call makes of it, and what it is after all that changed.
+-- Words of public clauses: what the service keeps, what each call makes of it, and what it is after all that changed.
 use Rattle.std.specs.Prelude.{◌≡◌, ℕ, ◌+◌, ◌==◌, ◌≤◌, nat_lt, nat_le, Bool, false, ◌&&◌, ⊤, if◌then◌else◌, List, [], ◌∷◌, length, map, Option, Some, None, find}
 use Rattle.ntf_types.specs.declared.notification.Notification.{Notification}
 use Rattle.ntf_filters.specs.declared.filter.FilterSet.{FilterSet}

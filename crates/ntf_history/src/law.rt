@@ -21,16 +21,18 @@ pub fn law_of_changes()
         table_of capacity (change ∷ past) ≡ after_change change (table_of capacity past) }
 {}
 
-/// The items ever made for a subscription that lasts, and then what was lost since the last, tell of the
-/// notifications sent since it was made for which it asks, each once and in order.
+/// The items ever made for a subscription that lasts, and then what was lost since the last, tell
+/// of the notifications sent since it was made for which it asks, each once and in order.
 pub fn law_of_asked()
-    ensures { (capacity : ℕ) (past : List NtfChange) (sub : Sub) → ArePossible past → Stands sub (subs past) →
-        marks_in (made capacity past sub.client sub.key) ++ (account capacity past sub.client sub.key).lost
+    ensures { (capacity : ℕ) (past : List NtfChange) (sub : Sub) → ArePossible past →
+        Stands sub (subs past) →
+        marks_in (made capacity past sub.client sub.key)
+        ++ (account capacity past sub.client sub.key).lost
         ≡ map mark_of (asked_since past sub) }
 {}
 
-/// Items keep their numbers and contents: a change adds some behind them, or none. Only a receipt moves
-/// the number through which items have one, and a new one moves it to its own.
+/// Items keep their numbers and contents: a change adds some behind them, or none. Only a receipt
+/// moves the number through which items have one, and a new one moves it to its own.
 pub fn law_of_items()
     ensures grows { (capacity : ℕ) (change : NtfChange) (past : List NtfChange) (client key : ℕ) →
         Extends (made capacity past client key) (made capacity (change ∷ past) client key) }
@@ -45,31 +47,37 @@ pub fn law_of_items()
         through_of capacity (Receipted client key through ∷ past) client key ≡ through }
 {}
 
-/// What the answers ask of all that changed, the kept table tells: who uses the service, whether a client
-/// has a subscription of an id, how many last, and whether a receipt is new. The table is sound, and of a
-/// service that nobody has used it is empty.
+/// What the answers ask of all that changed, the kept table tells: who uses the service, whether a
+/// client has a subscription of an id, how many last, and whether a receipt is new. The table is
+/// sound, and of a service that nobody has used it is empty.
 pub fn law_of_tables()
     ensures users { (capacity : ℕ) (past : List NtfChange) (client : ℕ) →
         has client (table_of capacity past).users ≡ is_using past client }
     ensures ids { (capacity : ℕ) (past : List NtfChange) (client id : ℕ) →
-        list_any (is_kept_under client id) (table_of capacity past).subs ≡ list_any (has_id client id) (subs past) }
+        list_any (is_kept_under client id) (table_of capacity past).subs
+        ≡ list_any (has_id client id) (subs past) }
     ensures count { (capacity : ℕ) (past : List NtfChange) →
         length (table_of capacity past).subs ≡ length (subs past) }
     ensures receipts { (capacity : ℕ) (past : List NtfChange) (client key through : ℕ) →
-        is_new_in (table_of capacity past) client key through ≡ is_new capacity past client key through }
-    ensures sound { (capacity : ℕ) (past : List NtfChange) → IsCapacity capacity → ArePossible past →
+        is_new_in (table_of capacity past) client key through
+        ≡ is_new capacity past client key through }
+    ensures sound { (capacity : ℕ) (past : List NtfChange) → IsCapacity capacity →
+        ArePossible past →
         length past < 4294967295 → IsSoundTable (table_of capacity past) }
     ensures empty { (capacity : ℕ) → table_of capacity [] ≡ empty_table capacity }
 {}
 
-/// The subscriptions that last: each was made, they stand in order of client and key, at most 64 of them;
-/// each client uses the service, and no two of one client have the same id; their queues can be rebuilt.
+/// The subscriptions that last: each was made, they stand in order of client and key, at most 64 of
+/// them; each client uses the service, and no two of one client have the same id; their queues can
+/// be rebuilt.
 pub fn law_of_subscriptions()
-    ensures after { (change : NtfChange) (past : List NtfChange) (sub : Sub) → Stands sub (subs (change ∷ past)) →
+    ensures after { (change : NtfChange) (past : List NtfChange) (sub : Sub) →
+        Stands sub (subs (change ∷ past)) →
         Stands sub (subs past) ⊎ (change ≡ Subscribed sub) }
     ensures order { (past : List NtfChange) → IsRising comes_first (subs past) }
     ensures few { (past : List NtfChange) → ArePossible past → length (subs past) ≤ 64 }
-    ensures clients { (past : List NtfChange) → ArePossible past → (sub : Sub) → Stands sub (subs past) →
+    ensures clients { (past : List NtfChange) → ArePossible past → (sub : Sub) →
+        Stands sub (subs past) →
         is_using past sub.client ≡ true }
     ensures ids { (past : List NtfChange) → ArePossible past → HaveIds (subs past) }
     ensures queues { (capacity : ℕ) (past : List NtfChange) (sub : Sub) → IsCapacity capacity →
@@ -83,8 +91,8 @@ pub fn law_of_users()
     ensures ids { (past : List NtfChange) → last_id past ≤ length past }
 {}
 
-/// Stored alarms go as the view of them does: an alarm that is sent is added behind the others, and is one
-/// that can be added; the alarms of early records are dropped; they stand in order.
+/// Stored alarms go as the view of them does: an alarm that is sent is added behind the others, and
+/// is one that can be added; the alarms of early records are dropped; they stand in order.
 pub fn law_of_stored()
     ensures sent { (first number : ℕ) (notification : Notification) (past : List NtfChange) →
         is_alarm notification.body ≡ true → first ≤ number →
@@ -95,13 +103,16 @@ pub fn law_of_stored()
         stored_alarms first (Sent notification number ∷ past) ≡ stored_alarms first past }
     ensures later { (first later : ℕ) (past : List NtfChange) → first ≤ later →
         from_record later (stored_alarms first past) ≡ stored_alarms later past }
-    ensures can_add { (first : ℕ) (past : List NtfChange) (notification : Notification) (number : ℕ) →
-        ArePossible past → CanSend notification number past → is_alarm notification.body ≡ true →
+    ensures can_add { (first : ℕ) (past : List NtfChange) (notification : Notification)
+        (number : ℕ) → ArePossible past → CanSend notification number past →
+        is_alarm notification.body ≡ true →
         CanAdd number notification (stored_alarms first past) }
-    ensures order { (first : ℕ) (past : List NtfChange) → ArePossible past → AreInOrder (stored_alarms first past) }
+    ensures order { (first : ℕ) (past : List NtfChange) → ArePossible past →
+        AreInOrder (stored_alarms first past) }
 {}
 
-/// The readers stand in order of their clients, one a client, each as it is told by what changed it.
+/// The readers stand in order of their clients, one a client, each as it is told by what changed
+/// it.
 pub fn law_of_readers()
     ensures order { (past : List ReaderChange) → IsRising reader_first (readers past) }
     ensures reader { (past : List ReaderChange) (client : ℕ) →

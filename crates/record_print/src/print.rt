@@ -3,6 +3,7 @@ ghost use Rattle.std.specs.Prelude.{◌≡◌, ◌≤◌, ◌<◌, List, ℕ, Bo
 ghost use Rattle.std.specs.Int.{is_negative};
 ghost use Rattle.std.specs.List.{list_any};
 ghost use Rattle.format_expr.specs.declared.token.Moment.{Moment};
+ghost use Rattle.ais_values.specs.Texts.{most_text_bytes};
 ghost use Rattle.record_print.specs.Printing.{class_of, id_text, event_type_text, object_text, notifier_text, user_text, severity_text, has_codes, part_text, is_number, in_places, piece_text, pieces_text, shows_half, has_half, has_part, is_mark, event_time, can_print, printed_record};
 ghost use Rattle.record_print.specs.Figures.{IsClock, AreFigures};
 ghost use Rattle.record_print.specs.Sheets.{Has, IsOpen};
@@ -286,7 +287,7 @@ pub fn print_record(
     size: u32,
 ) -> Result<Text, AllocError>
     requires low { 32 ≤ size }
-    requires high { size ≤ 16384 }
+    requires high { size ≤ most_text_bytes }
     requires printable { IsTrue (can_print rec.now) }
     ensures text { IfOk result (λ text. text ≡ printed_record expr.now.pieces number rec.now size) }
     ensures bytes { IfOk result (λ text. length text ≡ size) }

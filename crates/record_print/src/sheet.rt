@@ -1,5 +1,6 @@
 //! The sheet on which a record is printed.
 ghost use Rattle.std.specs.Prelude.{◌≡◌, ◌+◌, ◌-◌, ◌<◌, ◌≤◌, min, List, ℕ, [], ◌∷◌, ◌++◌, length, map, take, drop, nat_le, IfOk};
+ghost use Rattle.ais_values.specs.Texts.{IsText};
 ghost use Rattle.record_print.specs.Printing.{spaces, fitted, shown_byte, shown, line_of};
 
 use ais_values::Text;
@@ -127,7 +128,7 @@ impl Sheet {
     /// The line of the sheet's text.
     pub(crate) fn into_text(self) -> Text
         requires open { IsOpen self }
-        requires bound { length self.bytes.items ≤ 16384 }
+        requires bound { IsText self.bytes.items }
         ensures { (text : List ℕ) → Has self text → result ≡ line_of (length self.bytes.items) text }
     {
         Text::from_vec(self.bytes)
