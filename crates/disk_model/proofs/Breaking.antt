@@ -102,14 +102,6 @@ pub breaks_failed : {T : Type 0} (e : DiskAnswer) (calls : List DeviceCall) (old
 breaks_failed Memory calls old new b is = cc
 breaks_failed Failed calls old new b is = b
 
--- what is said of no call more than nothing is that the files stand
-pub does_none : (calls : List DeviceCall) (old new : Option Files) → new ≡ old → DoesFront calls old new
-does_none calls old new same = record { done = []; undone = calls; in_order = refl; stands = same ∙ none_applied old }
-
--- all calls are done
-pub does_all : (calls : List DeviceCall) (old new : Option Files) → new ≡ option_map (all_applied calls) old → DoesFront calls old new
-does_all calls old new done = record { done = calls; undone = []; in_order = sym (append-nil calls); stands = done }
-
 -- calls in two rows that are done
 pub applied_after : (front calls : List DeviceCall) (old middle new : Option Files)
     → middle ≡ option_map (all_applied front) old → new ≡ option_map (all_applied calls) middle → new ≡ option_map (all_applied (front ++ calls)) old
@@ -126,20 +118,4 @@ does_within front calls back old middle new is d = record {
       ∙ ap (λ c. front ++ c) (append_assoc d.done d.undone back)
       ∙ sym (append_assoc front d.done (d.undone ++ back));
   stands = applied_after front d.done old middle new is d.stands;
-}
-
--- an equation where the disk tells
-told_equal : (change : Files → Files) (old new : Option Files) → WhereTold (λ f g. g ≡ change f) old new → new ≡ option_map change old
-told_equal change None None told = refl
-told_equal change None (Some new) told = absurd told
-told_equal change (Some old) None told = absurd told
-told_equal change (Some old) (Some new) told = ap Some told
-
--- calls of which one lacked memory
-pub lacks_memory : (calls : List DeviceCall) (count : ℕ) (old new : Option Files) → LacksMemoryAfter calls count old new → DoesFront calls old new
-lacks_memory calls count old new b = record {
-  done = b.done;
-  undone = b.broken ∷ b.undone;
-  in_order = b.in_order;
-  stands = told_equal (all_applied b.done) old new b.left;
 }

@@ -51,12 +51,6 @@ get-renamed files from to q =
           ∙ ap (cond (same_name q to) (Some file)) (get-remove nat_list_cmp_total files from q)
     ]
 
--- a file changed as soon as it is made is a file made so
-pub adjusted_created : (change : File → File) (files : Files) (name : List ℕ) → adjusted change (created files name) name ≡ insert files name (change empty_file)
-adjusted_created change files name =
-    rw (get-insert_same nat_list_cmp_total names_differ files name empty_file)
-    (insert_twice nat_list_cmp_total names_differ files name empty_file (change empty_file))
-
 -- a file changed twice is a file changed by both changes
 pub adjusted_twice : (first second : File → File) (files : Files) (name : List ℕ)
     → adjusted second (adjusted first files name) name ≡ adjusted (λ file. second (first file)) files name
