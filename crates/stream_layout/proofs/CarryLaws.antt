@@ -1,5 +1,5 @@
 -- The deeds of an event carry its stream's files before it to those after it.
-use Rattle.std.proofs.Common.{◌≡◌, ℕ, ◌+◌, ◌-◌, ◌*◌, ◌/◌, ◌%◌, ◌<◌, ◌≤◌, ℤ, true, false, List, [], ◌∷◌, ◌++◌, length, take, drop, Some, None, refl, sym, ap, subst, ◌∙◌, arith}
+use Rattle.std.proofs.Common.{◌≡◌, ℕ, ◌+◌, ◌-◌, ◌*◌, ◌/◌, ◌<◌, ◌≤◌, ℤ, true, false, List, [], ◌∷◌, ◌++◌, length, take, drop, Some, None, refl, sym, ap, subst, ◌∙◌, arith}
 use Rattle.std.specs.List.{concat}
 use Rattle.std.specs.FinMap.{get}
 use Rattle.std.proofs.lemmas.List.{nil_from_length, take_all, drop_all}
@@ -24,7 +24,7 @@ use Rattle.stream_layout.specs.Deeds.{calls_of_all, current_file, removal, chang
 use Rattle.stream_layout.specs.Carrying.{IsFitStream, IsFitMade, IsFitEvent, AreRecordsOf, Stand, replaced, CarryOn}
 use Rattle.stream_layout.proofs.CurrentFile.{has_current, current_file-append, last_closed-append}
 use Rattle.stream_layout.proofs.EntryLaws.{entries_from-one}
-use Rattle.stream_layout.proofs.EventLaws.{IsLaidOut, laid_out, later_entries, stored_law, ended_law, changes_rotates, IsChange, changed, change_law}
+use Rattle.stream_layout.proofs.EventLaws.{IsLaidOut, some_records, laid_out, later_entries, stored_law, ended_law, changes_rotates, IsChange, changed, change_law}
 use Rattle.stream_layout.proofs.FileLaws.{carry_made}
 use Rattle.stream_layout.proofs.NameLaws.{cfg_apart}
 use Rattle.stream_layout.proofs.Rounds.{quotient}
@@ -69,6 +69,15 @@ stored_on state bytes records files fit are whole room stays stand q =
 none : (size : ℕ) → 0 * size ≡ 0
 none size = omega arith
 
+-- the place of a record with which a new file begins
+pub begins_at_start : (state : StreamState) → IsFitStream state → changes_file state.attrs.action (records_per_file state.attrs) state.taken ≡ true → (spot_of state.attrs state.taken).at ≡ 0
+begins_at_start state fit changes =
+    let attrs = state.attrs in
+    let n = records_per_file attrs in
+    let rotates = changes_rotates attrs.action n state.taken changes in
+    let begins = begins_round n state.taken (some_records attrs fit.attributes.sizes) (ap (λ a. changes_file a n state.taken) (sym rotates) ∙ changes) in
+    ap (λ a. (spot_in a n attrs.record_size state.taken).at) rotates ∙ ap (λ k. k * attrs.record_size) begins.rest ∙ none attrs.record_size
+
 -- the file changes before a record
 changed_on : (state : StreamState) (bytes : List ℕ) (stamps : Stamps) (records : List (List ℕ)) (files : Files) → IsFitStream state → AreRecordsOf state records
     → changes_file state.attrs.action (records_per_file state.attrs) state.taken ≡ true
@@ -86,8 +95,7 @@ changed_on state bytes stamps records files fit are changes stand free q =
     let out = subst (IsLaidOut attrs front current) (sym count) (laid_out state fit found) in
     let rotates = changes_rotates attrs.action n state.taken changes in
     let begins = begins_round n (length records) out.some (ap (λ a. changes_file a n (length records)) (sym rotates) ∙ ap (changes_file attrs.action n) count ∙ changes) in
-    let start : (spot_of attrs state.taken).at ≡ 0 =
-    ap (λ a. (spot_in a n attrs.record_size state.taken).at) rotates ∙ ap (λ k. k % n * attrs.record_size) (sym count) ∙ ap (λ k. k * attrs.record_size) begins.rest ∙ none attrs.record_size in
+    let start = begins_at_start state fit changes in
     let P : List LogFile → Type 0 = λ fs. Stand (log_entries attrs records fs) files → get files (log_name attrs (file_closed stamps.closed (current_file fs))) ≡ None
     → get (all_applied (calls_of_all (change_of_file attrs fs (Some stamps) ++ Write (log_name attrs (open_file stamps.created)) (spot_of attrs state.taken).at bytes ∷ [])) files) q
     ≡ replaced (log_entries attrs records fs) (log_entries attrs (records ++ bytes ∷ []) (files_changed attrs (Some stamps) fs)) files q in

@@ -19,7 +19,7 @@ pub record HasCurrent (files : List LogFile) : Type 0 where
   pub unclosed : current.closed ≡ None
   pub shut : All (λ (file : LogFile). is_some file.closed ≡ true) front
 
-none_from : {A : Type 0} (o : Option A) → is_none o ≡ true → o ≡ None
+pub none_from : {A : Type 0} (o : Option A) → is_none o ≡ true → o ≡ None
 none_from None is = refl
 none_from (Some value) is = cc
 

@@ -1,12 +1,12 @@
 -- What the deeds of each event make of the files of its stream.
-use Rattle.std.proofs.Common.{◌≡◌, ℕ, suc, ◌+◌, ◌-◌, ◌*◌, ◌/◌, ◌<◌, ◌≤◌, ℤ, ◌<ℤ◌, true, false, nat_lt, List, [], ◌∷◌, ◌++◌, length, drop, Option, None, is_some, refl, sym, ap, subst, ◌∙◌, inl, inr, arith, append_assoc}
+use Rattle.std.proofs.Common.{◌≡◌, ℕ, suc, ◌+◌, ◌-◌, ◌*◌, ◌/◌, ◌<◌, ◌≤◌, ℤ, ◌<ℤ◌, true, false, nat_lt, Some, List, [], ◌∷◌, ◌++◌, length, drop, Option, None, is_some, refl, sym, ap, subst, ◌∙◌, inl, inr, arith, append_assoc}
 use Rattle.std.specs.List.{concat, All}
 use Rattle.std.specs.FinMap.{get}
 use Rattle.std.proofs.lemmas.Bool.{cases_lt, cond-true, cond-false, lt-ltb, le-ltb}
 use Rattle.std.proofs.lemmas.List.{length_push, nil_from_length}
 use Rattle.std.proofs.lemmas.List.Elements.{All-head, All-tail}
 use Rattle.std.proofs.lemmas.Nat.{div-add-mod', le-div}
-use Rattle.disk_model.specs.Disk.{File, Files, overwritten, written_at, synced, renamed}
+use Rattle.disk_model.specs.Disk.{settled_file, File, Files, overwritten, written_at, synced, renamed}
 use Rattle.disk_model.specs.DeviceCalls.{all_applied}
 use Rattle.stream_config.specs.declared.attrs.FullAction.{FullAction}
 use Rattle.stream_config.specs.declared.attrs.FullAction.TheVariants.{Wrap, Halt, Rotate}
@@ -27,7 +27,7 @@ use Rattle.stream_layout.specs.Deeds.{calls_of_all, current_file, removal}
 use Rattle.stream_layout.specs.Carrying.{IsStamp, IsFitStream, entry_at, Stand, replaced}
 use Rattle.stream_layout.proofs.CurrentFile.{HasCurrent, unlike, current_file-append, last_closed-append, first_made, last_made, created_all, behind_front, front_all}
 use Rattle.stream_layout.proofs.EntryLaws.{bytes_in, entries_from-nil, entries_from-one, entries_from-cons, entries_from-last, entries_from-full, absent_open, absent_later, absent_earlier}
-use Rattle.stream_layout.proofs.FileLaws.{carry_write, carry_rename, carry_change, carry_rotation, carry_sole}
+use Rattle.stream_layout.proofs.FileLaws.{last_stands, carry_write, carry_rename, carry_change, carry_rotation, carry_sole}
 use Rattle.stream_layout.proofs.NameLaws.{created_apart, closed_apart}
 use Rattle.stream_layout.proofs.Rounds.{AreOfSize}
 use Rattle.stream_layout.proofs.StoredBytes.{same_round, BeginsRound, put_record, round_begun}
@@ -44,7 +44,7 @@ pub record IsLaidOut (attrs : StreamAttrs) (front : List LogFile) (current : Log
   pub made_first : (file : LogFile) (others : List LogFile) → front ≡ file ∷ others → All (λ (other : LogFile). file.created <ℤ other.created) others
   pub count : length front + 1 ≡ file_count attrs.action attrs.rotated (records_per_file attrs) taken
 
-some_records : (attrs : StreamAttrs) → IsSized attrs → 0 < records_per_file attrs
+pub some_records : (attrs : StreamAttrs) → IsSized attrs → 0 < records_per_file attrs
 some_records attrs sized =
     let low = sized.least_record in
     let high = sized.least_file in
@@ -191,6 +191,22 @@ stored_law attrs front current records bytes files out stays sizes whole room st
     (after ∙ ap (λ bs. entries ++ (name, bs) ∷ []) (sym put.bytes_are))
     (carry_write entries name old at bytes files (absent_open attrs records number front current out.shut out.unclosed)
     (subst (λ es. Stand es files) before stand) put.within q)
+
+-- the current file stands whole, and the place of the record lies in it or behind its end
+pub stored_stands : (attrs : StreamAttrs) (front : List LogFile) (current : LogFile) (records : List (List ℕ)) (bytes : List ℕ) (files : Files)
+    → IsLaidOut attrs front current (length records) → changes_file attrs.action (records_per_file attrs) (length records) ≡ false
+    → AreOfSize attrs.record_size records → length bytes ≡ attrs.record_size → (attrs.action ≡ Halt → length records < records_per_file attrs)
+    → Stand (log_entries attrs records (front ++ current ∷ [])) files
+    → (whole : List ℕ) × (get files (log_name attrs (current_file (front ++ current ∷ []))) ≡ Some (settled_file whole)) × ((spot_of attrs (length records)).at ≤ length whole)
+stored_stands attrs front current records bytes files out stays sizes whole room stand =
+    let n = records_per_file attrs in
+    let number = first_number attrs records (length front + 1) in
+    let entries = entries_from attrs records number front in
+    let old = bytes_in attrs (number + length front) records in
+    let put = put_record attrs.action n attrs.record_size (number + length front) records bytes out.some sizes whole stays room (last_number attrs front current records out) in
+    let before = log_entries-last attrs records front current in
+    let stands = last_stands entries (log_name attrs current) old files (absent_open attrs records number front current out.shut out.unclosed) (subst (λ es. Stand es files) before stand) in
+    (old, ap (λ f. get files (log_name attrs f)) (current_file-append front current) ∙ stands, put.within)
 
 -- a change of file
 

@@ -13,7 +13,7 @@ use Rattle.stream_layout.specs.LogFiles.{Entries}
 use Rattle.stream_layout.specs.Carrying.{entry_at, Stand, replaced}
 
 -- names are equal where their bytes are
-same_is : (q name : List ℕ) → same_name q name ≡ bytes_eq q name
+pub same_is : (q name : List ℕ) → same_name q name ≡ bytes_eq q name
 same_is q name = is_eq-slice_cmp q name
 
 pub itself : (name : List ℕ) → bytes_eq name name ≡ true
@@ -33,13 +33,13 @@ not_both q one other differ is = apart q other (λ e. differ (sym ((bytes_eq-Dec
 
 -- what is found after each call
 
-found-created : (files : Files) (name q : List ℕ) → get (created files name) q ≡ cond (bytes_eq q name) (Some (settled_file [])) (get files q)
+pub found-created : (files : Files) (name q : List ℕ) → get (created files name) q ≡ cond (bytes_eq q name) (Some (settled_file [])) (get files q)
 found-created files name q = get-created files name q ∙ ap (λ b. cond b (Some empty_file) (get files q)) (same_is q name)
 
-found-removed : (files : Files) (name q : List ℕ) → get (removed files name) q ≡ cond (bytes_eq q name) None (get files q)
+pub found-removed : (files : Files) (name q : List ℕ) → get (removed files name) q ≡ cond (bytes_eq q name) None (get files q)
 found-removed files name q = get-removed files name q ∙ ap (λ b. cond b None (get files q)) (same_is q name)
 
-found-renamed : (files : Files) (from to : List ℕ) (file : File) → get files from ≡ Some file → (q : List ℕ)
+pub found-renamed : (files : Files) (from to : List ℕ) (file : File) → get files from ≡ Some file → (q : List ℕ)
     → get (renamed files from to) q ≡ cond (bytes_eq q to) (Some file) (cond (bytes_eq q from) None (get files q))
 found-renamed files from to file stands q =
     get-renamed files from to q
@@ -72,7 +72,7 @@ chosen_twice true x y z = refl
 chosen_twice false x y z = refl
 
 -- a file that is made and written whole
-found-made : (files : Files) (name bytes q : List ℕ)
+pub found-made : (files : Files) (name bytes q : List ℕ)
     → get (synced (written_at (created files name) name 0 bytes) name) q ≡ cond (bytes_eq q name) (Some (settled_file bytes)) (get files q)
 found-made files name bytes q =
     let stands : get (created files name) name ≡ Some (settled_file []) =
@@ -188,7 +188,7 @@ not_first true x o none = cc
 not_first false x o none = none
 
 -- a file that is made, and written once another is removed
-found-refilled : (files : Files) (name gone bytes : List ℕ) → name ≢ gone → (q : List ℕ)
+pub found-refilled : (files : Files) (name gone bytes : List ℕ) → name ≢ gone → (q : List ℕ)
     → get (synced (written_at (removed (created files name) gone) name 0 bytes) name) q
     ≡ cond (bytes_eq q name) (Some (settled_file bytes)) (cond (bytes_eq q gone) None (get files q))
 found-refilled files name gone bytes differ q =

@@ -1,10 +1,14 @@
+pub mod Attempts
+pub mod CarryLaws
 pub mod CurrentFile
 pub mod DeedLaws
 pub mod EntryLaws
-pub mod CarryLaws
 pub mod EventLaws
 pub mod FileLaws
 pub mod NameLaws
+pub mod RepeatLaws
+pub mod RepeatOn
 pub mod Rounds
 pub mod Rows
 pub mod StoredBytes
+pub mod WriteAgain

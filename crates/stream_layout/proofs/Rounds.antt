@@ -83,7 +83,7 @@ round_more n round k records bytes small is =
     (let long = length-running n round k records is in let one = length_push (drop (round * n) records) bytes in omega arith)
 
 -- the one file by its last round and the round before
-overlaid_is : (n round k : ℕ) (records : List (List ℕ)) → k < n → length records ≡ round * n + k
+pub overlaid_is : (n round k : ℕ) (records : List (List ℕ)) → k < n → length records ≡ round * n + k
     → overlaid n records ≡ drop (round * n) records ++ drop k (round_of n (round - 1) records)
 overlaid_is n round k records small is =
     ap (λ r. round_of n r records ++ drop (length (round_of n r records)) (round_of n (r - 1) records)) (quotient n round k (length records) small is)

@@ -1,4 +1,4 @@
--- The files of a stream before and after an event, and that deeds lead from the ones to the others.
+-- Words of public clauses: the files of a stream before and after an event, and that deeds lead from the ones to the others.
 use Rattle.std.specs.Prelude.{◌≡◌, ℕ, ◌<◌, ℤ, pos, ◌≤ℤ◌, ⊤, IfSome, List, [], ◌∷◌, ◌++◌, length, All, Option, Some, None, is_some, if◌then◌else◌}
 use Rattle.std.specs.Option.{option_map_or}
 use Rattle.std.specs.Str.{bytes_eq}

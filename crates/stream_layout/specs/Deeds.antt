@@ -1,4 +1,4 @@
--- The deeds of what happens to a stream, and the device calls of deeds.
+-- Words of public clauses: the deeds of what happens to a stream, and the device calls of deeds.
 use Rattle.std.specs.Prelude.{ℤ, pos, nat_lt, if◌then◌else◌, List, [], ◌∷◌, ◌++◌, length, Option, Some, None}
 use Rattle.disk_model.specs.DeviceCalls.{DeviceCall, CallCreate, CallWrite, CallSync, CallRename, CallRemove}
 use Rattle.stream_config.specs.declared.attrs.StreamAttrs.{StreamAttrs}

@@ -1,4 +1,4 @@
--- Words of the bodies alone.
+-- Words of bodies alone: the files that deeds name.
 use Rattle.std.specs.Prelude.{ℤ, pos, List, [], ◌∷◌}
 use Rattle.std.specs.Option.{ForSome}
 use Rattle.stream_config.specs.declared.state.LogFile.{LogFile}

@@ -1,4 +1,4 @@
--- The files of one stream: names and bytes, as a closed form of its attributes, the bytes of its records and its stamps.
+-- Words of public clauses: the files of one stream, names and bytes, as a closed form of its attributes, the bytes of its records and its stamps.
 use Rattle.std.specs.Prelude.{ℕ, ◌+◌, ◌-◌, ◌*◌, ◌/◌, List, [], ◌∷◌, ◌++◌, length, take, drop}
 use Rattle.std.specs.List.{concat}
 use Rattle.stream_config.specs.declared.attrs.FullAction.{FullAction}

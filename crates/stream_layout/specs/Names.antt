@@ -1,4 +1,4 @@
--- The names of a stream's files on disk.
+-- Words of public clauses: the names of a stream's files on disk.
 use Rattle.std.specs.Prelude.{ℕ, unsigned_abs, ℤ, List, [], ◌++◌, Option, Some, None, codes, if◌then◌else◌}
 use Rattle.std.specs.Str.{bytes_eq}
 use Rattle.civil_time.specs.Stamps.{stamp_of}

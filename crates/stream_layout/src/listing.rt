@@ -8,6 +8,7 @@ ghost use Rattle.stream_layout.specs.declared.deed.Deed.TheVariants as deed;
 ghost use Rattle.stream_layout.specs.Names.{log_name};
 ghost use Rattle.stream_layout.specs.Deeds.{current_file, removal, change_of_file, file_written_to, deeds_of};
 ghost use Rattle.stream_layout.specs.Carrying.{IsStamp, IsFitMade, IsFitStored, IsFitEnded, IsFitEvent, CarryOn};
+ghost use Rattle.stream_layout.specs.Repeating.{RepeatSafely};
 ghost use Rattle.stream_layout.specs.Inside.{HasStamps, oldest_closed};
 ghost use Rattle.stream_config.specs.declared.event.StreamEvent.TheVariants as event;
 
@@ -242,6 +243,8 @@ pub fn deeds(alloc: Global, event: &StreamEvent) -> Result<Seq<Deed>, AllocError
     ensures list { IfOk result (λ list. list ≡ deeds_of event.now) }
     // Performed, they make the stream's files after the event out of those before it.
     ensures carried { IfOk result (CarryOn event.now) }
+    // Attempts at them that broke off change nothing of what they leave in the end.
+    ensures repeated { IfOk result (RepeatSafely event.now) }
 {
     let list = list_of(alloc, event)?;
     Ok(list)

@@ -1,0 +1,260 @@
+-- What the calls of each event make of any files, and that no call of theirs changes it, done or broken off.
+use Rattle.std.proofs.Common.{◌≡◌, ◌≢◌, ℕ, Bool, true, false, cond, List, [], ◌∷◌, Option, Some, None, option_map, refl, sym, ap, ◌∙◌, inl, inr}
+use Rattle.std.specs.Option.{MatchOption}
+use Rattle.std.specs.Str.{bytes_eq}
+use Rattle.std.specs.FinMap.{get, insert, get-insert}
+use Rattle.std.specs.Cmp.Lexicographic.{nat_list_cmp_total}
+use Rattle.std.proofs.lemmas.Slice.Eq.{bytes_eq-Decides}
+use Rattle.disk_model.specs.Disk.{File, Files, settled_file, file_written, file_synced, adjusted, created, written_at, synced, renamed, removed}
+use Rattle.disk_model.specs.DeviceCalls.{DeviceCall, CallCreate, CallWrite, CallSync, CallRename, CallRemove, applied, all_applied, LeftBy}
+use Rattle.disk_model.specs.Failures.{FileLeftByWrite, FileLeftBySync, LeavesFile, WhollyOrNot}
+use Rattle.disk_model.proofs.Changes.{get-adjusted}
+use Rattle.disk_model.proofs.Renaming.{renamed_absent}
+use Rattle.stream_layout.proofs.FileLaws.{same_is, itself, apart, found-created, found-removed, found-renamed, found-made, found-refilled}
+use Rattle.stream_layout.specs.Repeating.{Attempted}
+use Rattle.stream_layout.proofs.Attempts.{KeepsDone, KeepsBroken, repeats}
+
+-- the new files are the old ones but for one name
+abbrev pub Elsewhere : List ℕ → Files → Files → Type 0
+Elsewhere name old new = (q : List ℕ) → bytes_eq q name ≡ false → get new q ≡ get old q
+
+-- a call that changes what stands under one name, done or broken off
+pub record Touches (name : List ℕ) (call : DeviceCall) : Type 0 where
+  pub done : (old : Files) → Elsewhere name old (applied call old)
+  pub broken : (old new : Files) → LeftBy call old new → Elsewhere name old new
+
+wholly : (name : List ℕ) (done old new : Files) → Elsewhere name old done → WhollyOrNot done old new → Elsewhere name old new
+wholly name done old new other left q differ = elim left [
+  | inl same ↦ ap (λ m. get m q) same
+  | inr is ↦ ap (λ m. get m q) is ∙ other q differ
+]
+
+other_created : (name : List ℕ) (old : Files) → Elsewhere name old (created old name)
+other_created name old q differ = found-created old name q ∙ ap (λ b. cond b (Some (settled_file [])) (get old q)) differ
+
+other_removed : (name : List ℕ) (old : Files) → Elsewhere name old (removed old name)
+other_removed name old q differ = found-removed old name q ∙ ap (λ b. cond b None (get old q)) differ
+
+other_adjusted : (change : File → File) (name : List ℕ) (old : Files) → Elsewhere name old (adjusted change old name)
+other_adjusted change name old q differ =
+    get-adjusted change old name q ∙ ap (λ b. cond b (option_map change (get old name)) (get old q)) (same_is q name ∙ differ)
+
+pub found-put : (old : Files) (name : List ℕ) (file : File) (q : List ℕ) → get (insert old name file) q ≡ cond (bytes_eq q name) (Some file) (get old q)
+found-put old name file q = get-insert nat_list_cmp_total old name file q ∙ ap (λ b. cond b (Some file) (get old q)) (same_is q name)
+
+left_elsewhere : (Left : File → File → Type 0) (name : List ℕ) (old new : Files) → LeavesFile Left name old new → Elsewhere name old new
+left_elsewhere Left name old new left q differ =
+    elim (get old name) as (λ o. MatchOption o (new ≡ old) (λ file. (now : File) × Left file now × (new ≡ insert old name now)) → get new q ≡ get old q) [
+      | None ↦ λ same. ap (λ m. get m q) same
+      | Some file ↦ λ changed. ap (λ m. get m q) changed.2 ∙ found-put old name changed.0 q ∙ ap (λ b. cond b (Some changed.0) (get old q)) differ
+    ] left
+
+touches_create : (name : List ℕ) → Touches name (CallCreate name)
+touches_create name = record { done = other_created name; broken = λ old new. wholly name (created old name) old new (other_created name old) }
+
+touches_remove : (name : List ℕ) → Touches name (CallRemove name)
+touches_remove name = record { done = other_removed name; broken = λ old new. wholly name (removed old name) old new (other_removed name old) }
+
+pub touches_write : (name : List ℕ) (at : ℕ) (bytes : List ℕ) → Touches name (CallWrite name at bytes)
+touches_write name at bytes = record { done = other_adjusted (file_written at bytes) name; broken = left_elsewhere (FileLeftByWrite at bytes) name }
+
+pub touches_sync : (name : List ℕ) → Touches name (CallSync name)
+touches_sync name = record { done = other_adjusted file_synced name; broken = left_elsewhere FileLeftBySync name }
+
+-- nothing is kept of the files themselves
+abbrev pub Any : Files → Type 0
+Any files = Unit {0}
+
+-- what the calls make of the files has nothing of what stands under a name
+abbrev pub Ignores : (Files → List ℕ → Option File) → List ℕ → Type 0
+Ignores final name = (old new : Files) → Elsewhere name old new → (q : List ℕ) → final new q ≡ final old q
+
+done_keeps : (final : Files → List ℕ → Option File) (name : List ℕ) (call : DeviceCall) → Ignores final name → Touches name call → KeepsDone Any final call
+done_keeps final name call ignores touches old any = (any, ignores old (applied call old) (touches.done old))
+
+broken_keeps : (final : Files → List ℕ → Option File) (name : List ℕ) (call : DeviceCall) → Ignores final name → Touches name call → KeepsBroken Any final call
+broken_keeps final name call ignores touches old new any left = (any, ignores old new (touches.broken old new left))
+
+-- a stream is made
+
+abbrev made_files : (cfg log text : List ℕ) → Files → List ℕ → Option File
+made_files cfg log text files q = cond (bytes_eq q log) (Some (settled_file [])) (cond (bytes_eq q cfg) (Some (settled_file text)) (get files q))
+
+pub first_part : {A : Type 0} (b : Bool) (x z z' : A) → (b ≡ false → z ≡ z') → cond b x z ≡ cond b x z'
+first_part true x z z' same = refl
+first_part false x z z' same = same refl
+
+-- a choice whose last part is asked for only where two tests fail
+last_part : {A : Type 0} (b c : Bool) (x y z z' : A) → (b ≡ false → c ≡ false → z ≡ z') → cond b x (cond c y z) ≡ cond b x (cond c y z')
+last_part true c x y z z' same = refl
+last_part false true x y z z' same = refl
+last_part false false x y z z' same = same refl refl
+
+pub made_again : (cfg log text : List ℕ) (attempts : ℕ) (old left : Files)
+    → Attempted (CallCreate cfg ∷ CallWrite cfg 0 text ∷ CallSync cfg ∷ CallCreate log ∷ []) attempts old left
+    → all_applied (CallCreate cfg ∷ CallWrite cfg 0 text ∷ CallSync cfg ∷ CallCreate log ∷ []) left
+    ≡ all_applied (CallCreate cfg ∷ CallWrite cfg 0 text ∷ CallSync cfg ∷ CallCreate log ∷ []) old
+made_again cfg log text attempts old left tried =
+    let final = made_files cfg log text in
+    let no_cfg : Ignores final cfg = λ one other same q. last_part (bytes_eq q log) (bytes_eq q cfg) _ _ _ _ (λ l c. same q c) in
+    let no_log : Ignores final log = λ one other same q. last_part (bytes_eq q log) (bytes_eq q cfg) _ _ _ _ (λ l c. same q l) in
+    repeats Any final (CallCreate cfg ∷ CallWrite cfg 0 text ∷ CallSync cfg ∷ CallCreate log ∷ []) (
+      broken_keeps final cfg _ no_cfg (touches_create cfg),
+      (λ _. done_keeps final cfg _ no_cfg (touches_create cfg)),
+      (
+        broken_keeps final cfg _ no_cfg (touches_write cfg 0 text),
+        (λ _. done_keeps final cfg _ no_cfg (touches_write cfg 0 text)),
+        (
+          broken_keeps final cfg _ no_cfg (touches_sync cfg),
+          (λ _. done_keeps final cfg _ no_cfg (touches_sync cfg)),
+          (broken_keeps final log _ no_log (touches_create log), (λ _. done_keeps final log _ no_log (touches_create log)), tt),
+        ),
+      ),
+    )
+    (λ files any q. found-created (synced (written_at (created files cfg) cfg 0 text) cfg) log q
+    ∙ ap (cond (bytes_eq q log) (Some (settled_file []))) (found-made files cfg text q))
+    attempts old left tt tried
+
+-- a file gets another name
+
+abbrev either_of : Option File → Option File → Option File
+either_of None other = other
+either_of (Some file) other = Some file
+
+-- the file stands under its new name, whether it was renamed before or is renamed now
+abbrev renamed_files : (from to : List ℕ) → Files → List ℕ → Option File
+renamed_files from to files q = cond (bytes_eq q to) (either_of (get files from) (get files to)) (cond (bytes_eq q from) None (get files q))
+
+unmoved : (to from : Bool) (found target : Option File) → (to ≡ true → found ≡ target) → (from ≡ true → found ≡ None) → found ≡ cond to target (cond from None found)
+unmoved true from found target is none = is refl
+unmoved false true found target is none = none refl
+unmoved false false found target is none = refl
+
+twice : {A : Type 0} (b c : Bool) (x y z : A) → cond b x (cond c y (cond b x (cond c y z))) ≡ cond b x (cond c y z)
+twice true c x y z = refl
+twice false true x y z = refl
+twice false false x y z = refl
+
+-- where the old name has a file, and where it has none
+shows_renamed : (from to : List ℕ) (files : Files) (q : List ℕ) → get (renamed files from to) q ≡ renamed_files from to files q
+shows_renamed from to files q =
+    elim (get files from) as (λ o. get files from ≡ o → get (renamed files from to) q ≡ cond (bytes_eq q to) (either_of o (get files to)) (cond (bytes_eq q from) None (get files q))) [
+      | None ↦ λ absent.
+          ap (λ m. get m q) (renamed_absent files from to absent)
+          ∙ unmoved (bytes_eq q to) (bytes_eq q from) (get files q) (get files to)
+          (λ is. ap (get files) ((bytes_eq-Decides q to).0 is)) (λ is. ap (get files) ((bytes_eq-Decides q from).0 is) ∙ absent)
+      | Some file ↦ λ stands. found-renamed files from to file stands q
+    ] refl
+
+-- renaming again changes nothing of that
+rename_kept : (from to : List ℕ) (files : Files) → from ≢ to → (q : List ℕ) → renamed_files from to (renamed files from to) q ≡ renamed_files from to files q
+rename_kept from to files differ q =
+    let at_from : get (renamed files from to) from ≡ None =
+    shows_renamed from to files from
+    ∙ ap (λ b. cond b (either_of (get files from) (get files to)) (cond (bytes_eq from from) None (get files from))) (apart from to differ)
+    ∙ ap (λ b. cond b None (get files from)) (itself from) in
+    let at_to : get (renamed files from to) to ≡ either_of (get files from) (get files to) =
+    shows_renamed from to files to
+    ∙ ap (λ b. cond b (either_of (get files from) (get files to)) (cond (bytes_eq to from) None (get files to))) (itself to) in
+    ap (λ o. cond (bytes_eq q to) (either_of o (get (renamed files from to) to)) (cond (bytes_eq q from) None (get (renamed files from to) q))) at_from
+    ∙ ap (λ o. cond (bytes_eq q to) o (cond (bytes_eq q from) None (get (renamed files from to) q))) at_to
+    ∙ ap (λ o. cond (bytes_eq q to) (either_of (get files from) (get files to)) (cond (bytes_eq q from) None o)) (shows_renamed from to files q)
+    ∙ twice (bytes_eq q to) (bytes_eq q from) (either_of (get files from) (get files to)) None (get files q)
+
+rename_left : (final : Files → List ℕ → Option File) (from to : List ℕ) → ((files : Files) (q : List ℕ) → final (renamed files from to) q ≡ final files q)
+    → KeepsBroken Any final (CallRename from to)
+rename_left final from to kept old new any left = elim left [
+  | inl same ↦ (any, λ q. ap (λ m. final m q) same)
+  | inr done ↦ (any, λ q. ap (λ m. final m q) done ∙ kept old q)
+]
+
+rename_done : (final : Files → List ℕ → Option File) (from to : List ℕ) → ((files : Files) (q : List ℕ) → final (renamed files from to) q ≡ final files q)
+    → KeepsDone Any final (CallRename from to)
+rename_done final from to kept old any = (any, kept old)
+
+-- a stream ends
+pub ended_again : (from to : List ℕ) (attempts : ℕ) (old left : Files) → from ≢ to → Attempted (CallRename from to ∷ []) attempts old left
+    → all_applied (CallRename from to ∷ []) left ≡ all_applied (CallRename from to ∷ []) old
+ended_again from to attempts old left differ tried =
+    let final = renamed_files from to in
+    let kept : (files : Files) (q : List ℕ) → final (renamed files from to) q ≡ final files q = λ files. rename_kept from to files differ in
+    repeats Any final (CallRename from to ∷ []) (rename_left final from to kept, (λ _. rename_done final from to kept), tt)
+    (λ files any. shows_renamed from to files) attempts old left tt tried
+
+-- the file changes, and one goes if it has to
+
+-- what the calls of a change of file make of files, where `gone` tells the names of what is removed
+abbrev changed_files : (from to new bytes : List ℕ) (gone : List ℕ → Bool) → Files → List ℕ → Option File
+changed_files from to new bytes gone files q =
+    cond (bytes_eq q new) (Some (settled_file bytes)) (cond (gone q) None (renamed_files from to files q))
+
+rename_behind : (from to new bytes : List ℕ) (gone : List ℕ → Bool) → from ≢ to → (files : Files) (q : List ℕ)
+    → changed_files from to new bytes gone (renamed files from to) q ≡ changed_files from to new bytes gone files q
+rename_behind from to new bytes gone differ files q =
+    ap (λ o. cond (bytes_eq q new) (Some (settled_file bytes)) (cond (gone q) None o)) (rename_kept from to files differ q)
+
+-- what stands under another name than the two is of no matter
+renamed_elsewhere : (from to name : List ℕ) (old new : Files) → from ≢ name → Elsewhere name old new → (q : List ℕ) → bytes_eq q name ≡ false
+    → renamed_files from to new q ≡ renamed_files from to old q
+renamed_elsewhere from to name old new differ same q other =
+    elim (bytes_eq q to) as (λ b. bytes_eq q to ≡ b
+    → cond b (either_of (get new from) (get new to)) (cond (bytes_eq q from) None (get new q)) ≡ cond b (either_of (get old from) (get old to)) (cond (bytes_eq q from) None (get old q))) [
+      | true ↦ λ is.
+          let target : bytes_eq to name ≡ false = ap (λ v. bytes_eq v name) (sym ((bytes_eq-Decides q to).0 is)) ∙ other in
+          ap (λ o. either_of o (get new to)) (same from (apart from name differ)) ∙ ap (either_of (get old from)) (same to target)
+      | false ↦ λ is. ap (cond (bytes_eq q from) None) (same q other)
+    ] refl
+
+pub changed_again : (from to new bytes : List ℕ) (attempts : ℕ) (old left : Files) → from ≢ to → from ≢ new
+    → Attempted (CallRename from to ∷ CallCreate new ∷ CallWrite new 0 bytes ∷ CallSync new ∷ []) attempts old left
+    → all_applied (CallRename from to ∷ CallCreate new ∷ CallWrite new 0 bytes ∷ CallSync new ∷ []) left
+    ≡ all_applied (CallRename from to ∷ CallCreate new ∷ CallWrite new 0 bytes ∷ CallSync new ∷ []) old
+changed_again from to new bytes attempts old left differ unlike tried =
+    let final = changed_files from to new bytes (λ _. false) in
+    let kept = rename_behind from to new bytes (λ _. false) differ in
+    let no_new : Ignores final new = λ one other same q. first_part (bytes_eq q new) _ _ _ (λ n. renamed_elsewhere from to new one other unlike same q n) in
+    repeats Any final (CallRename from to ∷ CallCreate new ∷ CallWrite new 0 bytes ∷ CallSync new ∷ []) (
+      rename_left final from to kept,
+      (λ _. rename_done final from to kept),
+      (
+        broken_keeps final new _ no_new (touches_create new),
+        (λ _. done_keeps final new _ no_new (touches_create new)),
+        (
+          broken_keeps final new _ no_new (touches_write new 0 bytes),
+          (λ _. done_keeps final new _ no_new (touches_write new 0 bytes)),
+          (broken_keeps final new _ no_new (touches_sync new), (λ _. done_keeps final new _ no_new (touches_sync new)), tt),
+        ),
+      ),
+    )
+    (λ files any q. found-made (renamed files from to) new bytes q ∙ ap (cond (bytes_eq q new) (Some (settled_file bytes))) (shows_renamed from to files q))
+    attempts old left tt tried
+
+pub rotated_again : (from to new gone bytes : List ℕ) (attempts : ℕ) (old left : Files) → from ≢ to → from ≢ new → from ≢ gone → new ≢ gone
+    → Attempted (CallRename from to ∷ CallCreate new ∷ CallRemove gone ∷ CallWrite new 0 bytes ∷ CallSync new ∷ []) attempts old left
+    → all_applied (CallRename from to ∷ CallCreate new ∷ CallRemove gone ∷ CallWrite new 0 bytes ∷ CallSync new ∷ []) left
+    ≡ all_applied (CallRename from to ∷ CallCreate new ∷ CallRemove gone ∷ CallWrite new 0 bytes ∷ CallSync new ∷ []) old
+rotated_again from to new gone bytes attempts old left differ unlike stays other tried =
+    let final = changed_files from to new bytes (λ q. bytes_eq q gone) in
+    let kept = rename_behind from to new bytes (λ q. bytes_eq q gone) differ in
+    let no_new : Ignores final new = λ one two same q. first_part (bytes_eq q new) _ _ _ (λ n. ap (cond (bytes_eq q gone) None) (renamed_elsewhere from to new one two unlike same q n)) in
+    let no_gone : Ignores final gone = λ one two same q. last_part (bytes_eq q new) (bytes_eq q gone) _ _ _ _ (λ _ g. renamed_elsewhere from to gone one two stays same q g) in
+    repeats Any final (CallRename from to ∷ CallCreate new ∷ CallRemove gone ∷ CallWrite new 0 bytes ∷ CallSync new ∷ []) (
+      rename_left final from to kept,
+      (λ _. rename_done final from to kept),
+      (
+        broken_keeps final new _ no_new (touches_create new),
+        (λ _. done_keeps final new _ no_new (touches_create new)),
+        (
+          broken_keeps final gone _ no_gone (touches_remove gone),
+          (λ _. done_keeps final gone _ no_gone (touches_remove gone)),
+          (
+            broken_keeps final new _ no_new (touches_write new 0 bytes),
+            (λ _. done_keeps final new _ no_new (touches_write new 0 bytes)),
+            (broken_keeps final new _ no_new (touches_sync new), (λ _. done_keeps final new _ no_new (touches_sync new)), tt),
+          ),
+        ),
+      ),
+    )
+    (λ files any q. found-refilled (renamed files from to) new gone bytes other q
+    ∙ ap (λ o. cond (bytes_eq q new) (Some (settled_file bytes)) (cond (bytes_eq q gone) None o)) (shows_renamed from to files q))
+    attempts old left tt tried

@@ -1,0 +1,130 @@
+-- The deeds of an event, performed after attempts that broke off, leave what they would have left at once.
+use Rattle.std.proofs.Common.{◌≡◌, ◌≢◌, ℕ, ◌≤◌, ℤ, ◌<ℤ◌, true, List, [], ◌∷◌, ◌++◌, length, Some, None, is_some, refl, sym, ap, subst, ◌∙◌, inl, inr, arith}
+use Rattle.std.specs.List.{All}
+use Rattle.std.specs.FinMap.{get}
+use Rattle.std.proofs.lemmas.Bool.{cases_lt, and_parts}
+use Rattle.std.proofs.lemmas.List.Elements.{All-head}
+use Rattle.disk_model.specs.Disk.{Files, settled_file}
+use Rattle.disk_model.specs.DeviceCalls.{DeviceCall, all_applied, CallWrite, CallSync}
+use Rattle.stream_config.specs.declared.attrs.StreamAttrs.{StreamAttrs}
+use Rattle.stream_config.specs.declared.state.LogFile.{LogFile}
+use Rattle.stream_config.specs.declared.state.StreamState.{StreamState}
+use Rattle.stream_config.specs.declared.event.Stamps.{Stamps}
+use Rattle.stream_config.specs.declared.event.StreamEvent.{StreamEvent}
+use Rattle.stream_config.specs.declared.event.StreamEvent.TheVariants.{Made, Stored, Ended}
+use Rattle.stream_config.specs.Events.{open_file, file_closed, last_closed}
+use Rattle.stream_config.specs.Fit.{stamps_of, rises, is_last_open, changes_file}
+use Rattle.stream_config.specs.Sizes.{records_per_file}
+use Rattle.stream_layout.specs.declared.deed.Deed.{Deed}
+use Rattle.stream_layout.specs.declared.deed.Deed.TheVariants.{Create, Write, Rename}
+use Rattle.stream_layout.specs.Names.{log_name, cfg_name}
+use Rattle.stream_layout.specs.Spots.{spot_of}
+use Rattle.stream_layout.specs.LogFiles.{log_entries}
+use Rattle.stream_layout.specs.Deeds.{calls_of_all, current_file, removal, change_of_file, deeds_of}
+use Rattle.stream_layout.specs.Carrying.{IsFitStored, IsFitEvent, AreRecordsOf, Stand}
+use Rattle.stream_layout.specs.Inside.{oldest_closed}
+use Rattle.stream_layout.specs.Repeating.{Attempted, RepeatSafely}
+use Rattle.stream_config.specs.Cfg.{cfg_of}
+use Rattle.stream_layout.proofs.CarryLaws.{begins_at_start}
+use Rattle.stream_layout.proofs.CurrentFile.{has_current, none_from, unlike, current_file-append, last_closed-append, last_made, behind_front}
+use Rattle.stream_layout.proofs.DeedLaws.{some_files, none_goes, oldest_goes, current_stamps}
+use Rattle.stream_layout.proofs.EventLaws.{IsLaidOut, laid_out, stored_stands}
+use Rattle.stream_layout.proofs.NameLaws.{created_apart, closed_apart}
+use Rattle.stream_layout.proofs.RepeatLaws.{made_again, ended_again, changed_again, rotated_again}
+use Rattle.stream_layout.proofs.WriteAgain.{written_once_more}
+
+-- the current file is not closed, and the oldest is once the current one is
+current_open : (files : List LogFile) → is_last_open files ≡ true → (current_file files).closed ≡ None
+current_open [] is = cc
+current_open (file ∷ []) is = none_from file.closed is
+current_open (file ∷ next ∷ files) is = current_open (next ∷ files) (and_parts (is_some file.closed) (is_last_open (next ∷ files)) is).1
+
+oldest_shut : (closed : ℤ) (files : List LogFile) → is_last_open files ≡ true → is_some (oldest_closed closed files).closed ≡ true
+oldest_shut closed [] is = cc
+oldest_shut closed (file ∷ []) is = refl
+oldest_shut closed (file ∷ next ∷ files) is = (and_parts (is_some file.closed) (is_last_open (next ∷ files)) is).0
+
+-- the new file is made later than the current one
+made_later : (files : List LogFile) (stamps : Stamps) → is_last_open files ≡ true → rises (stamps_of (last_closed stamps.closed files ++ open_file stamps.created ∷ [])) ≡ true
+    → (current_file files).created <ℤ stamps.created
+made_later files stamps is rising =
+    let found = has_current files is in
+    let shut = file_closed stamps.closed found.current in
+    let all = last_made (last_closed stamps.closed files) (open_file stamps.created) rising in
+    let split = ap (last_closed stamps.closed) found.whole ∙ last_closed-append stamps.closed found.front found.current in
+    let P : LogFile → Type 0 = λ (file : LogFile). file.created <ℤ stamps.created in
+    let last = All-head P shut [] (behind_front P found.front (shut ∷ []) (subst (All P) split all)) in
+    let same = ap current_file found.whole ∙ current_file-append found.front found.current in
+    subst P (sym same) last
+
+-- a record goes to the current file
+stored_again : (state : StreamState) (bytes : List ℕ) (records : List (List ℕ)) (files left : Files) (attempts : ℕ) → IsFitStored state bytes None → AreRecordsOf state records
+    → Stand (log_entries state.attrs records state.files) files
+    → Attempted (CallWrite (log_name state.attrs (current_file state.files)) (spot_of state.attrs state.taken).at bytes ∷ CallSync (log_name state.attrs (current_file state.files)) ∷ []) attempts files left
+    → all_applied (CallWrite (log_name state.attrs (current_file state.files)) (spot_of state.attrs state.taken).at bytes ∷ CallSync (log_name state.attrs (current_file state.files)) ∷ []) left
+    ≡ all_applied (CallWrite (log_name state.attrs (current_file state.files)) (spot_of state.attrs state.taken).at bytes ∷ CallSync (log_name state.attrs (current_file state.files)) ∷ []) files
+stored_again state bytes records files left attempts fit are stand tried =
+    let attrs = state.attrs in
+    let count = are.count in
+    let found = has_current state.files fit.stream.standing.last_open in
+    let out = subst (IsLaidOut attrs found.front found.current) (sym count) (laid_out state fit.stream found) in
+    let stays = ap (changes_file attrs.action (records_per_file attrs)) count ∙ sym fit.changes in
+    let P : List LogFile → Type 0 = λ fs. Stand (log_entries attrs records fs) files
+    → (whole : List ℕ) × (get files (log_name attrs (current_file fs)) ≡ Some (settled_file whole)) × ((spot_of attrs (length records)).at ≤ length whole) in
+    let held = subst P (sym found.whole)
+    (λ stand. stored_stands attrs found.front found.current records bytes files out stays are.sizes fit.size (λ halts. let h = fit.room halts in omega arith) stand) stand in
+    let within = subst (λ k. (spot_of attrs k).at ≤ length held.0) count held.2 in
+    written_once_more (spot_of attrs state.taken).at bytes held.0 within (log_name attrs (current_file state.files)) attempts files left held.1 tried
+
+-- the calls of a change of file, by what is removed
+abbrev calls_for : StreamAttrs → LogFile → Stamps → ℕ → List ℕ → List Deed → List DeviceCall
+calls_for attrs current stamps at bytes gone =
+    calls_of_all (Rename (log_name attrs current) (log_name attrs (file_closed stamps.closed current))
+    ∷ Create (log_name attrs (open_file stamps.created)) ∷ (gone ++ Write (log_name attrs (open_file stamps.created)) at bytes ∷ []))
+
+abbrev DoneAgain : List DeviceCall → ℕ → Files → Files → Type 0
+DoneAgain calls attempts files left = Attempted calls attempts files left → all_applied calls left ≡ all_applied calls files
+
+-- the file changes before a record
+stamped_again : (state : StreamState) (bytes : List ℕ) (stamps : Stamps) (files left : Files) (attempts : ℕ) → IsFitStored state bytes (Some stamps)
+    → rises (stamps_of (last_closed stamps.closed state.files ++ open_file stamps.created ∷ [])) ≡ true
+    → DoneAgain (calls_of_all (change_of_file state.attrs state.files (Some stamps) ++ Write (log_name state.attrs (open_file stamps.created)) (spot_of state.attrs state.taken).at bytes ∷ [])) attempts files left
+stamped_again state bytes stamps files left attempts fit rising =
+    let attrs = state.attrs in
+    let stands = fit.stream.standing in
+    let some = some_files state.files stands.last_open in
+    let current = current_file state.files in
+    let shut = file_closed stamps.closed current in
+    let fresh = open_file stamps.created in
+    let oldest = oldest_closed stamps.closed state.files in
+    let opened = current_open state.files stands.last_open in
+    let closed = oldest_shut stamps.closed state.files stands.last_open in
+    let stamp = (current_stamps state.files fit.stream.stamps some).created in
+    let start = begins_at_start state fit.stream (sym fit.changes) in
+    let from_to : log_name attrs current ≢ log_name attrs shut = λ same. closed_apart attrs shut current refl opened (sym same) in
+    let from_new : log_name attrs current ≢ log_name attrs fresh =
+    created_apart attrs current fresh stamp fit.new_stamps.1 (unlike current.created stamps.created (made_later state.files stamps stands.last_open rising)) in
+    let from_gone : log_name attrs current ≢ log_name attrs oldest = λ same. closed_apart attrs oldest current closed opened (sym same) in
+    let new_gone : log_name attrs fresh ≢ log_name attrs oldest = λ same. closed_apart attrs oldest fresh closed refl (sym same) in
+    let P : ℕ → List Deed → Type 0 = λ at gone. DoneAgain (calls_for attrs current stamps at bytes gone) attempts files left in
+    let Q : ℕ → Type 0 = λ at. P at (removal attrs (last_closed stamps.closed state.files ++ fresh ∷ [])) in
+    subst Q (sym start)
+    (elim (cases_lt (length state.files) attrs.rotated) [
+      | inl few ↦ subst (P 0) (sym (none_goes attrs state.files stamps few))
+          (changed_again (log_name attrs current) (log_name attrs shut) (log_name attrs fresh) bytes attempts files left from_to from_new)
+      | inr full ↦ subst (P 0) (sym (oldest_goes attrs state.files stamps some full))
+          (rotated_again (log_name attrs current) (log_name attrs shut) (log_name attrs fresh) (log_name attrs oldest) bytes attempts files left from_to from_new from_gone new_gone)
+    ])
+
+pub repeat_on : (event : StreamEvent) → IsFitEvent event → RepeatSafely event (deeds_of event)
+unfolding deeds_of
+repeat_on (Made state) fit records files left attempts are stand later tried =
+    made_again (cfg_name state.attrs) (log_name state.attrs (current_file state.files)) (cfg_of state.name state.attrs) attempts files left tried
+repeat_on (Stored before bytes None) fit records files left attempts are stand later tried =
+    stored_again before bytes records files left attempts fit are stand tried
+repeat_on (Stored before bytes (Some stamps)) fit records files left attempts are stand later tried =
+    stamped_again before bytes stamps files left attempts fit later tried
+repeat_on (Ended before closed) fit records files left attempts are stand later tried =
+    let current = current_file before.files in
+    ended_again (log_name before.attrs current) (log_name before.attrs (file_closed closed current)) attempts files left
+    (λ same. closed_apart before.attrs (file_closed closed current) current refl (current_open before.files fit.stream.standing.last_open) (sym same)) tried
