@@ -1,10 +1,10 @@
 -- Streams that end in order: which live afterwards, and where at most one has a name.
-use Rattle.std.proofs.Common.{◌≡◌, ℕ, Bool, true, false, not, ◌&&◌, cond, List, [], ◌∷◌, map, refl, ap, sym, ◌∙◌, subst}
-use Rattle.std.specs.Prelude.{Option, Some, None, is_some, is_none, filter}
+use Rattle.std.proofs.Common.{◌≡◌, ℕ, Bool, true, false, not, ◌&&◌, cond, List, [], ◌∷◌, refl, ap, sym, ◌∙◌, subst}
+use Rattle.std.specs.Prelude.{Some, None, filter}
 use Rattle.std.specs.List.{find}
 use Rattle.stream_config.specs.declared.attrs.StreamName.{StreamName}
 use Rattle.stream_config.specs.Stamps.{stamp_after}
-use Rattle.log_history.specs.Chronicle.{Stream, lives, is_living, with_end, all_ended, last_of_ends}
+use Rattle.log_history.specs.Chronicle.{Stream, lives, is_living, with_end, all_ended}
 use Rattle.log_history.proofs.FirstLaws.{Each, AtMostOne}
 
 -- a property that the end of a stream keeps

@@ -1,7 +1,7 @@
 -- The files of a stream at a change of file: the last ones, as many as stand.
-use Rattle.std.proofs.Common.{◌≡◌, ℕ, ◌+◌, ◌-◌, ◌≤◌, suc, zero, Bool, true, false, cond, List, [], ◌∷◌, ◌++◌, length, take, drop, map, refl, ap, sym, ◌∙◌, arith, append_assoc, length-append, length-drop}
-use Rattle.std.specs.Prelude.{Option, Some, None, option_map, ℤ, pos}
-use Rattle.std.proofs.lemmas.List.{drop-append-le, drop-drop, map-append}
+use Rattle.std.proofs.Common.{◌≡◌, ℕ, ◌+◌, ◌-◌, ◌≤◌, List, [], ◌∷◌, ◌++◌, length, drop, refl, ap, sym, ◌∙◌, arith, length-append, length-drop}
+use Rattle.std.specs.Prelude.{Some, ℤ}
+use Rattle.std.proofs.lemmas.List.{drop-append-le, drop-drop}
 use Rattle.stream_config.specs.declared.state.LogFile.{LogFile}
 use Rattle.stream_config.specs.declared.event.Stamps.{Stamps}
 use Rattle.stream_config.specs.declared.attrs.FullAction.{FullAction}
@@ -61,3 +61,10 @@ standing-one attrs file some =
     let most = some-most attrs.action attrs.rotated some in
     let none : 1 - most_files attrs.action attrs.rotated ≡ 0 = omega arith in
     ap (λ n. drop n (file ∷ [])) none
+
+-- those that stand of files, the last of which stands always
+pub standing-push : (attrs : StreamAttrs) (files : List LogFile) (file : LogFile) → 1 ≤ attrs.rotated → standing attrs (files ++ file ∷ []) ≡ drop (length files + 1 - most_files attrs.action attrs.rotated) files ++ file ∷ []
+standing-push attrs files file some =
+    let most = some-most attrs.action attrs.rotated some in
+    ap (λ count. drop (count - most_files attrs.action attrs.rotated) (files ++ file ∷ [])) (length-append files (file ∷ []))
+    ∙ drop-append-le (length files + 1 - most_files attrs.action attrs.rotated) files (file ∷ []) (omega (arith, most))

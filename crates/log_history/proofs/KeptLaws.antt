@@ -1,8 +1,7 @@
 -- The answers after changes are those read of what is kept of them.
-use Rattle.std.proofs.Common.{◌≡◌, ℕ, ◌==◌, nat_lt, nat_le, Bool, true, false, not, ◌&&◌, ◌||◌, cond, List, [], ◌∷◌, length, map, refl, ap, sym, ◌∙◌}
-use Rattle.std.specs.Prelude.{Option, Some, None, option_map, filter, ℤ}
+use Rattle.std.proofs.Common.{◌≡◌, ℕ, ◌==◌, nat_lt, nat_le, true, false, not, ◌&&◌, ◌||◌, cond, List, [], ◌∷◌, length, refl, ap, sym, ◌∙◌}
+use Rattle.std.specs.Prelude.{Option, Some, None, option_map, ℤ}
 use Rattle.std.specs.Option.{option_map_or}
-use Rattle.std.specs.List.{find, list_any, count_by}
 use Rattle.client_set.specs.Members.{has}
 use Rattle.client_set.specs.Rising.{put, without}
 use Rattle.client_set.proofs.RisingLaws.{has-put, has-without}
@@ -18,8 +17,8 @@ use Rattle.log_history.specs.Handles.{is_using, is_open, users, openers}
 use Rattle.log_history.specs.Chronicle.{LogSetup, Stream, lives, is_living, chronicle}
 use Rattle.log_history.specs.Answers.{answer, begin_rows, open_rows, write_rows, close_rows, end_rows, store_rows, holds_all, living_stream, living_attrs, is_place_taken, is_crowded, is_full, begin_answer, open_answer, write_answer, close_answer, end_answer, store_answer, making_of}
 use Rattle.log_history.specs.Legal.{IsLogHistory}
-use Rattle.log_history.specs.Table.{OpenStream, LogTable, open_stream, table, is_named}
-use Rattle.log_history.specs.KeptAnswers.{kept_stream, kept_attrs, has_place, is_of_application, is_crowd, has_opener, is_filled, begin_status, open_status, write_status, close_status, end_status, store_status, making_in}
+use Rattle.log_history.specs.Table.{OpenStream, open_stream, table}
+use Rattle.log_history.specs.KeptAnswers.{kept_attrs, has_place, is_of_application, is_crowd, has_opener, is_filled, begin_status, open_status, write_status, close_status, end_status, store_status, making_in}
 use Rattle.stream_config.proofs.Equalities.{decides_name}
 use Rattle.log_history.proofs.FirstLaws.{Each, Each-find, list_any-map, list_any-filter, count_by-map, count_by-filter}
 use Rattle.log_history.proofs.Reaching.{both-true, reached}

@@ -5,4 +5,18 @@ pub mod Reaching
 pub mod FileLists
 pub mod TableLaws
 pub mod KeptLaws
+pub mod StreamLaws
+pub mod SoundStreams
+pub mod StampLaws
+pub mod EventLaws
+pub mod OnceLaws
+pub mod StampedLaws
+pub mod NamedLaws
+pub mod FoundLaws
+pub mod CarryLaws
+pub mod FilesLaws
+pub mod SpotLaws
+pub mod PlaceLaws
+pub mod RecordLaws
+pub mod FitTableLaws
 mod Rows

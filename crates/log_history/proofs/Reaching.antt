@@ -1,5 +1,5 @@
 -- What holds of every history: at most one living stream has a name, who has a stream open keeps it living, and attributes pass.
-use Rattle.std.proofs.Common.{◌≡◌, ℕ, ◌==◌, nat_lt, Bool, true, false, ◌&&◌, cond, List, [], ◌∷◌, ◌++◌, refl, ap, sym, ◌∙◌, subst}
+use Rattle.std.proofs.Common.{◌≡◌, ℕ, ◌==◌, nat_lt, Bool, true, false, ◌&&◌, cond, List, [], ◌∷◌, ◌++◌, refl, ap, sym, ◌∙◌}
 use Rattle.std.specs.Prelude.{Option, Some, None, is_some}
 use Rattle.std.specs.List.{find}
 use Rattle.client_set.specs.Rising.{put, without}
@@ -13,12 +13,12 @@ use Rattle.stream_config.proofs.Equalities.{decides_name}
 use Rattle.log_history.specs.Names.{is_application}
 use Rattle.log_history.specs.Changes.{LogChange, Began, Opened, Stored, Closed, Ended}
 use Rattle.log_history.specs.Handles.{openers}
-use Rattle.log_history.specs.Chronicle.{LogSetup, Stream, Chronicle, new_stream, lives, is_living, is_empty, is_idle, is_ending, with_record, with_end, after_ends, chronicle}
+use Rattle.log_history.specs.Chronicle.{LogSetup, Stream, Chronicle, new_stream, lives, is_living, is_empty, is_idle, is_ending, with_record, after_ends, chronicle}
 use Rattle.log_history.specs.Answers.{living_stream}
-use Rattle.log_history.specs.Legal.{IsSetup, IsLogHistory}
+use Rattle.log_history.specs.Legal.{IsLogHistory}
 use Rattle.log_history.proofs.FirstLaws.{none_is, Each, Each-push, Each-change_first, AtMostOne, AtMostOne-push, AtMostOne-change_first, find-push, find-change_first_none}
-use Rattle.log_history.proofs.AnswerLaws.{MakesStream, makes-stream}
-use Rattle.log_history.proofs.EndLaws.{Each-all_ended, AtMostOne-all_ended, find-all_ended_none, find-all_ended}
+use Rattle.log_history.proofs.AnswerLaws.{makes-stream}
+use Rattle.log_history.proofs.EndLaws.{Each-all_ended, AtMostOne-all_ended, find-all_ended}
 
 -- the attributes of a stream pass
 abbrev pub Passes : Stream → Type 0

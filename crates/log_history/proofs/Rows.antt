@@ -1,16 +1,15 @@
 -- Worked rows.
-use Rattle.std.proofs.Common.{◌≡◌, ℕ, ◌*◌, List, [], ◌∷◌, refl}
+use Rattle.std.proofs.Common.{◌≡◌, ℕ, ◌+◌, ◌*◌, List, [], ◌∷◌, map, refl}
 use Rattle.std.specs.Prelude.{Some, None, pos, codes, is_some, false}
 use Rattle.ais_values.specs.declared.status.Status.TheVariants as status
 use Rattle.stream_config.specs.declared.attrs.FullAction.{FullAction}
 use Rattle.stream_config.specs.declared.attrs.FullAction.TheVariants.{Wrap, Halt, Rotate}
 use Rattle.stream_config.specs.declared.attrs.StreamAttrs.{StreamAttrs}
-use Rattle.stream_config.specs.declared.attrs.StreamName.{StreamName}
 use Rattle.stream_config.specs.declared.attrs.StreamName.TheVariants.{System, App}
 use Rattle.stream_config.specs.Cfg.{cfg_of}
+use Rattle.stream_config.specs.Events.{open_file}
 use Rattle.stream_config.specs.WellKnown.{default_attrs}
 use Rattle.ais_values.specs.declared.kind.StreamKind.TheVariants as kind
-use Rattle.record_print.specs.declared.record.Header.{Header}
 use Rattle.record_print.specs.declared.record.Header.TheVariants.{Generic}
 use Rattle.record_print.specs.declared.record.LogRecord.{LogRecord}
 use Rattle.record_print.specs.Printing.{printed_record}
@@ -19,11 +18,13 @@ use Rattle.format_expr.specs.Tokens.{part_with, shown_parts}
 use Rattle.civil_time.specs.Stamps.{stamp_of}
 use Rattle.civil_time.specs.Fields.{civil_of, year_of, year_from, month_of, month_from}
 use Rattle.stream_layout.specs.Names.{log_name, cfg_name}
-use Rattle.stream_layout.specs.LogFiles.{Entries, entries_from, log_entries}
+use Rattle.stream_layout.specs.LogFiles.{entries_from, log_entries}
 use Rattle.log_history.specs.Changes.{LogChange, Began, Opened, Stored, Closed, Ended}
-use Rattle.log_history.specs.Chronicle.{LogSetup, Stream, chronicle}
+use Rattle.log_history.specs.Chronicle.{LogSetup}
 use Rattle.log_history.specs.Answers.{write_answer, living_stream}
-use Rattle.log_history.specs.Files.{log_entries_of, file_at}
+use Rattle.log_history.specs.Files.{file_at}
+use Rattle.log_history.specs.Places.{place_in}
+use Rattle.log_history.specs.AllNames.{names_ever}
 
 -- 2024-01-01T00:00:00 UTC
 abbrev start : ℕ
@@ -145,3 +146,39 @@ cfg_replaced = refl
 closed_file_stays : file_at (setup (attrs 64 1 Wrap)) place_again (codes "web/b_20240101_000003_20240101_000004.log") ≡ Some []
 unfolding file_at log_entries entries_from log_name cfg_name stamp_of civil_of year_of year_from month_of month_from
 closed_file_stays = refl
+
+-- places of records: the system stream is the third that was made
+
+-- WRAP with two records a file: the fourth of five stands behind the fifth, and the third gave its slot away
+fifth_first : place_in (setup (attrs 64 1 Wrap)) five 2 4 ≡ Some (codes "saLogSystem_20240101_000002.log", 0)
+unfolding log_name stamp_of civil_of year_of year_from month_of month_from
+fifth_first = refl
+
+fourth_behind : place_in (setup (attrs 64 1 Wrap)) five 2 3 ≡ Some (codes "saLogSystem_20240101_000002.log", 32)
+unfolding log_name stamp_of civil_of year_of year_from month_of month_from
+fourth_behind = refl
+
+third_gone : place_in (setup (attrs 64 1 Wrap)) five 2 2 ≡ None
+third_gone = refl
+
+-- ROTATE: the file of the second record is removed where one is kept, and closed where two are
+third_stands : place_in (setup (attrs 32 1 Rotate)) three 2 2 ≡ Some (codes "saLogSystem_20240101_000006.log", 0)
+unfolding log_name stamp_of civil_of year_of year_from month_of month_from
+third_stands = refl
+
+second_gone : place_in (setup (attrs 32 1 Rotate)) three 2 1 ≡ None
+second_gone = refl
+
+second_closed : place_in (setup (attrs 32 2 Rotate)) three 2 1 ≡ Some (codes "saLogSystem_20240101_000004_20240101_000005.log", 0)
+unfolding log_name stamp_of civil_of year_of year_from month_of month_from
+second_closed = refl
+
+-- HALT: the second of two records stands behind the first
+second_behind : place_in (setup (attrs 64 1 Halt)) two 2 1 ≡ Some (codes "saLogSystem_20240101_000002.log", 32)
+unfolding log_name stamp_of civil_of year_of year_from month_of month_from
+second_behind = refl
+
+-- every name that a file of three streams had, one of which changed its file twice
+names_of_three : names_ever (setup (attrs 32 1 Rotate)) three ≡ log_name (default_attrs kind.Alarm) (open_file (pos start)) ∷ log_name (default_attrs kind.Notification) (open_file (pos (start + 1))) ∷ map codes ("saLogSystem_20240101_000002.log" ∷ "saLogSystem_20240101_000002_20240101_000003.log" ∷ "saLogSystem_20240101_000004.log" ∷ "saLogSystem_20240101_000004_20240101_000005.log" ∷ "saLogSystem_20240101_000006.log" ∷ [])
+unfolding log_name stamp_of civil_of year_of year_from month_of month_from
+names_of_three = refl

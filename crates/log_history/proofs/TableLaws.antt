@@ -1,35 +1,31 @@
 -- What the service keeps after one more change is what the change makes of what it kept before.
-use Rattle.std.proofs.Common.{◌≡◌, ℕ, ◌+◌, ◌-◌, ◌≤◌, ◌==◌, nat_lt, Bool, true, false, not, ◌&&◌, ◌||◌, cond, List, [], ◌∷◌, ◌++◌, length, drop, map, refl, ap, sym, ◌∙◌, subst, arith, append_assoc, length-append}
-use Rattle.std.specs.Prelude.{Option, Some, None, option_map, is_some, is_none, filter, pos}
+use Rattle.std.proofs.Common.{◌≡◌, ℕ, ◌+◌, ◌≤◌, ◌==◌, nat_lt, Bool, true, false, not, ◌&&◌, cond, List, [], ◌∷◌, ◌++◌, length, map, refl, ap, sym, ◌∙◌, length-append}
+use Rattle.std.specs.Prelude.{Option, Some, None, option_map, is_none, filter, pos}
 use Rattle.std.specs.Option.{option_map_or}
 use Rattle.std.specs.List.{find}
 use Rattle.std.proofs.lemmas.List.{map-append}
 use Rattle.std.proofs.lemmas.List.Elements.{filter-append}
 use Rattle.client_set.specs.Rising.{put, without}
-use Rattle.stream_config.specs.Attributes.{PassesAttrs, kind_of}
 use Rattle.stream_config.specs.declared.attrs.StreamAttrs.{StreamAttrs}
 use Rattle.stream_config.specs.declared.attrs.StreamName.{StreamName}
 use Rattle.stream_config.specs.declared.state.LogFile.{LogFile}
 use Rattle.record_print.specs.declared.record.LogRecord.{LogRecord}
-use Rattle.stream_config.specs.declared.state.StreamState.{StreamState}
 use Rattle.stream_config.specs.declared.event.Stamps.{Stamps}
 use Rattle.stream_config.specs.Equality.{same_name}
-use Rattle.stream_config.specs.Events.{open_file, standing, files_changed}
-use Rattle.stream_config.specs.Fit.{changes_file}
+use Rattle.stream_config.specs.Events.{open_file, standing, files_changed, state_after}
 use Rattle.stream_config.specs.Stamps.{stamp_after}
 use Rattle.stream_config.proofs.Equalities.{decides_name}
-use Rattle.log_history.specs.Names.{is_application}
 use Rattle.log_history.specs.Firsts.{change_first}
 use Rattle.log_history.specs.Changes.{LogChange, Began, Opened, Stored, Closed, Ended}
 use Rattle.log_history.specs.Handles.{users, openers}
-use Rattle.log_history.specs.Chronicle.{LogSetup, Stream, Chronicle, new_stream, lives, is_living, is_due, is_empty, is_idle, is_ending, with_record, last_with_record, with_end, all_ended, last_of_ends, after_ends, chronicle, closed_file, all_files}
+use Rattle.log_history.specs.Chronicle.{LogSetup, Stream, Chronicle, new_stream, lives, is_living, is_due, is_idle, is_ending, with_record, last_with_record, all_ended, last_of_ends, after_ends, chronicle, closed_file}
 use Rattle.log_history.specs.Answers.{living_stream}
 use Rattle.log_history.specs.Legal.{IsLogHistory}
-use Rattle.log_history.specs.Table.{OpenStream, LogTable, state_of, open_stream, table, is_named, with_opener, without_opener, new_state, due_stamps, last_after_due, bytes_in, with_stored, has_nobody, last_after_ends, kept_streams, closed_streams, left_streams, opened_stream, table_after}
-use Rattle.log_history.proofs.FirstLaws.{none_is, some_is, Each, Each-filter, Each-find, AtMostOne, AtMostOne-filter, find-filter, filter-change_first, find-map, filter-map, map-change_first, map-beside, map-at_first}
-use Rattle.log_history.proofs.AnswerLaws.{MakesStream, makes-stream}
+use Rattle.log_history.specs.Table.{OpenStream, LogTable, state_of, open_stream, table, is_named, with_opener, without_opener, new_state, due_stamps, last_after_due, storing, with_stored, has_nobody, last_after_ends, kept_streams, closed_streams, left_streams, opened_stream, table_after}
+use Rattle.log_history.proofs.FirstLaws.{none_is, Each, Each-filter, AtMostOne, AtMostOne-filter, find-filter, filter-change_first, find-map, filter-map, map-change_first, map-beside, map-at_first}
+use Rattle.log_history.proofs.AnswerLaws.{makes-stream}
 use Rattle.log_history.proofs.EndLaws.{filter-all_ended}
-use Rattle.log_history.proofs.Reaching.{Passes, Reached, reached}
+use Rattle.log_history.proofs.Reaching.{Passes, reached}
 use Rattle.log_history.proofs.FileLists.{standing-changed, standing-one}
 
 same_table : (last last' : ℕ) (users users' : List ℕ) (streams streams' : List OpenStream) → last ≡ last' → users ≡ users' → streams ≡ streams' → let kept : LogTable = record { last = last; users = users; streams = streams } in let kept' : LogTable = record { last = last'; users = users'; streams = streams' } in kept ≡ kept'
@@ -58,14 +54,14 @@ opened-streams past client name second streams single =
     (λ stream is. ap (λ b. let opened : OpenStream = record { state = state_of stream; openers = cond b (put nat_lt client (openers past stream.name)) (openers past stream.name) } in opened) is)
     (living streams) (AtMostOne-filter lives (is_called name) streams single)
 
-closed-streams : (past : List LogChange) (client : ℕ) (name : StreamName) (second : ℕ) (streams : List Stream) → AtMostOne (is_living name) streams → map (open_stream (Closed client name second ∷ past)) (living streams) ≡ closed_streams client name (map (open_stream past) (living streams))
+pub closed-streams : (past : List LogChange) (client : ℕ) (name : StreamName) (second : ℕ) (streams : List Stream) → AtMostOne (is_living name) streams → map (open_stream (Closed client name second ∷ past)) (living streams) ≡ closed_streams client name (map (open_stream past) (living streams))
 closed-streams past client name second streams single =
     map-at_first (open_stream past) (is_called name) (is_named name) (λ _. refl) (open_stream (Closed client name second ∷ past)) (without_opener client)
     (λ stream is. ap (λ b. let closed : OpenStream = record { state = state_of stream; openers = cond b (without (λ other. other == client) (openers past stream.name)) (openers past stream.name) } in closed) is)
     (λ stream is. ap (λ b. let closed : OpenStream = record { state = state_of stream; openers = cond b (without (λ other. other == client) (openers past stream.name)) (openers past stream.name) } in closed) is)
     (living streams) (AtMostOne-filter lives (is_called name) streams single)
 
-left-streams : (past : List LogChange) (client second : ℕ) (streams : List Stream) → map (open_stream (Ended client second ∷ past)) streams ≡ left_streams client (map (open_stream past) streams)
+pub left-streams : (past : List LogChange) (client second : ℕ) (streams : List Stream) → map (open_stream (Ended client second ∷ past)) streams ≡ left_streams client (map (open_stream past) streams)
 left-streams past client second [] = refl
 left-streams past client second (stream ∷ streams) =
     ap (λ rest. open_stream (Ended client second ∷ past) stream ∷ rest) (left-streams past client second streams)
@@ -112,6 +108,11 @@ stored-stream past past' last second rec stream same some living =
     ap (λ taken. made None taken (now stream.ended) (openers past' stream.name)) (length-append stream.records (rec ∷ []))
     ∙ ap (λ files. made None (length stream.records + 1) files (openers past' stream.name)) files_are
     ∙ ap (λ clients. made None (length stream.records + 1) (then stream.ended) clients) same
+
+-- the state of a stream in which a record is stored
+pub state-recorded : (last second : ℕ) (rec : LogRecord) (stream : Stream) → 1 ≤ stream.attrs.rotated → stream.ended ≡ None → state_of (with_record last second rec stream) ≡ state_after (storing last second rec (state_of stream))
+state-recorded last second rec stream some living =
+    ap (λ (kept : OpenStream). kept.state) (stored-stream [] [] last second rec stream refl some living)
 
 none-ended : (ended : Option ℕ) → is_none ended ≡ true → ended ≡ None
 none-ended None is = refl

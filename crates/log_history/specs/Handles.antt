@@ -3,7 +3,7 @@ use Rattle.std.specs.Prelude.{ℕ, ◌==◌, nat_lt, Bool, false, not, ◌&&◌,
 use Rattle.client_set.specs.Rising.{put, without}
 use Rattle.stream_config.specs.declared.attrs.StreamName.{StreamName}
 use Rattle.stream_config.specs.Equality.{same_name}
-use Rattle.log_history.specs.Changes.{LogChange, Began, Opened, Stored, Closed, Ended}
+use Rattle.log_history.specs.Changes.{LogChange, Began, Opened, Closed, Ended}
 
 -- the client's last beginning or end is a beginning
 abbrev pub is_using : List LogChange → ℕ → Bool

@@ -9,3 +9,8 @@ pub mod KeptAnswers
 pub mod Names
 pub mod Firsts
 pub mod Times
+pub mod Stamps
+pub mod Deeds
+pub mod AllNames
+pub mod Places
+pub mod FitTables

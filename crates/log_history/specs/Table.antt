@@ -1,12 +1,11 @@
 -- Words of public clauses: what the service keeps of all that happened, and what one more change makes of it.
-use Rattle.std.specs.Prelude.{ℕ, ◌+◌, nat_lt, ◌==◌, Bool, not, ◌&&◌, if◌then◌else◌, pos, ℤ, List, [], ◌∷◌, ◌++◌, length, map, filter, Option, Some, None}
+use Rattle.std.specs.Prelude.{ℕ, ◌+◌, nat_lt, ◌==◌, Bool, not, ◌&&◌, if◌then◌else◌, pos, List, [], ◌∷◌, ◌++◌, length, map, filter, Option, Some, None}
 use Rattle.std.specs.Option.{option_map_or}
 use Rattle.std.specs.List.{find}
 use Rattle.client_set.specs.Rising.{put, without}
 use Rattle.format_expr.specs.Reading.{pieces_of}
 use Rattle.stream_config.specs.declared.attrs.StreamAttrs.{StreamAttrs}
 use Rattle.stream_config.specs.declared.attrs.StreamName.{StreamName}
-use Rattle.stream_config.specs.declared.state.LogFile.{LogFile}
 use Rattle.stream_config.specs.declared.state.StreamState.{StreamState}
 use Rattle.stream_config.specs.declared.event.Stamps.{Stamps}
 use Rattle.stream_config.specs.declared.event.StreamEvent.{StreamEvent}
@@ -22,7 +21,7 @@ use Rattle.log_history.specs.Names.{is_application}
 use Rattle.log_history.specs.Firsts.{change_first}
 use Rattle.log_history.specs.Changes.{LogChange, Began, Opened, Stored, Closed, Ended}
 use Rattle.log_history.specs.Handles.{users, openers}
-use Rattle.log_history.specs.Chronicle.{LogSetup, Stream, Chronicle, lives, is_empty, chronicle, all_files}
+use Rattle.log_history.specs.Chronicle.{LogSetup, Stream, lives, is_empty, chronicle, all_files}
 
 -- a living stream, and the clients that have it open, rising
 pub record OpenStream : Type 0 where

@@ -1,0 +1,91 @@
+//! Laws of the Log Service over all that may happen to it.
+ghost use Rattle.std.specs.Prelude.{◌≡◌, ◌⊎◌, ℕ, ◌≤◌, List, [], ◌∷◌, length, Some, option_map};
+ghost use Rattle.std.specs.List.{AllByRecursion};
+ghost use Rattle.std.specs.FinMap.{get};
+ghost use Rattle.client_set.specs.Members.{Stands};
+ghost use Rattle.disk_model.specs.Disk.{no_files, settled_file};
+ghost use Rattle.disk_model.specs.DeviceCalls.{all_applied};
+ghost use Rattle.stream_config.specs.declared.attrs.StreamAttrs.{StreamAttrs};
+ghost use Rattle.stream_config.specs.declared.attrs.StreamName.{StreamName};
+ghost use Rattle.record_print.specs.declared.record.LogRecord.{LogRecord};
+ghost use Rattle.stream_layout.specs.Names.{cfg_name};
+ghost use Rattle.stream_layout.specs.Deeds.{calls_of_all};
+ghost use Rattle.stream_layout.specs.Carrying.{IsFitEvent};
+ghost use Rattle.log_history.specs.Changes.{LogChange, Stored};
+ghost use Rattle.log_history.specs.Chronicle.{LogSetup, Stream, chronicle};
+ghost use Rattle.log_history.specs.Table.{state_of, bytes_in, table, table_after, events_of};
+ghost use Rattle.log_history.specs.FitTables.{IsFitTable};
+ghost use Rattle.log_history.specs.Legal.{IsSetup, IsLogHistory};
+ghost use Rattle.log_history.specs.Files.{file_at, disk_files};
+ghost use Rattle.log_history.specs.Stamps.{second_in, CanStamp, stamps_of_all};
+ghost use Rattle.log_history.specs.Deeds.{deeds_by, opening_deeds};
+ghost use Rattle.log_history.specs.Answers.{living_stream};
+ghost use Rattle.log_history.specs.Places.{record_in, place_in, stream_number, IsAt};
+ghost use Rattle.log_history.specs.AllNames.{NoneTwice, names_ever};
+
+/// What is kept after one more change is what the change makes of what was kept; it is fit, so that
+/// it can be kept on; and each event that the change brings to a stream can happen to it.
+pub fn law_of_changes()
+    ensures table { (setup : LogSetup) (change : LogChange) (past : List LogChange) →
+        IsLogHistory setup (change ∷ past) →
+        table setup (change ∷ past) ≡ table_after change (table setup past) }
+    ensures fit { (setup : LogSetup) (past : List LogChange) → IsLogHistory setup past →
+        (chronicle setup past).last ≤ 20000000100 → IsFitTable (table setup past) }
+    ensures events { (setup : LogSetup) (past : List LogChange) (change : LogChange) →
+        IsLogHistory setup (change ∷ past) → CanStamp setup past (second_in change) →
+        AllByRecursion IsFitEvent (events_of change (table setup past)) }
+{}
+
+/// All stamps that a service gave differ, and none is behind its last one. So all names differ that
+/// files of records ever had, those of files that do not stand any more among them; and each file
+/// that stands has one of these names, or is a stream's cfg.
+pub fn law_of_names()
+    ensures stamps { (setup : LogSetup) (past : List LogChange) →
+        NoneTwice (stamps_of_all (chronicle setup past).streams) }
+    ensures last { (setup : LogSetup) (past : List LogChange) (stamp : ℕ) →
+        Stands stamp (stamps_of_all (chronicle setup past).streams) →
+        stamp ≤ (chronicle setup past).last }
+    ensures names { (setup : LogSetup) (past : List LogChange) →
+        (chronicle setup past).last ≤ 20000000100 →
+        NoneTwice (names_ever setup past) }
+    ensures files { (setup : LogSetup) (past : List LogChange) (name bytes : List ℕ) →
+        file_at setup past name ≡ Some bytes →
+        Stands name (names_ever setup past) ⊎ ((attrs : StreamAttrs) × (name ≡ cfg_name attrs)) }
+{}
+
+/// Performing the deeds of a change on the files before it gives the files after it; performing
+/// those of the start on no files gives the files of a service to which nothing happened yet.
+pub fn law_of_files()
+    ensures found { (setup : LogSetup) (past : List LogChange) (name : List ℕ) →
+        get (disk_files setup past) name ≡ option_map settled_file (file_at setup past name) }
+    ensures changes { (setup : LogSetup) (past : List LogChange) (change : LogChange) →
+        IsLogHistory setup (change ∷ past) → CanStamp setup past (second_in change) →
+        all_applied (calls_of_all (deeds_by setup change past)) (disk_files setup past)
+        ≡ disk_files setup (change ∷ past) }
+    ensures start { (setup : LogSetup) → IsSetup setup → setup.start ≤ 20000000000 →
+        all_applied (calls_of_all (opening_deeds setup)) no_files ≡ disk_files setup [] }
+{}
+
+/// A record keeps its number in its stream and its bytes whatever changes; one that is stored is the
+/// last of its stream. It stands at its place among the files, with its bytes, until its slot is
+/// given away or its file removed, and no other record stands there.
+pub fn law_of_records()
+    ensures stored { (setup : LogSetup) (past : List LogChange) (name : StreamName) (rec : LogRecord)
+        (second : ℕ) (stream : Stream) → living_stream setup past name ≡ Some stream →
+        record_in setup (Stored name rec second ∷ past) (stream_number setup past name)
+        (length stream.records)
+        ≡ Some (bytes_in (state_of stream) rec) }
+    ensures kept { (setup : LogSetup) (past : List LogChange) (change : LogChange)
+        (stream number : ℕ) (bytes : List ℕ) → record_in setup past stream number ≡ Some bytes →
+        record_in setup (change ∷ past) stream number ≡ Some bytes }
+    ensures stands { (setup : LogSetup) (past : List LogChange) (stream number : ℕ) (bytes : List ℕ)
+        (place : List ℕ × ℕ) → IsLogHistory setup past →
+        (chronicle setup past).last ≤ 20000000100 →
+        record_in setup past stream number ≡ Some bytes →
+        place_in setup past stream number ≡ Some place → IsAt bytes place (disk_files setup past) }
+    ensures alone { (setup : LogSetup) (past : List LogChange) (one other number second : ℕ)
+        (place : List ℕ × ℕ) → IsLogHistory setup past →
+        (chronicle setup past).last ≤ 20000000100 →
+        place_in setup past one number ≡ Some place →
+        place_in setup past other second ≡ Some place → (one ≡ other) × (number ≡ second) }
+{}
