@@ -1,0 +1,11 @@
+mod StreamLemmas
+mod PlaceLemmas
+mod EndLemmas
+mod StoreLemmas
+mod CloseLemmas
+mod KeptLemmas
+mod WriteLemmas
+mod OpenLemmas
+mod BeginLemmas
+pub mod FewLemmas
+mod BackLemmas

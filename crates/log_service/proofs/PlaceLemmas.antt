@@ -1,0 +1,112 @@
+-- The first element that passes a test, by its place.
+use Rattle.std.proofs.Common.{◌≡◌, ℕ, ◌+◌, ◌<◌, ◌≤◌, suc, zero, Bool, true, false, not, cond, ltb, List, [], ◌∷◌, ◌++◌, length, get_or, set, take, drop, map, append-nil, subst, refl, ap, sym, ◌∙◌, arith}
+use Rattle.std.specs.Prelude.{Option, Some, None, Result, Ok, Err, OnOk, OnErr}
+use Rattle.std.proofs.Math.ListN.{drop_of_length-le}
+use Rattle.std.proofs.lemmas.List.{take_all}
+use Rattle.std.specs.List.{find, position, position_or_len, list_any, remove}
+use Rattle.std.proofs.lemmas.Bool.Decides.{nat_tests}
+use Rattle.log_history.specs.Firsts.{change_first}
+
+-- the place of the first one that passes
+pub record IsFirst {X : Type 0} (test : X → Bool) (xs : List X) (place : ℕ) : Type 0 where
+  pub within : place < length xs
+  pub found : (d : X) → find test xs ≡ Some (get_or xs place d)
+  pub changed : (change : X → X) (d : X) → change_first test change xs ≡ set xs place (change (get_or xs place d))
+
+-- nothing passes
+pub record IsNowhere {X : Type 0} (test : X → Bool) (xs : List X) : Type 0 where
+  pub none : find test xs ≡ None
+  pub unchanged : (change : X → X) → change_first test change xs ≡ xs
+
+module _ {X : Type 0} (test : X → Bool) where
+  first-at : (xs : List X) → position_or_len test xs < length xs → IsFirst test xs (position_or_len test xs)
+  first-at [] within = absurd (omega arith)
+  first-at (x ∷ xs) within =
+      (elim (test x) as (λ b. test x ≡ b → cond (not b) (1 + position_or_len test xs) 0 < length (x ∷ xs) → IsFirst test (x ∷ xs) (cond (not b) (1 + position_or_len test xs) 0)) [
+        | true ↦ λ is here. record {
+          within = here;
+          found = λ d. ap (λ b. cond b (Some x) (find test xs)) is;
+          changed = λ change d. ap (λ b. cond b (change x ∷ xs) (x ∷ change_first test change xs)) is;
+        }
+        | false ↦ λ is here. let next : suc (position_or_len test xs) ≡ 1 + position_or_len test xs = omega arith in subst (λ (k : ℕ). IsFirst test (x ∷ xs) k) next (behind is (omega arith) (first-at xs (omega arith)))
+      ]) refl within where
+        behind : test x ≡ false → suc (position_or_len test xs) < length (x ∷ xs) → IsFirst test xs (position_or_len test xs) → IsFirst test (x ∷ xs) (suc (position_or_len test xs))
+        behind is here rest = record {
+          within = here;
+          found = λ d. ap (λ b. cond b (Some x) (find test xs)) is ∙ rest.found d;
+          changed = λ change d. ap (λ b. cond b (change x ∷ xs) (x ∷ change_first test change xs)) is ∙ ap (λ more. x ∷ more) (rest.changed change d);
+        }
+
+  nowhere : (xs : List X) → length xs ≤ position_or_len test xs → IsNowhere test xs
+  nowhere [] past = record { none = refl; unchanged = λ change. refl }
+  nowhere (x ∷ xs) past =
+      (elim (test x) as (λ b. test x ≡ b → length (x ∷ xs) ≤ cond (not b) (1 + position_or_len test xs) 0 → IsNowhere test (x ∷ xs)) [
+        | true ↦ λ is none. absurd (omega arith)
+        | false ↦ λ is none. behind is (nowhere xs (omega arith))
+      ]) refl past where
+        behind : test x ≡ false → IsNowhere test xs → IsNowhere test (x ∷ xs)
+        behind is rest = record {
+          none = ap (λ b. cond b (Some x) (find test xs)) is ∙ rest.none;
+          unchanged = λ change. ap (λ b. cond b (change x ∷ xs) (x ∷ change_first test change xs)) is ∙ ap (λ more. x ∷ more) (rest.unchanged change);
+        }
+
+  -- what `position` tells
+  pub first-is : (xs : List X) (place : ℕ) → position test xs ≡ Some place → IsFirst test xs place
+  first-is xs place is = by_case (ltb (position_or_len test xs) (length xs)) refl is where
+    by_case : (b : Bool) → ltb (position_or_len test xs) (length xs) ≡ b → cond b (Some (position_or_len test xs)) None ≡ Some place → IsFirst test xs place
+    by_case true below same =
+        let e : position_or_len test xs ≡ place = cc in
+        subst (λ (k : ℕ). IsFirst test xs k) e (first-at xs (grind (arith, nat_tests)))
+    by_case false past same = absurd cc
+
+  pub nowhere-is : (xs : List X) → position test xs ≡ None → IsNowhere test xs
+  nowhere-is xs is = by_case (ltb (position_or_len test xs) (length xs)) refl is where
+    by_case : (b : Bool) → ltb (position_or_len test xs) (length xs) ≡ b → cond b (Some (position_or_len test xs)) None ≡ None → IsNowhere test xs
+    by_case true below same = absurd cc
+    by_case false past same = nowhere xs (grind (arith, nat_tests))
+
+  -- the one at the place changed
+  pub changed-at : (xs : List X) (place : ℕ) (read new : X) (change : X → X) → IsFirst test xs place → read ≡ get_or xs place read → new ≡ change read → set xs place new ≡ change_first test change xs
+  changed-at xs place read new change first is changes =
+      ap (set xs place) (changes ∙ ap change is) ∙ sym (first.changed change read)
+
+  pub found-at : (xs : List X) (place : ℕ) (read : X) → IsFirst test xs place → read ≡ get_or xs place read → find test xs ≡ Some read
+  found-at xs place read first is = first.found read ∙ ap Some (sym is)
+
+-- what holds with an `Ok` also holds where it follows
+pub on-ok : {T E : Type 0} {P Q : Type 0} (result : Result T E) → (P → Q) → OnOk result P → OnOk result Q
+on-ok (Ok value) leads holds = leads holds
+on-ok (Err error) leads holds = tt
+
+pub on-err : {T E : Type 0} {P : Type 0} (result : Result T E) → P → OnErr result P
+on-err (Ok value) holds = tt
+on-err (Err error) holds = holds
+
+-- two reads of one place are the same
+pub same-read : {X : Type 0} (xs : List X) (place : ℕ) (one other : X) → place < length xs → one ≡ get_or xs place one → other ≡ get_or xs place other → one ≡ other
+same-read [] place one other within is was = absurd (omega arith)
+same-read (x ∷ xs) zero one other within is was = is ∙ sym was
+same-read (x ∷ xs) (suc place) one other within is was = same-read xs place one other (omega arith) is was
+
+-- what was read written again
+pub set-read : {X : Type 0} (xs : List X) (place : ℕ) (read : X) → read ≡ get_or xs place read → place < length xs → set xs place read ≡ xs
+set-read [] place read is within = refl
+set-read (x ∷ xs) zero read is within = ap (λ y. y ∷ xs) is
+set-read (x ∷ xs) (suc place) read is within = ap (λ rest. x ∷ rest) (set-read xs place read is (omega arith))
+
+-- one more of a list is mapped
+mapped : {X : Type 0} (f : X → X) (xs : List X) (place : ℕ) (read : X) → place < length xs → read ≡ get_or (map f (take place xs) ++ drop place xs) place read → set (map f (take place xs) ++ drop place xs) place (f read) ≡ map f (take (suc place) xs) ++ drop (suc place) xs
+mapped f [] place read within is = absurd (omega arith)
+mapped f (x ∷ xs) zero read within is = ap (λ y. f y ∷ xs) is
+mapped f (x ∷ xs) (suc place) read within is = ap (λ rest. f x ∷ rest) (mapped f xs place read (omega arith) is)
+
+pub map-more : {X : Type 0} (f : X → X) (xs now : List X) (place : ℕ) (read new : X) → place < length xs → now ≡ map f (take place xs) ++ drop place xs → read ≡ get_or now place read → new ≡ f read → set now place new ≡ map f (take (place + 1) xs) ++ drop (place + 1) xs
+map-more f xs now place read new within now_is is new_is =
+    let one : place + 1 ≡ suc place = omega arith in
+    ap (set now place) new_is ∙ ap (λ list. set list place (f read)) now_is
+    ∙ mapped f xs place read within (is ∙ ap (λ list. get_or list place read) now_is)
+    ∙ ap (λ k. map f (take k xs) ++ drop k xs) (sym one)
+
+pub map-whole : {X : Type 0} (f : X → X) (xs now : List X) (place : ℕ) → length xs ≤ place → now ≡ map f (take place xs) ++ drop place xs → now ≡ map f xs
+map-whole f xs now place past is =
+    is ∙ ap (λ front. map f front ++ drop place xs) (take_all place xs past) ∙ ap (λ back. map f xs ++ back) (drop_of_length-le xs past) ∙ append-nil (map f xs)

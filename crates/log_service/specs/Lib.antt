@@ -1,0 +1,6 @@
+pub mod Moments
+pub mod Changing
+pub mod Inside
+pub mod State
+pub mod Kept
+pub mod Beginning

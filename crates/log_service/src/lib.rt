@@ -1,0 +1,18 @@
+//! The log service's state: who uses it, which streams live and who has them open, and what each call answers and
+//! does to streams.
+#![tactic(auto)]
+
+mod begin;
+mod files;
+mod law;
+mod live;
+mod records;
+mod state;
+mod step;
+mod streams;
+#[cfg(test)]
+mod tests;
+
+pub use law::law_of_history;
+pub use state::LogState;
+pub use step::Step;

@@ -1,0 +1,257 @@
+//! A living stream, as the state keeps it.
+ghost use Rattle.std.specs.Prelude.{◌≡◌, ◌≤ℤ◌, ◌<◌, ℕ, pos, unsigned_abs, IsTrue, IfOk, OnOk, OnErr};
+ghost use Rattle.client_set.specs.Members.{has};
+ghost use Rattle.format_expr.specs.Reading.{pieces_of};
+ghost use Rattle.stream_config.specs.Attributes.{kind_of, PassesAttrs};
+ghost use Rattle.stream_config.specs.AttributeTests.{have_one_place};
+ghost use Rattle.stream_config.specs.Equality.{same_attrs};
+ghost use Rattle.record_print.specs.Printing.{can_print};
+ghost use Rattle.log_history.specs.Answers.{holds_all};
+ghost use Rattle.log_history.specs.Table.{OpenStream, is_named, with_opener, without_opener, has_nobody, new_state, last_after_due, storing, with_stored};
+ghost use Rattle.log_history.specs.KeptAnswers.{is_of_application};
+ghost use Rattle.log_service.specs.Moments.{IsMoment, second_of, HasStored};
+ghost use Rattle.log_service.specs.Changing.{put_back};
+
+use crate::files::{due_stamps, files_changed, last_after};
+use ais_values::{Duplicate, Seq};
+use client_set::ClientSet;
+use format_expr::{Expr, ExprAnswer, parse_expr};
+use record_print::{LogRecord, print_record};
+use std::alloc::{AllocError, Global};
+use std::marker::Model;
+use stream_config::{
+    FullAction, LogFile, StreamAttrs, StreamEvent, StreamName, StreamState, have_one_place,
+    per_file,
+};
+
+/// A living stream, the clients that have it open, and its expression, which was read when the stream was made.
+#[derive(Drop)]
+pub(crate) struct LiveStream {
+    state: StreamState,
+    openers: ClientSet,
+    expr: Expr,
+}
+
+impl Model for LiveStream {
+    ghost use Rattle.log_history.specs.Table.{OpenStream};
+
+    ghost Value = { OpenStream };
+
+    ghost use Rattle.log_service.specs.Inside.{stream_of, IsKeptStream};
+
+    ghost view = { stream_of };
+
+    ghost invariant = { IsKeptStream };
+}
+
+/// The expression of a stream with attributes that pass.
+fn expression(alloc: Global, name: &StreamName, attrs: &StreamAttrs) -> Result<Expr, AllocError>
+    requires { PassesAttrs (kind_of name.now) attrs.now }
+    ensures { IfOk result (λ expr. expr.pieces ≡ pieces_of attrs.now.expr) }
+{
+    match parse_expr(alloc, name.kind(), attrs.expr.as_slice()) {
+        Ok(expr) => Ok(expr),
+        Err(ExprAnswer::Memory) => Err(AllocError),
+        Err(ExprAnswer::Bad { .. }) => unreachable!(),
+    }
+}
+
+/// The state of a stream that is made at this stamp.
+pub(crate) fn new_state(
+    alloc: Global,
+    name: StreamName,
+    attrs: StreamAttrs,
+    created: i64,
+) -> Result<StreamState, AllocError>
+    requires { pos 0 ≤ℤ created }
+    ensures { IfOk result (λ state. state ≡ new_state name attrs (unsigned_abs created)) }
+{
+    let mut files = Seq::new(alloc);
+    files.push(LogFile {
+        created,
+        closed: None,
+    })?;
+    Ok(StreamState {
+        name,
+        attrs,
+        taken: 0,
+        files,
+    })
+}
+
+impl LiveStream {
+    /// A living stream with these parts.
+    pub(crate) fn rebuild(
+        alloc: Global,
+        state: StreamState,
+        openers: ClientSet,
+    ) -> Result<LiveStream, AllocError>
+        requires { PassesAttrs (kind_of state.name) state.attrs }
+        ensures { IfOk result (λ stream. stream ≡ record { state = state; openers = openers }) }
+    {
+        let expr = expression(alloc, &state.name, &state.attrs)?;
+        Ok(LiveStream {
+            state,
+            openers,
+            expr,
+        })
+    }
+
+    /// A new stream, made at this stamp.
+    pub(crate) fn make(
+        alloc: Global,
+        name: StreamName,
+        attrs: StreamAttrs,
+        created: i64,
+        openers: ClientSet,
+    ) -> Result<LiveStream, AllocError>
+        requires passes { PassesAttrs (kind_of name) attrs }
+        requires stamp { pos 0 ≤ℤ created }
+        ensures { IfOk result (λ stream. stream
+            ≡ record { state = new_state name attrs (unsigned_abs created); openers = openers }) }
+    {
+        let state = new_state(alloc, name, attrs, created)?;
+        LiveStream::rebuild(alloc, state, openers)
+    }
+
+    /// What stands of the stream.
+    pub(crate) fn state(&self) -> &StreamState
+        ensures { result.now ≡ self.now.state }
+    {
+        &self.state
+    }
+
+    /// The clients that have the stream open, rising.
+    pub(crate) fn openers(&self) -> &[u16]
+        ensures { result.now ≡ self.now.openers }
+    {
+        self.openers.as_slice()
+    }
+
+    pub(crate) fn is_named(&self, name: &StreamName) -> bool
+        ensures { result ≡ is_named name.now self.now }
+    {
+        self.state.name == *name
+    }
+
+    pub(crate) fn is_open_for(&self, client: u16) -> bool
+        ensures { result ≡ has client self.now.openers }
+    {
+        self.openers.contains(client)
+    }
+
+    pub(crate) fn is_of_application(&self) -> bool
+        ensures { result ≡ is_of_application self.now }
+    {
+        matches!(self.state.name, StreamName::App { .. })
+    }
+
+    pub(crate) fn has_attrs(&self, attrs: &StreamAttrs) -> bool
+        ensures { result ≡ same_attrs attrs.now self.now.state.attrs }
+    {
+        *attrs == self.state.attrs
+    }
+
+    pub(crate) fn has_place_of(&self, attrs: &StreamAttrs) -> bool
+        ensures { result ≡ have_one_place self.now.state.attrs attrs.now }
+    {
+        have_one_place(&self.state.attrs, attrs)
+    }
+
+    /// Whether the stream halts and has as many records as its file holds.
+    pub(crate) fn holds_all(&self) -> bool
+        ensures { result ≡ holds_all self.now.state.attrs self.now.state.taken }
+    {
+        self.state.attrs.action == FullAction::Halt
+            && self.state.taken >= per_file(&self.state.attrs)
+    }
+
+    /// A client opens the stream. On an error nothing changes.
+    pub(crate) fn join(&mut self, client: u16) -> Result<(), AllocError>
+        ensures ok { OnOk result (self.new ≡ with_opener client self.old) }
+        ensures err { OnErr result (self.new ≡ self.old) }
+    {
+        self.openers.insert(client)
+    }
+
+    /// A client closes the stream.
+    pub(crate) fn leave(&mut self, client: u16)
+        ensures { self.new ≡ without_opener client self.old }
+    {
+        self.openers.remove(client);
+    }
+
+    /// Whether the stream is an application's and nobody has it open.
+    pub(crate) fn is_idle(&self) -> bool
+        ensures { result ≡ has_nobody self.now }
+    {
+        self.is_of_application() && self.openers.as_slice().is_empty()
+    }
+
+    /// Whether the stream ends when this client closes it.
+    pub(crate) fn ends_without(&self, client: u16) -> bool
+        ensures { result ≡ has_nobody (without_opener client self.now) }
+    {
+        self.is_of_application()
+            && self
+                .openers
+                .as_slice()
+                .iter()
+                .all(|opener| *opener == client)
+    }
+
+    /// What the storing of a record does.
+    pub(crate) fn storing(
+        &self,
+        alloc: Global,
+        last: i64,
+        rec: &LogRecord,
+        now: i64,
+    ) -> Result<StreamEvent, AllocError>
+        requires moment { IsMoment last now }
+        requires printable { IsTrue (can_print rec.now) }
+        requires numbers { self.now.state.taken < 4294967294 }
+        ensures { IfOk result (λ event. event
+            ≡ storing (unsigned_abs last) (second_of now) rec.now self.now.state) }
+    {
+        let stamps = due_stamps(&self.state, last, now);
+        let size = self.state.attrs.record_size;
+        let bytes = print_record(alloc, &self.expr, self.state.taken + 1, rec, size)?;
+        let before = self.state.copy(alloc)?;
+        Ok(StreamEvent::Stored {
+            before,
+            bytes,
+            stamps,
+        })
+    }
+
+    /// Stores a record. The answer is the last stamp then, and the event. On an error nothing changes.
+    pub(crate) fn store(
+        &mut self,
+        alloc: Global,
+        last: i64,
+        rec: &LogRecord,
+        now: i64,
+    ) -> Result<(i64, StreamEvent), AllocError>
+        requires moment { IsMoment last now }
+        requires printable { IsTrue (can_print rec.now) }
+        requires numbers { self.old.state.taken < 4294967294 }
+        ensures ok { IfOk result (HasStored last now rec.now self.old self.new) }
+        ensures err { OnErr result (self.new ≡ self.old) }
+    {
+        let stamps = due_stamps(&self.state, last, now);
+        let files = files_changed(alloc, &self.state.attrs, stamps, &self.state.files)?;
+        let event = self.storing(alloc, last, rec, now)?;
+        self.state.files = files;
+        self.state.taken += 1;
+        Ok((last_after(last, stamps), event))
+    }
+
+    /// Puts the records and files back that the stream had in this state.
+    pub(crate) fn put_back(&mut self, before: StreamState)
+        ensures { self.new ≡ put_back before self.old }
+    {
+        self.state.taken = before.taken;
+        self.state.files = before.files;
+    }
+}

@@ -1,0 +1,85 @@
+//! Records as they are accepted.
+ghost use Rattle.std.specs.Prelude.{◌≡◌, IfOk};
+ghost use Rattle.record_print.specs.Records.{can_write};
+ghost use Rattle.log_history.specs.Times.{filled_time, filled_header, record_at};
+ghost use Rattle.log_service.specs.State.{stream_of_kind};
+
+use ais_values::{Duplicate, StreamKind, Text, UNKNOWN_TIME};
+use record_print::{Header, LogRecord, check_write};
+use std::alloc::{AllocError, Global};
+use stream_config::StreamName;
+
+/// Whether a record may be written to a stream of the kind.
+pub(crate) fn may_write(kind: StreamKind, time: i64, header: &Header) -> bool
+    ensures { result ≡ can_write kind time header.now }
+{
+    check_write(kind, time, header).is_ok()
+}
+
+/// The stream for the records of notifications of a kind, which has their header.
+pub(crate) fn stream_of_kind(kind: StreamKind) -> StreamName
+    ensures { result ≡ stream_of_kind kind }
+{
+    match kind {
+        StreamKind::Alarm => StreamName::Alarm,
+        StreamKind::Notification | StreamKind::System | StreamKind::Application => {
+            StreamName::Notification
+        }
+    }
+}
+
+/// A time, or this moment where it is the unknown one.
+fn filled_time(time: i64, now: i64) -> i64
+    ensures { result ≡ filled_time time now }
+{
+    if time == UNKNOWN_TIME { now } else { time }
+}
+
+/// The header with its time filled in.
+fn filled_header(alloc: Global, header: &Header, now: i64) -> Result<Header, AllocError>
+    ensures { IfOk result (λ filled. filled ≡ filled_header header.now now) }
+{
+    match header {
+        Header::Ntf {
+            id,
+            event_type,
+            object,
+            notifier,
+            class,
+            event_time,
+        } => Ok(Header::Ntf {
+            id: *id,
+            event_type: *event_type,
+            object: object.copy(alloc)?,
+            notifier: notifier.copy(alloc)?,
+            class: *class,
+            event_time: filled_time(*event_time, now),
+        }),
+        Header::Generic {
+            class,
+            user,
+            severity,
+        } => Ok(Header::Generic {
+            class: *class,
+            user: user.copy(alloc)?,
+            severity: *severity,
+        }),
+    }
+}
+
+/// The record of a write that is accepted at this moment.
+pub(crate) fn record_at(
+    alloc: Global,
+    time: i64,
+    header: &Header,
+    body: &Text,
+    now: i64,
+) -> Result<LogRecord, AllocError>
+    ensures { IfOk result (λ rec. rec ≡ record_at time header.now body.now now) }
+{
+    Ok(LogRecord {
+        time: filled_time(time, now),
+        header: filled_header(alloc, header, now)?,
+        body: body.copy(alloc)?,
+    })
+}

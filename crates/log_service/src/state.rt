@@ -1,0 +1,626 @@
+//! The state, and what each call answers and makes of it.
+ghost use Rattle.std.specs.Prelude.{◌≡◌, ◌≢◌, ◌↔◌, ◌<◌, ◌≤ℤ◌, pos, unsigned_abs, length, map, IfOk, OnErr, IsTrue, [], slice_get, option_map};
+ghost use Rattle.std.specs.Option.{option_copied};
+ghost use Rattle.client_set.specs.Members.{has};
+ghost use Rattle.stream_config.specs.AttributeTests.{passes_attrs};
+ghost use Rattle.log_history.specs.Names.{is_application};
+ghost use Rattle.record_print.specs.Printing.{can_print};
+ghost use Rattle.log_history.specs.Chronicle.{LogSetup};
+ghost use Rattle.log_history.specs.Changes.{Began, Opened, Stored, Closed, Ended};
+ghost use Rattle.log_history.specs.Times.{filled_time, filled_header, record_at};
+ghost use Rattle.log_history.specs.Table.{OpenStream, LogTable, events_of};
+ghost use Rattle.log_history.specs.KeptAnswers.{begin_status, open_status, write_status, close_status, end_status, store_status, has_opener, is_filled, is_crowd, kept_attrs, making_in};
+ghost use Rattle.log_service.specs.Moments.{IsTimeOfCall, second_of};
+ghost use Rattle.log_service.specs.State.{HasJustStored, IsCallTime, HasNumberLeft, Made, Left, stream_of_kind, IsNotified, BeginsWith, CanBeginWith, HasBegun, table_with, joined_streams, IsSoundTable};
+ghost use Rattle.log_service.specs.Changing.{making_status};
+
+use crate::live::LiveStream;
+use crate::records::{may_write, record_at, stream_of_kind};
+use crate::step::Step;
+use crate::{begin, streams};
+use ais_values::{Seq, Status, StreamKind, Text};
+use client_set::ClientSet;
+use record_print::{Header, LogRecord};
+use std::alloc::{AllocError, Global};
+use std::marker::Model;
+use stream_config::{StreamAttrs, StreamEvent, StreamName, StreamState, check_attrs};
+
+/// The most streams of applications that live at once.
+const MOST_APPLICATIONS: usize = 64;
+
+/// Whether a stream of the kind may have these attributes.
+fn passes_attrs(kind: StreamKind, attrs: &StreamAttrs) -> bool
+    ensures { result ≡ passes_attrs kind attrs.now }
+{
+    check_attrs(kind, attrs).is_ok()
+}
+
+/// Whether the name is of an application's stream.
+fn is_application(name: &StreamName) -> bool
+    ensures { result ≡ is_application name.now }
+{
+    matches!(name, StreamName::App { .. })
+}
+
+/// The last stamp, the clients that use the service, and the living streams in order of creation, each with the
+/// clients that have it open.
+#[derive(Drop)]
+pub struct LogState {
+    last: i64,
+    users: ClientSet,
+    streams: Vec<LiveStream>,
+}
+
+impl Model for LogState {
+    ghost use Rattle.log_history.specs.Table.{LogTable};
+
+    ghost Value = { LogTable };
+
+    ghost use Rattle.log_service.specs.Kept.{table_of, IsKeptState};
+
+    ghost view = { table_of };
+
+    ghost invariant = { IsKeptState };
+}
+
+impl LogState {
+    /// The state of a service that nobody has used, and what was done to streams: the alarm, the notification and
+    /// the system stream were made in this order, of these attributes, the first at the second of the start.
+    pub fn new(
+        alloc: Global,
+        start: i64,
+        wells: Seq<StreamAttrs>,
+    ) -> Result<(LogState, Seq<StreamEvent>), AllocError>
+        requires time { IsTimeOfCall start }
+        requires wells { CanBeginWith start wells }
+        ensures { IfOk result (λ made. (setup : LogSetup) → BeginsWith setup start wells →
+            HasBegun setup made) }
+    {
+        let (last, streams, events) = begin::wells(alloc, start, wells.as_slice())?;
+        let state = LogState {
+            last,
+            users: ClientSet::new(alloc),
+            streams,
+        };
+        Ok((state, events))
+    }
+
+    /// The state with these parts: the last stamp, the clients that use the service, the living streams in order
+    /// of creation, and for each of them the clients that have it open. On an error there is no state.
+    pub fn rebuild(
+        alloc: Global,
+        last_stamp: i64,
+        users: Seq<u16>,
+        streams: Seq<StreamState>,
+        openers: Seq<Seq<u16>>,
+    ) -> Result<LogState, AllocError>
+        requires last { pos 0 ≤ℤ last_stamp }
+        requires lengths { length streams ≡ length openers }
+        requires sound { IsSoundTable
+            (table_with (unsigned_abs last_stamp) users (joined_streams streams openers)) }
+        ensures { IfOk result (λ state. state
+            ≡ table_with (unsigned_abs last_stamp) users (joined_streams streams openers)) }
+    {
+        let streams = begin::rebuilt(alloc, streams, openers.as_slice())?;
+        Ok(LogState {
+            last: last_stamp,
+            users: ClientSet::from_rising(users.into_vec()),
+            streams,
+        })
+    }
+
+    /// Begins a client's use of the service (the library call for initialisation). `NoResources` exactly where it
+    /// uses the service already. On an error, and with another answer than ok, nothing changes.
+    pub fn init(&mut self, alloc: Global, client: u16, _now: i64) -> Result<Step, AllocError>
+        ensures status { IfOk result (λ step. step.status ≡ begin_status self.old client) }
+        ensures ok { IfOk result (λ step. step.status ≡ Status.Ok
+            → Made (Began client) self.old self.new step.events) }
+        ensures refused { IfOk result (λ step. step.status ≢ Status.Ok
+            → Left self.old self.new step.events) }
+        ensures err { OnErr result (self.new ≡ self.old) }
+    {
+        if self.users.contains(client) {
+            return Ok(Step::refused(alloc, Status::NoResources));
+        }
+        self.users.insert(client)?;
+        Ok(Step::done(Seq::new(alloc)))
+    }
+
+    /// Ends a client's use of the service, and with it all that it has open. `BadHandle` exactly where it does
+    /// not use the service. An application's stream that nobody has open any more ends; streams that end do so
+    /// in order of creation. On an error, and with another answer than ok, nothing changes.
+    pub fn close_all(&mut self, alloc: Global, client: u16, now: i64) -> Result<Step, AllocError>
+        requires { IsCallTime self.old now }
+        ensures status { IfOk result (λ step. step.status ≡ end_status self.old client) }
+        ensures ok { IfOk result (λ step. step.status ≡ Status.Ok
+            → Made (Ended client (second_of now)) self.old self.new step.events) }
+        ensures refused { IfOk result (λ step. step.status ≢ Status.Ok
+            → Left self.old self.new step.events) }
+        ensures err { OnErr result (self.new ≡ self.old) }
+    {
+        if !self.users.contains(client) {
+            return Ok(Step::refused(alloc, Status::BadHandle));
+        }
+        match streams::close_all(alloc, &mut self.streams, client, self.last, now) {
+            Ok((last, events)) => {
+                self.last = last;
+                self.users.remove(client);
+                Ok(Step::done(events))
+            }
+            Err(error) => Err(error),
+        }
+    }
+
+    /// What `close_all` would answer and do to streams. Nothing changes.
+    pub fn foresee_close_all(
+        &self,
+        alloc: Global,
+        client: u16,
+        now: i64,
+    ) -> Result<Step, AllocError>
+        requires { IsCallTime self.now now }
+        ensures status { IfOk result (λ step. step.status ≡ end_status self.now client) }
+        ensures ok { IfOk result (λ step. step.status ≡ Status.Ok
+            → step.events ≡ events_of (Ended client (second_of now)) self.now) }
+        ensures refused { IfOk result (λ step. step.status ≢ Status.Ok → step.events ≡ []) }
+    {
+        if !self.users.contains(client) {
+            return Ok(Step::refused(alloc, Status::BadHandle));
+        }
+        match streams::endings(alloc, self.streams.as_slice(), client, self.last, now) {
+            Ok((_last, events)) => Ok(Step::done(events)),
+            Err(error) => Err(error),
+        }
+    }
+
+    /// What decides a close: `BadHandle` where the client does not use the service or does not have the stream
+    /// open, and else ok.
+    fn close_status(&self, client: u16, name: &StreamName) -> Status
+        ensures { result ≡ close_status self.now client name.now }
+    {
+        if !self.users.contains(client) || !self.has_open(name, client) {
+            return Status::BadHandle;
+        }
+        Status::Ok
+    }
+
+    /// Whether the client has the stream of this name open.
+    fn has_open(&self, name: &StreamName, client: u16) -> bool
+        ensures { result ≡ has_opener self.now.streams name.now client }
+    {
+        match streams::stream_of(self.streams.as_slice(), name) {
+            Some(stream) => stream.is_open_for(client),
+            None => false,
+        }
+    }
+
+    /// Closes a stream for a client. `BadHandle` exactly where the client does not use the service or does not
+    /// have the stream open. An application's stream that nobody has open any more ends. On an error, and with
+    /// another answer than ok, nothing changes.
+    pub fn close(
+        &mut self,
+        alloc: Global,
+        client: u16,
+        name: &StreamName,
+        now: i64,
+    ) -> Result<Step, AllocError>
+        requires { IsCallTime self.old now }
+        ensures status { IfOk result (λ step. step.status ≡ close_status self.old client name.now) }
+        ensures ok { IfOk result (λ step. step.status ≡ Status.Ok
+            → Made (Closed client name.now (second_of now)) self.old self.new step.events) }
+        ensures refused { IfOk result (λ step. step.status ≢ Status.Ok
+            → Left self.old self.new step.events) }
+        ensures err { OnErr result (self.new ≡ self.old) }
+    {
+        let status = self.close_status(client, name);
+        if status != Status::Ok {
+            return Ok(Step::refused(alloc, status));
+        }
+        match streams::close(alloc, &mut self.streams, name, client, self.last, now) {
+            Ok((last, events)) => {
+                self.last = last;
+                Ok(Step::done(events))
+            }
+            Err(error) => Err(error),
+        }
+    }
+
+    /// What `close` would answer and do to streams. Nothing changes.
+    pub fn foresee_close(
+        &self,
+        alloc: Global,
+        client: u16,
+        name: &StreamName,
+        now: i64,
+    ) -> Result<Step, AllocError>
+        requires { IsCallTime self.now now }
+        ensures status { IfOk result (λ step. step.status ≡ close_status self.now client name.now) }
+        ensures ok { IfOk result (λ step. step.status ≡ Status.Ok
+            → step.events ≡ events_of (Closed client name.now (second_of now)) self.now) }
+        ensures refused { IfOk result (λ step. step.status ≢ Status.Ok → step.events ≡ []) }
+    {
+        let status = self.close_status(client, name);
+        if status != Status::Ok {
+            return Ok(Step::refused(alloc, status));
+        }
+        match streams::closing(alloc, self.streams.as_slice(), name, client, self.last, now) {
+            Ok((_last, events)) => Ok(Step::done(events)),
+            Err(error) => Err(error),
+        }
+    }
+
+    /// What decides the making of a stream, the first of these that holds: `InvalidParam` where it is a well-known
+    /// one, or where its attributes do not pass; ok where it lives with equal attributes, `Exist` where it lives
+    /// with others, or where another one has its path and file; `NoResources` where 64 streams of applications
+    /// live; and else ok.
+    fn making_status(&self, name: &StreamName, attrs: &StreamAttrs) -> Status
+        ensures { result ≡ making_status self.now.streams name.now attrs.now }
+    {
+        let streams = self.streams.as_slice();
+        if !is_application(name) || !passes_attrs(name.kind(), attrs) {
+            return Status::InvalidParam;
+        }
+        if let Some(stream) = streams::stream_of(streams, name) {
+            if stream.has_attrs(attrs) {
+                return Status::Ok;
+            }
+            return Status::Exist;
+        }
+        if streams::has_place(streams, attrs) {
+            Status::Exist
+        } else if streams::application_count(streams) >= MOST_APPLICATIONS {
+            Status::NoResources
+        } else {
+            Status::Ok
+        }
+    }
+
+    /// What decides an open: `BadHandle` where the client does not use the service; without attributes `NotExist`
+    /// where no stream of the name lives, and else ok; with attributes what decides the making.
+    fn open_status(&self, client: u16, name: &StreamName, create: Option<&StreamAttrs>) -> Status
+        ensures { result ≡ open_status self.now client name.now (option_copied create.entry) }
+    {
+        if !self.users.contains(client) {
+            return Status::BadHandle;
+        }
+        match create {
+            Some(attrs) => self.making_status(name, attrs),
+            None => {
+                if streams::stream_of(self.streams.as_slice(), name).is_none() {
+                    Status::NotExist
+                } else {
+                    Status::Ok
+                }
+            }
+        }
+    }
+
+    /// Opens a stream for a client; with attributes it makes an application's stream that does not live yet.
+    /// The answer is that of the first of these that holds: `BadHandle`, the client does not use the service;
+    /// without attributes `NotExist`, no stream of the name lives; with attributes `InvalidParam`, the stream is
+    /// a well-known one or the attributes do not pass; ok, it lives with equal attributes; `Exist`, it lives with
+    /// others, or another one has the path and file; `NoResources`, 64 streams of applications live. Where none
+    /// holds the answer is ok. On an error, and with another answer, nothing changes.
+    pub fn open_stream(
+        &mut self,
+        alloc: Global,
+        client: u16,
+        name: &StreamName,
+        create: Option<&StreamAttrs>,
+        now: i64,
+    ) -> Result<Step, AllocError>
+        requires { IsCallTime self.old now }
+        ensures status { IfOk result (λ step. step.status
+            ≡ open_status self.old client name.now (option_copied create.entry)) }
+        ensures ok { IfOk result (λ step. step.status ≡ Status.Ok
+            → Made (Opened client name.now
+            (making_in self.old.streams name.now (option_copied create.entry)) (second_of now))
+            self.old self.new step.events) }
+        ensures refused { IfOk result (λ step. step.status ≢ Status.Ok
+            → Left self.old self.new step.events) }
+        ensures err { OnErr result (self.new ≡ self.old) }
+    {
+        let status = self.open_status(client, name, create);
+        if status != Status::Ok {
+            return Ok(Step::refused(alloc, status));
+        }
+        match streams::open(
+            alloc,
+            &mut self.streams,
+            client,
+            name,
+            create,
+            self.last,
+            now,
+        ) {
+            Ok((last, events)) => {
+                self.last = last;
+                Ok(Step::done(events))
+            }
+            Err(error) => Err(error),
+        }
+    }
+
+    /// What `open_stream` would answer and do to streams. Nothing changes.
+    pub fn foresee_open(
+        &self,
+        alloc: Global,
+        client: u16,
+        name: &StreamName,
+        create: Option<&StreamAttrs>,
+        now: i64,
+    ) -> Result<Step, AllocError>
+        requires { IsCallTime self.now now }
+        ensures status { IfOk result (λ step. step.status
+            ≡ open_status self.now client name.now (option_copied create.entry)) }
+        ensures ok { IfOk result (λ step. step.status ≡ Status.Ok
+            → step.events ≡ events_of
+            (Opened client name.now
+            (making_in self.now.streams name.now (option_copied create.entry))
+            (second_of now))
+            self.now) }
+        ensures refused { IfOk result (λ step. step.status ≢ Status.Ok → step.events ≡ []) }
+    {
+        let status = self.open_status(client, name, create);
+        if status != Status::Ok {
+            return Ok(Step::refused(alloc, status));
+        }
+        let streams = self.streams.as_slice();
+        match streams::opening(alloc, streams, name, create, self.last, now) {
+            Ok(events) => Ok(Step::done(events)),
+            Err(error) => Err(error),
+        }
+    }
+
+    /// Whether the stream of this name halts and has as many records as its file holds.
+    fn is_full(&self, name: &StreamName) -> bool
+        ensures { result ≡ is_filled self.now.streams name.now }
+    {
+        match streams::stream_of(self.streams.as_slice(), name) {
+            Some(stream) => stream.holds_all(),
+            None => false,
+        }
+    }
+
+    /// What decides a write, the first of these that holds: `BadHandle` where the client does not use the service
+    /// or does not have the stream open, `BadFlags` where flags are above 1, `InvalidParam` where the record may
+    /// not be written to a stream of the kind, `NoSpace` where the stream is full; and else ok.
+    fn write_status(
+        &self,
+        client: u16,
+        name: &StreamName,
+        flags: u32,
+        time: i64,
+        header: &Header,
+    ) -> Status
+        ensures { result ≡ write_status self.now client name.now flags time header.now }
+    {
+        if !self.users.contains(client) {
+            Status::BadHandle
+        } else if !self.has_open(name, client) {
+            Status::BadHandle
+        } else if flags > 1 {
+            Status::BadFlags
+        } else if !may_write(name.kind(), time, header) {
+            Status::InvalidParam
+        } else if self.is_full(name) {
+            Status::NoSpace
+        } else {
+            Status::Ok
+        }
+    }
+
+    /// Writes a record to a stream. An unknown time stands for this moment. The answer is that of the first of
+    /// these that holds: `BadHandle`, the client does not use the service or does not have the stream open;
+    /// `BadFlags`, flags are above 1; `InvalidParam`, the record may not be written to a stream of the kind;
+    /// `NoSpace`, the stream is full. Where none holds the record is stored, and the answer is ok. On an error,
+    /// and with another answer, nothing changes.
+    pub fn write(
+        &mut self,
+        alloc: Global,
+        client: u16,
+        name: &StreamName,
+        flags: u32,
+        time: i64,
+        header: &Header,
+        body: &Text,
+        now: i64,
+    ) -> Result<Step, AllocError>
+        requires moment { IsCallTime self.old now }
+        requires numbers { HasNumberLeft self.old name.now }
+        ensures status { IfOk result (λ step. step.status
+            ≡ write_status self.old client name.now flags time header.now) }
+        ensures ok { IfOk result (λ step. step.status ≡ Status.Ok
+            → Made (Stored name.now (record_at time header.now body.now now) (second_of now))
+            self.old self.new step.events) }
+        ensures refused { IfOk result (λ step. step.status ≢ Status.Ok
+            → Left self.old self.new step.events) }
+        ensures err { OnErr result (self.new ≡ self.old) }
+    {
+        let status = self.write_status(client, name, flags, time, header);
+        if status != Status::Ok {
+            return Ok(Step::refused(alloc, status));
+        }
+        let rec = match record_at(alloc, time, header, body, now) {
+            Ok(rec) => rec,
+            Err(error) => return Err(error),
+        };
+        match streams::store(alloc, &mut self.streams, name, self.last, &rec, now) {
+            Ok((last, events)) => {
+                self.last = last;
+                Ok(Step::done(events))
+            }
+            Err(error) => Err(error),
+        }
+    }
+
+    /// What `write` would answer and do to streams. Nothing changes.
+    pub fn foresee_write(
+        &self,
+        alloc: Global,
+        client: u16,
+        name: &StreamName,
+        flags: u32,
+        time: i64,
+        header: &Header,
+        body: &Text,
+        now: i64,
+    ) -> Result<Step, AllocError>
+        requires moment { IsCallTime self.now now }
+        requires numbers { HasNumberLeft self.now name.now }
+        ensures status { IfOk result (λ step. step.status
+            ≡ write_status self.now client name.now flags time header.now) }
+        ensures ok { IfOk result (λ step. step.status ≡ Status.Ok
+            → step.events ≡ events_of
+            (Stored name.now (record_at time header.now body.now now) (second_of now)) self.now) }
+        ensures refused { IfOk result (λ step. step.status ≢ Status.Ok → step.events ≡ []) }
+    {
+        let status = self.write_status(client, name, flags, time, header);
+        if status != Status::Ok {
+            return Ok(Step::refused(alloc, status));
+        }
+        let rec = match record_at(alloc, time, header, body, now) {
+            Ok(rec) => rec,
+            Err(error) => return Err(error),
+        };
+        let streams = self.streams.as_slice();
+        match streams::storing(alloc, streams, name, self.last, &rec, now) {
+            Ok(events) => Ok(Step::done(events)),
+            Err(error) => Err(error),
+        }
+    }
+
+    /// What `store` would answer and do to streams. Nothing changes.
+    pub fn foresee_store(
+        &self,
+        alloc: Global,
+        kind: StreamKind,
+        rec: &LogRecord,
+        now: i64,
+    ) -> Result<Step, AllocError>
+        requires moment { IsCallTime self.now now }
+        requires notified { IsNotified kind rec.now }
+        requires numbers { HasNumberLeft self.now (stream_of_kind kind) }
+        ensures status { IfOk result (λ step. step.status
+            ≡ store_status self.now (stream_of_kind kind)) }
+        ensures ok { IfOk result (λ step. step.status ≡ Status.Ok
+            → step.events ≡ events_of
+            (Stored (stream_of_kind kind) rec.now (second_of now)) self.now) }
+        ensures refused { IfOk result (λ step. step.status ≢ Status.Ok → step.events ≡ []) }
+    {
+        let name = stream_of_kind(kind);
+        if self.is_full(&name) {
+            return Ok(Step::refused(alloc, Status::NoSpace));
+        }
+        match streams::storing(alloc, self.streams.as_slice(), &name, self.last, rec, now) {
+            Ok(events) => Ok(Step::done(events)),
+            Err(error) => Err(error),
+        }
+    }
+
+    /// Stores the record of a notification in the stream of its kind. `NoSpace` exactly where that stream is full.
+    /// On an error, and with another answer than ok, nothing changes.
+    pub fn store(
+        &mut self,
+        alloc: Global,
+        kind: StreamKind,
+        rec: &LogRecord,
+        now: i64,
+    ) -> Result<Step, AllocError>
+        requires moment { IsCallTime self.old now }
+        requires notified { IsNotified kind rec.now }
+        requires numbers { HasNumberLeft self.old (stream_of_kind kind) }
+        ensures status { IfOk result (λ step. step.status
+            ≡ store_status self.old (stream_of_kind kind)) }
+        ensures ok { IfOk result (λ step. step.status ≡ Status.Ok
+            → Made (Stored (stream_of_kind kind) rec.now (second_of now))
+            self.old self.new step.events) }
+        ensures refused { IfOk result (λ step. step.status ≢ Status.Ok
+            → Left self.old self.new step.events) }
+        ensures err { OnErr result (self.new ≡ self.old) }
+    {
+        let name = stream_of_kind(kind);
+        if self.is_full(&name) {
+            return Ok(Step::refused(alloc, Status::NoSpace));
+        }
+        match streams::store(alloc, &mut self.streams, &name, self.last, rec, now) {
+            Ok((last, events)) => {
+                self.last = last;
+                Ok(Step::done(events))
+            }
+            Err(error) => Err(error),
+        }
+    }
+
+    /// Takes the storing of a record back, which was the last change: `before` is the state in which the stream
+    /// stood, as the event tells it, and `last` the last stamp then. It takes no memory.
+    pub fn take_back(&mut self, last: i64, before: StreamState)
+        requires { pos 0 ≤ℤ last }
+        ensures { (old : LogTable) → HasJustStored last before old self.old → self.new ≡ old }
+    {
+        streams::put_back(&mut self.streams, before);
+        self.last = last;
+    }
+
+    /// Whether a call can come at this time: it lies from 0 to 9,000,000,000,000,000,000, and the last stamp is
+    /// at most 19,999,999,000.
+    pub fn is_call_time(&self, now: i64) -> bool
+        ensures { IsTrue result ↔ IsCallTime self.now now }
+    {
+        self.last <= 19_999_999_000 && now >= 0 && now <= 9_000_000_000_000_000_000
+    }
+
+    /// Whether a number is left for the next record of the stream of this name, if there is one: fewer than
+    /// 4,294,967,294 of its records were numbered.
+    pub fn has_number_left(&self, name: &StreamName) -> bool
+        ensures { IsTrue result ↔ HasNumberLeft self.now name.now }
+    {
+        match streams::stream_of(self.streams.as_slice(), name) {
+            Some(stream) => stream.state().taken < 4_294_967_294,
+            None => true,
+        }
+    }
+
+    /// The clients that use the service, rising.
+    pub fn users(&self) -> &[u16]
+        ensures { result.now ≡ self.now.users }
+    {
+        self.users.as_slice()
+    }
+
+    /// The last stamp, a second.
+    pub fn last_stamp(&self) -> i64
+        ensures { result ≡ pos self.now.last }
+    {
+        self.last
+    }
+
+    /// How many streams live.
+    pub fn count(&self) -> u32
+        ensures { result ≡ length self.now.streams }
+    {
+        self.streams.len() as u32
+    }
+
+    /// What stands of a living stream, by its place in order of creation, from 0.
+    pub fn stream_at(&self, i: u32) -> Option<&StreamState>
+        ensures { option_copied result
+            ≡ option_map (λ (stream : OpenStream). stream.state) (slice_get self.now.streams i) }
+    {
+        match self.streams.get(i as usize) {
+            Some(stream) => Some(stream.state()),
+            None => None,
+        }
+    }
+
+    /// The clients that have a living stream open, rising, by its place in order of creation, from 0.
+    pub fn openers_at(&self, i: u32) -> Option<&[u16]>
+        ensures { option_copied result
+            ≡ option_map (λ (stream : OpenStream). stream.openers) (slice_get self.now.streams i) }
+    {
+        match self.streams.get(i as usize) {
+            Some(stream) => Some(stream.openers()),
+            None => None,
+        }
+    }
+}
