@@ -1,0 +1,15 @@
+//! The Notification Service's state: its users, the last id, and the subscriptions with their
+//! queues.
+#![tactic(auto)]
+
+mod editing;
+mod law;
+mod offering;
+mod searching;
+mod state;
+#[cfg(test)]
+mod tests;
+
+pub use law::law_of_history;
+pub use ntf_history::Subscription;
+pub use state::NtfState;

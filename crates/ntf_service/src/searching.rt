@@ -1,0 +1,99 @@
+//! Where subscriptions stand in their order of client and key.
+ghost use Rattle.std.specs.Prelude.{◌≡◌, ◌↔◌, ◌<◌, not, find, option_copied, IsTrue};
+ghost use Rattle.std.specs.List.{list_any, prefix_len};
+ghost use Rattle.sub_queue.specs.Queue.{HasNumberLeft};
+ghost use Rattle.ntf_service.specs.State.{IsKeyAbove, HaveNumbersLeft};
+ghost use Rattle.ntf_history.specs.Subscriptions.{key_first};
+ghost use Rattle.ntf_history.specs.Tables.{is_kept_at, is_kept_under, is_kept_for};
+
+use ntf_history::Subscription;
+
+/// Whether a subscription is of this client and key.
+pub(crate) fn is_at(kept: &Subscription, client: u16, key: u32) -> bool
+    ensures { result ≡ is_kept_at client key kept.now }
+{
+    kept.client == client && kept.key == key
+}
+
+/// Whether a subscription is of this client and id.
+pub(crate) fn is_under(kept: &Subscription, client: u16, id: u32) -> bool
+    ensures { result ≡ is_kept_under client id kept.now }
+{
+    kept.client == client && kept.id == id
+}
+
+/// Whether a subscription is of this client.
+pub(crate) fn is_for(kept: &Subscription, client: u16) -> bool
+    ensures { result ≡ is_kept_for client kept.now }
+{
+    kept.client == client
+}
+
+/// Whether a subscription comes before a client's key.
+fn comes_first(kept: &Subscription, client: u16, key: u32) -> bool
+    ensures { result ≡ key_first kept.now.client kept.now.key client key }
+{
+    kept.client < client || (kept.client == client && kept.key < key)
+}
+
+/// The place of the subscription of this client and key, or the number of subscriptions where there
+/// is none.
+pub(crate) fn place_at(subs: &[Subscription], client: u16, key: u32) -> usize
+    ensures { result ≡ prefix_len (λ kept. not (is_kept_at client key kept)) subs.now }
+{
+    subs.iter()
+        .take_while(|kept| !is_at(kept, client, key))
+        .count()
+}
+
+/// The subscription of this client and key.
+pub(crate) fn find_at(subs: &[Subscription], client: u16, key: u32) -> Option<&Subscription>
+    ensures { option_copied result ≡ find (is_kept_at client key) subs.now }
+{
+    subs.iter().find(|kept| is_at(kept, client, key))
+}
+
+/// Whether the client has a subscription of this id.
+pub(crate) fn has_id(subs: &[Subscription], client: u16, id: u32) -> bool
+    ensures { result ≡ list_any (is_kept_under client id) subs.now }
+{
+    subs.iter().any(|kept| is_under(kept, client, id))
+}
+
+/// How many subscriptions in a row, from the first on, come before a client's key.
+pub(crate) fn place_for(subs: &[Subscription], client: u16, key: u32) -> usize
+    ensures { result ≡ prefix_len (λ kept. key_first kept.client kept.key client key) subs.now }
+{
+    subs.iter()
+        .take_while(|kept| comes_first(kept, client, key))
+        .count()
+}
+
+/// Whether a subscription is another client's, or of a lower key.
+fn is_below(kept: &Subscription, client: u16, key: u32) -> bool
+    ensures { IsTrue result ↔ (kept.now.client ≡ client → kept.now.key < key) }
+{
+    kept.client != client || kept.key < key
+}
+
+/// Whether a key is above those of all subscriptions of a client.
+pub(crate) fn is_key_above(subs: &[Subscription], client: u16, key: u32) -> bool
+    ensures { IsTrue result ↔ IsKeyAbove client key subs.now }
+{
+    subs.iter().all(|kept| is_below(kept, client, key))
+}
+
+/// Whether a number is left for the next item of a subscription.
+fn has_number_left(kept: &Subscription) -> bool
+    ensures { IsTrue result ↔ HasNumberLeft kept.now.queue }
+{
+    let held = kept.queue.items().len() as u64;
+    u64::from(kept.queue.first()) + held < 4_294_967_295
+}
+
+/// Whether a number is left for the next item of each subscription.
+pub(crate) fn have_numbers_left(subs: &[Subscription]) -> bool
+    ensures { IsTrue result ↔ HaveNumbersLeft subs.now }
+{
+    subs.iter().all(has_number_left)
+}

@@ -1,0 +1,313 @@
+//! The state, and what each call makes of it.
+ghost use Rattle.std.specs.Prelude.{◌≡◌, ◌≢◌, ◌↔◌, ◌+◌, nat_lt, length, IfOk, OnOk, OnErr, option_copied, slice_get, IsTrue};
+ghost use Rattle.sub_queue.specs.Queue.{IsCapacity, empty_queue};
+ghost use Rattle.ntf_filters.specs.FitTests.{is_fit};
+ghost use Rattle.client_set.specs.Rising.{IsRising};
+ghost use Rattle.client_set.specs.Members.{has};
+ghost use Rattle.ntf_history.specs.Tables.{NtfTable, empty_table, table_with, sub_with, has_item, IsSoundTable, with_id, is_new_in, after_begin, after_end, after_subscribe, after_unsubscribe, after_send, after_receipt};
+ghost use Rattle.ntf_service.specs.State.{sub_of, begin_answer, end_answer, subscribe_answer, unsubscribe_answer, CanSendMore, HaveNumbersLeft, IsKeyAbove};
+
+use crate::editing::{add, receive, remove_for, remove_under};
+use crate::offering::{offer_all, take_back_front};
+use crate::searching::{find_at, has_id, have_numbers_left, is_key_above};
+use ais_values::{Duplicate, Status};
+use client_set::ClientSet;
+use ntf_filters::{FilterSet, check_filters};
+use ntf_history::Subscription;
+use ntf_types::Notification;
+use std::alloc::{AllocError, Global};
+use std::marker::Model;
+use sub_queue::SubQueue;
+
+/// The most subscriptions that last at once.
+const MAX_SUBSCRIPTIONS: usize = 64;
+
+/// The clients that use the service, the last id that was given, and the subscriptions that last,
+/// in order of client, then key.
+#[derive(Drop)]
+pub struct NtfState {
+    capacity: u32,
+    users: ClientSet,
+    last_id: u64,
+    subs: Vec<Subscription>,
+}
+
+impl Model for NtfState {
+    ghost use Rattle.ntf_history.specs.Tables.{NtfTable};
+
+    ghost Value = { NtfTable };
+
+    ghost use Rattle.ntf_service.specs.Inside.{table_inside, IsKept};
+
+    ghost view = { table_inside };
+
+    ghost invariant = { IsKept };
+}
+
+/// The subscription of a client, with an empty queue.
+fn subscription(
+    alloc: Global,
+    cap: u32,
+    client: u16,
+    key: u32,
+    id: u32,
+    filters: &FilterSet,
+) -> Result<Subscription, AllocError>
+    requires { IsCapacity cap }
+    ensures { IfOk result (λ kept.
+        kept ≡ sub_with (sub_of client key id filters.now) (empty_queue cap)) }
+{
+    Ok(Subscription {
+        client,
+        key,
+        id,
+        filters: filters.copy(alloc)?,
+        queue: SubQueue::new(alloc, cap)?,
+    })
+}
+
+/// Whether filters may be used.
+fn is_usable(filters: &FilterSet) -> bool
+    ensures { result ≡ is_fit filters.now }
+{
+    check_filters(filters).is_ok()
+}
+
+/// Whether a subscription holds an item of this number.
+fn has_item(kept: &Subscription, number: u32) -> bool
+    ensures { result ≡ has_item number kept.now.queue }
+{
+    kept.queue.is_new(number)
+}
+
+impl NtfState {
+    /// The state of a service that nobody has used, whose subscriptions have queues of this
+    /// capacity. It takes no memory.
+    pub fn new(alloc: Global, cap: u32) -> NtfState
+        requires { IsCapacity cap }
+        ensures { result ≡ empty_table cap }
+    {
+        NtfState {
+            capacity: cap,
+            users: ClientSet::new(alloc),
+            last_id: 0,
+            subs: Vec::new(alloc),
+        }
+    }
+
+    /// Begins a client's use of the service. `NoResources` exactly where it uses the service
+    /// already. On an error, and with another answer than ok, nothing changes.
+    pub fn init(&mut self, client: u16) -> Result<Status, AllocError>
+        ensures status { IfOk result (λ status. status ≡ begin_answer client self.old) }
+        ensures ok { IfOk result (λ status. status ≡ Status.Ok →
+            self.new ≡ after_begin client self.old) }
+        ensures refused { IfOk result (λ status. status ≢ Status.Ok → self.new ≡ self.old) }
+        ensures err { OnErr result (self.new ≡ self.old) }
+    {
+        if self.users.contains(client) {
+            return Ok(Status::NoResources);
+        }
+        self.users.insert(client)?;
+        Ok(Status::Ok)
+    }
+
+    /// Ends a client's use of the service and all its subscriptions. `BadHandle` exactly where it
+    /// does not use the service; then nothing changes. It takes no memory.
+    pub fn fini(&mut self, client: u16) -> Status
+        ensures status { result ≡ end_answer client self.old }
+        ensures ok { result ≡ Status.Ok → self.new ≡ after_end client self.old }
+        ensures refused { result ≢ Status.Ok → self.new ≡ self.old }
+    {
+        if !self.users.contains(client) {
+            return Status::BadHandle;
+        }
+        self.users.remove(client);
+        remove_for(&mut self.subs, client);
+        Status::Ok
+    }
+
+    /// What decides a subscription of a client under an id: `BadHandle` where the client does not
+    /// use the service, `InvalidParam` where the filters may not be used, `Exist` where it has a
+    /// subscription of that id, `NoResources` where 64 subscriptions last, the first of these that
+    /// holds, and else ok.
+    fn subscribe_status(&self, client: u16, id: u32, filters: &FilterSet) -> Status
+        ensures { result ≡ subscribe_answer client id filters.now self.now }
+    {
+        if !self.users.contains(client) {
+            Status::BadHandle
+        } else if !is_usable(filters) {
+            Status::InvalidParam
+        } else if has_id(self.subs.as_slice(), client, id) {
+            Status::Exist
+        } else if self.subs.len() >= MAX_SUBSCRIPTIONS {
+            Status::NoResources
+        } else {
+            Status::Ok
+        }
+    }
+
+    /// Makes a subscription of a client, under its key and an id. The answer is that of the first
+    /// of these that holds: `BadHandle`, the client does not use the service; `InvalidParam`, the
+    /// filters may not be used; `Exist`, the client has a subscription of that id; `NoResources`,
+    /// 64 subscriptions last. Where none holds the subscription is made, and the answer is ok. On
+    /// an error, and with another answer, nothing changes.
+    pub fn subscribe(
+        &mut self,
+        alloc: Global,
+        client: u16,
+        key: u32,
+        id: u32,
+        filters: &FilterSet,
+    ) -> Result<Status, AllocError>
+        requires { IsKeyAbove client key self.old.subs }
+        ensures status { IfOk result (λ status.
+            status ≡ subscribe_answer client id filters.now self.old) }
+        ensures ok { IfOk result (λ status. status ≡ Status.Ok →
+            self.new ≡ after_subscribe (sub_of client key id filters.now) self.old) }
+        ensures refused { IfOk result (λ status. status ≢ Status.Ok → self.new ≡ self.old) }
+        ensures err { OnErr result (self.new ≡ self.old) }
+    {
+        let status = self.subscribe_status(client, id, filters);
+        if status != Status::Ok {
+            return Ok(status);
+        }
+        let kept = subscription(alloc, self.capacity, client, key, id, filters)?;
+        add(&mut self.subs, kept)?;
+        Ok(Status::Ok)
+    }
+
+    /// Takes a client's subscription of an id back. The answer is `BadHandle` where the client does
+    /// not use the service, else `NotExist` where it has no subscription of that id; then nothing
+    /// changes. It takes no memory.
+    pub fn unsubscribe(&mut self, client: u16, id: u32) -> Status
+        ensures status { result ≡ unsubscribe_answer client id self.old }
+        ensures ok { result ≡ Status.Ok → self.new ≡ after_unsubscribe client id self.old }
+        ensures refused { result ≢ Status.Ok → self.new ≡ self.old }
+    {
+        if !self.users.contains(client) {
+            return Status::BadHandle;
+        }
+        if !has_id(self.subs.as_slice(), client, id) {
+            return Status::NotExist;
+        }
+        remove_under(&mut self.subs, client, id);
+        Status::Ok
+    }
+
+    /// Sends a notification: gives it the next id, which is the answer, and offers it to each
+    /// subscription that asks for it, and to no other. On an error nothing changes, and no id is
+    /// used up.
+    pub fn send(&mut self, alloc: Global, mut notification: Notification) -> Result<u64, AllocError>
+        requires { CanSendMore self.old }
+        ensures id { IfOk result (λ id. id ≡ self.old.last_id + 1) }
+        ensures ok { OnOk result
+            (self.new ≡ after_send (with_id (self.old.last_id + 1) notification) self.old) }
+        ensures err { OnErr result (self.new ≡ self.old) }
+        ensures sound { IsSoundTable self.old }
+    {
+        let id = self.last_id + 1;
+        notification.id = id;
+        offer_all(alloc, &mut self.subs, &notification)?;
+        self.last_id = id;
+        Ok(id)
+    }
+
+    /// Takes the last send back, of which this notification was offered, with its id: the state is as it was
+    /// before. It takes no memory.
+    pub fn take_back(&mut self, notification: &Notification)
+        requires { (before : NtfTable) × IsSoundTable before
+            × (self.old ≡ after_send notification.now before) }
+        ensures { (before : NtfTable) → IsSoundTable before →
+            self.old ≡ after_send notification.now before → self.new ≡ before }
+    {
+        let count = self.subs.len();
+        take_back_front(&mut self.subs, count, notification);
+        self.last_id = self.last_id.saturating_sub(1);
+    }
+
+    /// Whether a notification can be sent: an id is left for it, and a number for the next item of
+    /// each subscription.
+    pub fn can_send(&self) -> bool
+        ensures { IsTrue result ↔ CanSendMore self.now }
+    {
+        self.last_id < 4_294_967_294 && have_numbers_left(self.subs.as_slice())
+    }
+
+    /// Whether a key is above those of all subscriptions of a client.
+    pub fn is_key_above(&self, client: u16, key: u32) -> bool
+        ensures { IsTrue result ↔ IsKeyAbove client key self.now.subs }
+    {
+        is_key_above(self.subs.as_slice(), client, key)
+    }
+
+    /// Whether a receipt is new: the subscription of this client and key lasts, and the number is
+    /// that of an item that it holds.
+    pub fn is_new(&self, client: u16, key: u32, through: u32) -> bool
+        ensures { result ≡ is_new_in self.now client key through }
+    {
+        match find_at(self.subs.as_slice(), client, key) {
+            None => false,
+            Some(kept) => has_item(kept, through),
+        }
+    }
+
+    /// Takes a new receipt. It takes no memory.
+    pub fn acked(&mut self, client: u16, key: u32, through: u32)
+        requires new { IsTrue (is_new_in self.old client key through) }
+        requires numbers { HaveNumbersLeft self.old.subs }
+        ensures { self.new ≡ after_receipt client key through self.old }
+    {
+        receive(&mut self.subs, client, key, through);
+    }
+
+    /// Whether a client uses the service.
+    pub fn is_user(&self, client: u16) -> bool
+        ensures { result ≡ has client self.now.users }
+    {
+        self.users.contains(client)
+    }
+
+    /// The clients that use the service, rising.
+    pub fn users(&self) -> &[u16]
+        ensures users { result.now ≡ self.now.users }
+        ensures rising { IsRising nat_lt self.now.users }
+    {
+        self.users.as_slice()
+    }
+
+    /// The last id that was given, or 0 where none was.
+    pub fn last_id(&self) -> u64
+        ensures { result ≡ self.now.last_id }
+    {
+        self.last_id
+    }
+
+    /// How many subscriptions last.
+    pub fn count(&self) -> u32
+        ensures count { result ≡ length self.now.subs }
+        ensures sound { IsSoundTable self.now }
+    {
+        self.subs.len() as u32
+    }
+
+    /// The subscription at a place, from 0, in order of client, then key. None exactly where fewer
+    /// last.
+    pub fn sub_at(&self, place: u32) -> Option<&Subscription>
+        ensures { option_copied result ≡ slice_get self.now.subs place }
+    {
+        self.subs.get(place as usize)
+    }
+
+    /// The state with these parts. It takes no memory.
+    pub fn rebuild(cap: u32, last_id: u64, users: Vec<u16>, subs: Vec<Subscription>) -> NtfState
+        requires { IsSoundTable (table_with cap users.items last_id subs.items) }
+        ensures { result ≡ table_with cap users.items last_id subs.items }
+    {
+        NtfState {
+            capacity: cap,
+            users: ClientSet::from_rising(users),
+            last_id,
+            subs,
+        }
+    }
+}
