@@ -1,4 +1,4 @@
--- The history of what was accepted.
+-- Words of public clauses: the history of what was accepted.
 use Rattle.std.specs.Prelude.{ℕ, List, []}
 use Rattle.calls.specs.declared.entry.Entry.{Entry}
 

@@ -1,4 +1,4 @@
--- How a history is stored: its entries in a vector, the oldest first.
+-- Words of bodies alone: how a history is stored, its entries in a vector, the oldest first.
 use Rattle.std.specs.Prelude.{◌-◌, reverse, vec_len}
 use Rattle.std.specs.Vec.{vec_capacity}
 use Rattle.calls.specs.declared.history.History.TheInside.{Inside}

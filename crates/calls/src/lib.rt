@@ -4,11 +4,15 @@
 mod call;
 mod entry;
 mod history;
+mod law;
 mod reply;
 mod saved;
+#[cfg(test)]
+mod tests;
 
 pub use call::{Ask, Call};
 pub use entry::{Entry, Held};
 pub use history::History;
+pub use law::law_of_equality;
 pub use reply::{Callback, Reply};
 pub use saved::{Saved, SavedAlarm, SavedReader, SavedStream, SavedSub, SavedWindow};
