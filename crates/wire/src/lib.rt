@@ -1,6 +1,21 @@
 //! Messages, and their spelling as bytes.
 #![tactic(auto)]
 
+mod call;
+mod code;
+mod envelope;
+mod law;
+mod list;
+mod log;
 mod message;
+mod ntf;
+mod number;
+mod saved;
+#[cfg(test)]
+mod tests;
+mod text;
+mod wire;
 
+pub use code::{decode, encode};
+pub use law::{law_of_equality, law_of_spellings};
 pub use message::{Message, WireAnswer, WireWhy};

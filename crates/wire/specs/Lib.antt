@@ -1,0 +1,12 @@
+pub mod CallReading
+pub mod CallSpelling
+pub mod LogReading
+pub mod LogSpelling
+pub mod MessageReading
+pub mod MessageSpelling
+pub mod Messages
+pub mod NtfReading
+pub mod NtfSpelling
+pub mod SavedReading
+pub mod SavedSpelling
+pub mod Verdicts

@@ -1,0 +1,141 @@
+//! Pairs, options and lists of any values that can be spelled.
+ghost use Rattle.std.specs.Prelude.{◌≡◌, ◌++◌, All, OnOk};
+ghost use Rattle.wire_code.specs.Spelling.{texts};
+ghost use Rattle.wire_code.specs.Reading.{Gives, many_at};
+
+use crate::wire::Wire;
+use ais_values::Seq;
+use std::alloc::{AllocError, Global};
+use wire_code::{Fault, Trouble, read_first};
+
+impl<A: Wire + Drop, B: Wire + Drop> Wire for (A, B) {
+    ghost use Rattle.std.specs.Prelude.{◌++◌};
+    ghost use Rattle.wire_code.specs.Reading.{both};
+
+    ghost text = { λ pair. A.text pair.0 ++ B.text pair.1 };
+
+    ghost Fits = { λ pair. A.Fits pair.0 × B.Fits pair.1 };
+
+    ghost InRange = { λ pair. A.InRange pair.0 × B.InRange pair.1 };
+
+    ghost at = { both A.at B.at };
+
+    fn spell(&self, out: &mut Vec<u8>) -> Result<(), AllocError> {
+        self.0.spell(out)?;
+        self.1.spell(out)?;
+        Ok(())
+    }
+
+    fn read_front(alloc: Global, bytes: &[u8]) -> Result<((A, B), &[u8]), Trouble> {
+        let (first, rest) = A::read_front(alloc, bytes)?;
+        let (second, rest) = B::read_front(alloc, rest)?;
+        Ok(((first, second), rest))
+    }
+}
+
+impl<T: Wire + Drop> Wire for Option<T> {
+    ghost use Rattle.wire_code.specs.Spelling.{option_text, OptionFits};
+    ghost use Rattle.wire_code.specs.Reading.{option_at};
+
+    ghost text = { option_text T.text };
+
+    ghost Fits = { OptionFits T.Fits };
+
+    ghost InRange = { OptionFits T.InRange };
+
+    ghost at = { option_at T.at };
+
+    #[tactic(auto, unfolding(wire_code::specs::Spelling::option_text))]
+    fn spell(&self, out: &mut Vec<u8>) -> Result<(), AllocError> {
+        match self {
+            None => {
+                out.push(0)?;
+                Ok(())
+            }
+            Some(value) => {
+                out.push(1)?;
+                value.spell(out)?;
+                Ok(())
+            }
+        }
+    }
+
+    #[tactic(auto, unfolding(wire_code::specs::Reading::option_at))]
+    fn read_front(alloc: Global, bytes: &[u8]) -> Result<(Option<T>, &[u8]), Trouble> {
+        let (tag, rest) = read_first(bytes)?;
+        match tag {
+            0 => Ok((None, rest)),
+            1 => {
+                let (value, rest) = T::read_front(alloc, rest)?;
+                Ok((Some(value), rest))
+            }
+            _ => Err(Trouble::from(Fault::before(rest))),
+        }
+    }
+}
+
+/// Adds the spellings of values, one behind the other.
+fn spell_all<T: Wire>(items: &[T], out: &mut Vec<u8>) -> Result<(), AllocError>
+    requires { All T.InRange items.now }
+    ensures fits { OnOk result (All T.Fits items.now) }
+    ensures text { OnOk result (out.new.items ≡ out.old.items ++ texts T.text items.now) }
+{
+    for item in items {
+        item.spell(out)?;
+    }
+    Ok(())
+}
+
+/// Reads so many values. Memory is taken for a value only once it is read, whatever the count says.
+fn read_all<T: Wire + Drop>(
+    alloc: Global,
+    bytes: &[u8],
+    count: u32,
+) -> Result<(Seq<T>, &[u8]), Trouble>
+    ensures { Gives (λ found. (found.0, found.1.now)) result (many_at T.at count bytes.now) }
+{
+    let mut items = Seq::new(alloc);
+    let mut rest = bytes;
+    for _ in 0..count {
+        match T::read_front(alloc, rest) {
+            Ok((item, left)) => {
+                items.push(item)?;
+                rest = left;
+            }
+            Err(trouble) => return Err(trouble),
+        }
+    }
+    Ok((items, rest))
+}
+
+impl<T: Wire + Drop> Wire for Seq<T> {
+    ghost use Rattle.std.specs.Prelude.{All};
+    ghost use Rattle.wire_code.specs.Spelling.{list_text, ListFits};
+    ghost use Rattle.wire_code.specs.Reading.{list_at};
+
+    ghost text = { list_text T.text };
+
+    ghost Fits = { ListFits T.Fits };
+
+    ghost InRange = { All T.InRange };
+
+    ghost at = { list_at T.at };
+
+    #[tactic(auto, unfolding(wire_code::specs::Spelling::list_text))]
+    fn spell(&self, out: &mut Vec<u8>) -> Result<(), AllocError> {
+        let items = self.as_slice();
+        let Ok(count) = u32::try_from(items.len()) else {
+            return Err(AllocError);
+        };
+        count.spell(out)?;
+        spell_all(items, out)?;
+        Ok(())
+    }
+
+    #[tactic(auto, unfolding(wire_code::specs::Reading::list_at))]
+    fn read_front(alloc: Global, bytes: &[u8]) -> Result<(Seq<T>, &[u8]), Trouble> {
+        let (count, rest) = u32::read_front(alloc, bytes)?;
+        let (items, rest) = read_all(alloc, rest, count)?;
+        Ok((items, rest))
+    }
+}

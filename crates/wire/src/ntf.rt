@@ -1,0 +1,403 @@
+//! Spelling and reading of notifications and filters.
+use crate::wire::Wire;
+use ais_values::{ClassId, Name, Seq, Text};
+use ntf_filters::{Filter, FilterSet};
+use ntf_types::{Body, Change, Notification, Pair, StateChange, Value};
+use std::alloc::{AllocError, Global};
+use wire_code::{Fault, Trouble, read_first};
+
+impl Wire for ClassId {
+    ghost use Rattle.wire.specs.NtfSpelling.{class_text, ClassFits};
+    ghost use Rattle.wire.specs.NtfReading.{class_at};
+
+    ghost text = { class_text };
+
+    ghost Fits = { ClassFits };
+
+    ghost at = { class_at };
+
+    #[tactic(auto, unfolding(crate::specs::NtfSpelling::class_text))]
+    fn spell(&self, out: &mut Vec<u8>) -> Result<(), AllocError> {
+        self.vendor.spell(out)?;
+        self.major.spell(out)?;
+        self.minor.spell(out)?;
+        Ok(())
+    }
+
+    #[tactic(auto, unfolding(crate::specs::NtfReading::class_at))]
+    fn read_front(alloc: Global, bytes: &[u8]) -> Result<(ClassId, &[u8]), Trouble> {
+        let ((vendor, (major, minor)), rest) = Wire::read_front(alloc, bytes)?;
+        Ok((
+            ClassId {
+                vendor,
+                major,
+                minor,
+            },
+            rest,
+        ))
+    }
+}
+
+impl Wire for Value {
+    ghost use Rattle.wire.specs.NtfSpelling.{value_text, ValueFits};
+    ghost use Rattle.wire.specs.NtfReading.{value_at};
+
+    ghost text = { value_text };
+
+    ghost Fits = { ValueFits };
+
+    ghost at = { value_at };
+
+    #[tactic(auto, unfolding(crate::specs::NtfSpelling::value_text))]
+    fn spell(&self, out: &mut Vec<u8>) -> Result<(), AllocError> {
+        match self {
+            Value::Int { value } => {
+                out.push(1)?;
+                value.spell(out)?;
+                Ok(())
+            }
+            Value::NameOf { name } => {
+                out.push(2)?;
+                name.spell(out)?;
+                Ok(())
+            }
+            Value::TextOf { text } => {
+                out.push(3)?;
+                text.spell(out)?;
+                Ok(())
+            }
+            Value::Binary { bytes } => {
+                out.push(4)?;
+                bytes.spell(out)?;
+                Ok(())
+            }
+        }
+    }
+
+    #[tactic(auto, unfolding(crate::specs::NtfReading::value_at))]
+    fn read_front(alloc: Global, bytes: &[u8]) -> Result<(Value, &[u8]), Trouble> {
+        let (tag, rest) = read_first(bytes)?;
+        match tag {
+            1 => {
+                let (value, rest) = i64::read_front(alloc, rest)?;
+                Ok((Value::Int { value }, rest))
+            }
+            2 => {
+                let (name, rest) = Name::read_front(alloc, rest)?;
+                Ok((Value::NameOf { name }, rest))
+            }
+            3 => {
+                let (text, rest) = Text::read_front(alloc, rest)?;
+                Ok((Value::TextOf { text }, rest))
+            }
+            4 => {
+                let (bytes, rest) = Text::read_front(alloc, rest)?;
+                Ok((Value::Binary { bytes }, rest))
+            }
+            _ => Err(Trouble::from(Fault::before(rest))),
+        }
+    }
+}
+
+impl Wire for Pair {
+    ghost use Rattle.wire.specs.NtfSpelling.{pair_text, PairFits};
+    ghost use Rattle.wire.specs.NtfReading.{pair_at};
+
+    ghost text = { pair_text };
+
+    ghost Fits = { PairFits };
+
+    ghost at = { pair_at };
+
+    #[tactic(auto, unfolding(crate::specs::NtfSpelling::pair_text))]
+    fn spell(&self, out: &mut Vec<u8>) -> Result<(), AllocError> {
+        self.id.spell(out)?;
+        self.value.spell(out)?;
+        Ok(())
+    }
+
+    #[tactic(auto, unfolding(crate::specs::NtfReading::pair_at))]
+    fn read_front(alloc: Global, bytes: &[u8]) -> Result<(Pair, &[u8]), Trouble> {
+        let ((id, value), rest) = Wire::read_front(alloc, bytes)?;
+        Ok((Pair { id, value }, rest))
+    }
+}
+
+impl Wire for Change {
+    ghost use Rattle.wire.specs.NtfSpelling.{change_text, ChangeFits};
+    ghost use Rattle.wire.specs.NtfReading.{change_at};
+
+    ghost text = { change_text };
+
+    ghost Fits = { ChangeFits };
+
+    ghost at = { change_at };
+
+    #[tactic(auto, unfolding(crate::specs::NtfSpelling::change_text))]
+    fn spell(&self, out: &mut Vec<u8>) -> Result<(), AllocError> {
+        self.id.spell(out)?;
+        self.after.spell(out)?;
+        self.before.spell(out)?;
+        Ok(())
+    }
+
+    #[tactic(auto, unfolding(crate::specs::NtfReading::change_at))]
+    fn read_front(alloc: Global, bytes: &[u8]) -> Result<(Change, &[u8]), Trouble> {
+        let ((id, (after, before)), rest) = Wire::read_front(alloc, bytes)?;
+        Ok((Change { id, after, before }, rest))
+    }
+}
+
+impl Wire for StateChange {
+    ghost use Rattle.wire.specs.NtfSpelling.{state_change_text, StateChangeFits};
+    ghost use Rattle.wire.specs.NtfReading.{state_change_at};
+
+    ghost text = { state_change_text };
+
+    ghost Fits = { StateChangeFits };
+
+    ghost at = { state_change_at };
+
+    #[tactic(auto, unfolding(crate::specs::NtfSpelling::state_change_text))]
+    fn spell(&self, out: &mut Vec<u8>) -> Result<(), AllocError> {
+        self.id.spell(out)?;
+        self.after.spell(out)?;
+        self.before.spell(out)?;
+        Ok(())
+    }
+
+    #[tactic(auto, unfolding(crate::specs::NtfReading::state_change_at))]
+    fn read_front(alloc: Global, bytes: &[u8]) -> Result<(StateChange, &[u8]), Trouble> {
+        let ((id, (after, before)), rest) = Wire::read_front(alloc, bytes)?;
+        Ok((StateChange { id, after, before }, rest))
+    }
+}
+
+impl Wire for Body {
+    ghost use Rattle.wire.specs.NtfSpelling.{body_text, BodyFits};
+    ghost use Rattle.wire.specs.NtfReading.{body_at};
+
+    ghost text = { body_text };
+
+    ghost Fits = { BodyFits };
+
+    ghost at = { body_at };
+
+    #[tactic(auto, unfolding(crate::specs::NtfSpelling::body_text))]
+    fn spell(&self, out: &mut Vec<u8>) -> Result<(), AllocError> {
+        match self {
+            Body::Objects { source, attrs } => {
+                out.push(1)?;
+                source.spell(out)?;
+                attrs.spell(out)?;
+                Ok(())
+            }
+            Body::Attributes { source, changes } => {
+                out.push(2)?;
+                source.spell(out)?;
+                changes.spell(out)?;
+                Ok(())
+            }
+            Body::States { source, changes } => {
+                out.push(3)?;
+                source.spell(out)?;
+                changes.spell(out)?;
+                Ok(())
+            }
+            Body::Alarm { cause, severity } => {
+                out.push(4)?;
+                cause.spell(out)?;
+                severity.spell(out)?;
+                Ok(())
+            }
+            Body::Security {
+                cause,
+                severity,
+                detector,
+                user,
+                provider,
+            } => {
+                out.push(5)?;
+                cause.spell(out)?;
+                severity.spell(out)?;
+                detector.spell(out)?;
+                user.spell(out)?;
+                provider.spell(out)?;
+                Ok(())
+            }
+        }
+    }
+
+    #[tactic(auto, unfolding(crate::specs::NtfReading::body_at))]
+    fn read_front(alloc: Global, bytes: &[u8]) -> Result<(Body, &[u8]), Trouble> {
+        let (tag, rest) = read_first(bytes)?;
+        match tag {
+            1 => {
+                let ((source, attrs), rest) = Wire::read_front(alloc, rest)?;
+                Ok((Body::Objects { source, attrs }, rest))
+            }
+            2 => {
+                let ((source, changes), rest) = Wire::read_front(alloc, rest)?;
+                Ok((Body::Attributes { source, changes }, rest))
+            }
+            3 => {
+                let ((source, changes), rest) = Wire::read_front(alloc, rest)?;
+                Ok((Body::States { source, changes }, rest))
+            }
+            4 => {
+                let ((cause, severity), rest) = Wire::read_front(alloc, rest)?;
+                Ok((Body::Alarm { cause, severity }, rest))
+            }
+            5 => {
+                let ((cause, (severity, (detector, (user, provider)))), rest) = Wire::read_front(
+                    alloc, rest,
+                )?;
+                Ok((
+                    Body::Security {
+                        cause,
+                        severity,
+                        detector,
+                        user,
+                        provider,
+                    },
+                    rest,
+                ))
+            }
+            _ => Err(Trouble::from(Fault::before(rest))),
+        }
+    }
+}
+
+impl Wire for Notification {
+    ghost use Rattle.wire.specs.NtfSpelling.{notification_text, NotificationFits};
+    ghost use Rattle.wire.specs.NtfReading.{notification_at};
+
+    ghost text = { notification_text };
+
+    ghost Fits = { NotificationFits };
+
+    ghost at = { notification_at };
+
+    #[tactic(auto, unfolding(crate::specs::NtfSpelling::notification_text))]
+    fn spell(&self, out: &mut Vec<u8>) -> Result<(), AllocError> {
+        self.id.spell(out)?;
+        self.event_type.spell(out)?;
+        self.object.spell(out)?;
+        self.notifier.spell(out)?;
+        self.class.spell(out)?;
+        self.event_time.spell(out)?;
+        self.correlated.spell(out)?;
+        self.text.spell(out)?;
+        self.info.spell(out)?;
+        self.body.spell(out)?;
+        Ok(())
+    }
+
+    #[tactic(auto, unfolding(crate::specs::NtfReading::notification_at))]
+    fn read_front(alloc: Global, bytes: &[u8]) -> Result<(Notification, &[u8]), Trouble> {
+        let (
+            (
+                id,
+                (
+                    event_type,
+                    (object, (notifier, (class, (event_time, (correlated, (text, (info, body))))))),
+                ),
+            ),
+            rest,
+        ) = Wire::read_front(alloc, bytes)?;
+        Ok((
+            Notification {
+                id,
+                event_type,
+                object,
+                notifier,
+                class,
+                event_time,
+                correlated,
+                text,
+                info,
+                body,
+            },
+            rest,
+        ))
+    }
+}
+
+impl Wire for Filter {
+    ghost use Rattle.wire.specs.NtfSpelling.{filter_text, FilterFits};
+    ghost use Rattle.wire.specs.NtfReading.{filter_at};
+
+    ghost text = { filter_text };
+
+    ghost Fits = { FilterFits };
+
+    ghost at = { filter_at };
+
+    #[tactic(auto, unfolding(crate::specs::NtfSpelling::filter_text))]
+    fn spell(&self, out: &mut Vec<u8>) -> Result<(), AllocError> {
+        self.types.spell(out)?;
+        self.objects.spell(out)?;
+        self.notifiers.spell(out)?;
+        self.classes.spell(out)?;
+        self.sources.spell(out)?;
+        self.causes.spell(out)?;
+        self.severities.spell(out)?;
+        Ok(())
+    }
+
+    #[tactic(auto, unfolding(crate::specs::NtfReading::filter_at))]
+    fn read_front(alloc: Global, bytes: &[u8]) -> Result<(Filter, &[u8]), Trouble> {
+        let ((types, (objects, (notifiers, (classes, (sources, (causes, severities)))))), rest) =
+            Wire::read_front(alloc, bytes)?;
+        Ok((
+            Filter {
+                types,
+                objects,
+                notifiers,
+                classes,
+                sources,
+                causes,
+                severities,
+            },
+            rest,
+        ))
+    }
+}
+
+impl Wire for FilterSet {
+    ghost use Rattle.wire.specs.NtfSpelling.{filter_set_text, FilterSetFits};
+    ghost use Rattle.wire.specs.NtfReading.{filter_set_at};
+
+    ghost text = { filter_set_text };
+
+    ghost Fits = { FilterSetFits };
+
+    ghost at = { filter_set_at };
+
+    #[tactic(auto, unfolding(crate::specs::NtfSpelling::filter_set_text))]
+    fn spell(&self, out: &mut Vec<u8>) -> Result<(), AllocError> {
+        self.objects.spell(out)?;
+        self.attributes.spell(out)?;
+        self.states.spell(out)?;
+        self.alarms.spell(out)?;
+        self.security.spell(out)?;
+        Ok(())
+    }
+
+    #[tactic(auto, unfolding(crate::specs::NtfReading::filter_set_at))]
+    fn read_front(alloc: Global, bytes: &[u8]) -> Result<(FilterSet, &[u8]), Trouble> {
+        let ((objects, (attributes, (states, (alarms, security)))), rest) = Wire::read_front(
+            alloc, bytes,
+        )?;
+        Ok((
+            FilterSet {
+                objects,
+                attributes,
+                states,
+                alarms,
+                security,
+            },
+            rest,
+        ))
+    }
+}
