@@ -1,0 +1,8 @@
+//! The net between clients and servers: the byte strings that were ever posted, in order of first posting, each once.
+#![tactic(auto)]
+
+mod net;
+#[cfg(test)]
+mod tests;
+
+pub use net::{Net, Posted};

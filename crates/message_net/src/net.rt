@@ -1,0 +1,102 @@
+//! The byte strings that were posted.
+ghost use Rattle.std.specs.Prelude.{◌≡◌, [], length, not, IsTrue, IsOk, IfOk, OnOk, OnErr, Some};
+ghost use Rattle.std.specs.Option.{option_copied};
+ghost use Rattle.message_net.specs.Nets.{knows, posted, bytes_at, place_of};
+
+use ais_values::Duplicate;
+use indexmap::IndexSet;
+use std::alloc::{AllocError, Global};
+use std::marker::Model;
+
+/// What became of bytes that were posted: the place where they stand, from 1, and whether they came by this posting.
+#[derive(Clone, Copy, PartialEq, Eq, Debug)]
+pub struct Posted {
+    pub place: u64,
+    pub new: bool,
+}
+
+impl Duplicate for Posted {
+    fn copy(&self, _alloc: Global) -> Result<Self, AllocError> {
+        Ok(*self)
+    }
+}
+
+/// The byte strings that were posted, each once. Contracts see them, the newest first.
+#[derive(Drop)]
+pub struct Net {
+    strings: IndexSet<Vec<u8>>,
+}
+
+impl Model for Net {
+    ghost use Rattle.std.specs.Prelude.{ℕ, List};
+
+    ghost Value = { List (List ℕ) };
+
+    ghost use Rattle.message_net.specs.Inside.{net_of};
+
+    ghost view = { net_of };
+}
+
+impl Net {
+    /// The net in which nothing was posted. It takes no memory.
+    pub fn new(alloc: Global) -> Net
+        ensures { result ≡ [] }
+    {
+        Net {
+            strings: IndexSet::new(alloc),
+        }
+    }
+
+    /// How many strings stand in the net.
+    pub fn len(&self) -> u64
+        ensures { result ≡ length self.now }
+    {
+        self.strings.len() as u64
+    }
+
+    /// The bytes at this place, `None` exactly where it is 0 or above the number of strings.
+    pub fn at(&self, k: u64) -> Option<&[u8]>
+        ensures { option_copied result ≡ bytes_at k self.now }
+    {
+        if k == 0 {
+            return None;
+        }
+        match self.strings.get_index((k - 1) as usize) {
+            Some(string) => Some(string.as_slice()),
+            None => None,
+        }
+    }
+
+    /// The place at which these bytes stand, `None` exactly where they stand nowhere.
+    pub fn place_of(&self, bytes: &[u8]) -> Option<u64>
+        ensures { result ≡ place_of bytes.now self.now }
+    {
+        let count = self.strings.len();
+        match self.strings.get_index_of(bytes) {
+            Some(index) => {
+                prove!(index < count);
+                Some(index as u64 + 1)
+            }
+            None => None,
+        }
+    }
+
+    /// Posts bytes, which join the net as its newest string where they do not stand in it yet.
+    ///
+    /// Bytes that stand there already take no memory. Where memory runs out the net stays as it was.
+    pub fn post(&mut self, alloc: Global, bytes: &[u8]) -> Result<Posted, AllocError>
+        ensures net { OnOk result (self.new ≡ posted bytes.now self.old) }
+        ensures place { IfOk result (λ it. place_of bytes.now self.new ≡ Some it.place) }
+        ensures first { IfOk result (λ it. it.new ≡ not (knows bytes.now self.old)) }
+        ensures known { IsTrue (knows bytes.now self.old) → IsOk result }
+        ensures err { OnErr result (self.new ≡ self.old) }
+    {
+        if let Some(place) = self.place_of(bytes) {
+            return Ok(Posted { place, new: false });
+        }
+        let string = Vec::from_slice(alloc, bytes)?;
+        self.strings.insert(string)?;
+        let place = self.len();
+        Ok(Posted { place, new: true })
+    }
+}
