@@ -1,4 +1,4 @@
--- The reasons for which a line is refused, as they are printed.
+-- Words of public clauses: the reasons for which a line is refused, as they are printed.
 use Rattle.std.specs.Prelude.{ℕ, List, codes}
 use Rattle.script_lines.specs.declared.answer.ScriptWhy.{ScriptWhy}
 use Rattle.script_lines.specs.declared.answer.ScriptWhy.TheVariants.{Grammar, Cluster, Time}

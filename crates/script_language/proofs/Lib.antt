@@ -1,0 +1,16 @@
+pub mod ValueRules
+pub mod NoteRules
+pub mod FilterRules
+pub mod StreamRules
+pub mod AskRules
+pub mod ControlRules
+pub mod LineRules
+pub mod ValueWriting
+pub mod NoteWriting
+pub mod FilterWriting
+pub mod StreamWriting
+pub mod AskWriting
+pub mod ControlWriting
+pub mod LineWriting
+pub mod Judging
+pub mod Again

@@ -1,0 +1,17 @@
+pub mod Values
+pub mod Notes
+pub mod Filters
+pub mod Streams
+pub mod Asks
+pub mod Control
+pub mod Lines
+pub mod Scripts
+pub mod Printing
+pub mod ValueReading
+pub mod NoteReading
+pub mod FilterReading
+pub mod StreamReading
+pub mod AskReading
+pub mod ControlReading
+pub mod LineReading
+pub mod ScriptReading
