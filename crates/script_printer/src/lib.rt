@@ -1,0 +1,14 @@
+//! Lines of scripts and notifications, written.
+#![tactic(auto)]
+
+mod asks;
+mod elements;
+mod lines;
+mod lists;
+mod notes;
+mod pieces;
+mod streams;
+mod values;
+
+pub use lines::{print_line, print_script};
+pub use notes::print_note;

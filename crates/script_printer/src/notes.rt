@@ -1,0 +1,208 @@
+//! Writing of notifications.
+ghost use Rattle.std.specs.Prelude.{◌≡◌, ◌++◌, OnOk, IfOk, if◌then◌else◌, codes};
+ghost use Rattle.script_language.specs.Printing.{note_kind_of, note_kind_text, heading_text_by, heading_part, given_time_text, known_time_text, body_text, note_text, shown_note_text};
+
+use crate::elements::{Changes, Numbers64, Pairs, StateChanges};
+use crate::lists::put_list;
+use crate::pieces::{Piece, put, put_labelled, put_number, put_pieces};
+use crate::values::{put_known_time, put_value, put_word_signed};
+use ntf_types::{Body, Change, Notification, Pair, StateChange, Value};
+use std::alloc::{AllocError, Global};
+
+/// The word of the type that a notification's body is of.
+fn kind_word(body: &Body) -> &'static [u8]
+    ensures { result.now ≡ note_kind_text (note_kind_of body.now) }
+{
+    match body {
+        Body::Objects { .. } => b"objects",
+        Body::Attributes { .. } => b"attributes",
+        Body::States { .. } => b"states",
+        Body::Alarm { .. } => b"alarm",
+        Body::Security { .. } => b"security",
+    }
+}
+
+/// Adds the word of the type that a notification's body is of.
+fn put_kind(out: &mut Vec<u8>, body: &Body) -> Result<(), AllocError>
+    ensures { OnOk result (out.new.items ≡ out.old.items ++ note_kind_text (note_kind_of body.now)) }
+{
+    put(out, kind_word(body))
+}
+
+/// Adds an event time: always where it is asked for, and else where it is known.
+fn put_time(alloc: Global, out: &mut Vec<u8>, time: &i64, always: bool) -> Result<(), AllocError>
+    ensures { OnOk result (out.new.items ≡ out.old.items ++ (if always then given_time_text else known_time_text (codes " time=")) time.now) }
+{
+    if always {
+        put_word_signed(alloc, out, b" time=", *time)
+    } else {
+        put_known_time(alloc, out, b" time=", *time)
+    }
+}
+
+/// Adds what each notification has. The time is always written where that is asked for, and else where it is known.
+#[tactic(auto, unfolding(script_language::specs::Printing::heading_text_by))]
+fn put_heading(
+    alloc: Global,
+    out: &mut Vec<u8>,
+    note: &Notification,
+    always: bool,
+) -> Result<(), AllocError>
+    ensures { OnOk result (out.new.items ≡ out.old.items ++ heading_text_by (if always then given_time_text else known_time_text (codes " time=")) (heading_part note.now)) }
+{
+    put_labelled(alloc, out, b" type=", &Piece::Hex(note.event_type))?;
+    put_labelled(alloc, out, b" obj=", &Piece::Quoted(note.object.as_slice()))?;
+    put_labelled(
+        alloc,
+        out,
+        b" by=",
+        &Piece::Quoted(note.notifier.as_slice()),
+    )?;
+    put_labelled(alloc, out, b" class=", &Piece::Class(note.class))?;
+    put_time(alloc, out, &note.event_time, always)?;
+    put_list::<Numbers64>(alloc, out, b" corr=", note.correlated.as_slice())?;
+    put_labelled(alloc, out, b" text=", &Piece::Quoted(note.text.as_slice()))?;
+    put_list::<Pairs>(alloc, out, b" info=", note.info.as_slice())?;
+    Ok(())
+}
+
+/// Adds what a security alarm tells.
+#[tactic(auto, unfolding(script_language::specs::Printing::body_text))]
+fn put_security(
+    alloc: Global,
+    out: &mut Vec<u8>,
+    cause: u16,
+    severity: u16,
+    detector: &Value,
+    user: &Value,
+    provider: &Value,
+) -> Result<(), AllocError>
+    ensures { OnOk result (out.new.items ≡ out.old.items ++ body_text (Body.Security cause severity detector.now user.now provider.now)) }
+{
+    put_labelled(alloc, out, b" cause=", &Piece::Number(u64::from(cause)))?;
+    put_labelled(alloc, out, b" sev=", &Piece::Number(u64::from(severity)))?;
+    put(out, b" detector=")?;
+    put_value(alloc, out, detector)?;
+    put(out, b" user=")?;
+    put_value(alloc, out, user)?;
+    put(out, b" provider=")?;
+    put_value(alloc, out, provider)?;
+    Ok(())
+}
+
+/// Adds what a notification on objects tells.
+#[tactic(auto, unfolding(script_language::specs::Printing::body_text), using(crate::proofs::Chain::chained, crate::proofs::Chain::chained_last))]
+fn put_objects(
+    alloc: Global,
+    out: &mut Vec<u8>,
+    source: u16,
+    attrs: &[Pair],
+) -> Result<(), AllocError>
+    ensures { OnOk result (out.new.items ≡ out.old.items ++ body_text (Body.Objects source attrs.now)) }
+{
+    put(out, b" source=")?;
+    put_number(alloc, out, u64::from(source))?;
+    put_list::<Pairs>(alloc, out, b" attrs=", attrs)?;
+    Ok(())
+}
+
+/// Adds what a notification on attributes tells.
+#[tactic(auto, unfolding(script_language::specs::Printing::body_text), using(crate::proofs::Chain::chained, crate::proofs::Chain::chained_last))]
+fn put_attributes(
+    alloc: Global,
+    out: &mut Vec<u8>,
+    source: u16,
+    changes: &[Change],
+) -> Result<(), AllocError>
+    ensures { OnOk result (out.new.items ≡ out.old.items ++ body_text (Body.Attributes source changes.now)) }
+{
+    put(out, b" source=")?;
+    put_number(alloc, out, u64::from(source))?;
+    put_list::<Changes>(alloc, out, b" changes=", changes)?;
+    Ok(())
+}
+
+/// Adds what a notification on states tells.
+#[tactic(auto, unfolding(script_language::specs::Printing::body_text), using(crate::proofs::Chain::chained, crate::proofs::Chain::chained_last))]
+fn put_states(
+    alloc: Global,
+    out: &mut Vec<u8>,
+    source: u16,
+    changes: &[StateChange],
+) -> Result<(), AllocError>
+    ensures { OnOk result (out.new.items ≡ out.old.items ++ body_text (Body.States source changes.now)) }
+{
+    put(out, b" source=")?;
+    put_number(alloc, out, u64::from(source))?;
+    put_list::<StateChanges>(alloc, out, b" changes=", changes)?;
+    Ok(())
+}
+
+/// Adds what a notification tells.
+#[tactic(auto, unfolding(script_language::specs::Printing::body_text))]
+fn put_body(alloc: Global, out: &mut Vec<u8>, body: &Body) -> Result<(), AllocError>
+    ensures { OnOk result (out.new.items ≡ out.old.items ++ body_text body.now) }
+{
+    match body {
+        Body::Objects { source, attrs } => put_objects(alloc, out, *source, attrs.as_slice()),
+        Body::Attributes { source, changes } => {
+            put_attributes(alloc, out, *source, changes.as_slice())
+        }
+        Body::States { source, changes } => put_states(alloc, out, *source, changes.as_slice()),
+        Body::Alarm { cause, severity } => put_pieces(
+            alloc,
+            out,
+            &[
+                Piece::Word(b" cause="),
+                Piece::Number(u64::from(*cause)),
+                Piece::Word(b" sev="),
+                Piece::Number(u64::from(*severity)),
+            ],
+        ),
+        Body::Security {
+            cause,
+            severity,
+            detector,
+            user,
+            provider,
+        } => put_security(alloc, out, *cause, *severity, detector, user, provider),
+    }
+}
+
+/// Adds a notification as it is sent.
+#[tactic(auto, unfolding(script_language::specs::Printing::note_text), using(crate::proofs::Chain::chained, crate::proofs::Chain::chained_last))]
+pub(crate) fn put_note(
+    alloc: Global,
+    out: &mut Vec<u8>,
+    note: &Notification,
+) -> Result<(), AllocError>
+    ensures { OnOk result (out.new.items ≡ out.old.items ++ note_text note.now) }
+{
+    put_kind(out, &note.body)?;
+    put_heading(alloc, out, note, false)?;
+    put_body(alloc, out, &note.body)?;
+    Ok(())
+}
+
+/// Adds a notification as it is shown.
+#[tactic(auto, unfolding(script_language::specs::Printing::shown_note_text), using(crate::proofs::Chain::chained, crate::proofs::Chain::chained_last))]
+fn put_shown_note(alloc: Global, out: &mut Vec<u8>, note: &Notification) -> Result<(), AllocError>
+    ensures { OnOk result (out.new.items ≡ out.old.items ++ shown_note_text note.now) }
+{
+    put_kind(out, &note.body)?;
+    put(out, b" id=")?;
+    put_number(alloc, out, note.id)?;
+    put_heading(alloc, out, note, true)?;
+    put_body(alloc, out, &note.body)?;
+    Ok(())
+}
+
+/// The words of a notification as replies and callbacks show it: its type, its id, its time whatever it is, and the rest as
+/// in the line that sends it.
+pub fn print_note(alloc: Global, note: &Notification) -> Result<Vec<u8>, AllocError>
+    ensures { IfOk result (λ words. words.items ≡ shown_note_text note.now) }
+{
+    let mut out = Vec::new(alloc);
+    put_shown_note(alloc, &mut out, note)?;
+    Ok(out)
+}

@@ -1,0 +1,175 @@
+//! Writing of words, numbers and quoted texts.
+ghost use Rattle.std.specs.Prelude.{◌≡◌, ◌++◌, ◌∷◌, [], OnOk, ◌<◌};
+ghost use Rattle.std.specs.Fmt.{decimal, signed_decimal};
+ghost use Rattle.std.specs.List.{flat_map};
+ghost use Rattle.ais_values.specs.Texts.{hex_digit};
+ghost use Rattle.script_grammar.specs.Values.{hex_pair, hex_word};
+ghost use Rattle.script_grammar.specs.Writing.{byte_text, quoted_text};
+ghost use Rattle.script_language.specs.Printing.{class_text};
+ghost use Rattle.script_printer.specs.Pieces.{piece_text};
+
+use ais_values::ClassId;
+use std::alloc::{AllocError, Global};
+
+/// A piece of a line.
+#[derive(Clone, Copy)]
+pub(crate) enum Piece<'a> {
+    /// Bytes as they are.
+    Word(&'a [u8]),
+    Number(u64),
+    Signed(i64),
+    /// `0x` and four hexadecimal digits.
+    Hex(u16),
+    /// Bytes between quotation marks.
+    Quoted(&'a [u8]),
+    Class(ClassId),
+}
+
+/// Adds bytes at the end.
+pub(crate) fn put(out: &mut Vec<u8>, bytes: &[u8]) -> Result<(), AllocError>
+    ensures { OnOk result (out.new.items ≡ out.old.items ++ bytes.now) }
+{
+    out.extend_from_slice(bytes)
+}
+
+/// Adds a number in decimal.
+pub(crate) fn put_number(alloc: Global, out: &mut Vec<u8>, number: u64) -> Result<(), AllocError>
+    ensures { OnOk result (out.new.items ≡ out.old.items ++ decimal number) }
+{
+    let text = number.to_string(alloc)?;
+    put(out, text.as_bytes())
+}
+
+/// Adds a signed number in decimal.
+pub(crate) fn put_signed(alloc: Global, out: &mut Vec<u8>, number: i64) -> Result<(), AllocError>
+    ensures { OnOk result (out.new.items ≡ out.old.items ++ signed_decimal number) }
+{
+    let text = number.to_string(alloc)?;
+    put(out, text.as_bytes())
+}
+
+/// The lower-case hexadecimal digit of a number below 16.
+fn hex_digit_of(number: u8) -> u8
+    requires { number < 16 }
+    ensures { result ≡ hex_digit number }
+{
+    if number < 10 {
+        b'0' + number
+    } else {
+        b'a' + (number - 10)
+    }
+}
+
+/// The two hexadecimal digits of a byte.
+fn hex_pair_of(byte: u8) -> [u8; 2]
+    ensures { result ≡ hex_pair byte }
+{
+    [hex_digit_of(byte / 16), hex_digit_of(byte % 16)]
+}
+
+/// Adds `0x` and the hexadecimal digits of a number's two bytes.
+#[tactic(auto, using(crate::proofs::Chain::chained))]
+pub(crate) fn put_hex(out: &mut Vec<u8>, number: u16) -> Result<(), AllocError>
+    ensures { OnOk result (out.new.items ≡ out.old.items ++ hex_word number) }
+{
+    put(out, b"0x")?;
+    put(out, &hex_pair_of((number / 256) as u8))?;
+    put(out, &hex_pair_of((number % 256) as u8))?;
+    Ok(())
+}
+
+/// Adds a byte as it stands between quotation marks.
+fn put_byte(out: &mut Vec<u8>, byte: u8) -> Result<(), AllocError>
+    ensures { OnOk result (out.new.items ≡ out.old.items ++ byte_text byte) }
+{
+    if byte == b'"' || byte == b'\\' {
+        put(out, &[b'\\', byte])
+    } else if byte >= 32 && byte <= 126 {
+        put(out, &[byte])
+    } else {
+        put(
+            out,
+            &[
+                b'\\',
+                b'x',
+                hex_digit_of(byte / 16),
+                hex_digit_of(byte % 16),
+            ],
+        )
+    }
+}
+
+/// Adds bytes as they stand between quotation marks.
+fn put_bytes(out: &mut Vec<u8>, bytes: &[u8]) -> Result<(), AllocError>
+    ensures { OnOk result (out.new.items ≡ out.old.items ++ flat_map byte_text bytes.now) }
+{
+    for byte in bytes {
+        put_byte(out, *byte)?;
+    }
+    Ok(())
+}
+
+/// Adds a text between quotation marks.
+pub(crate) fn put_quoted(out: &mut Vec<u8>, text: &[u8]) -> Result<(), AllocError>
+    ensures { OnOk result (out.new.items ≡ out.old.items ++ quoted_text text.now) }
+{
+    put(out, b"\"")?;
+    put_bytes(out, text)?;
+    put(out, b"\"")
+}
+
+/// Adds a class.
+#[tactic(auto, using(crate::proofs::Chain::chained, crate::proofs::Chain::chained_last))]
+pub(crate) fn put_class(alloc: Global, out: &mut Vec<u8>, class: ClassId) -> Result<(), AllocError>
+    ensures { OnOk result (out.new.items ≡ out.old.items ++ class_text class) }
+{
+    put_number(alloc, out, u64::from(class.vendor))?;
+    put(out, b".")?;
+    put_number(alloc, out, u64::from(class.major))?;
+    put(out, b".")?;
+    put_number(alloc, out, u64::from(class.minor))?;
+    Ok(())
+}
+
+/// Adds a piece.
+pub(crate) fn put_piece(alloc: Global, out: &mut Vec<u8>, piece: &Piece) -> Result<(), AllocError>
+    ensures { OnOk result (out.new.items ≡ out.old.items ++ piece_text piece.now) }
+{
+    match piece {
+        Piece::Word(word) => put(out, word),
+        Piece::Number(number) => put_number(alloc, out, *number),
+        Piece::Signed(number) => put_signed(alloc, out, *number),
+        Piece::Hex(number) => put_hex(out, *number),
+        Piece::Quoted(text) => put_quoted(out, text),
+        Piece::Class(class) => put_class(alloc, out, *class),
+    }
+}
+
+/// Adds a word and a piece.
+#[tactic(auto, using(crate::proofs::Chain::chained))]
+pub(crate) fn put_labelled(
+    alloc: Global,
+    out: &mut Vec<u8>,
+    word: &[u8],
+    piece: &Piece,
+) -> Result<(), AllocError>
+    ensures { OnOk result (out.new.items ≡ out.old.items ++ (word.now ++ piece_text piece.now)) }
+{
+    put(out, word)?;
+    put_piece(alloc, out, piece)?;
+    Ok(())
+}
+
+/// Adds pieces.
+pub(crate) fn put_pieces(
+    alloc: Global,
+    out: &mut Vec<u8>,
+    pieces: &[Piece],
+) -> Result<(), AllocError>
+    ensures { OnOk result (out.new.items ≡ out.old.items ++ flat_map piece_text pieces.now) }
+{
+    for piece in pieces {
+        put_piece(alloc, out, piece)?;
+    }
+    Ok(())
+}
