@@ -8,7 +8,7 @@ use Rattle.aisrun.specs.declared.command.Command.TheVariants.{Expr}
 use Rattle.aisrun.specs.Commands.{command_of, text_of}
 use Rattle.aisrun.specs.declared.status.Status8.{Status8}
 use Rattle.aisrun.specs.declared.status.Status8.TheVariants.{Done}
-use Rattle.script.specs.declared.line.Line.{Line}
+use Rattle.script_lines.specs.declared.line.Line.{Line}
 use Rattle.aisrun.specs.Causes.{Rose}
 use Rattle.aisrun.specs.Scripts.{IsScriptOf}
 use Rattle.aisrun.specs.Endings.{Given, input_limit, IsScript, IsNoScript, CheckEnds, Checked, Unchecked, ExprEnds, IsExpression, IsNoExpression, UnknownEnds, CommandEnds, Ends}

@@ -9,7 +9,7 @@ use Rattle.std.specs.FinMap.{find, put, is_sorted, insert, from_sorted, same_ent
 use Rattle.std.proofs.lemmas.Bool.Decides.{nat_tests}
 use Rattle.std.proofs.lemmas.List.{length-append, take_all, drop_all}
 use Rattle.aisrun.specs.Deeds.{calls_of, calls_of_all}
-use Rattle.aisrun.specs.DeviceCalls.{DeviceCall, CallCreate, CallWrite, CallSync, applied, all_applied}
+use Rattle.aisrun.specs.DeviceCalls.{CallCreate, CallWrite, CallSync, all_applied}
 use Rattle.aisrun.specs.Disk.{File, Files, no_files, empty_file, overwritten, file_written, file_synced, adjusted, created, written_at, synced, settled_file}
 use Rattle.aisrun.specs.SessionScript.{IsBody}
 use Rattle.aisrun.specs.SessionFiles.{record_of, records_from, stored_entries, stored_files, opening_deeds, record_deed, alarm_cfg_name, alarm_log_name, notification_cfg_name, notification_log_name, system_cfg_name, system_log_name, alarm_cfg, notification_cfg, system_cfg}

@@ -1,10 +1,10 @@
 -- What the parts of a session give: its end, or what a want of memory leaves.
 use Rattle.std.proofs.Common.{◌≡◌, ℕ, ◌≤◌, List, [], ◌++◌, length, Option, Some, None, Result, Ok, Err, refl, sym, ap, subst, ◌∙◌, arith}
-use Rattle.std.specs.Prelude.{codes, IfOk}
+use Rattle.std.specs.Prelude.{IfOk}
 use Rattle.std.specs.List.{AllByRecursion}
 use Rattle.std.proofs.lemmas.List.{append-nil}
 use Rattle.aisrun.specs.declared.ending.End.{End}
-use Rattle.aisrun.specs.declared.status.Status8.TheVariants.{DiskFault, RootNotEmpty}
+use Rattle.aisrun.specs.declared.status.Status8.TheVariants.{DiskFault}
 use Rattle.aisrun.specs.Causes.{Rose}
 use Rattle.aisrun.specs.Disk.{Files}
 use Rattle.aisrun.specs.Deeds.{calls_of, calls_of_all}
@@ -12,7 +12,7 @@ use Rattle.aisrun.specs.DeviceCalls.{FailsAfter, DoesFront}
 use Rattle.aisrun.specs.SessionFiles.{opening_deeds, record_deed, record_deeds, session_deeds, stored_files}
 use Rattle.aisrun.specs.SessionScript.{IsBody}
 use Rattle.aisrun.specs.SessionText.{fault_line}
-use Rattle.aisrun.specs.Sessions.{HoldsNow, HeldNone, told_as, FindsFile, Place, AtNames, AtOpening, AtRecord, AtListing, EmptyAt, LeftAt, Whole, Held, Broke, LacksMemory, Untouched, Partly, Faulted}
+use Rattle.aisrun.specs.Sessions.{HoldsNow, HeldNone, told_as, Place, AtNames, AtOpening, AtRecord, AtListing, EmptyAt, LeftAt, Whole, Broke, LacksMemory, Untouched, Partly, Faulted}
 use Rattle.aisrun.specs.SessionSteps.{OpensStreams, BreaksOpening, Unasked, Unopened, OpensFront, Standing, Opening, IsOpened, BreaksOpened, CallsDone, CallsBroke, CallsFront, CallsFaulted, CallsGive, SessionGives}
 use Rattle.disk_model.proofs.Breaking.{none_applied, does_within}
 use Rattle.stream_files.proofs.Calls.{calls_of_all-append}

@@ -16,10 +16,10 @@ use Rattle.format_expr.specs.declared.piece.Piece.{Piece}
 use Rattle.format_expr.specs.declared.fault.ExprFault.{ExprFault}
 use Rattle.format_expr.specs.Language.{ArePiecesOf}
 use Rattle.format_expr.specs.Faults.{IsFault, word_of}
-use Rattle.script.specs.declared.line.Line.{Line}
-use Rattle.script.specs.declared.line.ScriptWhy.{ScriptWhy}
-use Rattle.script.specs.Refusals.{why_word}
-use Rattle.script.specs.Scripts.{IsScriptOf, IsBadAt}
+use Rattle.script_lines.specs.declared.line.Line.{Line}
+use Rattle.script_lines.specs.declared.answer.ScriptWhy.{ScriptWhy}
+use Rattle.script_lines.specs.Refusals.{why_word}
+use Rattle.script_language.specs.Scripts.{IsScriptOf, IsBadAt}
 use Rattle.std.specs.Fmt.{decimal}
 use Rattle.aisrun.specs.SessionScript.{Spells}
 use Rattle.aisrun.specs.Sessions.{Plays, LacksMemory}

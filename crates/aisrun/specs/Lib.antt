@@ -16,7 +16,7 @@ pub use Rattle.stream_files.specs.Deeds
 pub use Rattle.stream_files.specs.DeviceCalls
 pub use Rattle.stream_files.specs.Disk
 pub use Rattle.stream_files.specs.Failures
-pub use Rattle.script.specs.Refusals
-pub use Rattle.script.specs.Scripts
+pub use Rattle.script_lines.specs.Refusals
+pub use Rattle.script_language.specs.Scripts
 pub use Rattle.format_expr.specs.Faults
 pub use Rattle.format_expr.specs.Language

@@ -8,7 +8,7 @@ use crate::ending::{End, end_with, passed};
 use crate::input::{Input, read_input};
 use crate::status::Status8;
 use io_edge::Source;
-use script::{ScriptAnswer, ScriptWhy, parse_script};
+use script::{ScriptAnswer, ScriptWhy, count_lines};
 use std::alloc::{AllocError, Global};
 
 // The line for a script that is bad at a line.
@@ -23,9 +23,9 @@ fn judge(alloc: Global, bytes: &[u8]) -> Result<End, AllocError>
     requires { length bytes.now ≤ 16777216 }
     ensures { IfOk result (λ end. Judged bytes.now end.status end.text.items) }
 {
-    match parse_script(alloc, bytes) {
+    match count_lines(alloc, bytes) {
         Ok(lines) => {
-            let end = passed(alloc, lines.as_slice().len())?;
+            let end = passed(alloc, lines as usize)?;
             Ok(end)
         }
         Err(ScriptAnswer::Memory) => Err(AllocError),

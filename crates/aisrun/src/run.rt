@@ -11,7 +11,7 @@ ghost use Rattle.aisrun.specs.Endings.{RunEnds};
 ghost use Rattle.aisrun.specs.RunSteps.{ScriptGives, WordsGive};
 ghost use Rattle.aisrun.specs.Scripts.{IsScriptOf};
 ghost use Rattle.aisrun.specs.SessionScript.{Spells};
-ghost use Rattle.script.specs.declared.line.Line.{Line};
+ghost use Rattle.script_lines.specs.declared.line.Line.{Line};
 ghost use Rattle.aisrun.specs.declared.status.Status8.{Status8};
 
 use crate::check::check_script;

@@ -74,6 +74,8 @@ const CHECKED: &str = "\
     check|time 5\n|1|script line 2: time\n;\
     check|cluster start=1 queue=2 callbacks=8\n|1|script line 2: cluster\n;\
     check|files \n|1|script line 2: grammar\n;\
+    check|log 1 init A.2.1\nlog 1 open system\nlog 1 write system inv=7 flags=1 gen sev=6 class=1.2.3 user=\"safApp=web\" \
+    body=\"service started\"\nsettle\ndispatch 1 all workers=1\nfiles\ncat \"saLogSystem_20240101_000002.log\"\n|0|ok 8\n;\
     expr,system,@Cr @Cb||0|ok 3\n;\
     expr,notification,||0|ok 0\n;\
     expr,alarm,@Sv||1|bad 1 WrongClass\n;\
@@ -342,6 +344,15 @@ fn scripts_and_expressions_are_checked(rt: HostRuntime) -> Result<(), Fail> {
     for row in CHECKED.split(';') {
         row_ends(&rt, alloc, row)?;
     }
+    Ok(())
+}
+
+#[test]
+fn an_empty_input_is_no_script(rt: HostRuntime) -> Result<(), Fail> {
+    let alloc = rt.alloc();
+    let mut stage = prepared(alloc, Vec::new(alloc), NONE)?;
+    let end = End(1, b"script line 1: cluster\n", b"");
+    ends(&rt, alloc, &mut stage, "check", end)?;
     Ok(())
 }
 

@@ -2,15 +2,16 @@
 use Rattle.std.proofs.Common.{◌≡◌, ◌⊎◌, ℕ, ◌∙◌, List, [], Option, Some, None, Result, Ok, Err, true, false, refl, sym, ap, inl, inr}
 use Rattle.std.specs.Prelude.{ℤ, is_some, IfOk, IfErr, MatchResult, IsErrAnd}
 use Rattle.std.proofs.lemmas.List.{append-nil}
-use Rattle.script.specs.declared.line.Line.{Line}
-use Rattle.script.specs.declared.line.ScriptWhy.{ScriptWhy}
-use Rattle.script.specs.declared.line.ScriptWhy.TheVariants as why
-use Rattle.script.specs.declared.line.ScriptAnswer.{ScriptAnswer}
-use Rattle.script.specs.declared.line.ScriptAnswer.TheVariants as answer
-use Rattle.script.specs.Scripts.{raw_lines, IsScriptOf, IsBadAt}
-use Rattle.script.specs.ScriptReading.{behind, judged}
-use Rattle.script.specs.Answers.{Tells, Judges}
-use Rattle.script.proofs.Judging.{judged_ends, judged-script, judged-complete, judged-bad, bad-complete}
+use Rattle.script_lines.specs.declared.line.Line.{Line}
+use Rattle.script_lines.specs.declared.answer.ScriptWhy.{ScriptWhy}
+use Rattle.script_lines.specs.declared.answer.ScriptWhy.TheVariants as why
+use Rattle.script_lines.specs.declared.answer.ScriptAnswer.{ScriptAnswer}
+use Rattle.script_lines.specs.declared.answer.ScriptAnswer.TheVariants as answer
+use Rattle.script_language.specs.Scripts.{raw_lines, IsScriptOf, IsBadAt}
+use Rattle.script_language.specs.ScriptReading.{behind, judged}
+use Rattle.script.specs.Answers.{Tells}
+use Rattle.script.specs.Judged.{Judges}
+use Rattle.script_language.proofs.Judging.{judged_ends, judged-script, judged-complete, judged-bad, bad-complete}
 
 -- where nothing is left
 pub ends_unbegun : (front : List Line) (now : Option ℤ) (number : ℕ) → is_some now ≡ false → behind front (judged now number []) ≡ Err (number, why.Cluster)

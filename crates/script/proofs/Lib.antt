@@ -1,13 +1,8 @@
-pub mod Rules
-pub mod Numbers
-pub mod Texts
-pub mod ControlRules
-pub mod Words
-pub mod Digits
-pub mod Inner
-pub mod Judging
-pub mod Lines
-pub mod Answering
-pub mod Written
-pub mod Again
-pub mod Appended
+mod Names
+mod Commas
+mod Skipping
+mod FirstLine
+mod Answering
+mod Turns
+mod Counting
+mod LineFronts

@@ -1,4 +1,4 @@
--- What reading in memory gives, against reading on lists.
+-- Words of bodies alone: what reading in memory gives, against reading on lists.
 use Rattle.std.specs.Prelude.{◌≡◌, Option, Some, None, Result, Ok, Err}
 use Rattle.script.specs.declared.trouble.Trouble.{Trouble}
 use Rattle.script.specs.declared.trouble.Trouble.TheVariants.{Memory, Bad}

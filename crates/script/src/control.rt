@@ -1,174 +1,218 @@
-//! The control lines: one function for each form.
-ghost use Rattle.std.specs.Prelude.{◌≡◌};
-ghost use Rattle.script.specs.ControlReading.{cluster_at, time_at, deliver_at, resend_at, bare_word_at, crash_at, arm_at, restart_at, dispatch_at, cat_at, plain_control_at, control_at, word_at};
+//! The control lines.
+ghost use Rattle.std.specs.Prelude.{◌≡◌, IfOk, option_map};
 ghost use Rattle.script.specs.Gives.{Gives};
-ghost use Rattle.script.specs.Reading.{is};
+ghost use Rattle.script_grammar.specs.Reading.{one_of};
+ghost use Rattle.script_language.specs.ControlReading.{setting_at, has_sound_streams, cluster_at, time_line_at, deliver_at, resend_at, crash_at, arm_at, restart_at, dispatch_at, cat_at, shown_readers, failure_readers, control_readers};
 
-use crate::Line;
-use crate::reading::{client, number, server, signed, skip, small};
-use crate::text::quoted;
+use crate::numbers::{client, count, queue_length, script_time, skip, workers};
+use crate::options::{is_sound, options};
+use crate::quoted::quoted;
 use crate::trouble::Trouble;
-use std::alloc::Global;
+use crate::values::server;
+use ais_values::StreamKind;
+use script_lines::Line;
+use std::alloc::{AllocError, Global};
 
-/// The last moment that a script names, in nanoseconds.
-const LAST_TIME: i64 = 9_000_000_000_000_000_000;
-
-/// The most elements of a queue.
-const LONGEST_QUEUE: u32 = 256;
-
-/// The most workers of a dispatch.
-const MOST_WORKERS: u32 = 8;
-
-/// The line, where nothing follows.
-fn end(line: Line, rest: &[u8]) -> Option<Line>
-    ensures { is line rest.now ≡ result }
+/// `start=TIME queue=LENGTH callbacks=LENGTH` and the options of the well-known streams, without its first words
+#[tactic(auto, unfolding(script_language::specs::ControlReading::setting_at))]
+fn setting(alloc: Global, bytes: &[u8]) -> Result<(Line, &[u8]), Trouble>
+    ensures { Gives (λ found. (found.0, found.1.now)) result (setting_at bytes.now) }
 {
-    if rest.is_empty() { Some(line) } else { None }
+    let (start, rest) = script_time(bytes).ok_or(Trouble::Bad)?;
+    let rest = skip(rest, b" queue=").ok_or(Trouble::Bad)?;
+    let (queue, rest) = queue_length(rest).ok_or(Trouble::Bad)?;
+    let rest = skip(rest, b" callbacks=").ok_or(Trouble::Bad)?;
+    let (callbacks, rest) = queue_length(rest).ok_or(Trouble::Bad)?;
+    let (alarm, rest) = options(alloc, rest, b" alarm")?;
+    let (ntf, rest) = options(alloc, rest, b" ntf")?;
+    let (sys, rest) = options(alloc, rest, b" sys")?;
+    let line = Line::Cluster {
+        start,
+        queue,
+        callbacks,
+        alarm,
+        ntf,
+        sys,
+    };
+    Ok((line, rest))
 }
 
-/// The line, where its word is all.
-fn word(bytes: &[u8], word: &[u8], line: Line) -> Option<Line>
-    ensures { word_at word.now line bytes.now ≡ result }
+/// Whether the well-known streams of a cluster line may have what it says of them.
+fn has_sound_streams(alloc: Global, line: &Line) -> Result<bool, AllocError>
+    ensures { IfOk result (λ sound. sound ≡ has_sound_streams line.now) }
 {
-    end(line, skip(bytes, word)?)
-}
-
-/// `cluster start=TIME queue=N callbacks=N`
-#[tactic(auto, unfolding(crate::specs::ControlReading::cluster_at))]
-fn cluster(bytes: &[u8]) -> Option<Line>
-    ensures { cluster_at bytes.now ≡ result }
-{
-    let (start, rest) = signed(skip(bytes, b"cluster start=")?, 0, LAST_TIME)?;
-    let (queue, rest) = small(skip(rest, b" queue=")?, LONGEST_QUEUE)?;
-    let (callbacks, rest) = small(skip(rest, b" callbacks=")?, LONGEST_QUEUE)?;
-    end(
+    match line {
         Line::Cluster {
-            start,
-            queue,
-            callbacks,
-        },
-        rest,
-    )
+            alarm,
+            ntf,
+            sys,
+            ..
+        } => {
+            let alarm = is_sound(alloc, StreamKind::Alarm, alarm)?;
+            let ntf = is_sound(alloc, StreamKind::Notification, ntf)?;
+            let sys = is_sound(alloc, StreamKind::System, sys)?;
+            Ok(alarm && ntf && sys)
+        }
+        _ => Ok(true),
+    }
+}
+
+/// A cluster line, whose streams may have what it says of them.
+#[tactic(auto, unfolding(script_language::specs::ControlReading::cluster_at))]
+fn cluster(alloc: Global, bytes: &[u8]) -> Result<(Line, &[u8]), Trouble>
+    ensures { Gives (λ found. (found.0, found.1.now)) result (cluster_at bytes.now) }
+{
+    let (line, rest) = setting(alloc, bytes)?;
+    if has_sound_streams(alloc, &line)? {
+        Ok((line, rest))
+    } else {
+        Err(Trouble::Bad)
+    }
 }
 
 /// `time TIME`
-#[tactic(auto, unfolding(crate::specs::ControlReading::time_at))]
-fn time(bytes: &[u8]) -> Option<Line>
-    ensures { time_at bytes.now ≡ result }
+#[tactic(auto, unfolding(script_language::specs::ControlReading::time_line_at))]
+fn time(bytes: &[u8]) -> Option<(Line, &[u8])>
+    ensures { time_line_at bytes.now ≡ option_map (λ found. (found.0, found.1.now)) result }
 {
-    let (now, rest) = signed(skip(bytes, b"time ")?, 0, LAST_TIME)?;
-    end(Line::Time { now }, rest)
+    let (now, rest) = script_time(bytes)?;
+    Some((Line::Time { now }, rest))
 }
 
-/// `deliver N`
-#[tactic(auto, unfolding(crate::specs::ControlReading::deliver_at))]
-fn deliver(bytes: &[u8]) -> Option<Line>
-    ensures { deliver_at bytes.now ≡ result }
+/// `deliver COUNT`
+#[tactic(auto, unfolding(script_language::specs::ControlReading::deliver_at))]
+fn deliver(bytes: &[u8]) -> Option<(Line, &[u8])>
+    ensures { deliver_at bytes.now ≡ option_map (λ found. (found.0, found.1.now)) result }
 {
-    let (place, rest) = number(skip(bytes, b"deliver ")?, 1, u64::MAX)?;
-    end(Line::Deliver { place }, rest)
+    let (place, rest) = count(bytes)?;
+    Some((Line::Deliver { place }, rest))
 }
 
 /// `resend CLIENT`
-#[tactic(auto, unfolding(crate::specs::ControlReading::resend_at))]
-fn resend(bytes: &[u8]) -> Option<Line>
-    ensures { resend_at bytes.now ≡ result }
+#[tactic(auto, unfolding(script_language::specs::ControlReading::resend_at))]
+fn resend(bytes: &[u8]) -> Option<(Line, &[u8])>
+    ensures { resend_at bytes.now ≡ option_map (λ found. (found.0, found.1.now)) result }
 {
-    let (client, rest) = client(skip(bytes, b"resend ")?)?;
-    end(Line::Resend { client }, rest)
-}
-
-/// A line of one word.
-#[tactic(auto, unfolding(crate::specs::ControlReading::bare_word_at))]
-fn bare_word(bytes: &[u8]) -> Option<Line>
-    ensures { bare_word_at bytes.now ≡ result }
-{
-    word(bytes, b"mirror", Line::Mirror)
-        .or_else(|| word(bytes, b"ack", Line::Ack))
-        .or_else(|| word(bytes, b"work", Line::Work))
-        .or_else(|| word(bytes, b"push", Line::Push))
-        .or_else(|| word(bytes, b"settle", Line::Settle))
-        .or_else(|| word(bytes, b"disarm", Line::Disarm))
-        .or_else(|| word(bytes, b"servers", Line::Servers))
-        .or_else(|| word(bytes, b"files", Line::Files))
+    let (client, rest) = client(bytes)?;
+    Some((Line::Resend { client }, rest))
 }
 
 /// `crash SERVER`
-#[tactic(auto, unfolding(crate::specs::ControlReading::crash_at))]
-fn crash(bytes: &[u8]) -> Option<Line>
-    ensures { crash_at bytes.now ≡ result }
+#[tactic(auto, unfolding(script_language::specs::ControlReading::crash_at))]
+fn crash(bytes: &[u8]) -> Option<(Line, &[u8])>
+    ensures { crash_at bytes.now ≡ option_map (λ found. (found.0, found.1.now)) result }
 {
-    let (server, rest) = server(skip(bytes, b"crash ")?)?;
-    end(Line::Crash { server }, rest)
+    let (server, rest) = server(bytes)?;
+    Some((Line::Crash { server }, rest))
 }
 
-/// `arm SERVER N`
-#[tactic(auto, unfolding(crate::specs::ControlReading::arm_at))]
-fn arm(bytes: &[u8]) -> Option<Line>
-    ensures { arm_at bytes.now ≡ result }
+/// `arm SERVER COUNT`
+#[tactic(auto, unfolding(script_language::specs::ControlReading::arm_at))]
+fn arm(bytes: &[u8]) -> Option<(Line, &[u8])>
+    ensures { arm_at bytes.now ≡ option_map (λ found. (found.0, found.1.now)) result }
 {
-    let (server, rest) = server(skip(bytes, b"arm ")?)?;
-    let (count, rest) = number(skip(rest, b" ")?, 1, u64::MAX)?;
-    end(Line::Arm { server, count }, rest)
+    let (server, rest) = server(bytes)?;
+    let (count, rest) = count(skip(rest, b" ")?)?;
+    Some((Line::Arm { server, count }, rest))
 }
 
 /// `restart SERVER`
-#[tactic(auto, unfolding(crate::specs::ControlReading::restart_at))]
-fn restart(bytes: &[u8]) -> Option<Line>
-    ensures { restart_at bytes.now ≡ result }
+#[tactic(auto, unfolding(script_language::specs::ControlReading::restart_at))]
+fn restart(bytes: &[u8]) -> Option<(Line, &[u8])>
+    ensures { restart_at bytes.now ≡ option_map (λ found. (found.0, found.1.now)) result }
 {
-    let (server, rest) = server(skip(bytes, b"restart ")?)?;
-    end(Line::Restart { server }, rest)
+    let (server, rest) = server(bytes)?;
+    Some((Line::Restart { server }, rest))
 }
 
 /// `dispatch CLIENT one` or `dispatch CLIENT all workers=N`
-#[tactic(auto, unfolding(crate::specs::ControlReading::dispatch_at))]
-fn dispatch(bytes: &[u8]) -> Option<Line>
-    ensures { dispatch_at bytes.now ≡ result }
+#[tactic(auto, unfolding(script_language::specs::ControlReading::dispatch_at))]
+fn dispatch(bytes: &[u8]) -> Option<(Line, &[u8])>
+    ensures { dispatch_at bytes.now ≡ option_map (λ found. (found.0, found.1.now)) result }
 {
-    let (client, rest) = client(skip(bytes, b"dispatch ")?)?;
-    if let Some(line) = word(rest, b" one", Line::DispatchOne { client }) {
-        return Some(line);
+    let (client, rest) = client(bytes)?;
+    if let Some(rest) = skip(rest, b" one") {
+        return Some((Line::DispatchOne { client }, rest));
     }
-    let (workers, rest) = small(skip(rest, b" all workers=")?, MOST_WORKERS)?;
-    end(Line::DispatchAll { client, workers }, rest)
+    let (workers, rest) = workers(skip(rest, b" all workers=")?)?;
+    Some((Line::DispatchAll { client, workers }, rest))
 }
 
 /// `cat TEXT`
-#[tactic(auto, unfolding(crate::specs::ControlReading::cat_at))]
-fn cat(alloc: Global, bytes: &[u8]) -> Result<Line, Trouble>
-    ensures { Gives (λ line. line) result (cat_at bytes.now) }
+#[tactic(auto, unfolding(script_language::specs::ControlReading::cat_at))]
+fn cat(alloc: Global, bytes: &[u8]) -> Result<(Line, &[u8]), Trouble>
+    ensures { Gives (λ found. (found.0, found.1.now)) result (cat_at bytes.now) }
 {
-    let Some(rest) = skip(bytes, b"cat ") else {
-        return Err(Trouble::Bad);
-    };
-    let (name, rest) = quoted(alloc, rest)?;
-    end(Line::Cat { name }, rest).ok_or(Trouble::Bad)
+    let (name, rest) = quoted(alloc, bytes)?;
+    Ok((Line::Cat { name }, rest))
 }
 
-/// A control line whose reading takes no memory.
-#[tactic(auto, unfolding(crate::specs::ControlReading::plain_control_at))]
-fn plain_control(bytes: &[u8]) -> Option<Line>
-    ensures { plain_control_at bytes.now ≡ result }
+/// What is handed out and shown.
+fn shown(alloc: Global, bytes: &[u8]) -> Result<(Line, &[u8]), Trouble>
+    ensures { Gives (λ found. (found.0, found.1.now)) result (one_of shown_readers bytes.now) }
 {
-    cluster(bytes)
-        .or_else(|| time(bytes))
-        .or_else(|| deliver(bytes))
-        .or_else(|| resend(bytes))
-        .or_else(|| bare_word(bytes))
-        .or_else(|| crash(bytes))
-        .or_else(|| arm(bytes))
-        .or_else(|| restart(bytes))
-        .or_else(|| dispatch(bytes))
-}
-
-/// A control line.
-#[tactic(auto, unfolding(crate::specs::ControlReading::control_at))]
-pub(crate) fn control(alloc: Global, bytes: &[u8]) -> Result<Line, Trouble>
-    ensures { Gives (λ line. line) result (control_at bytes.now) }
-{
-    match plain_control(bytes) {
-        Some(line) => Ok(line),
-        None => cat(alloc, bytes),
+    if let Some(rest) = skip(bytes, b"dispatch ") {
+        return dispatch(rest).ok_or(Trouble::Bad);
     }
+    if let Some(rest) = skip(bytes, b"servers") {
+        return Ok((Line::Servers, rest));
+    }
+    if let Some(rest) = skip(bytes, b"files") {
+        return Ok((Line::Files, rest));
+    }
+    let rest = skip(bytes, b"cat ").ok_or(Trouble::Bad)?;
+    cat(alloc, rest)
+}
+
+/// Servers that stop and come back, and the rest.
+fn failure(alloc: Global, bytes: &[u8]) -> Result<(Line, &[u8]), Trouble>
+    ensures { Gives (λ found. (found.0, found.1.now)) result (one_of failure_readers bytes.now) }
+{
+    if let Some(rest) = skip(bytes, b"crash ") {
+        return crash(rest).ok_or(Trouble::Bad);
+    }
+    if let Some(rest) = skip(bytes, b"arm ") {
+        return arm(rest).ok_or(Trouble::Bad);
+    }
+    if let Some(rest) = skip(bytes, b"disarm") {
+        return Ok((Line::Disarm, rest));
+    }
+    if let Some(rest) = skip(bytes, b"restart ") {
+        return restart(rest).ok_or(Trouble::Bad);
+    }
+    shown(alloc, bytes)
+}
+
+/// A control line, with the bytes that follow it.
+pub(crate) fn control(alloc: Global, bytes: &[u8]) -> Result<(Line, &[u8]), Trouble>
+    ensures { Gives (λ found. (found.0, found.1.now)) result (one_of control_readers bytes.now) }
+{
+    if let Some(rest) = skip(bytes, b"cluster start=") {
+        return cluster(alloc, rest);
+    }
+    if let Some(rest) = skip(bytes, b"time ") {
+        return time(rest).ok_or(Trouble::Bad);
+    }
+    if let Some(rest) = skip(bytes, b"deliver ") {
+        return deliver(rest).ok_or(Trouble::Bad);
+    }
+    if let Some(rest) = skip(bytes, b"resend ") {
+        return resend(rest).ok_or(Trouble::Bad);
+    }
+    if let Some(rest) = skip(bytes, b"mirror") {
+        return Ok((Line::Mirror, rest));
+    }
+    if let Some(rest) = skip(bytes, b"ack") {
+        return Ok((Line::Ack, rest));
+    }
+    if let Some(rest) = skip(bytes, b"work") {
+        return Ok((Line::Work, rest));
+    }
+    if let Some(rest) = skip(bytes, b"push") {
+        return Ok((Line::Push, rest));
+    }
+    if let Some(rest) = skip(bytes, b"settle") {
+        return Ok((Line::Settle, rest));
+    }
+    failure(alloc, bytes)
 }

@@ -1,17 +1,25 @@
 //! The script language: lines of a script, read from bytes and written again.
 #![tactic(auto)]
 
+mod asks;
 mod control;
-mod line;
-mod printer;
+mod elements;
+mod filters;
+mod lines;
+mod lists;
+mod notes;
+mod numbers;
+mod options;
+mod quoted;
 mod reader;
-mod reading;
-mod text;
+mod streams;
 mod trouble;
+mod values;
 
-pub use line::{Line, ScriptAnswer, ScriptWhy, Server};
-pub use printer::print_script;
-pub use reader::parse_script;
+pub use options::well_attrs;
+pub use reader::{count_lines, parse_script};
+pub use script_lines::{Line, ScriptAnswer, ScriptWhy, Server, WellOptions};
+pub use script_printer::{print_line, print_note, print_script};
 
 #[cfg(test)]
 mod tests;

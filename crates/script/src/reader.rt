@@ -1,15 +1,15 @@
 //! Reading of whole scripts.
 ghost use Rattle.std.specs.Prelude.{◌≡◌, ◌+◌, ◌-◌, ◌^◌, ◌<◌, None, [], ◌≤◌, ◌==◌, ◌∷◌, ◌⊎◌, ℕ, List, length, OnOk, IfOk, IfErr, MatchResult, IsErrAnd};
 ghost use Rattle.std.specs.List.{position_or_len};
-ghost use Rattle.script.specs.Gives.{Gives};
-ghost use Rattle.script.specs.Scripts.{raw_lines, time_after, misplaced, IsScriptOf, IsBadAt};
-ghost use Rattle.script.specs.ScriptReading.{line_at, is_skipped, judged};
-ghost use Rattle.script.specs.Answers.{Tells, Refuses, Judges, outcome_of};
+ghost use Rattle.script_language.specs.Scripts.{raw_lines, time_after, misplaced, IsScriptOf, IsBadAt};
+ghost use Rattle.script_language.specs.ScriptReading.{is_skipped, judged};
+ghost use Rattle.script.specs.Answers.{Tells, CountsScript};
+ghost use Rattle.script.specs.Judged.{TurnsTo, Refuses, Judges, outcome_of, counted, tally_of, RefusesCount, Tallies};
 
-use crate::control::control;
+use crate::lines::line_of;
 use crate::trouble::Trouble;
-use crate::{Line, ScriptAnswer, ScriptWhy};
 use ais_values::Seq;
+use script_lines::{Line, ScriptAnswer, ScriptWhy};
 use std::alloc::Global;
 
 /// The length of the first line, without its LF.
@@ -41,14 +41,6 @@ fn skips(raw: &[u8]) -> bool
         [] => true,
         [first, ..] => *first == b'#',
     }
-}
-
-/// A line of a script.
-#[tactic(auto, unfolding(crate::specs::ScriptReading::line_at))]
-fn line_of(alloc: Global, raw: &[u8]) -> Result<Line, Trouble>
-    ensures { Gives (λ line. line) result (line_at raw.now) }
-{
-    control(alloc, raw)
 }
 
 /// The time in force after a line.
@@ -88,11 +80,42 @@ fn shown_lines(bytes: &[u8]) -> usize {
     count
 }
 
+/// Reads a line where a time is in force, or none is, and the line has this number. A line that is not skipped comes with
+/// the time in force after it.
+fn read_line(
+    alloc: Global,
+    now: Option<i64>,
+    number: u32,
+    raw: &[u8],
+) -> Result<Option<(Line, Option<i64>)>, ScriptAnswer>
+    ensures { TurnsTo now number raw.now result }
+{
+    if skips(raw) {
+        return Ok(None);
+    }
+    let line = match line_of(alloc, raw) {
+        Ok(line) => line,
+        Err(Trouble::Memory) => return Err(ScriptAnswer::Memory),
+        Err(Trouble::Bad) => {
+            return Err(ScriptAnswer::Bad {
+                line: number,
+                why: ScriptWhy::Grammar,
+            });
+        }
+    };
+    if let Some(why) = fault_of(now, &line) {
+        drop(line);
+        return Err(ScriptAnswer::Bad { line: number, why });
+    }
+    let later = later_time(now, &line);
+    Ok(Some((line, later)))
+}
+
 /// The lines read so far, the time in force and the number of the next line.
 #[derive(Drop)]
 struct Reader {
     lines: Vec<Line>,
-    now: Option<i64>,
+    time: Option<i64>,
     number: u32,
 }
 
@@ -106,25 +129,15 @@ impl Reader {
             Refuses answer (outcome_of self.old (raw.now ∷ raws))) }
         ensures counts { OnOk result (self.new.number ≡ self.old.number + 1) }
     {
-        let number = self.number;
-        self.number += 1;
-        if skips(raw) {
-            return Ok(());
-        }
-        let line = match line_of(alloc, raw) {
-            Ok(line) => line,
-            Err(Trouble::Memory) => return Err(ScriptAnswer::Memory),
-            Err(Trouble::Bad) => {
-                return Err(ScriptAnswer::Bad {
-                    line: number,
-                    why: ScriptWhy::Grammar,
-                });
-            }
+        let found = match read_line(alloc, self.time, self.number, raw) {
+            Ok(found) => found,
+            Err(answer) => return Err(answer),
         };
-        if let Some(why) = fault_of(self.now, &line) {
-            return Err(ScriptAnswer::Bad { line: number, why });
-        }
-        self.now = later_time(self.now, &line);
+        self.number += 1;
+        let Some((line, later)) = found else {
+            return Ok(());
+        };
+        self.time = later;
         self.lines.push(line)?;
         Ok(())
     }
@@ -133,7 +146,7 @@ impl Reader {
     fn finish(self) -> Result<Seq<Line>, ScriptAnswer>
         ensures { Judges result (outcome_of self []) }
     {
-        if self.now.is_none() {
+        if self.time.is_none() {
             return Err(ScriptAnswer::Bad {
                 line: self.number,
                 why: ScriptWhy::Cluster,
@@ -150,7 +163,7 @@ fn judge(alloc: Global, bytes: &[u8]) -> Result<Seq<Line>, ScriptAnswer>
 {
     let mut reader = Reader {
         lines: Vec::with_capacity(alloc, shown_lines(bytes))?,
-        now: None,
+        time: None,
         number: 1,
     };
     let mut rest = bytes;
@@ -163,6 +176,76 @@ fn judge(alloc: Global, bytes: &[u8]) -> Result<Seq<Line>, ScriptAnswer>
         rest = after;
     }
     reader.finish()
+}
+
+/// How many lines were read so far, the time in force and the number of the next line.
+#[derive(Drop)]
+struct Counter {
+    count: u32,
+    time: Option<i64>,
+    number: u32,
+}
+
+impl Counter {
+    /// Reads one more line, and lets it go.
+    fn turn(&mut self, alloc: Global, raw: &[u8]) -> Result<(), ScriptAnswer>
+        requires number { self.old.number < 2 ^ 32 - 1 }
+        requires count { self.old.count < self.old.number }
+        ensures ok { OnOk result ((raws : List (List ℕ)) →
+            tally_of self.old (raw.now ∷ raws) ≡ tally_of self.new raws) }
+        ensures err { IfErr result (λ answer. (raws : List (List ℕ)) →
+            RefusesCount answer (tally_of self.old (raw.now ∷ raws))) }
+        ensures counts { OnOk result (self.new.number ≡ self.old.number + 1) }
+        ensures bound { OnOk result (self.new.count < self.new.number) }
+    {
+        let found = match read_line(alloc, self.time, self.number, raw) {
+            Ok(found) => found,
+            Err(answer) => return Err(answer),
+        };
+        self.number += 1;
+        let Some((line, later)) = found else {
+            return Ok(());
+        };
+        drop(line);
+        self.time = later;
+        self.count += 1;
+        Ok(())
+    }
+
+    /// The count, where a cluster line was read.
+    fn finish(&self) -> Result<u32, ScriptAnswer>
+        ensures { Tallies result (tally_of self.now []) }
+    {
+        if self.time.is_none() {
+            return Err(ScriptAnswer::Bad {
+                line: self.number,
+                why: ScriptWhy::Cluster,
+            });
+        }
+        Ok(self.count)
+    }
+}
+
+/// The number of the lines that the bytes spell, or what is bad.
+fn tally(alloc: Global, bytes: &[u8]) -> Result<u32, ScriptAnswer>
+    requires { length bytes.now ≤ 4294967294 }
+    ensures { Tallies result (counted (judged None 1 (raw_lines bytes.now))) }
+{
+    let mut counter = Counter {
+        count: 0,
+        time: None,
+        number: 1,
+    };
+    let mut rest = bytes;
+    'lines: while !rest.is_empty() {
+        let (raw, after) = first_line(rest);
+        match counter.turn(alloc, raw) {
+            Ok(()) => {}
+            Err(answer) => return Err(answer),
+        }
+        rest = after;
+    }
+    counter.finish()
 }
 
 /// Reads a script of at most 4,294,967,294 bytes. It takes the room for its lines first, and then reads each line once.
@@ -184,4 +267,22 @@ pub fn parse_script(alloc: Global, bytes: &[u8]) -> Result<Seq<Line>, ScriptAnsw
         → IsErrAnd result (λ answer. (answer ≡ ScriptAnswer.Memory) ⊎ (answer ≡ ScriptAnswer.Bad number why)) }
 {
     judge(alloc, bytes)
+}
+
+/// How many lines a script of at most 4,294,967,294 bytes has. It keeps one line at a time; `Bad` comes as from
+/// `parse_script`.
+pub fn count_lines(alloc: Global, bytes: &[u8]) -> Result<u32, ScriptAnswer>
+    requires { length bytes.now ≤ 4294967294 }
+
+    // What is counted are the lines that are spelled, unless memory runs out.
+    ensures lines { IfOk result (CountsScript bytes.now) }
+    ensures every_script { (lines : List Line) → IsScriptOf lines bytes.now
+        → MatchResult result (λ count. count ≡ length lines) (λ answer. answer ≡ ScriptAnswer.Memory) }
+
+    // What is told to be bad is the least bad line, and the least bad line is told, unless memory runs out.
+    ensures fault { IfErr result (λ answer. Tells answer bytes.now) }
+    ensures every_fault { (number : ℕ) (why : ScriptWhy) → IsBadAt bytes.now number why
+        → IsErrAnd result (λ answer. (answer ≡ ScriptAnswer.Memory) ⊎ (answer ≡ ScriptAnswer.Bad number why)) }
+{
+    tally(alloc, bytes)
 }

@@ -1,4 +1,4 @@
-use Rattle.script.proofs.Lines.{first_and_rest, one_line}
+use Rattle.script.proofs.FirstLine.{first_and_rest, one_line}
 use Rattle.script.proofs.reader.first_line.Goals as goal
 
 pub returns-then-end-bytes-clause-lines : goal.returns-then-end-bytes-clause-lines

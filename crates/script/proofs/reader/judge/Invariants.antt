@@ -1,7 +1,7 @@
 use Rattle.std.proofs.Common.{◌≡◌, ◌+◌, ◌≤◌, None, length}
-use Rattle.script.specs.Scripts.{raw_lines}
-use Rattle.script.specs.ScriptReading.{judged}
-use Rattle.script.specs.Answers.{outcome_of}
+use Rattle.script_language.specs.Scripts.{raw_lines}
+use Rattle.script_language.specs.ScriptReading.{judged}
+use Rattle.script.specs.Judged.{outcome_of}
 use Rattle.script.proofs.reader.judge.Given as goal
 
 abbrev pub invariant-lines : goal.invariant-lines

@@ -1,9 +1,0 @@
--- The reasons for which a line is refused, as they are printed.
-use Rattle.std.specs.Prelude.{ℕ, List, codes}
-use Rattle.script.specs.declared.line.ScriptWhy.{ScriptWhy}
-use Rattle.script.specs.declared.line.ScriptWhy.TheVariants.{Grammar, Cluster, Time}
-
-abbrev pub why_word : ScriptWhy → List ℕ
-why_word Grammar = codes "grammar"
-why_word Cluster = codes "cluster"
-why_word Time = codes "time"

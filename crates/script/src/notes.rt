@@ -1,0 +1,179 @@
+//! Notifications.
+ghost use Rattle.std.specs.Prelude.{◌≡◌, option_map};
+ghost use Rattle.script.specs.Gives.{Gives};
+ghost use Rattle.script_language.specs.NoteReading.{note_kind_at, heading_at, objects_at, attributes_at, states_at, alarm_at, security_at, body_of_at, note_at};
+
+use crate::elements::{Changes, Numbers64, Pairs, StateChanges};
+use crate::lists::maybe_list;
+use crate::numbers::{number16, skip, time_unless};
+use crate::quoted::{hex_word, quoted, quoted_name};
+use crate::trouble::Trouble;
+use crate::values::{class, value};
+use ntf_types::{Body, Notification};
+use script_lines::{Heading, NoteKind};
+use std::alloc::Global;
+
+/// The type of a notification.
+#[tactic(auto, unfolding(script_language::specs::NoteReading::note_kind_at))]
+fn note_kind(bytes: &[u8]) -> Option<(NoteKind, &[u8])>
+    ensures { note_kind_at bytes.now ≡ option_map (λ found. (found.0, found.1.now)) result }
+{
+    if let Some(rest) = skip(bytes, b"objects") {
+        return Some((NoteKind::Objects, rest));
+    }
+    if let Some(rest) = skip(bytes, b"attributes") {
+        return Some((NoteKind::Attributes, rest));
+    }
+    if let Some(rest) = skip(bytes, b"states") {
+        return Some((NoteKind::States, rest));
+    }
+    if let Some(rest) = skip(bytes, b"alarm") {
+        return Some((NoteKind::Alarm, rest));
+    }
+    Some((NoteKind::Security, skip(bytes, b"security")?))
+}
+
+/// `type=TYPE obj="O" by="O" class=V.M.N [time=NS] [corr=IDS] text="X" [info=PAIRS]`, with a blank before each
+#[tactic(auto, unfolding(script_language::specs::NoteReading::heading_at))]
+fn heading(alloc: Global, bytes: &[u8]) -> Result<(Heading, &[u8]), Trouble>
+    ensures { Gives (λ found. (found.0, found.1.now)) result (heading_at bytes.now) }
+{
+    let rest = skip(bytes, b" type=").ok_or(Trouble::Bad)?;
+    let (event_type, rest) = hex_word(rest).ok_or(Trouble::Bad)?;
+    let rest = skip(rest, b" obj=").ok_or(Trouble::Bad)?;
+    let (object, rest) = quoted_name(alloc, rest)?;
+    let rest = skip(rest, b" by=").ok_or(Trouble::Bad)?;
+    let (notifier, rest) = quoted_name(alloc, rest)?;
+    let rest = skip(rest, b" class=").ok_or(Trouble::Bad)?;
+    let (class, rest) = class(rest).ok_or(Trouble::Bad)?;
+    let (event_time, rest) = time_unless(rest, b" time=").ok_or(Trouble::Bad)?;
+    let (correlated, rest) = maybe_list::<Numbers64>(alloc, rest, b" corr=")?;
+    let rest = skip(rest, b" text=").ok_or(Trouble::Bad)?;
+    let (text, rest) = quoted(alloc, rest)?;
+    let (info, rest) = maybe_list::<Pairs>(alloc, rest, b" info=")?;
+    let heading = Heading {
+        event_type,
+        object,
+        notifier,
+        class,
+        event_time,
+        correlated,
+        text,
+        info,
+    };
+    Ok((heading, rest))
+}
+
+/// `source=N [attrs=PAIRS]`
+#[tactic(auto, unfolding(script_language::specs::NoteReading::objects_at))]
+fn objects(alloc: Global, bytes: &[u8]) -> Result<(Body, &[u8]), Trouble>
+    ensures { Gives (λ found. (found.0, found.1.now)) result (objects_at bytes.now) }
+{
+    let rest = skip(bytes, b" source=").ok_or(Trouble::Bad)?;
+    let (source, rest) = number16(rest).ok_or(Trouble::Bad)?;
+    let (attrs, rest) = maybe_list::<Pairs>(alloc, rest, b" attrs=")?;
+    Ok((Body::Objects { source, attrs }, rest))
+}
+
+/// `source=N [changes=CHANGES]`
+#[tactic(auto, unfolding(script_language::specs::NoteReading::attributes_at))]
+fn attributes(alloc: Global, bytes: &[u8]) -> Result<(Body, &[u8]), Trouble>
+    ensures { Gives (λ found. (found.0, found.1.now)) result (attributes_at bytes.now) }
+{
+    let rest = skip(bytes, b" source=").ok_or(Trouble::Bad)?;
+    let (source, rest) = number16(rest).ok_or(Trouble::Bad)?;
+    let (changes, rest) = maybe_list::<Changes>(alloc, rest, b" changes=")?;
+    Ok((Body::Attributes { source, changes }, rest))
+}
+
+/// `source=N [changes=STATECHANGES]`
+#[tactic(auto, unfolding(script_language::specs::NoteReading::states_at))]
+fn states(alloc: Global, bytes: &[u8]) -> Result<(Body, &[u8]), Trouble>
+    ensures { Gives (λ found. (found.0, found.1.now)) result (states_at bytes.now) }
+{
+    let rest = skip(bytes, b" source=").ok_or(Trouble::Bad)?;
+    let (source, rest) = number16(rest).ok_or(Trouble::Bad)?;
+    let (changes, rest) = maybe_list::<StateChanges>(alloc, rest, b" changes=")?;
+    Ok((Body::States { source, changes }, rest))
+}
+
+/// `cause=N sev=N`
+#[tactic(auto, unfolding(script_language::specs::NoteReading::alarm_at))]
+fn alarm(bytes: &[u8]) -> Option<(Body, &[u8])>
+    ensures { alarm_at bytes.now ≡ option_map (λ found. (found.0, found.1.now)) result }
+{
+    let (cause, rest) = number16(skip(bytes, b" cause=")?)?;
+    let (severity, rest) = number16(skip(rest, b" sev=")?)?;
+    Some((Body::Alarm { cause, severity }, rest))
+}
+
+/// `cause=N sev=N detector=VALUE user=VALUE provider=VALUE`
+#[tactic(auto, unfolding(script_language::specs::NoteReading::security_at))]
+fn security(alloc: Global, bytes: &[u8]) -> Result<(Body, &[u8]), Trouble>
+    ensures { Gives (λ found. (found.0, found.1.now)) result (security_at bytes.now) }
+{
+    let rest = skip(bytes, b" cause=").ok_or(Trouble::Bad)?;
+    let (cause, rest) = number16(rest).ok_or(Trouble::Bad)?;
+    let rest = skip(rest, b" sev=").ok_or(Trouble::Bad)?;
+    let (severity, rest) = number16(rest).ok_or(Trouble::Bad)?;
+    let rest = skip(rest, b" detector=").ok_or(Trouble::Bad)?;
+    let (detector, rest) = value(alloc, rest)?;
+    let rest = skip(rest, b" user=").ok_or(Trouble::Bad)?;
+    let (user, rest) = value(alloc, rest)?;
+    let rest = skip(rest, b" provider=").ok_or(Trouble::Bad)?;
+    let (provider, rest) = value(alloc, rest)?;
+    let body = Body::Security {
+        cause,
+        severity,
+        detector,
+        user,
+        provider,
+    };
+    Ok((body, rest))
+}
+
+/// What a notification of the type tells.
+fn body_of(alloc: Global, kind: NoteKind, bytes: &[u8]) -> Result<(Body, &[u8]), Trouble>
+    ensures { Gives (λ found. (found.0, found.1.now)) result (body_of_at kind bytes.now) }
+{
+    match kind {
+        NoteKind::Objects => objects(alloc, bytes),
+        NoteKind::Attributes => attributes(alloc, bytes),
+        NoteKind::States => states(alloc, bytes),
+        NoteKind::Alarm => alarm(bytes).ok_or(Trouble::Bad),
+        NoteKind::Security => security(alloc, bytes),
+    }
+}
+
+/// `KIND`, what each notification has, and what those of its type tell. The notification has the id 0.
+#[tactic(auto, unfolding(script_language::specs::NoteReading::note_at))]
+pub(crate) fn note(alloc: Global, bytes: &[u8]) -> Result<(Notification, &[u8]), Trouble>
+    ensures { Gives (λ found. (found.0, found.1.now)) result (note_at bytes.now) }
+{
+    let (kind, rest) = note_kind(bytes).ok_or(Trouble::Bad)?;
+    let (heading, rest) = heading(alloc, rest)?;
+    let (body, rest) = body_of(alloc, kind, rest)?;
+    let Heading {
+        event_type,
+        object,
+        notifier,
+        class,
+        event_time,
+        correlated,
+        text,
+        info,
+    } = heading;
+    let notification = Notification {
+        id: 0,
+        event_type,
+        object,
+        notifier,
+        class,
+        event_time,
+        correlated,
+        text,
+        info,
+        body,
+    };
+    Ok((notification, rest))
+}

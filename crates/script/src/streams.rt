@@ -1,0 +1,152 @@
+//! Streams, their attributes, and the headers of their records.
+ghost use Rattle.std.specs.Prelude.{◌≡◌, option_map, codes};
+ghost use Rattle.ais_values.specs.declared.kind.StreamKind.TheVariants as kinds;
+ghost use Rattle.stream_config.specs.WellKnown.{default_format};
+ghost use Rattle.script.specs.Gives.{Gives};
+ghost use Rattle.script_grammar.specs.Reading.{unless};
+ghost use Rattle.script_grammar.specs.ValueReading.{quoted_at};
+ghost use Rattle.script_language.specs.StreamReading.{full_action_at, stream_at, attrs_at, generic_at, notified_at, header_at};
+
+use crate::numbers::{number8, number16, number32, number64, skip, time_unless};
+use crate::quoted::{hex_word, quoted, quoted_name};
+use crate::trouble::Trouble;
+use crate::values::class;
+use ais_values::{StreamKind, Text};
+use record_print::Header;
+use std::alloc::Global;
+use stream_config::{FullAction, StreamAttrs, StreamName, default_format};
+
+/// What a stream does where its file is full.
+#[tactic(auto, unfolding(script_language::specs::StreamReading::full_action_at))]
+pub(crate) fn full_action(bytes: &[u8]) -> Option<(FullAction, &[u8])>
+    ensures { full_action_at bytes.now ≡ option_map (λ found. (found.0, found.1.now)) result }
+{
+    if let Some(rest) = skip(bytes, b"wrap") {
+        return Some((FullAction::Wrap, rest));
+    }
+    if let Some(rest) = skip(bytes, b"halt") {
+        return Some((FullAction::Halt, rest));
+    }
+    Some((FullAction::Rotate, skip(bytes, b"rotate")?))
+}
+
+/// `alarm`, `notification`, `system` or `app:"NAME"`
+#[tactic(auto, unfolding(script_language::specs::StreamReading::stream_at))]
+pub(crate) fn stream(alloc: Global, bytes: &[u8]) -> Result<(StreamName, &[u8]), Trouble>
+    ensures { Gives (λ found. (found.0, found.1.now)) result (stream_at bytes.now) }
+{
+    if let Some(rest) = skip(bytes, b"alarm") {
+        return Ok((StreamName::Alarm, rest));
+    }
+    if let Some(rest) = skip(bytes, b"notification") {
+        return Ok((StreamName::Notification, rest));
+    }
+    if let Some(rest) = skip(bytes, b"system") {
+        return Ok((StreamName::System, rest));
+    }
+    let rest = skip(bytes, b"app:").ok_or(Trouble::Bad)?;
+    let (name, rest) = quoted_name(alloc, rest)?;
+    Ok((StreamName::App { name }, rest))
+}
+
+/// The expression behind ` fmt=`, or that of application streams where it does not stand.
+fn format_unless(alloc: Global, bytes: &[u8]) -> Result<(Text, &[u8]), Trouble>
+    ensures { Gives (λ found. (found.0, found.1.now)) result
+        (unless (default_format kinds.Application) (codes " fmt=") quoted_at bytes.now) }
+{
+    match skip(bytes, b" fmt=") {
+        Some(rest) => quoted(alloc, rest),
+        None => {
+            let format = default_format(StreamKind::Application).to_vec(alloc)?;
+            Ok((Text::from_vec(format), bytes))
+        }
+    }
+}
+
+/// `"D" path="P" max=N rec=N ha=N full=F rot=N [fmt="E"]`
+#[tactic(auto, unfolding(script_language::specs::StreamReading::attrs_at))]
+pub(crate) fn attrs(alloc: Global, bytes: &[u8]) -> Result<(StreamAttrs, &[u8]), Trouble>
+    ensures { Gives (λ found. (found.0, found.1.now)) result (attrs_at bytes.now) }
+{
+    let (file, rest) = quoted(alloc, bytes)?;
+    let rest = skip(rest, b" path=").ok_or(Trouble::Bad)?;
+    let (path, rest) = quoted(alloc, rest)?;
+    let rest = skip(rest, b" max=").ok_or(Trouble::Bad)?;
+    let (max_file, rest) = number64(rest).ok_or(Trouble::Bad)?;
+    let rest = skip(rest, b" rec=").ok_or(Trouble::Bad)?;
+    let (record_size, rest) = number32(rest).ok_or(Trouble::Bad)?;
+    let rest = skip(rest, b" ha=").ok_or(Trouble::Bad)?;
+    let (ha, rest) = number8(rest).ok_or(Trouble::Bad)?;
+    let rest = skip(rest, b" full=").ok_or(Trouble::Bad)?;
+    let (action, rest) = full_action(rest).ok_or(Trouble::Bad)?;
+    let rest = skip(rest, b" rot=").ok_or(Trouble::Bad)?;
+    let (rotated, rest) = number32(rest).ok_or(Trouble::Bad)?;
+    let (expr, rest) = format_unless(alloc, rest)?;
+    let attrs = StreamAttrs {
+        file,
+        path,
+        max_file,
+        record_size,
+        ha,
+        action,
+        rotated,
+        expr,
+    };
+    Ok((attrs, rest))
+}
+
+/// `sev=N class=V.M.N user="U"`, without its first word
+#[tactic(auto, unfolding(script_language::specs::StreamReading::generic_at))]
+fn generic(alloc: Global, bytes: &[u8]) -> Result<(Header, &[u8]), Trouble>
+    ensures { Gives (λ found. (found.0, found.1.now)) result (generic_at bytes.now) }
+{
+    let (severity, rest) = number16(bytes).ok_or(Trouble::Bad)?;
+    let rest = skip(rest, b" class=").ok_or(Trouble::Bad)?;
+    let (class, rest) = class(rest).ok_or(Trouble::Bad)?;
+    let rest = skip(rest, b" user=").ok_or(Trouble::Bad)?;
+    let (user, rest) = quoted_name(alloc, rest)?;
+    let header = Header::Generic {
+        class,
+        user,
+        severity,
+    };
+    Ok((header, rest))
+}
+
+/// `id=N type=TYPE obj="O" by="O" class=V.M.N [evtime=NS]`, without its first word
+#[tactic(auto, unfolding(script_language::specs::StreamReading::notified_at))]
+fn notified(alloc: Global, bytes: &[u8]) -> Result<(Header, &[u8]), Trouble>
+    ensures { Gives (λ found. (found.0, found.1.now)) result (notified_at bytes.now) }
+{
+    let (id, rest) = number64(bytes).ok_or(Trouble::Bad)?;
+    let rest = skip(rest, b" type=").ok_or(Trouble::Bad)?;
+    let (event_type, rest) = hex_word(rest).ok_or(Trouble::Bad)?;
+    let rest = skip(rest, b" obj=").ok_or(Trouble::Bad)?;
+    let (object, rest) = quoted_name(alloc, rest)?;
+    let rest = skip(rest, b" by=").ok_or(Trouble::Bad)?;
+    let (notifier, rest) = quoted_name(alloc, rest)?;
+    let rest = skip(rest, b" class=").ok_or(Trouble::Bad)?;
+    let (class, rest) = class(rest).ok_or(Trouble::Bad)?;
+    let (event_time, rest) = time_unless(rest, b" evtime=").ok_or(Trouble::Bad)?;
+    let header = Header::Ntf {
+        id,
+        event_type,
+        object,
+        notifier,
+        class,
+        event_time,
+    };
+    Ok((header, rest))
+}
+
+/// The header of a record, with a blank before it.
+#[tactic(auto, unfolding(script_language::specs::StreamReading::header_at))]
+pub(crate) fn header(alloc: Global, bytes: &[u8]) -> Result<(Header, &[u8]), Trouble>
+    ensures { Gives (λ found. (found.0, found.1.now)) result (header_at bytes.now) }
+{
+    if let Some(rest) = skip(bytes, b" gen sev=") {
+        return generic(alloc, rest);
+    }
+    let rest = skip(bytes, b" ntfh id=").ok_or(Trouble::Bad)?;
+    notified(alloc, rest)
+}
