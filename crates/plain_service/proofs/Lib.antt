@@ -1,1 +1,20 @@
+pub mod ListLaws
+pub mod KeptStreams
+pub mod FitStreams
+pub mod SentLaws
+pub mod FitAlarms
+pub mod FitSubs
+pub mod FitReaders
+pub mod WellKnown
+pub mod OkAnswers
+pub mod Possible
+pub mod ReplyLaws
+pub mod ItemLaws
+pub mod IdLaws
+pub mod HistoryEvents
+pub mod FitCounts
+pub mod FitStamp
+pub mod StepLaws
+pub mod FilesLaws
+pub mod RecordLaws
 mod Rows

@@ -1,13 +1,10 @@
 -- Worked rows: what the definitions give on small histories.
-use Rattle.std.proofs.Common.{◌≡◌, ℕ, ◌+◌, ◌*◌, Bool, true, false, List, [], ◌∷◌, map, refl}
-use Rattle.std.specs.Prelude.{Option, Some, None, ℤ, pos, codes}
+use Rattle.std.proofs.Common.{◌≡◌, ℕ, true, false, List, [], ◌∷◌, refl}
+use Rattle.std.specs.Prelude.{Some, None, ℤ, pos, codes}
 use Rattle.ais_values.specs.declared.kind.StreamKind.TheVariants as kind
 use Rattle.ais_values.specs.declared.status.Status.TheVariants as status
 use Rattle.stream_config.specs.declared.attrs.StreamAttrs.{StreamAttrs}
-use Rattle.stream_config.specs.declared.attrs.StreamName.TheVariants.{System}
-use Rattle.stream_config.specs.declared.attrs.FullAction.TheVariants.{Rotate}
 use Rattle.stream_config.specs.WellKnown.{default_attrs}
-use Rattle.record_print.specs.declared.record.Header.TheVariants.{Generic}
 use Rattle.ntf_types.specs.declared.notification.Body.TheVariants.{Alarm}
 use Rattle.ntf_types.specs.declared.notification.Notification.{Notification}
 use Rattle.ntf_types.specs.SoundTests.{is_sound}
@@ -17,9 +14,8 @@ use Rattle.ntf_filters.specs.FitTests.{is_fit}
 use Rattle.sub_queue.specs.declared.item.Lost.{Lost}
 use Rattle.sub_queue.specs.declared.item.Content.TheVariants.{Notified, Discarded}
 use Rattle.calls.specs.declared.call.Call.{Call}
-use Rattle.calls.specs.declared.call.Call.TheVariants.{LogInit, LogOpen, LogWrite, NtfInit, NtfSend, NtfSubscribe, NtfUnsubscribe, ReaderStart, ReaderRead, ReaderEnd, NtfFini}
-use Rattle.calls.specs.declared.reply.Reply.{Reply}
-use Rattle.calls.specs.declared.reply.Reply.TheVariants.{Refused, Done, Sent, Found}
+use Rattle.calls.specs.declared.call.Call.TheVariants.{LogInit, NtfInit, NtfSend, NtfSubscribe, NtfUnsubscribe, ReaderStart, ReaderRead, ReaderEnd, NtfFini}
+use Rattle.calls.specs.declared.reply.Reply.TheVariants.{Refused, Sent, Found}
 use Rattle.calls.specs.declared.entry.Entry.{Entry}
 use Rattle.calls.specs.declared.entry.Entry.TheVariants.{Called, Receipted}
 use Rattle.calls.specs.declared.entry.Held.{Held}

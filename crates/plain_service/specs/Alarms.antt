@@ -1,8 +1,6 @@
 -- Words of public clauses: notifications as they are accepted and stored, and which stored alarms stand.
 use Rattle.std.specs.Prelude.{ℕ, ◌+◌, ◌-◌, ◌*◌, ◌/◌, ℤ, if◌then◌else◌, List, length}
 use Rattle.std.specs.Option.{option_map_or}
-use Rattle.stream_config.specs.declared.attrs.FullAction.{FullAction}
-use Rattle.stream_config.specs.declared.attrs.FullAction.TheVariants.{Wrap, Halt, Rotate}
 use Rattle.stream_config.specs.declared.attrs.StreamName.{StreamName}
 use Rattle.stream_config.specs.declared.attrs.StreamName.TheVariants as name
 use Rattle.stream_config.specs.Sizes.{records_per_file}
@@ -14,6 +12,7 @@ use Rattle.alarm_view.specs.declared.alarm.KeptAlarm.{KeptAlarm}
 use Rattle.log_history.specs.Chronicle.{LogSetup, Stream}
 use Rattle.log_history.specs.Changes.{LogChange}
 use Rattle.log_history.specs.Answers.{living_stream}
+pub use Rattle.log_history.specs.Places.{first_in}
 use Rattle.log_history.specs.Times.{filled_time}
 use Rattle.ntf_history.specs.StoredAlarms.{is_alarm, stored_alarms}
 use Rattle.plain_service.specs.Setups.{Setup, log_setup}
@@ -49,12 +48,6 @@ record_for now notification = record {
 -- how many records the living stream of that name has taken
 abbrev pub taken_by : LogSetup → List LogChange → StreamName → ℕ
 taken_by setup past name = option_map_or (λ (stream : Stream). length stream.records) (living_stream setup past name) 0
-
--- the number of the first record that stands, of so many that were taken, where a file holds n records
-abbrev pub first_in : FullAction → (n rotated taken : ℕ) → ℕ
-first_in Wrap n rotated taken = taken - n
-first_in Halt n rotated taken = 0
-first_in Rotate n rotated taken = ((taken - 1) / n + 1 - rotated) * n
 
 -- the number of the first record of the alarm stream that stands
 abbrev pub first_standing : Setup → List LogChange → ℕ

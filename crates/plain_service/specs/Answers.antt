@@ -1,6 +1,6 @@
 -- Words of public clauses: the answers to all calls, by one table. The first row whose condition holds decides; with none the
 -- call is answered ok.
-use Rattle.std.specs.Prelude.{ℕ, Bool, false, List, []}
+use Rattle.std.specs.Prelude.{ℕ, Bool, false, List}
 use Rattle.std.specs.Option.{option_map_or}
 use Rattle.ais_values.specs.declared.status.Status.{Status}
 use Rattle.stream_config.specs.Attributes.{kind_of}

@@ -1,5 +1,5 @@
 -- Words of public clauses: which values can be handed on, a record for each group of rules.
-use Rattle.std.specs.Prelude.{◌≡◌, ◌≢◌, ℕ, ◌+◌, ◌*◌, ◌<◌, ◌≤◌, ◌⊎◌, ℤ, pos, ◌≤ℤ◌, unsigned_abs, nat_lt, ◌==◌, Bool, true, ◌&&◌, List, [], ◌∷◌, length, take, drop, map, find, MatchOption, slice_get}
+use Rattle.std.specs.Prelude.{◌≡◌, ◌≢◌, ℕ, ◌+◌, ◌*◌, ◌<◌, ◌≤◌, ◌⊎◌, pos, ◌≤ℤ◌, unsigned_abs, nat_lt, ◌==◌, Bool, true, ◌&&◌, List, [], ◌∷◌, length, take, drop, map, find, MatchOption, slice_get}
 use Rattle.std.specs.List.{AllByRecursion}
 use Rattle.client_set.specs.Members.{has}
 use Rattle.client_set.specs.Rising.{IsRising}
@@ -23,6 +23,7 @@ use Rattle.calls.specs.declared.saved.SavedAlarm.{SavedAlarm}
 use Rattle.calls.specs.declared.saved.SavedSub.{SavedSub}
 use Rattle.calls.specs.declared.saved.SavedReader.{SavedReader}
 use Rattle.log_history.specs.Names.{is_application}
+use Rattle.log_history.specs.Stamps.{IsStampUpTo}
 use Rattle.ntf_history.specs.Rows.{asks_for_alarms}
 use Rattle.ntf_history.specs.Subscriptions.{key_first}
 use Rattle.plain_service.specs.Alarms.{first_in}
@@ -51,11 +52,6 @@ pub record IsFitWindow (number : ℕ) (window : SavedWindow) : Type 0 where
 pub record HaveFitWindows (saved : Saved) : Type 0 where
   pub clients : AreClients (map (λ (window : SavedWindow). window.client) saved.windows)
   pub each : AllByRecursion (IsFitWindow saved.number) saved.windows
-
--- a stamp: a second that is not negative, and not behind the last stamp
-pub record IsStampUpTo (last stamp : ℤ) : Type 0 where
-  pub from : pos 0 ≤ℤ stamp
-  pub to : stamp ≤ℤ last
 
 -- a living stream: its attributes pass, users have it open, its files are those of so many records, and no more were taken than
 -- entries accepted

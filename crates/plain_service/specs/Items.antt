@@ -1,10 +1,11 @@
 -- Words of public clauses: the items that subscriptions hold, and which receipts are new.
-use Rattle.std.specs.Prelude.{ℕ, ◌+◌, Bool, List, drop, map}
+use Rattle.std.specs.Prelude.{◌≡◌, ℕ, suc, ◌+◌, ◌<◌, ◌≤◌, Bool, true, false, ◌⊎◌, Some, List, ◌∷◌, drop, map, slice_get}
 use Rattle.std.specs.List.{flat_map}
 use Rattle.sub_queue.specs.declared.item.Content.{Content}
 use Rattle.sub_queue.specs.declared.item.Item.{Item}
 use Rattle.sub_queue.specs.Items.{numbered}
 use Rattle.calls.specs.declared.entry.Entry.{Entry}
+use Rattle.calls.specs.declared.entry.Entry.TheVariants.{Called, Receipted}
 use Rattle.calls.specs.declared.entry.Held.{Held}
 use Rattle.ntf_history.specs.Changes.{Sub, NtfChange}
 use Rattle.ntf_history.specs.Subscriptions.{subs, lasts, made, through_of, is_new}
@@ -45,3 +46,21 @@ lasts_for setup past client key = lasts (past_of setup past).ntf client key
 -- a receipt is new where the subscription lasts and its number is that of an item without receipt
 unfoldable pub is_new_receipt : Setup → List Entry → (client key through : ℕ) → Bool
 is_new_receipt setup past client key through = is_new setup.capacity (past_of setup past).ntf client key through
+
+-- an item that was made, under its number, for a subscription that lasts, and has no receipt
+pub record IsHeldItem (setup : Setup) (past : List Entry) (held : Held) : Type 0 where
+  pub lasting : lasts_for setup past held.client held.key ≡ true
+  pub above : through_for setup past held.client held.key < held.item.number
+  pub before : ℕ
+  pub numbered : held.item.number ≡ suc before
+  pub made : slice_get (made_for setup past held.client held.key) before ≡ Some held.item.content
+
+-- the entry is a receipt for the item, through its number or a later one
+abbrev pub IsReceipt : Entry → Held → Type 0
+IsReceipt (Called client seq now call) held = ⊥
+IsReceipt (Receipted client key through now) held =
+    (client ≡ held.client) × (key ≡ held.key) × (held.item.number ≤ through)
+
+-- an item leaves with its subscription, or by a receipt
+abbrev pub Leaves : Setup → Entry → List Entry → Held → Type 0
+Leaves setup entry past held = (lasts_for setup (entry ∷ past) held.client held.key ≡ false) ⊎ IsReceipt entry held

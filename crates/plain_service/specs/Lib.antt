@@ -9,3 +9,4 @@ pub mod Storing
 pub mod Legal
 pub mod Values
 pub mod Fitness
+pub mod Records

@@ -1,6 +1,5 @@
 -- Words of public clauses: all that happened, by what it changed in each part of the service, the newest first.
-use Rattle.std.specs.Prelude.{ℕ, List, []}
-use Rattle.ntf_filters.specs.declared.filter.FilterSet.{FilterSet}
+use Rattle.std.specs.Prelude.{List, []}
 use Rattle.log_history.specs.Changes.{LogChange}
 use Rattle.ntf_history.specs.Changes.{NtfChange}
 use Rattle.ntf_history.specs.Readers.{ReaderChange}

@@ -1,5 +1,5 @@
 -- Words of public clauses: replies, and what is kept of the calls of each client.
-use Rattle.std.specs.Prelude.{ℕ, ◌+◌, ℤ, nat_lt, ◌==◌, if◌then◌else◌, List, [], ◌∷◌, length, take, reverse, map, Option, Some, None}
+use Rattle.std.specs.Prelude.{◌≡◌, ⊤, ◌++◌, ℕ, ◌+◌, nat_lt, ◌==◌, if◌then◌else◌, List, [], ◌∷◌, length, take, reverse, map, Option, Some, None}
 use Rattle.client_set.specs.Rising.{put}
 use Rattle.ais_values.specs.declared.status.Status.{Status}
 use Rattle.ais_values.specs.declared.status.Status.TheVariants as status
@@ -79,3 +79,23 @@ window_of setup past client = record {
 
 abbrev pub windows_of : Setup → List Entry → List SavedWindow
 windows_of setup past = map (window_of setup past) (callers past)
+
+-- the ids that sends were told, the newest first
+abbrev pub id_told : Reply → List ℕ → List ℕ
+id_told (Sent id) ids = id ∷ ids
+id_told _ ids = ids
+
+abbrev pub ids_told : Setup → List Entry → List ℕ
+ids_told setup [] = []
+ids_told setup (Called client seq now call ∷ past) = id_told (reply_of setup past client call) (ids_told setup past)
+ids_told setup (Receipted client key through now ∷ past) = ids_told setup past
+
+-- ids count 1, 2, 3 and so on, the last one first
+abbrev pub AreCounted : List ℕ → Type 0
+AreCounted [] = ⊤
+AreCounted (id ∷ ids) = (id ≡ length ids + 1) × AreCounted ids
+
+-- a list, the newest first, has all of an earlier one at its end
+pub record EndsIn {X : Type 0} (late early : List X) : Type 0 where
+  pub more : List X
+  pub is : late ≡ more ++ early

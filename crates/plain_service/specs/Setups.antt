@@ -1,5 +1,5 @@
 -- Words of public clauses: what the service begins with.
-use Rattle.std.specs.Prelude.{◌≡◌, ℕ, ◌≤◌, ℤ, pos, ◌≤ℤ◌}
+use Rattle.std.specs.Prelude.{ℕ, ℤ, pos, ◌≤ℤ◌}
 use Rattle.stream_config.specs.declared.attrs.StreamAttrs.{StreamAttrs}
 use Rattle.sub_queue.specs.Queue.{IsCapacity}
 use Rattle.log_history.specs.Chronicle.{LogSetup}

@@ -1,19 +1,15 @@
 -- Words of public clauses: the files of a history, and the deeds of an entry.
-use Rattle.std.specs.Prelude.{List, [], ◌∷◌, ◌++◌, map, Option, None}
+use Rattle.std.specs.Prelude.{List, [], Option, None}
 use Rattle.std.specs.Option.{option_map_or}
 use Rattle.disk_model.specs.Disk.{Files}
-use Rattle.ais_values.specs.declared.status.Status.{Status}
 use Rattle.stream_config.specs.declared.event.StreamEvent.{StreamEvent}
-use Rattle.stream_config.specs.declared.event.StreamEvent.TheVariants.{Made}
 use Rattle.stream_layout.specs.declared.deed.Deed.{Deed}
-use Rattle.stream_layout.specs.Deeds as layout
-use Rattle.calls.specs.declared.call.Call.{Call}
 use Rattle.calls.specs.declared.entry.Entry.{Entry}
 use Rattle.calls.specs.declared.entry.Entry.TheVariants.{Called, Receipted}
 use Rattle.log_history.specs.Changes.{LogChange}
-use Rattle.log_history.specs.Chronicle.{Stream, beginning}
-use Rattle.log_history.specs.Table.{new_state, table, events_of}
+use Rattle.log_history.specs.Table.{table, events_of}
 use Rattle.log_history.specs.Files.{disk_files}
+use Rattle.log_history.specs.Deeds.{deeds_of_all, opening_deeds}
 use Rattle.plain_service.specs.Setups.{Setup, log_setup}
 use Rattle.plain_service.specs.Pasts.{Past}
 use Rattle.plain_service.specs.Answers.{status_of}
@@ -34,19 +30,10 @@ abbrev pub events_by : Setup → Past → Entry → List StreamEvent
 events_by setup past entry =
     option_map_or (λ change. events_of change (table (log_setup setup) past.log)) (log_change_by setup past entry) []
 
--- the deeds of what happens to streams, in order
-abbrev pub deeds_of_all : List StreamEvent → List Deed
-deeds_of_all [] = []
-deeds_of_all (event ∷ events) = layout.deeds_of event ++ deeds_of_all events
-
 -- the deeds of an entry after a history
 unfoldable pub deeds_of : Setup → List Entry → Entry → List Deed
 deeds_of setup past entry = deeds_of_all (events_by setup (past_of setup past) entry)
 
--- a well-known stream is made
-abbrev pub made_stream : Stream → StreamEvent
-made_stream stream = Made (new_state stream.name stream.attrs stream.current)
-
 -- the deeds of the start, by which the well-known streams are made
 unfoldable pub opening_of : Setup → List Deed
-opening_of setup = deeds_of_all (map made_stream (beginning (log_setup setup)).streams)
+opening_of setup = opening_deeds (log_setup setup)

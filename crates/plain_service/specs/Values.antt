@@ -7,7 +7,6 @@ use Rattle.calls.specs.declared.saved.SavedAlarm.{SavedAlarm}
 use Rattle.calls.specs.declared.saved.SavedSub.{SavedSub}
 use Rattle.calls.specs.declared.saved.SavedReader.{SavedReader}
 use Rattle.alarm_view.specs.declared.alarm.KeptAlarm.{KeptAlarm}
-use Rattle.log_history.specs.Handles.{users}
 use Rattle.log_history.specs.Table.{OpenStream, LogTable, table}
 use Rattle.ntf_history.specs.Changes.{Sub, NtfChange, last_id}
 use Rattle.ntf_history.specs.Changes as ntf

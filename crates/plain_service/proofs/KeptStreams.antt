@@ -1,0 +1,279 @@
+-- What is kept of the Log Service after every history: who has a stream open uses the service, somebody has each application's
+-- stream open, at most 64 of these live, and no two streams have one place.
+use Rattle.std.proofs.Common.{◌≡◌, ℕ, ◌+◌, ◌<◌, ◌≤◌, ◌==◌, nat_lt, nat_le, Bool, true, false, not, ◌&&◌, ◌||◌, cond, List, [], ◌∷◌, ◌++◌, length, refl, ap, sym, ◌∙◌, subst, arith, length-append}
+use Rattle.std.specs.Prelude.{ℤ, Some, None, filter, ⊤}
+use Rattle.std.specs.List.{AllByRecursion, count_by}
+use Rattle.std.proofs.lemmas.Bool.Decides.{nat_tests}
+use Rattle.std.proofs.lemmas.List.Elements.{filter-append}
+use Rattle.std.proofs.lemmas.List.Sums.{length-filter}
+use Rattle.ais_values.specs.Codes.{all_differ}
+use Rattle.ais_values.specs.declared.status.Status.TheVariants as status
+use Rattle.stream_config.specs.declared.attrs.StreamAttrs.{StreamAttrs}
+use Rattle.stream_config.specs.declared.attrs.StreamName.{StreamName}
+use Rattle.stream_config.specs.AttributeTests.{have_one_place}
+use Rattle.stream_config.specs.Stamps.{stamp_after}
+use Rattle.record_print.specs.declared.record.LogRecord.{LogRecord}
+use Rattle.client_set.specs.Members.{has}
+use Rattle.client_set.specs.Rising.{put, without, IsRising}
+use Rattle.client_set.proofs.RisingLaws.{IsOrder-nat_lt, IsRising-put, IsRising-without, has-put, has-without}
+use Rattle.calls.specs.declared.call.Call.{Call}
+use Rattle.calls.specs.declared.call.Call.TheVariants.{LogInit, LogOpen, LogWrite, LogClose, LogFini, NtfSend}
+use Rattle.calls.specs.declared.entry.Entry.{Entry}
+use Rattle.calls.specs.declared.entry.Entry.TheVariants.{Called, Receipted}
+use Rattle.log_history.specs.Names.{is_application}
+use Rattle.log_history.specs.Changes.{LogChange, Began, Opened, Stored, Closed, Ended}
+use Rattle.log_history.specs.Chronicle.{LogSetup, is_empty}
+use Rattle.log_history.specs.KeptAnswers.{has_place, is_of_application}
+use Rattle.log_history.specs.Legal.{IsLogHistory}
+use Rattle.log_history.specs.Table.{OpenStream, LogTable, table, is_named, has_nobody, with_opener, without_opener, with_stored, closed_streams, left_streams, kept_streams, opened_stream, table_after}
+use Rattle.log_history.proofs.AnswerLaws.{makes-stream}
+use Rattle.log_history.proofs.KeptLaws.{has-users, has-place, is-crowd}
+use Rattle.log_history.proofs.TableLaws.{table-after}
+use Rattle.plain_service.specs.Setups.{Setup}
+use Rattle.plain_service.specs.Pasts.{Past}
+use Rattle.plain_service.specs.Answers.{status_of}
+use Rattle.plain_service.specs.Changing.{past_after, past_of}
+use Rattle.plain_service.specs.Fitness.{AreClients, IsAmong}
+use Rattle.plain_service.specs.Legal.{IsClient, IsHistory}
+use Rattle.plain_service.proofs.ListLaws.{each-put, each-without, each-weaker, each-push, each-filter, each-change_first, each-mapped, differ-changed, differ-filtered, differ-pushed, differ-mapped, count-changed, count-filtered, both-so, not-so}
+use Rattle.plain_service.proofs.Possible.{past_after-by}
+
+-- a change by which a client joins a list has the number of one
+abbrev pub IsByClient : LogChange → Type 0
+IsByClient (Began client) = IsClient client
+IsByClient (Opened client name making second) = IsClient client
+IsByClient _ = ⊤
+
+by-client : (setup : Setup) (past : Past) (client seq : ℕ) (now : ℤ) (call : Call) → IsClient client → AllByRecursion IsByClient past.log → AllByRecursion IsByClient (past_after setup past client seq now call status.Ok).log
+by-client setup past client seq now LogInit is each = (is, each)
+by-client setup past client seq now (LogOpen name create) is each = (is, each)
+by-client setup past client seq now (LogWrite name invocation flags time header body) is each = (tt, each)
+by-client setup past client seq now (LogClose name) is each = (tt, each)
+by-client setup past client seq now LogFini is each = (tt, each)
+by-client setup past client seq now (NtfSend notification) is each = (tt, each)
+by-client setup past client seq now _ is each = each
+
+-- the clients of a history's changes
+pub log-clients : (setup : Setup) (entries : List Entry) → IsHistory setup entries → AllByRecursion IsByClient (past_of setup entries).log
+log-clients setup [] history = tt
+log-clients setup (Called client seq now call ∷ entries) history =
+    past_after-by (λ after. AllByRecursion IsByClient after.log) setup (past_of setup entries) client seq now call (status_of setup (past_of setup entries) client call)
+    (log-clients setup entries history.1)
+    (λ ok. by-client setup (past_of setup entries) client seq now call history.0.0.caller (log-clients setup entries history.1))
+log-clients setup (Receipted client key through now ∷ entries) history = log-clients setup entries history.1
+
+-- a kept stream: those who have it open are users, and somebody has an application's stream open
+pub record IsUsed (using : List ℕ) (stream : OpenStream) : Type 0 where
+  pub rising : IsRising nat_lt stream.openers
+  pub clients : AllByRecursion IsClient stream.openers
+  pub users : AllByRecursion (IsAmong using) stream.openers
+  pub somebody : has_nobody stream ≡ false
+
+-- two kept streams have one path and file
+abbrev pub have_one_spot : OpenStream → OpenStream → Bool
+have_one_spot one other = have_one_place one.state.attrs other.state.attrs
+
+-- what holds of what is kept
+pub record IsSoundLog (kept : LogTable) : Type 0 where
+  pub users : AreClients kept.users
+  pub each : AllByRecursion (IsUsed kept.users) kept.streams
+  pub few : length (filter is_of_application kept.streams) ≤ 64
+  pub places : all_differ have_one_spot kept.streams ≡ true
+
+-- who uses the service still does when one more client does, and one who left is alone in it
+among-put : (client : ℕ) (using : List ℕ) (user : ℕ) → IsAmong using user → IsAmong (put nat_lt client using) user
+among-put client using user is = has-put user client using ∙ later (client == user) (has user using) is where
+  later : (a b : Bool) → b ≡ true → (a || b) ≡ true
+  later true b e = refl
+  later false b e = e
+
+among-without : (client : ℕ) (using : List ℕ) (user : ℕ) → IsAmong using user → (user == client) ≡ false → IsAmong (without (λ other. other == client) using) user
+among-without client using user is apart =
+    has-without user client using ∙ both-so (not (client == user)) (has user using) (ap not (turned client user apart)) is where
+      turned : (a b : ℕ) → (b == a) ≡ false → (a == b) ≡ false
+      turned a b e = grind (arith, nat_tests)
+
+IsUsed-more : (client : ℕ) (using : List ℕ) (stream : OpenStream) → IsUsed using stream → IsUsed (put nat_lt client using) stream
+IsUsed-more client using stream is = record {
+  rising = is.rising;
+  clients = is.clients;
+  users = each-weaker (IsAmong using) (IsAmong (put nat_lt client using)) (among-put client using) stream.openers is.users;
+  somebody = is.somebody;
+}
+
+-- nobody is missing where one was put
+some-put : (client : ℕ) (clients : List ℕ) → is_empty (put nat_lt client clients) ≡ false
+some-put client [] = refl
+some-put client (other ∷ clients) = by_case (nat_lt client other) (nat_lt other client) where
+  by_case : (below above : Bool) → is_empty (cond below (client ∷ other ∷ clients) (cond above (other ∷ put nat_lt client clients) (client ∷ clients))) ≡ false
+  by_case true above = refl
+  by_case false true = refl
+  by_case false false = refl
+
+and-false : (app : Bool) → (app && false) ≡ false
+and-false true = refl
+and-false false = refl
+
+IsUsed-opened : (client : ℕ) (using : List ℕ) (stream : OpenStream) → IsClient client → IsAmong using client → IsUsed using stream → IsUsed using (with_opener client stream)
+IsUsed-opened client using stream caller user is = record {
+  rising = IsRising-put nat_lt IsOrder-nat_lt client stream.openers is.rising;
+  clients = each-put IsClient nat_lt client stream.openers caller is.clients;
+  users = each-put (IsAmong using) nat_lt client stream.openers user is.users;
+  somebody = ap (λ b. is_application stream.state.name && b) (some-put client stream.openers) ∙ and-false (is_application stream.state.name);
+}
+
+-- what is left of the openers of a stream, before the streams that nobody has open end
+record IsLeft (using : List ℕ) (stream : OpenStream) : Type 0 where
+  rising : IsRising nat_lt stream.openers
+  clients : AllByRecursion IsClient stream.openers
+  users : AllByRecursion (IsAmong using) stream.openers
+
+IsLeft-of : (using : List ℕ) (stream : OpenStream) → IsUsed using stream → IsLeft using stream
+IsLeft-of using stream is = record { rising = is.rising; clients = is.clients; users = is.users }
+
+IsLeft-closed : (client : ℕ) (using : List ℕ) (stream : OpenStream) → IsLeft using stream → IsLeft using (without_opener client stream)
+IsLeft-closed client using stream is = record {
+  rising = IsRising-without nat_lt (λ other. other == client) stream.openers is.rising;
+  clients = each-without IsClient (λ other. other == client) stream.openers is.clients;
+  users = each-without (IsAmong using) (λ other. other == client) stream.openers is.users;
+}
+
+-- a client that ends its use has no stream open any more
+users-ended : (client : ℕ) (using clients : List ℕ) → AllByRecursion (IsAmong using) clients → AllByRecursion (IsAmong (without (λ other. other == client) using)) (without (λ other. other == client) clients)
+users-ended client using [] each = tt
+users-ended client using (other ∷ clients) each = by_case (other == client) refl (users-ended client using clients each.1) where
+  by_case : (b : Bool) → (other == client) ≡ b → AllByRecursion (IsAmong (without (λ user. user == client) using)) (without (λ user. user == client) clients) → AllByRecursion (IsAmong (without (λ user. user == client) using)) (cond b (without (λ user. user == client) clients) (other ∷ without (λ user. user == client) clients))
+  by_case true is rest = rest
+  by_case false is rest = (among-without client using other each.0 is, rest)
+
+IsLeft-ended : (client : ℕ) (using : List ℕ) (stream : OpenStream) → IsUsed using stream → IsLeft (without (λ other. other == client) using) (without_opener client stream)
+IsLeft-ended client using stream is = record {
+  rising = IsRising-without nat_lt (λ other. other == client) stream.openers is.rising;
+  clients = each-without IsClient (λ other. other == client) stream.openers is.clients;
+  users = users-ended client using stream.openers is.users;
+}
+
+-- once the streams that nobody has open have ended, all that are kept are used
+used-kept : (using : List ℕ) (streams : List OpenStream) → AllByRecursion (IsLeft using) streams → AllByRecursion (IsUsed using) (kept_streams streams)
+used-kept using streams each =
+    each-weaker (λ (stream : OpenStream). IsLeft using stream × (not (has_nobody stream) ≡ true)) (IsUsed using)
+    (λ stream is. record { rising = is.0.rising; clients = is.0.clients; users = is.0.users; somebody = not-so (has_nobody stream) is.1 })
+    (kept_streams streams) (each-filter (IsLeft using) (λ stream. not (has_nobody stream)) streams each)
+
+-- one more change
+
+module _ (kept : LogTable) (sound : IsSoundLog kept) where
+  sound-began : (client : ℕ) → IsClient client → IsSoundLog (table_after (Began client) kept)
+  sound-began client caller = record {
+    users = record {
+      rising = IsRising-put nat_lt IsOrder-nat_lt client kept.users sound.users.rising;
+      each = each-put IsClient nat_lt client kept.users caller sound.users.each;
+    };
+    each = each-weaker (IsUsed kept.users) (IsUsed (put nat_lt client kept.users)) (IsUsed-more client kept.users) kept.streams sound.each;
+    few = sound.few;
+    places = sound.places;
+  }
+
+  sound-opened : (client : ℕ) (name : StreamName) (second : ℕ) → IsClient client → IsAmong kept.users client → IsSoundLog (table_after (Opened client name None second) kept)
+  sound-opened client name second caller user = record {
+    users = sound.users;
+    each = each-change_first (IsUsed kept.users) (is_named name) (with_opener client) (λ stream is. IsUsed-opened client kept.users stream caller user is) kept.streams sound.each;
+    few = omega (arith, count-changed is_of_application (is_named name) (with_opener client) (λ _. refl) kept.streams, sound.few);
+    places = differ-changed have_one_spot (is_named name) (with_opener client) (λ _ _. refl) (λ _ _. refl) kept.streams ∙ sound.places;
+  }
+
+  sound-made : (client : ℕ) (name : StreamName) (attrs : StreamAttrs) (second : ℕ) → IsClient client → IsAmong kept.users client → length (filter is_of_application kept.streams) < 64 → has_place kept.streams attrs ≡ false → IsSoundLog (table_after (Opened client name (Some attrs) second) kept)
+  sound-made client name attrs second caller user room free =
+      let made = opened_stream client name attrs (stamp_after kept.last second) in
+      let counted : length (filter is_of_application (kept.streams ++ made ∷ [])) ≡ length (filter is_of_application kept.streams) + length (filter is_of_application (made ∷ [])) =
+      ap length (filter-append is_of_application kept.streams (made ∷ [])) ∙ length-append (filter is_of_application kept.streams) (filter is_of_application (made ∷ [])) in
+      record {
+        users = sound.users;
+        each = each-push (IsUsed kept.users) kept.streams made sound.each (record { rising = (tt, tt); clients = (caller, tt); users = (user, tt); somebody = and-false (is_application name) });
+        few = omega (arith, counted, one (is_application name) made, room);
+        places = differ-pushed have_one_spot kept.streams made sound.places free;
+      } where
+        one : (app : Bool) (stream : OpenStream) → length (cond app (stream ∷ []) []) ≤ 1
+        one true stream = omega arith
+        one false stream = omega arith
+
+  sound-stored : (name : StreamName) (rec : LogRecord) (second : ℕ) → IsSoundLog (table_after (Stored name rec second) kept)
+  sound-stored name rec second = record {
+    users = sound.users;
+    each = each-change_first (IsUsed kept.users) (is_named name) (with_stored kept.last second rec)
+        (λ stream is. record { rising = is.rising; clients = is.clients; users = is.users; somebody = is.somebody }) kept.streams sound.each;
+    few = omega (arith, count-changed is_of_application (is_named name) (with_stored kept.last second rec) (λ _. refl) kept.streams, sound.few);
+    places = differ-changed have_one_spot (is_named name) (with_stored kept.last second rec) (λ _ _. refl) (λ _ _. refl) kept.streams ∙ sound.places;
+  }
+
+  sound-closed : (client : ℕ) (name : StreamName) (second : ℕ) → IsSoundLog (table_after (Closed client name second) kept)
+  sound-closed client name second =
+      let left = closed_streams client name kept.streams in
+      record {
+        users = sound.users;
+        each = used-kept kept.users left
+            (each-change_first (IsLeft kept.users) (is_named name) (without_opener client) (λ stream is. IsLeft-closed client kept.users stream is) kept.streams
+            (each-weaker (IsUsed kept.users) (IsLeft kept.users) (IsLeft-of kept.users) kept.streams sound.each));
+        few = omega (arith, count-filtered is_of_application (λ stream. not (has_nobody stream)) left, count-changed is_of_application (is_named name) (without_opener client) (λ _. refl) kept.streams, sound.few);
+        places = differ-filtered have_one_spot (λ stream. not (has_nobody stream)) left (differ-changed have_one_spot (is_named name) (without_opener client) (λ _ _. refl) (λ _ _. refl) kept.streams ∙ sound.places);
+      }
+
+  sound-ended : (client second : ℕ) → IsSoundLog (table_after (Ended client second) kept)
+  sound-ended client second =
+      let left = left_streams client kept.streams in
+      let using = without (λ other. other == client) kept.users in
+      record {
+        users = record {
+          rising = IsRising-without nat_lt (λ other. other == client) kept.users sound.users.rising;
+          each = each-without IsClient (λ other. other == client) kept.users sound.users.each;
+        };
+        each = used-kept using left
+            (each-mapped (IsLeft using) (without_opener client) kept.streams
+            (each-weaker (IsUsed kept.users) (λ stream. IsLeft using (without_opener client stream)) (λ stream is. IsLeft-ended client kept.users stream is) kept.streams sound.each));
+        few = omega (arith, count-filtered is_of_application (λ stream. not (has_nobody stream)) left, count-left kept.streams, sound.few);
+        places = differ-filtered have_one_spot (λ stream. not (has_nobody stream)) left (differ-mapped (without_opener client) have_one_spot have_one_spot (λ _ _. refl) kept.streams ∙ sound.places);
+      } where
+        more : (app : Bool) (stream other : OpenStream) (xs ys : List OpenStream) → length xs ≡ length ys → length (cond app (stream ∷ xs) xs) ≡ length (cond app (other ∷ ys) ys)
+        more true stream other xs ys e = omega (arith, e)
+        more false stream other xs ys e = e
+
+        count-left : (streams : List OpenStream) → length (filter is_of_application (left_streams client streams)) ≡ length (filter is_of_application streams)
+        count-left [] = refl
+        count-left (stream ∷ streams) =
+            more (is_of_application stream) (without_opener client stream) stream (filter is_of_application (left_streams client streams)) (filter is_of_application streams) (count-left streams)
+
+-- the last change of a history could follow: what it asks of what is kept
+room-few : (count : ℕ) → nat_le 64 count ≡ false → count < 64
+room-few count is = grind (arith, nat_tests)
+
+-- **what is kept after every history**
+pub sound-log : (setup : LogSetup) (past : List LogChange) → IsLogHistory setup past → AllByRecursion IsByClient past → IsSoundLog (table setup past)
+sound-log setup [] legal clients = record {
+  users = record { rising = tt; each = tt };
+  each = (record { rising = tt; clients = tt; users = tt; somebody = refl }, (record { rising = tt; clients = tt; users = tt; somebody = refl }, (record { rising = tt; clients = tt; users = tt; somebody = refl }, tt)));
+  few = omega arith;
+  places = apart (have_one_place setup.alarm setup.notification) (have_one_place setup.alarm setup.system) (have_one_place setup.notification setup.system) legal.first_apart legal.second_apart legal.third_apart;
+} where
+  apart : (a b c : Bool) → a ≡ false → b ≡ false → c ≡ false → (not (a || (b || false)) && (not (c || false) && true)) ≡ true
+  apart true b c one two three = cc
+  apart false true c one two three = cc
+  apart false false true one two three = cc
+  apart false false false one two three = refl
+sound-log setup (Began client ∷ past) legal clients =
+    subst IsSoundLog (sym (table-after setup (Began client) past legal)) (sound-began (table setup past) (sound-log setup past legal.1 clients.1) client clients.0)
+sound-log setup (Opened client name None second ∷ past) legal clients =
+    subst IsSoundLog (sym (table-after setup (Opened client name None second) past legal))
+    (sound-opened (table setup past) (sound-log setup past legal.1 clients.1) client name second clients.0 (has-users past client ∙ legal.0.0))
+sound-log setup (Opened client name (Some attrs) second ∷ past) legal clients =
+    let makes = makes-stream setup past client name attrs legal.0.0 legal.0.1 in
+    let streams = (table setup past).streams in
+    let few = room-few (count_by is_of_application streams) (is-crowd setup past ∙ makes.room) in
+    subst IsSoundLog (sym (table-after setup (Opened client name (Some attrs) second) past legal))
+    (sound-made (table setup past) (sound-log setup past legal.1 clients.1) client name attrs second clients.0 (has-users past client ∙ makes.using)
+    (omega (arith, length-filter is_of_application streams, few)) (has-place setup past attrs ∙ makes.free))
+sound-log setup (Stored name rec second ∷ past) legal clients =
+    subst IsSoundLog (sym (table-after setup (Stored name rec second) past legal)) (sound-stored (table setup past) (sound-log setup past legal.1 clients.1) name rec second)
+sound-log setup (Closed client name second ∷ past) legal clients =
+    subst IsSoundLog (sym (table-after setup (Closed client name second) past legal)) (sound-closed (table setup past) (sound-log setup past legal.1 clients.1) client name second)
+sound-log setup (Ended client second ∷ past) legal clients =
+    subst IsSoundLog (sym (table-after setup (Ended client second) past legal)) (sound-ended (table setup past) (sound-log setup past legal.1 clients.1) client second)
