@@ -1,0 +1,7 @@
+use Rattle.std.proofs.Common.{◌≡◌, drop}
+use Rattle.ais_values.specs.Codes.{all_differ}
+use Rattle.plain_service.specs.Fitness.{have_one_name}
+use Rattle.saved_fit.proofs.streams.names_differ.Given as goal
+
+abbrev pub invariant-loop-i : goal.invariant-loop-i
+invariant-loop-i l = all_differ have_one_name (drop l.i l.streams) ≡ all_differ have_one_name l.streams

@@ -1,0 +1,4 @@
+pub mod Rising
+pub mod Files
+pub mod Streams
+pub mod Asking

@@ -1,0 +1,81 @@
+//! The stored alarms of a value.
+ghost use Rattle.std.specs.Prelude.{◌≡◌, ◌↔◌, IsTrue, MatchOption, slice_get};
+ghost use Rattle.std.specs.List.{AllByRecursion};
+ghost use Rattle.alarm_view.specs.Alarms.{IsAlarm};
+ghost use Rattle.client_set.specs.Rising.{IsRising};
+ghost use Rattle.calls.specs.declared.saved.SavedStream.{SavedStream as StreamOf};
+ghost use Rattle.plain_service.specs.Fitness.{IsFitStream, IsStanding, IsFitAlarm, is_record_before, is_id_before, HaveFitAlarms};
+
+use crate::judging::{Judged, all_fit};
+use crate::rising::{are_rising, ids_rise};
+use crate::standing::is_standing;
+use calls::{Saved, SavedAlarm};
+use ntf_types::{Body, check_notification};
+
+/// Whether a notification is an alarm or a security alarm.
+fn is_alarm(body: &Body) -> bool
+    ensures { IsTrue result ↔ IsAlarm body.now }
+{
+    matches!(body, Body::Alarm { .. } | Body::Security { .. })
+}
+
+/// Whether the record of this number stands in the first stream of a value whose streams are fit.
+fn stands(saved: &Saved, number: u32) -> bool
+    requires { AllByRecursion (IsFitStream saved.now) saved.now.streams }
+    ensures { IsTrue result ↔ MatchOption (slice_get saved.now.streams 0) ⊥
+        (λ (stream : StreamOf). IsStanding stream.state number) }
+{
+    match saved.streams.as_slice().first() {
+        None => false,
+        Some(stream) => is_standing(&stream.state, number),
+    }
+}
+
+/// Whether a stored alarm is fit, of a value whose streams are fit.
+fn is_fit_alarm(saved: &Saved, alarm: &SavedAlarm) -> bool
+    requires { AllByRecursion (IsFitStream saved.now) saved.now.streams }
+    ensures { IsTrue result ↔ IsFitAlarm saved.now alarm.now }
+{
+    stands(saved, alarm.k)
+        && alarm.notification.id <= saved.last_id
+        && is_alarm(&alarm.notification.body)
+        && check_notification(&alarm.notification).is_ok()
+        && alarm.notification.event_time >= 0
+}
+
+impl Judged for SavedAlarm {
+    ghost use Rattle.std.specs.List.{AllByRecursion};
+    ghost use Rattle.calls.specs.declared.saved.Saved.{Saved as SavedOf};
+    ghost use Rattle.plain_service.specs.Fitness.{IsFitStream, IsFitAlarm};
+
+    ghost known = { λ (saved : SavedOf). AllByRecursion (IsFitStream saved) saved.streams };
+
+    ghost fits = { IsFitAlarm };
+
+    fn fits(&self, saved: &Saved) -> bool {
+        is_fit_alarm(saved, self)
+    }
+}
+
+/// Whether the numbers of records rise.
+fn records_rise(alarms: &[SavedAlarm]) -> bool
+    ensures { IsTrue result ↔ IsRising is_record_before alarms.now }
+{
+    are_rising(alarms)
+}
+
+/// Whether the ids of alarms rise.
+fn have_rising_ids(alarms: &[SavedAlarm]) -> bool
+    ensures { IsTrue result ↔ IsRising is_id_before alarms.now }
+{
+    ids_rise(alarms)
+}
+
+/// Whether the stored alarms of a value are fit, whose streams are.
+pub(crate) fn have_fit_alarms(saved: &Saved) -> bool
+    requires { AllByRecursion (IsFitStream saved.now) saved.now.streams }
+    ensures { IsTrue result ↔ HaveFitAlarms saved.now }
+{
+    let alarms = saved.alarms.as_slice();
+    records_rise(alarms) && have_rising_ids(alarms) && all_fit(saved, alarms)
+}
