@@ -1,0 +1,112 @@
+-- Each event that a change of the log brings to a stream can happen to it, so that its deeds are defined.
+use Rattle.std.proofs.Common.{◌≡◌, ℕ, suc, ◌+◌, ◌*◌, ◌<◌, ◌≤◌, Bool, true, false, not, cond, List, [], ◌∷◌, length, map, refl, ap, sym, subst, ◌∙◌, arith, le→leb, leb→le}
+use Rattle.std.specs.Prelude.{Option, Some, None, is_some, ℤ, pos, negsuc, ◌≤ℤ◌, IfSome, All}
+use Rattle.std.specs.Option.{option_map_or}
+use Rattle.std.specs.List.{find, AllByRecursion}
+use Rattle.std.proofs.lemmas.List.{length-map}
+use Rattle.std.proofs.lemmas.List.Elements.{All-nil, All-cons}
+use Rattle.stream_config.specs.declared.attrs.StreamAttrs.{StreamAttrs}
+use Rattle.stream_config.specs.declared.attrs.StreamName.{StreamName}
+use Rattle.stream_config.specs.declared.event.Stamps.{Stamps}
+use Rattle.stream_config.specs.declared.event.StreamEvent.{StreamEvent}
+use Rattle.stream_config.specs.declared.event.StreamEvent.TheVariants as event
+use Rattle.stream_config.specs.Attributes.{kind_of, PassesAttrs}
+use Rattle.stream_config.specs.Fit.{stamps_of, changes_file}
+use Rattle.stream_config.specs.Sizes.{records_per_file}
+use Rattle.stream_config.specs.Stamps.{stamp_after}
+use Rattle.stream_layout.specs.Carrying.{IsStamp, IsFitStream, IsFitEvent}
+use Rattle.record_print.specs.declared.record.LogRecord.{LogRecord}
+use Rattle.record_print.proofs.LineLaws.{length-printed_record}
+use Rattle.format_expr.specs.Reading.{pieces_of}
+use Rattle.log_history.specs.Changes.{LogChange, Began, Opened, Stored, Closed, Ended}
+use Rattle.log_history.specs.Answers.{holds_all}
+use Rattle.log_history.specs.Table.{OpenStream, LogTable, is_named, new_state, without_opener, storing, has_nobody, ends_in, closed_streams, left_streams, events_of, opened_stream}
+use Rattle.log_history.specs.KeptAnswers.{kept_stream}
+use Rattle.log_history.specs.Stamps.{IsStampUpTo}
+use Rattle.log_history.proofs.SoundStreams.{room-left}
+use Rattle.service_table.specs.Ready.{IsReadyStream, IsReadyLog}
+use Rattle.service_table.proofs.LogSteps.{CanChange, second_in, all-changed, all-mapped, length-first, ready-new, filled-is}
+
+stamp-is : (stamp : ℕ) → stamp ≤ 20000000100 → IsStamp (pos stamp)
+stamp-is stamp le = (record { le = le→leb 0 stamp (omega arith) }, record { le = le→leb stamp 20000000100 le })
+
+up-to-is : (last : ℕ) → last ≤ 20000000100 → (stamp : ℤ) → IsStampUpTo (pos last) stamp → IsStamp stamp
+up-to-is last le (pos n) is = stamp-is n (omega (arith, leb→le n last is.to.le, le))
+up-to-is last le (negsuc n) is = absurd is.from.le
+
+stamps-are : (last : ℕ) → last ≤ 20000000100 → (stamps : List ℤ) → AllByRecursion (IsStampUpTo (pos last)) stamps → All IsStamp stamps
+stamps-are last le [] each = All-nil IsStamp
+stamps-are last le (stamp ∷ stamps) each =
+    All-cons IsStamp stamp stamps (up-to-is last le stamp each.0) (stamps-are last le stamps each.1)
+
+fit-state : (last number : ℕ) (stream : OpenStream) → last ≤ 20000000100 → IsReadyStream last number stream → IsFitStream stream.state
+fit-state last number stream le ready = record {
+  attributes = ready.attributes;
+  standing = ready.files;
+  stamps = stamps-are last le (stamps_of stream.state.files) ready.stamps;
+}
+
+due-is : (b : Bool) (stamps : Stamps) → is_some (cond b (Some stamps) None) ≡ b
+due-is true stamps = refl
+due-is false stamps = refl
+
+due-stamps : (b : Bool) (last second : ℕ) → last + 2 ≤ 20000000100 → second < 20000000100 → IfSome (cond b (Some (record { closed = pos (stamp_after last second); created = pos (stamp_after (stamp_after last second) second) })) None) (λ (two : Stamps). IsStamp two.closed × IsStamp two.created)
+due-stamps true last second le early = (stamp-is (stamp_after last second) (omega (arith, le, early)), stamp-is (stamp_after (stamp_after last second) second) (omega (arith, le, early)))
+due-stamps false last second le early = tt
+
+fit-storing : (last second number : ℕ) (rec : LogRecord) (stream : OpenStream) → last + 2 ≤ 20000000100 → second < 20000000100 → holds_all stream.state.attrs stream.state.taken ≡ false → IsReadyStream last number stream → IsFitEvent (storing last second rec stream.state)
+fit-storing last second number rec stream le early room ready =
+    let attrs = stream.state.attrs in
+    let due = changes_file attrs.action (records_per_file attrs) stream.state.taken in
+    let size : 0 < attrs.record_size = omega (arith, ready.attributes.sizes.least_record) in
+    record {
+      stream = fit-state last number stream (omega (arith, le)) ready;
+      size = length-printed_record (pieces_of attrs.expr) (stream.state.taken + 1) rec attrs.record_size size;
+      room = room-left attrs stream.state.taken room;
+      changes = due-is due (record { closed = pos (stamp_after last second); created = pos (stamp_after (stamp_after last second) second) });
+      new_stamps = due-stamps due last second le early;
+    }
+
+fit-ends : (last number second most : ℕ) (streams : List OpenStream) → most ≤ 20000000100 → last + length streams ≤ 20000000100 → second + length streams ≤ 20000000100 → AllByRecursion (IsReadyStream most number) streams → AllByRecursion IsFitEvent (ends_in last second streams)
+fit-ends last number second most [] up le early each = tt
+fit-ends last number second most (stream ∷ streams) up le early each =
+    by_case (has_nobody stream) (λ l more. fit-ends l number second most streams up more (omega (arith, early)) each.1) where
+      by_case : (b : Bool) → ((l : ℕ) → l + length streams ≤ 20000000100 → AllByRecursion IsFitEvent (ends_in l second streams)) → AllByRecursion IsFitEvent (cond b (event.Ended stream.state (pos (stamp_after last second)) ∷ ends_in (stamp_after last second) second streams) (ends_in last second streams))
+      by_case true behind =
+          (record { stream = fit-state most number stream up each.0; stamp = stamp-is (stamp_after last second) (omega (arith, le, early)) }, behind (stamp_after last second) (omega (arith, le, early)))
+      by_case false behind = behind last (omega (arith, le))
+
+unopened : (last number client : ℕ) (stream : OpenStream) → IsReadyStream last number stream → IsReadyStream last number (without_opener client stream)
+unopened last number client stream is =
+    record { attributes = is.attributes; files = is.files; stamps = is.stamps; taken = is.taken }
+
+stored-fit : (number second : ℕ) (rec : LogRecord) (kept : LogTable) (stream : StreamName) → number < 4000000000 → second ≤ 9000000000 → CanChange kept (Stored stream rec second) → IsReadyLog number kept → (found : Option OpenStream) → kept_stream kept.streams stream ≡ found → AllByRecursion (IsReadyStream kept.last number) kept.streams → AllByRecursion IsFitEvent (option_map_or (λ (s : OpenStream). storing kept.last second rec s.state ∷ []) found [])
+stored-fit number second rec kept stream few early can ready None is each = tt
+stored-fit number second rec kept stream few early can ready (Some s) is each =
+    (fit-storing kept.last second number rec s (omega (arith, ready.room, few)) (omega (arith, early)) (filled-is kept.streams stream s can is) (found-is kept.streams is each), tt) where
+      found-is : (streams : List OpenStream) → kept_stream streams stream ≡ Some s → AllByRecursion (IsReadyStream kept.last number) streams → IsReadyStream kept.last number s
+      found-is [] none all = cc
+      found-is (one ∷ streams) there all = by_case (is_named stream one) there (λ on. found-is streams on all.1) where
+        by_case : (named : Bool) → cond named (Some one) (kept_stream streams stream) ≡ Some s → (kept_stream streams stream ≡ Some s → IsReadyStream kept.last number s) → IsReadyStream kept.last number s
+        by_case true same on = let e : one ≡ s = cc in subst (IsReadyStream kept.last number) e all.0
+        by_case false same on = on same
+
+-- **the events of a change can happen**
+pub events-fit : (number : ℕ) (kept : LogTable) (change : LogChange) → number < 4000000000 → second_in change ≤ 9000000000 → CanChange kept change → IsReadyLog number kept → AllByRecursion IsFitEvent (events_of change kept)
+events-fit number kept (Began client) few early can ready = tt
+events-fit number kept (Opened client stream None second) few early can ready = tt
+events-fit number kept (Opened client stream (Some attrs) second) few early can ready =
+    let last = stamp_after kept.last second in
+    (record { stream = fit-state last number (opened_stream client stream attrs last) (omega (arith, ready.room, few, early)) (ready-new client last number stream attrs can); fresh = refl }, tt)
+events-fit number kept (Stored stream rec second) few early can ready =
+    stored-fit number second rec kept stream few early can ready (kept_stream kept.streams stream) refl ready.each
+events-fit number kept (Closed client stream second) few early can ready =
+    let left = closed_streams client stream kept.streams in
+    let same = length-first (is_named stream) (without_opener client) kept.streams in
+    fit-ends kept.last number second kept.last left (omega (arith, ready.room, few)) (omega (arith, ready.room, few, same)) (omega (arith, ready.few, few, early, same))
+    (all-changed (IsReadyStream kept.last number) (is_named stream) (without_opener client) (unopened kept.last number client) kept.streams ready.each)
+events-fit number kept (Ended client second) few early can ready =
+    let left = left_streams client kept.streams in
+    let same : length left ≡ length kept.streams = length-map kept.streams (without_opener client) in
+    fit-ends kept.last number second kept.last left (omega (arith, ready.room, few)) (omega (arith, ready.room, few, same)) (omega (arith, ready.few, few, early, same))
+    (all-mapped (IsReadyStream kept.last number) (without_opener client) (unopened kept.last number client) kept.streams ready.each)
