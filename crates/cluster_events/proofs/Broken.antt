@@ -6,7 +6,8 @@ use Rattle.cluster_facts.specs.Messages.{sent_by, calls_in}
 use Rattle.cluster_facts.specs.Service.{Plain, answers_in}
 use Rattle.cluster_facts.specs.Storage.{Disk, Storage, Between}
 use Rattle.cluster_facts.specs.Agents.{Agent, fed_of}
-use Rattle.cluster_facts.specs.History.{Core, IsLegal, committed}
+use Rattle.cluster_facts.specs.History.{Core, IsLegal, committed, accepted}
+use Rattle.cluster_facts.specs.Ranges.{AreInRange}
 use Rattle.cluster_facts.specs.World.{World}
 use Rattle.cluster_facts.specs.Facts.{IsSound}
 use Rattle.cluster_events.specs.Lines.{Told}
@@ -142,11 +143,11 @@ step-breaks plain disk storage old new left told files old_sound new_sound says 
     ]
 
 -- an event that ended in a sound world, with the files of its history
-pub whole-breaks : (plain : Plain) (disk : Disk) (storage : Storage disk) → IsStorage plain disk storage → (old left : World) (told : List Told) (files : disk.Files) → IsSound plain left → Says plain old left told → FilesStand disk storage left files → Breaks plain disk storage old left told files
-whole-breaks plain disk storage is_storage old left told files sound says stand = record {
+pub whole-breaks : (plain : Plain) (disk : Disk) (storage : Storage disk) → IsStorage plain disk storage → (old left : World) (told : List Told) (files : disk.Files) → IsSound plain left → AreInRange (accepted left.core) → Says plain old left told → FilesStand disk storage left files → Breaks plain disk storage old left told files
+whole-breaks plain disk storage is_storage old left told files sound range says stand = record {
   tells = Says-tells plain old left told says;
   holds = Sound-holds plain left sound;
-  between = stand-between plain disk storage is_storage left files sound stand;
+  between = stand-between plain disk storage is_storage left files sound range stand;
 }
 
 -- an event that went some way whole and then broke off

@@ -16,6 +16,7 @@ use Rattle.cluster_facts.proofs.Growing.{IsOfRun-grows}
 use Rattle.cluster_facts.proofs.Posting.{true_or_false, posted-keeps, posted-stands, sent_by-posted, answers_to-posted, receipts_of-posted}
 use Rattle.cluster_facts.proofs.Keeping.{receipt-new}
 use Rattle.cluster_events.specs.Lines.{Told, Posted, Replied, Ignored, Why}
+use Rattle.cluster_events.specs.declared.lines.Why.TheVariants as because
 use Rattle.cluster_events.specs.Outcomes.{Outcome, quietly, telling, and_then, for_each}
 use Rattle.cluster_events.specs.ClientEvents.{post, reply_by, take_reply, Fate, fate_of, item_as, item_by, take_item}
 use Rattle.cluster_events.specs.ClientEvents.Fate.{Takes, Misses}
@@ -201,14 +202,14 @@ module _ {P : Type 0} (plain : Plain) (is_plain : IsPlain plain) (servers : Serv
       }
 
   reply_by-goes : (place client number : ℕ) (reply : Reply) (found : Option Call) (world : World) → kept_call number (world.agents client).kept ≡ found → Stands (Answer client number reply) world.net → IsSound plain world → WorldGoes plain R world (reply_by place client number reply found world)
-  reply_by-goes place client number reply None world kept stands sound = world-ignored world place Why.AnsweredReply sound
+  reply_by-goes place client number reply None world kept stands sound = world-ignored world place because.AnsweredReply sound
   reply_by-goes place client number reply (Some call) world kept stands sound =
       let agent = world.agents client in
       let after = with_agent client (after_reply number call reply agent) world.agents in
       let full = lacks_place world.places agent.queue (callbacks_of call reply) in
-      let G : Bool → Type 0 = λ b. WorldGoes plain R world (record { state = record world { agents = if b then world.agents else after }; told = (if b then Ignored place Why.Left else Replied client number call reply) ∷ [] }) in
+      let G : Bool → Type 0 = λ b. WorldGoes plain R world (record { state = record world { agents = if b then world.agents else after }; told = (if b then Ignored place because.Left else Replied client number call reply) ∷ [] }) in
       elim (true_or_false full) [
-        | inl is_full ↦ subst G (sym is_full) (world-ignored world place Why.Left sound)
+        | inl is_full ↦ subst G (sym is_full) (world-ignored world place because.Left sound)
         | inr has_place ↦ subst G (sym has_place) (record {
           sound = reply-sound plain client number call reply world kept stands sound;
           carried = carried.reply world client number call reply sound kept has_place stands;
@@ -242,7 +243,7 @@ module _ {P : Type 0} (plain : Plain) (is_plain : IsPlain plain) (servers : Serv
       item_takes-goes place client key item found world here taken.0 taken.1 stands sound
 
   item_by-goes : (place client key : ℕ) (item : Item) (found : Option Living) (world : World) → find_living key (world.agents client).living ≡ found → Stands (Delivery client key item) world.net → IsSound plain world → WorldGoes plain R world (item_by plain place client key item found world)
-  item_by-goes place client key item None world here stands sound = world-ignored world place Why.GoneItem sound
+  item_by-goes place client key item None world here stands sound = world-ignored world place because.GoneItem sound
   item_by-goes place client key item (Some found) world here stands sound =
       item_as-goes place client key item found (fate_of item.number found.next (nat_le world.places (length (world.agents client).queue))) world here refl stands sound
 
@@ -314,13 +315,13 @@ module _ {P : Type 0} (plain : Plain) (is_plain : IsPlain plain) (servers : Serv
   request_as-goes place client number call Repeat state is empty stands steady =
       let found = reply_at number (answers_in plain client state.world.core.answered) in
       in_world-goes (post_again plain client number found) state steady (post_again-goes client number found state.world refl steady.sound)
-  request_as-goes place client number call Old state is empty stands steady = state-ignored state place Why.OldRequest steady
-  request_as-goes place client number call Ahead state is empty stands steady = state-ignored state place Why.AheadRequest steady
+  request_as-goes place client number call Old state is empty stands steady = state-ignored state place because.OldRequest steady
+  request_as-goes place client number call Ahead state is empty stands steady = state-ignored state place because.AheadRequest steady
 
   receipt_as-goes : (place client key through : ℕ) (new : Bool) (state : State P) → is_new plain state.world.core.answered client key through ≡ new → state.world.core.hand ≡ Empty → Stands (Receipt client key through) state.world.net → IsSteady plain Good state → Goes R (IsSteady plain Good) state (receipt_as servers place client key through new state)
   receipt_as-goes place client key through true state is empty stands steady =
       accept-goes (Receipted client key through state.world.now) state steady empty is refl stands
-  receipt_as-goes place client key through false state is empty stands steady = state-ignored state place Why.DoneReceipt steady
+  receipt_as-goes place client key through false state is empty stands steady = state-ignored state place because.DoneReceipt steady
 
   hear_at_rest-goes : (place : ℕ) (message : Message) (state : State P) → state.world.core.hand ≡ Empty → Stands message state.world.net → IsSteady plain Good state → Goes R (IsSteady plain Good) state (hear_at_rest plain servers place message state)
   hear_at_rest-goes place (Request client number call) state empty stands steady =
@@ -331,7 +332,7 @@ module _ {P : Type 0} (plain : Plain) (is_plain : IsPlain plain) (servers : Serv
 
   hear_by-goes : (place : ℕ) (message : Message) (hand : Hand) (state : State P) → state.world.core.hand ≡ hand → Stands message state.world.net → IsSteady plain Good state → Goes R (IsSteady plain Good) state (hear_by plain servers place message hand state)
   hear_by-goes place message Empty state is stands steady = hear_at_rest-goes place message state is stands steady
-  hear_by-goes place message _ state is stands steady = state-ignored state place (Why.Busy (suc (length state.world.core.answered))) steady
+  hear_by-goes place message _ state is stands steady = state-ignored state place (because.Busy (suc (length state.world.core.answered))) steady
 
   pub hear-goes : (place : ℕ) (message : Message) (state : State P) → Stands message state.world.net → IsSteady plain Good state → Goes R (IsSteady plain Good) state (hear plain servers place message state)
   hear-goes place message state stands steady = hear_by-goes place message state.world.core.hand state refl stands steady

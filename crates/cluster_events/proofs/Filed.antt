@@ -5,12 +5,14 @@ use Rattle.cluster_facts.specs.Lists.{Stands}
 use Rattle.cluster_facts.specs.Service.{Plain, answers_in}
 use Rattle.cluster_facts.specs.Storage.{Disk, Storage, all_applied, Attempt, Attempts, Between, dealt_in}
 use Rattle.cluster_facts.specs.Storage.Attempts.{none as no_attempt, more as one_more}
-use Rattle.cluster_facts.specs.History.{Hand, Empty, Waiting, Applied, Ready, IsLegal, accepted_by, committed_by}
+use Rattle.cluster_facts.specs.History.{Hand, Empty, Waiting, Applied, Ready, IsLegal, accepted, accepted_by, committed_by}
+use Rattle.cluster_facts.specs.Ranges.{AreInRange}
 use Rattle.cluster_facts.specs.World.{World}
 use Rattle.cluster_facts.specs.Facts.{IsSound, IsOfRun}
 use Rattle.cluster_facts.proofs.Words.{All-at}
 use Rattle.cluster_facts.proofs.Growing.{IsLegal-before}
 use Rattle.cluster_events.specs.Filing.{IsStorage, RecordsStay, FilesStand}
+use Rattle.cluster_events.proofs.Dealing.{answers-dealt}
 
 -- the history without the entry in hand is legal
 pub answered-legal : (plain : Plain) (now : ℤ) (past : List Entry) (hand : Hand) → IsLegal plain now (accepted_by past hand) → IsLegal plain now past
@@ -19,26 +21,9 @@ answered-legal plain now past (Waiting entry) legal = IsLegal-before plain now e
 answered-legal plain now past (Applied entry) legal = IsLegal-before plain now entry past legal
 answered-legal plain now past (Ready entry) legal = IsLegal-before plain now entry past legal
 
--- a reply of the history is that to a call
-answers-dealt : (plain : Plain) (client number : ℕ) (reply : Reply) (past : List Entry) → Stands (number, reply) (answers_in plain client past) → (call : Call) × Stands (number, call, reply) (dealt_in plain client past)
-answers-dealt plain client number reply [] stands = elim stands [ ]
-answers-dealt plain client number reply (Called caller other time asked ∷ past) stands =
-    let told : Reply = plain.reply past caller other time asked in
-    let A : Bool → List (ℕ × Reply) = λ b. if b then (other, told) ∷ answers_in plain client past else answers_in plain client past in
-    let D : Bool → List (ℕ × Call × Reply) = λ b. if b then (other, asked, told) ∷ dealt_in plain client past else dealt_in plain client past in
-    let cases : (b : Bool) → Stands (number, reply) (A b) → (call : Call) × Stands (number, call, reply) (D b) = elim [
-      | true ↦ elim [
-        | inl here ↦ (asked, inl (ap (λ (p : ℕ × Reply). (p.0, asked, p.1)) here))
-        | inr there ↦ let deeper = answers-dealt plain client number reply past there in (deeper.0, inr deeper.1)
-      ]
-      | false ↦ λ there. answers-dealt plain client number reply past there
-    ] in
-    cases (caller == client) stands
-answers-dealt plain client number reply (Receipted sender key through time ∷ past) stands = answers-dealt plain client number reply past stands
-
 -- what was answered as stored stands at its place, wherever the files are those of the history without the entry in hand
-pub records-stay : (plain : Plain) (disk : Disk) (storage : Storage disk) → IsStorage plain disk storage → (world : World) (files : disk.Files) → IsSound plain world → FilesStand disk storage world files → RecordsStay plain disk storage world files
-records-stay plain disk storage is_storage world files sound stand client number reply posted =
+pub records-stay : (plain : Plain) (disk : Disk) (storage : Storage disk) → IsStorage plain disk storage → (world : World) (files : disk.Files) → IsSound plain world → AreInRange world.core.answered → FilesStand disk storage world files → RecordsStay plain disk storage world files
+records-stay plain disk storage is_storage world files sound range stand client number reply posted =
     let past = world.core.answered in
     let legal = answered-legal plain world.now past world.core.hand sound.facts.legal in
     let dealt = answers-dealt plain client number reply past (All-at (IsOfRun plain past) (Answer client number reply) world.net sound.facts.run posted) in
@@ -46,11 +31,11 @@ records-stay plain disk storage is_storage world files sound stand client number
       call = dealt.0;
       dealt = dealt.1;
       stays = λ stored_is.
-          let found = is_storage.stores world.now past client number dealt.0 reply legal dealt.1 stored_is in (
+          let found = is_storage.stores world.now past client number dealt.0 reply legal range dealt.1 stored_is in (
             found.0,
             found.1,
             λ spot place.
-                subst (λ (f : disk.Files). storage.IsAt found.0 spot f) (sym stand) (is_storage.stays world.now past client number found.0 spot legal found.1 place),
+                subst (λ (f : disk.Files). storage.IsAt found.0 spot f) (sym stand) (is_storage.stays world.now past client number found.0 spot legal range found.1 place),
           );
     }
 
@@ -60,22 +45,22 @@ whole-attempt : (disk : Disk) (calls : List disk.DeviceCall) (files : disk.Files
 whole-attempt disk [] files = refl
 whole-attempt disk (call ∷ calls) files = inr (inr (whole-attempt disk calls (disk.applied call files)))
 
-files-between : (plain : Plain) (disk : Disk) (storage : Storage disk) → IsStorage plain disk storage → (now : ℤ) (past : List Entry) → IsLegal plain now past → Between disk storage past (storage.files past)
-files-between plain disk storage is_storage now [] legal =
+files-between : (plain : Plain) (disk : Disk) (storage : Storage disk) → IsStorage plain disk storage → (now : ℤ) (past : List Entry) → IsLegal plain now past → AreInRange past → Between disk storage past (storage.files past)
+files-between plain disk storage is_storage now [] legal range =
     subst (λ (f : disk.Files). Attempts disk storage.opening disk.no_files f) is_storage.opens (one_more no_attempt (whole-attempt disk storage.opening disk.no_files))
-files-between plain disk storage is_storage now (entry ∷ past) legal =
-    subst (λ (f : disk.Files). Attempts disk (storage.deeds past entry) (storage.files past) f) (is_storage.works now entry past legal) (one_more no_attempt (whole-attempt disk (storage.deeds past entry) (storage.files past)))
+files-between plain disk storage is_storage now (entry ∷ past) legal range =
+    subst (λ (f : disk.Files). Attempts disk (storage.deeds past entry) (storage.files past) f) (is_storage.works now entry past legal range) (one_more no_attempt (whole-attempt disk (storage.deeds past entry) (storage.files past)))
 
-by-hand : (plain : Plain) (disk : Disk) (storage : Storage disk) → IsStorage plain disk storage → (now : ℤ) (past : List Entry) (hand : Hand) → IsLegal plain now (accepted_by past hand) → Between disk storage (committed_by past hand) (storage.files past)
-by-hand plain disk storage is_storage now past Empty legal = files-between plain disk storage is_storage now past legal
-by-hand plain disk storage is_storage now past (Waiting entry) legal = files-between plain disk storage is_storage now past (IsLegal-before plain now entry past legal)
-by-hand plain disk storage is_storage now past (Applied entry) legal = no_attempt
-by-hand plain disk storage is_storage now past (Ready entry) legal = no_attempt
+by-hand : (plain : Plain) (disk : Disk) (storage : Storage disk) → IsStorage plain disk storage → (now : ℤ) (past : List Entry) (hand : Hand) → IsLegal plain now (accepted_by past hand) → AreInRange (accepted_by past hand) → Between disk storage (committed_by past hand) (storage.files past)
+by-hand plain disk storage is_storage now past Empty legal range = files-between plain disk storage is_storage now past legal range
+by-hand plain disk storage is_storage now past (Waiting entry) legal range = files-between plain disk storage is_storage now past (IsLegal-before plain now entry past legal) range.1
+by-hand plain disk storage is_storage now past (Applied entry) legal range = no_attempt
+by-hand plain disk storage is_storage now past (Ready entry) legal range = no_attempt
 
 -- the files of a sound world are between those of the history without its last entry and those of the history
-pub stand-between : (plain : Plain) (disk : Disk) (storage : Storage disk) → IsStorage plain disk storage → (world : World) (files : disk.Files) → IsSound plain world → FilesStand disk storage world files → Between disk storage (committed_by world.core.answered world.core.hand) files
-stand-between plain disk storage is_storage world files sound stand =
-    subst (λ (f : disk.Files). Between disk storage (committed_by world.core.answered world.core.hand) f) (sym stand) (by-hand plain disk storage is_storage world.now world.core.answered world.core.hand sound.facts.legal)
+pub stand-between : (plain : Plain) (disk : Disk) (storage : Storage disk) → IsStorage plain disk storage → (world : World) (files : disk.Files) → IsSound plain world → AreInRange (accepted world.core) → FilesStand disk storage world files → Between disk storage (committed_by world.core.answered world.core.hand) files
+stand-between plain disk storage is_storage world files sound range stand =
+    subst (λ (f : disk.Files). Between disk storage (committed_by world.core.answered world.core.hand) f) (sym stand) (by-hand plain disk storage is_storage world.now world.core.answered world.core.hand sound.facts.legal range)
 
 -- and so are those that one more attempt of the last entry's deeds leaves
 pub attempt-between : (disk : Disk) (storage : Storage disk) (entry : Entry) (past : List Entry) (old new : disk.Files) → Between disk storage (entry ∷ past) old → Attempt disk (storage.deeds past entry) old new → Between disk storage (entry ∷ past) new

@@ -1,9 +1,13 @@
 pub mod Sound
 pub mod Carrying
+pub mod Dealing
 pub mod Telling
 pub mod Measuring
 pub mod Quiet
 pub mod Ending
+pub mod Items
 pub mod Promised
 pub mod Filed
+pub mod OnDisk
 pub mod Broken
+pub mod Looping

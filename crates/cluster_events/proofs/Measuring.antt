@@ -104,7 +104,7 @@ call-accepted client number call (Called caller other time asked ∷ past) accep
     ]
 call-accepted client number call (Receipted sender key through time ∷ past) accepted = call-accepted client number call past accepted
 
-new_call-waits : (client number : ℕ) (call : Call) (past : List Entry) → IsNumbered (calls_in client past) → number ≡ suc (length (calls_in client past)) → is_accepted (Request client number call) past ≡ false
+pub new_call-waits : (client number : ℕ) (call : Call) (past : List Entry) → IsNumbered (calls_in client past) → number ≡ suc (length (calls_in client past)) → is_accepted (Request client number call) past ≡ false
 new_call-waits client number call past numbered next =
     elim (true_or_false (is_accepted (Request client number call) past)) [
       | inl accepted ↦

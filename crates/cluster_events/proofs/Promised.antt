@@ -4,15 +4,16 @@ use Rattle.std.specs.List.{AllByRecursion}
 use Rattle.std.proofs.lemmas.Bool.Decides.{eqb_tells}
 use Rattle.script_lines.specs.declared.line.Line.{Line}
 use Rattle.script_lines.specs.declared.line.Line.TheVariants as line
-use Rattle.cluster_facts.specs.Types.{Ask, Call, Reply, Status, Entry, Callback, Message, Request}
-use Rattle.cluster_facts.specs.Lists.{EndsIn, without}
-use Rattle.cluster_facts.specs.Messages.{sent_by, calls_in}
+use Rattle.cluster_facts.specs.Types.{Ask, Call, ReaderRead, Reply, Status, Entry, Callback, Message, Request}
+use Rattle.cluster_facts.specs.Lists.{Stands, EndsIn, without}
+use Rattle.cluster_facts.specs.Messages.{sent_by, receipts_of, calls_in}
 use Rattle.cluster_facts.specs.Service.{Plain, IsPlain, answers_in}
+use Rattle.cluster_facts.specs.Storage.{dealt_in}
 use Rattle.cluster_facts.specs.Agents.{Agent, fresh, fed_of, call_of, refusal, dispatch_refusal, after_call, oldest, after_dispatch_all, after_dispatch_one}
 use Rattle.cluster_facts.specs.History.{Hand, Empty, Waiting, Applied, Ready, IsLegal, accepted, committed, committed_by, accepted_by}
 use Rattle.cluster_facts.specs.World.{World, with_agent, enlisted, empty_world, message_at}
 use Rattle.cluster_facts.specs.Facts.{IsSound}
-use Rattle.cluster_facts.proofs.Words.{by_test, each_client, EndsIn-same, EndsIn-tail}
+use Rattle.cluster_facts.proofs.Words.{by_test, each_client, All-at, EndsIn-same, EndsIn-tail}
 use Rattle.cluster_facts.proofs.Clients.{oldest-append}
 use Rattle.cluster_facts.proofs.Growing.{IsLegal-before}
 use Rattle.cluster_facts.proofs.Posting.{message_at-stands}
@@ -22,13 +23,15 @@ use Rattle.cluster_events.specs.Outcomes.{Outcome}
 use Rattle.cluster_events.specs.ClientEvents.{ask_by, ask, handed_lines, hand_out, dispatch_all_by, dispatch_all, dispatch_one_by, dispatch_one, set_time}
 use Rattle.cluster_events.specs.Servers.{State, Servers, in_world}
 use Rattle.cluster_events.specs.Events.{deliver_by, resend, step_or_refuse, push_by, list_servers, refuse}
-use Rattle.cluster_events.specs.Saying.{gathered, post_in, entry_in, reply_in, callback_in, write_in, callbacks_told, writes_told, Grows, TellsReplies, writes_in, Says}
+use Rattle.cluster_events.specs.Saying.{gathered, post_in, entry_in, reply_in, deal_in, callback_in, write_in, deals_told, callbacks_told, writes_told, Grows, TellsReplies, writes_in, Says}
 use Rattle.cluster_events.specs.Serving.{IsSteady, IsServing, IsCarried}
 use Rattle.cluster_events.specs.Running.{Shelf, listed, shown, show_by, Happens, Run}
 use Rattle.cluster_events.specs.Running.Run.{Started, Went}
 use Rattle.cluster_events.specs.Promises.{AtEnd}
 use Rattle.cluster_events.proofs.Sound.{ask-sound, dispatch_all-sound, dispatch_one-sound, set_time-sound}
 use Rattle.cluster_events.proofs.Carrying.{posted-unknown, delivered-goes, resend-goes, post_all-goes, held-made, rounds-carry}
+use Rattle.cluster_events.proofs.Items.{taken-begins}
+use Rattle.cluster_events.proofs.Dealing.{dealt-answered, deals-answered}
 use Rattle.cluster_events.proofs.Telling.{Grows-same, TellsReplies-none, Says-same, Says-both, Says-send}
 
 -- Lines that say nothing of history, net and callbacks.
@@ -39,6 +42,7 @@ pub record IsSilent (line : Told) : Type 0 where
   pub reply : (client : ℕ) → reply_in client line ≡ []
   pub callback : (client : ℕ) → callback_in client line ≡ []
   pub write : (client : ℕ) → write_in client line ≡ []
+  pub deal : (client : ℕ) → deal_in client line ≡ []
 
 -- such a line says nothing
 Says-line : (plain : Plain) (world : World) (line : Told) → IsSilent line → Says plain world world (line ∷ [])
@@ -49,6 +53,7 @@ Says-line plain world line silent = record {
   replies = λ client. subst (λ lines. TellsReplies (world.agents client) (world.agents client) (answers_in plain client world.core.answered) (lines ++ [])) (sym (silent.reply client)) (TellsReplies-none (world.agents client) (world.agents client) (answers_in plain client world.core.answered) (λ number done. done));
   callbacks = λ client. subst (λ lines. Grows (world.agents client).handed (world.agents client).handed (lines ++ [])) (sym (silent.callback client)) (Grows-same (world.agents client).handed);
   writes = λ client. ap (λ lines. (lines ++ []) ++ writes_in (fed_of (world.agents client))) (sym (silent.write client));
+  deals = λ client. subst (λ deals. AllByRecursion (λ (deal : ℕ × Call × Reply). Stands deal (dealt_in plain client world.core.answered)) (deals ++ [])) (sym (silent.deal client)) tt;
 }
 
 Says-silent : (plain : Plain) (world : World) (told : List Told) → AllByRecursion IsSilent told → Says plain world world told
@@ -57,21 +62,21 @@ Says-silent plain world (line ∷ told) silent =
     Says-both plain world world world told (line ∷ []) (Says-silent plain world told silent.1) (Says-line plain world line silent.0)
 
 silent-declined : (client : ℕ) (status : Status) → IsSilent (Declined client status)
-silent-declined client status = record { post = refl; entry = refl; reply = λ c. refl; callback = λ c. refl; write = λ c. refl }
+silent-declined client status = record { post = refl; entry = refl; reply = λ c. refl; callback = λ c. refl; write = λ c. refl; deal = λ c. refl }
 
 silent-refused : (line : Line) (standing : Standing) → IsSilent (Refused line standing)
-silent-refused line standing = record { post = refl; entry = refl; reply = λ c. refl; callback = λ c. refl; write = λ c. refl }
+silent-refused line standing = record { post = refl; entry = refl; reply = λ c. refl; callback = λ c. refl; write = λ c. refl; deal = λ c. refl }
 
 silent-stood : (server : Rattle.script_lines.specs.declared.line.Server.Server) (role : ServerRole) → IsSilent (Stood server role)
-silent-stood server role = record { post = refl; entry = refl; reply = λ c. refl; callback = λ c. refl; write = λ c. refl }
+silent-stood server role = record { post = refl; entry = refl; reply = λ c. refl; callback = λ c. refl; write = λ c. refl; deal = λ c. refl }
 
 listed-silent : (files : List (List ℕ × ℕ)) (told : List Told) → AllByRecursion IsSilent told → AllByRecursion IsSilent (listed files told)
 listed-silent [] told silent = silent
-listed-silent (file ∷ files) told silent = listed-silent files (Listed file.0 file.1 ∷ told) (record { post = refl; entry = refl; reply = λ c. refl; callback = λ c. refl; write = λ c. refl }, silent)
+listed-silent (file ∷ files) told silent = listed-silent files (Listed file.0 file.1 ∷ told) (record { post = refl; entry = refl; reply = λ c. refl; callback = λ c. refl; write = λ c. refl; deal = λ c. refl }, silent)
 
 shown-silent : (texts : List (List ℕ)) (told : List Told) → AllByRecursion IsSilent told → AllByRecursion IsSilent (shown texts told)
 shown-silent [] told silent = silent
-shown-silent (text ∷ texts) told silent = shown-silent texts (Shown text ∷ told) (record { post = refl; entry = refl; reply = λ c. refl; callback = λ c. refl; write = λ c. refl }, silent)
+shown-silent (text ∷ texts) told silent = shown-silent texts (Shown text ∷ told) (record { post = refl; entry = refl; reply = λ c. refl; callback = λ c. refl; write = λ c. refl; deal = λ c. refl }, silent)
 
 -- Lines on messages without effect may be left out.
 
@@ -89,6 +94,7 @@ Says-printed plain old new told says = record {
   replies = λ client. subst (λ lines. TellsReplies (old.agents client) (new.agents client) (answers_in plain client new.core.answered) lines) (sym (gathered-without (reply_in client) (λ place why. refl) told)) (says.replies client);
   callbacks = λ client. subst (λ lines. Grows (old.agents client).handed (new.agents client).handed lines) (sym (gathered-without (callback_in client) (λ place why. refl) told)) (says.callbacks client);
   writes = λ client. says.writes client ∙ ap (λ lines. lines ++ writes_in (fed_of (old.agents client))) (sym (gathered-without (write_in client) (λ place why. refl) told));
+  deals = λ client. subst (λ deals. AllByRecursion (λ (deal : ℕ × Call × Reply). Stands deal (dealt_in plain client new.core.answered)) deals) (sym (gathered-without (deal_in client) (λ place why. refl) told)) (says.deals client);
 }
 
 -- Calls.
@@ -165,6 +171,7 @@ hand_out-says plain client callbacks after world handed fed next kept =
             let A : Bool → Type 0 = λ b. Grows (world.agents other).handed (if b then after else world.agents other).handed (callbacks_told other lines) in
             subst A (sym different.0) (subst (λ told. Grows (world.agents other).handed (world.agents other).handed told) (sym (handed_lines-other client other before callbacks different.1)) (Grows-same (world.agents other).handed))
       ];
+      deals = λ other. subst (λ deals. AllByRecursion (λ (deal : ℕ × Call × Reply). Stands deal (dealt_in plain other world.core.answered)) deals) (sym (gathered-handed (deal_in other) client before callbacks (λ number callback. refl))) tt;
       writes = λ other. each_client (λ c b. writes_in (fed_of (if b then after else world.agents c)) ≡ writes_in (fed_of (world.agents c))) client (ap writes_in fed) (λ c. refl) other
           ∙ ap (λ told. told ++ writes_in (fed_of (world.agents other))) (sym (gathered-handed (write_in other) client before callbacks (λ number callback. refl)));
     }
@@ -187,6 +194,7 @@ Says-later plain now world = record {
   replies = λ client. TellsReplies-none (world.agents client) (world.agents client) (answers_in plain client world.core.answered) (λ number done. done);
   callbacks = λ client. Grows-same (world.agents client).handed;
   writes = λ client. refl;
+  deals = λ client. tt;
 }
 
 -- What lines that say what lies between the start and a sound world promise.
@@ -219,9 +227,13 @@ at-end plain world told now places sound says = record {
   };
   order = λ client. committed-order client (sent_by client world.net) world.core.answered world.core.hand (sound.facts.clients client).sends.first;
   posts = says.posts;
-  replies = record { once = λ client. (says.replies client).once; right = λ client. (says.replies client).right };
+  replies = record {
+    once = λ client. (says.replies client).once;
+    right = λ client. deals-answered plain client world.core.answered (deals_told client told) (says.deals client);
+  };
+  readers = λ client number direction reply stands. dealt-answered plain client world.core.answered (number, ReaderRead direction, reply) (All-at (λ (deal : ℕ × Call × Reply). Stands deal (dealt_in plain client world.core.answered)) (number, ReaderRead direction, reply) (deals_told client told) (says.deals client) stands);
   callbacks = says.callbacks;
-  items = record { items = sound.facts.told; counted = λ client. (sound.facts.clients client).follows.counted };
+  items = λ client key. taken-begins plain world.core.answered (sent_by client world.net) client key (receipts_of client world.net) (fed_of (world.agents client)) (sound.facts.clients client).sends.numbered (sound.facts.clients client).follows.counted (sound.facts.told client);
   writes = λ client. says.writes client ∙ append-nil (writes_told client told);
 }
 

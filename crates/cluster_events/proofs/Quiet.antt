@@ -17,6 +17,7 @@ use Rattle.cluster_facts.proofs.Words.{by_test, Stands-left, Stands-right, All-a
 use Rattle.cluster_facts.proofs.Clients.{kept_call-stands, find_living-found}
 use Rattle.cluster_facts.proofs.Posting.{true_or_false, answers_to-stands, answers_to-posted, receipts_of-stands, posted-stands}
 use Rattle.cluster_events.specs.Lines.{Told, Posted, Replied, Ignored, Why, is_progress}
+use Rattle.cluster_events.specs.declared.lines.Why.TheVariants as because
 use Rattle.cluster_events.specs.Outcomes.{Outcome, quietly, telling, and_then, for_each}
 use Rattle.cluster_events.specs.ClientEvents.{post, reply_by, Fate, fate_of, item_as, item_by}
 use Rattle.cluster_events.specs.ClientEvents.Fate.{Takes, Misses}
@@ -363,7 +364,7 @@ reply_by-quiet place client number reply None world quiet = (refl, λ call is. c
 reply_by-quiet place client number reply (Some call) world quiet =
     let after = with_agent client (after_reply number call reply (world.agents client)) world.agents in
     let full = lacks_place world.places (world.agents client).queue (callbacks_of call reply) in
-    let P : Bool → Type 0 = λ b. is_loud ((if b then Ignored place Why.Left else Replied client number call reply) ∷ []) ≡ false → (record world { agents = if b then world.agents else after } ≡ world) × ((other : Call) → Some call ≡ Some other → lacks_place world.places (world.agents client).queue (callbacks_of other reply) ≡ true) in
+    let P : Bool → Type 0 = λ b. is_loud ((if b then Ignored place because.Left else Replied client number call reply) ∷ []) ≡ false → (record world { agents = if b then world.agents else after } ≡ world) × ((other : Call) → Some call ≡ Some other → lacks_place world.places (world.agents client).queue (callbacks_of other reply) ≡ true) in
     let L : Call → Type 0 = λ c. lacks_place world.places (world.agents client).queue (callbacks_of c reply) ≡ true in
     elim (true_or_false full) [
       | inl is_full ↦ subst P (sym is_full) (λ q. (refl, λ other same. let is : call ≡ other = cc in subst L is is_full)) quiet
@@ -389,13 +390,13 @@ take_answer_by-quiet plain client number (Some reply) world is quiet =
 
 fate_of-next : (number next : ℕ) (full : Bool) → number ≡ next → full ≡ false → fate_of number next full ≡ Takes
 fate_of-next number next full same free =
-    let P : Bool → Type 0 = λ b. (if b then Misses Why.TakenItem else if nat_lt next number then Misses Why.AheadItem else if full then Misses Why.Left else Takes) ≡ Takes in
-    let Q : Bool → Type 0 = λ b. (if b then Misses Why.AheadItem else if full then Misses Why.Left else Takes) ≡ Takes in
+    let P : Bool → Type 0 = λ b. (if b then Misses because.TakenItem else if nat_lt next number then Misses because.AheadItem else if full then Misses because.Left else Takes) ≡ Takes in
+    let Q : Bool → Type 0 = λ b. (if b then Misses because.AheadItem else if full then Misses because.Left else Takes) ≡ Takes in
     elim (leb_tells (suc number) next) [
       | inl below ↦ let b = below.1 in absurd (omega arith)
       | inr not_below ↦ subst P (sym not_below.0) (elim (leb_tells (suc next) number) [
         | inl above ↦ let a = above.1 in absurd (omega arith)
-        | inr not_above ↦ subst Q (sym not_above.0) (ap (λ b. if b then Misses Why.Left else Takes) free)
+        | inr not_above ↦ subst Q (sym not_above.0) (ap (λ b. if b then Misses because.Left else Takes) free)
       ])
     ]
 
@@ -549,10 +550,10 @@ module _ {P : Type 0} (plain : Plain) (is_plain : IsPlain plain) (servers : Serv
   request-saw place client number call Repeat state rest is quiet =
       post_again-saw client number call (reply_at number (answers_in plain client state.world.core.answered)) state rest is refl quiet
   request-saw place client number call Old state rest is quiet =
-      let after = request_after client number call state.world (telling state (Ignored place Why.OldRequest)) rest (Same-same state.world) quiet in
+      let after = request_after client number call state.world (telling state (Ignored place because.OldRequest)) rest (Same-same state.world) quiet in
       (record { not_new = λ new. cc; left = λ asked told kept repeat it. cc }, after.1)
   request-saw place client number call Ahead state rest is quiet =
-      let after = request_after client number call state.world (telling state (Ignored place Why.AheadRequest)) rest (Same-same state.world) quiet in
+      let after = request_after client number call state.world (telling state (Ignored place because.AheadRequest)) rest (Same-same state.world) quiet in
       (record { not_new = λ new. cc; left = λ asked told kept repeat it. cc }, after.1)
 
   receipt-saw : (place client key through : ℕ) (new : Bool) (state : State P) → IsAtRest plain Good state → is_new plain state.world.core.answered client key through ≡ new → is_loud (turn_after (Receipt client key through) (receipt_as servers place client key through new state)).told ≡ false → (is_new plain state.world.core.answered client key through ≡ true → ⊥) × Same state.world (turn_after (Receipt client key through) (receipt_as servers place client key through new state)).state.world

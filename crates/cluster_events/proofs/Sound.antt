@@ -13,6 +13,7 @@ use Rattle.cluster_facts.proofs.Words.{each_client}
 use Rattle.cluster_facts.proofs.Posting.{answers_to-stands}
 use Rattle.cluster_facts.proofs.Keeping.{Facts-call, call-new, Facts-reply, Facts-item, receipt-new, Facts-post_answer, Facts-post_item, Facts-accept, Facts-dispatch_all, Facts-dispatch_one, Facts-later}
 use Rattle.cluster_events.specs.Lines.{Why}
+use Rattle.cluster_events.specs.declared.lines.Why.TheVariants as because
 use Rattle.cluster_events.specs.ClientEvents.{post, send, ask_by, ask, reply_by, take_reply, Fate, fate_of, item_as, item_by, take_item, dispatch_all_by, dispatch_all, dispatch_one_by, dispatch_one, set_time}
 use Rattle.cluster_events.specs.ClientEvents.Fate.{Takes, Misses}
 
@@ -117,9 +118,9 @@ take_reply-sound plain place client number reply world stands sound =
 -- an item is taken only where it is the next and there is a place
 pub fate_of-takes : (number next : ℕ) (full : Bool) → fate_of number next full ≡ Takes → (number ≡ next) × (full ≡ false)
 fate_of-takes number next full is =
-    let P : Bool → Type 0 = λ b. (if b then Misses Why.TakenItem else if nat_lt next number then Misses Why.AheadItem else if full then Misses Why.Left else Takes) ≡ Takes → (number ≡ next) × (full ≡ false) in
-    let Q : Bool → Type 0 = λ b. (if b then Misses Why.AheadItem else if full then Misses Why.Left else Takes) ≡ Takes → (number ≡ next) × (full ≡ false) in
-    let last : (number ≡ next) → (full : Bool) → (if full then Misses Why.Left else Takes) ≡ Takes → (number ≡ next) × (full ≡ false) = λ same. elim [ true ↦ λ e. cc | false ↦ λ e. (same, refl) ] in
+    let P : Bool → Type 0 = λ b. (if b then Misses because.TakenItem else if nat_lt next number then Misses because.AheadItem else if full then Misses because.Left else Takes) ≡ Takes → (number ≡ next) × (full ≡ false) in
+    let Q : Bool → Type 0 = λ b. (if b then Misses because.AheadItem else if full then Misses because.Left else Takes) ≡ Takes → (number ≡ next) × (full ≡ false) in
+    let last : (number ≡ next) → (full : Bool) → (if full then Misses because.Left else Takes) ≡ Takes → (number ≡ next) × (full ≡ false) = λ same. elim [ true ↦ λ e. cc | false ↦ λ e. (same, refl) ] in
     elim (leb_tells (suc number) next) [
       | inl below ↦ subst P (sym below.0) (λ e. cc) is
       | inr not_below ↦ subst P (sym not_below.0) (λ e. elim (leb_tells (suc next) number) [

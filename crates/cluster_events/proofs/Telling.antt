@@ -5,6 +5,7 @@ use Rattle.cluster_facts.specs.Types.{Call, LogWrite, Reply, Item, Content, Sing
 use Rattle.cluster_facts.specs.Lists.{Stands, EndsIn, without}
 use Rattle.cluster_facts.specs.Messages.{sent_by}
 use Rattle.cluster_facts.specs.Service.{Plain, answers_in}
+use Rattle.cluster_facts.specs.Storage.{dealt_in}
 use Rattle.cluster_facts.specs.Agents.{Living, Agent, fed_of, kept_call, callbacks_of, after_call, after_reply, after_item, callback_of, status_of}
 use Rattle.cluster_facts.specs.History.{Empty, committed}
 use Rattle.cluster_facts.specs.World.{World, with_agent}
@@ -12,10 +13,11 @@ use Rattle.cluster_facts.specs.Facts.{IsSound, IsOfRun}
 use Rattle.cluster_facts.proofs.Words.{by_test, each_client, All-at, All-map, All-append, EndsIn-same, EndsIn-stands, IsNumbered-bound}
 use Rattle.cluster_facts.proofs.Clients.{kept_call-stands}
 use Rattle.cluster_events.specs.Lines.{Told, Posted, Replied, Ignored, Why}
-use Rattle.cluster_events.specs.Saying.{gathered, post_in, entry_in, reply_in, callback_in, write_in, replies_told, writes_told, IsNumberedFrom, seconds, Grows, IsDone, IsOnce, TellsReplies, of_write, writes_in, Says}
+use Rattle.cluster_events.specs.Saying.{gathered, post_in, entry_in, reply_in, deal_in, callback_in, write_in, replies_told, deals_told, writes_told, IsNumberedFrom, seconds, Grows, IsDone, IsOnce, TellsReplies, of_write, writes_in, Says}
 use Rattle.cluster_events.specs.Servers.{State, Servers, drain}
 use Rattle.cluster_events.specs.Serving.{IsSteady, IsCarried}
 use Rattle.cluster_events.proofs.Carrying.{Keeps-sent, EndsIn-both}
+use Rattle.cluster_events.proofs.Dealing.{reply-dealt}
 
 pub gathered-append : {X : Type 0} (read : Told → List X) (second first : List Told) → gathered read (second ++ first) ≡ gathered read second ++ gathered read first
 gathered-append read [] first = refl
@@ -100,6 +102,25 @@ answers-ends plain client new old ends =
     let E : List Entry → Type 0 = λ past. EndsIn (answers_in plain client past) (answers_in plain client old) in
     subst E (sym ends.1) (answers-more plain client ends.0 old)
 
+dealt-step : (plain : Plain) (client : ℕ) (entry : Entry) (past : List Entry) → EndsIn (dealt_in plain client (entry ∷ past)) (dealt_in plain client past)
+dealt-step plain client (Called caller number time call) past =
+    let deal : ℕ × Call × Reply = (number, call, plain.reply past caller number time call) in
+    elim (caller == client) as (λ b. EndsIn (if b then deal ∷ dealt_in plain client past else dealt_in plain client past) (dealt_in plain client past)) [
+      | true ↦ (deal ∷ [], refl)
+      | false ↦ EndsIn-same (dealt_in plain client past)
+    ]
+dealt-step plain client _ past = EndsIn-same (dealt_in plain client past)
+
+dealt-more : (plain : Plain) (client : ℕ) (more past : List Entry) → EndsIn (dealt_in plain client (more ++ past)) (dealt_in plain client past)
+dealt-more plain client [] past = EndsIn-same (dealt_in plain client past)
+dealt-more plain client (entry ∷ more) past =
+    EndsIn-both (dealt_in plain client past) (dealt_in plain client (more ++ past)) (dealt_in plain client (entry ∷ (more ++ past))) (dealt-more plain client more past) (dealt-step plain client entry (more ++ past))
+
+dealt-ends : (plain : Plain) (client : ℕ) (new old : List Entry) → EndsIn new old → EndsIn (dealt_in plain client new) (dealt_in plain client old)
+dealt-ends plain client new old ends =
+    let E : List Entry → Type 0 = λ past. EndsIn (dealt_in plain client past) (dealt_in plain client old) in
+    subst E (sym ends.1) (dealt-more plain client ends.0 old)
+
 -- Calls that are done.
 
 kept_call-without : (number : ℕ) (test : ℕ × Call → Bool) (kept : List (ℕ × Call)) → kept_call number kept ≡ None → kept_call number (without test kept) ≡ None
@@ -174,6 +195,7 @@ says-net plain world message = record {
   replies = λ client. TellsReplies-none (world.agents client) (world.agents client) (answers_in plain client world.core.answered) (λ number done. done);
   callbacks = λ client. Grows-same (world.agents client).handed;
   writes = λ client. refl;
+  deals = λ client. tt;
 }
 
 pub Says-same : (plain : Plain) (world : World) → Says plain world world []
@@ -184,6 +206,7 @@ Says-same plain world = record {
   replies = λ client. TellsReplies-none (world.agents client) (world.agents client) (answers_in plain client world.core.answered) (λ number done. done);
   callbacks = λ client. Grows-same (world.agents client).handed;
   writes = λ client. refl;
+  deals = λ client. tt;
 }
 
 pub Says-ignored : (plain : Plain) (world : World) (place : ℕ) (why : Why) → Says plain world world (Ignored place why ∷ [])
@@ -194,6 +217,7 @@ Says-ignored plain world place why = record {
   replies = λ client. TellsReplies-none (world.agents client) (world.agents client) (answers_in plain client world.core.answered) (λ number done. done);
   callbacks = λ client. Grows-same (world.agents client).handed;
   writes = λ client. refl;
+  deals = λ client. tt;
 }
 
 pub Says-both : (plain : Plain) (one two three : World) (first second : List Told) → Says plain one two first → Says plain two three second → Says plain one three (second ++ first)
@@ -205,6 +229,12 @@ Says-both plain one two three first second says more = record {
       let T : List (ℕ × Reply) → Type 0 = λ lines. TellsReplies (one.agents client) (three.agents client) (answers_in plain client three.core.answered) lines in
       subst T (sym (gathered-append (reply_in client) second first)) (TellsReplies-both (one.agents client) (two.agents client) (three.agents client) (answers_in plain client two.core.answered) (answers_in plain client three.core.answered) (replies_told client first) (replies_told client second) (answers-ends plain client three.core.answered two.core.answered more.answers) (says.replies client) (more.replies client));
   callbacks = λ client. grows-told (callback_in client) (one.agents client).handed (two.agents client).handed (three.agents client).handed first second (says.callbacks client) (more.callbacks client);
+  deals = λ client.
+      let Old : ℕ × Call × Reply → Type 0 = λ deal. Stands deal (dealt_in plain client two.core.answered) in
+      let New : ℕ × Call × Reply → Type 0 = λ deal. Stands deal (dealt_in plain client three.core.answered) in
+      let grown = dealt-ends plain client three.core.answered two.core.answered more.answers in
+      let early = All-map Old New (deals_told client first) (λ deal stands. EndsIn-stands deal (dealt_in plain client three.core.answered) (dealt_in plain client two.core.answered) grown stands) (says.deals client) in
+      subst (λ deals. AllByRecursion New deals) (sym (gathered-append (deal_in client) second first)) (All-append New (deals_told client second) (deals_told client first) (more.deals client) early);
   writes = λ client.
       more.writes client ∙ ap (λ rest. writes_told client second ++ rest) (says.writes client) ∙ sym (append_assoc (writes_told client second) (writes_told client first) (writes_in (fed_of (one.agents client)))) ∙ ap (λ lines. lines ++ writes_in (fed_of (one.agents client))) (sym (gathered-append (write_in client) second first));
 }
@@ -221,6 +251,9 @@ says-reply plain world client number call reply sound kept stands =
           (TellsReplies-reply plain client number call reply world sound kept stands)
           (λ other. TellsReplies-none (world.agents other) (world.agents other) (answers_in plain other world.core.answered) (λ number done. done));
       callbacks = each_client (λ other b. Grows (world.agents other).handed (if b then after else world.agents other).handed []) client (Grows-same agent.handed) (λ other. Grows-same (world.agents other).handed);
+      deals = each_client (λ other b. AllByRecursion (λ (deal : ℕ × Call × Reply). Stands deal (dealt_in plain other world.core.answered)) ((if b then (number, call, reply) ∷ [] else []) ++ [])) client
+          (reply-dealt plain world client number call reply sound kept stands, tt)
+          (λ other. tt);
       writes = each_client (λ other b. writes_in (fed_of (if b then after else world.agents other)) ≡ ((if b then callbacks_of call reply else []) ++ []) ++ writes_in (fed_of (world.agents other))) client
           (ap writes_in (append_assoc (callbacks_of call reply) agent.queue agent.handed) ∙ writes_in-append (callbacks_of call reply) (fed_of agent) ∙ ap (λ rest. rest ++ writes_in (fed_of agent)) (writes_in-reply call reply ∙ sym (append-nil (callbacks_of call reply))))
           (λ other. refl);
@@ -238,6 +271,7 @@ says-item plain world client key item found =
           (TellsReplies-none agent after (answers_in plain client world.core.answered) (λ number done. record { sent = done.sent; taken = done.taken }))
           (λ other. TellsReplies-none (world.agents other) (world.agents other) (answers_in plain other world.core.answered) (λ number done. done));
       callbacks = each_client (λ other b. Grows (world.agents other).handed (if b then after else world.agents other).handed []) client (Grows-same agent.handed) (λ other. Grows-same (world.agents other).handed);
+      deals = λ other. tt;
       writes = each_client (λ other b. writes_in (fed_of (if b then after else world.agents other)) ≡ writes_in (fed_of (world.agents other))) client
           (ap (λ rest. rest ++ writes_in (fed_of agent)) (of_write-item found.id item.content))
           (λ other. refl);
@@ -272,4 +306,5 @@ Says-send plain world client call clients =
           (λ other. TellsReplies-none (world.agents other) (world.agents other) (answers_in plain other world.core.answered) (λ number done. done));
       callbacks = each_client (λ other b. Grows (world.agents other).handed (if b then after else world.agents other).handed []) client (Grows-same agent.handed) (λ other. Grows-same (world.agents other).handed);
       writes = each_client (λ other b. writes_in (fed_of (if b then after else world.agents other)) ≡ writes_in (fed_of (world.agents other))) client refl (λ other. refl);
+      deals = λ other. tt;
     }

@@ -1,4 +1,4 @@
--- An event that breaks off: what holds of the world and the files that it leaves.
+-- Words of public clauses: an event that breaks off: what holds of the world and the files that it leaves.
 use Rattle.std.specs.Prelude.{◌≡◌, ℕ, ◌⊎◌, List, ◌++◌}
 use Rattle.cluster_facts.specs.Types.{Call, Entry, Callback}
 use Rattle.cluster_facts.specs.Lists.{EndsIn, IsCounted}

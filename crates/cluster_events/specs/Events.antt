@@ -1,4 +1,4 @@
--- What is delivered to a server, and the events of a script line over any servers.
+-- Words of public clauses: what is delivered to a server, and the events of a script line over any servers.
 use Rattle.std.specs.Prelude.{ℕ, suc, Bool, true, false, ◌==◌, if◌then◌else◌, Option, Some, None, List, [], ◌∷◌, length}
 use Rattle.script_lines.specs.declared.line.Line.{Line}
 use Rattle.script_lines.specs.declared.line.Line.TheVariants.{Deliver, Mirror, Ack, Work, Push}
@@ -9,7 +9,7 @@ use Rattle.cluster_facts.specs.Agents.{resent}
 use Rattle.cluster_facts.specs.History.{Hand, Empty, Judged, New, Repeat, Old, Ahead, judged_call}
 use Rattle.cluster_facts.specs.World.{World, message_at, number_of}
 use Rattle.cluster_events.specs.Lines.{Ignored, Refused, Stood}
-use Rattle.cluster_events.specs.Lines.Why.{OldRequest, AheadRequest, Busy, DoneReceipt}
+use Rattle.cluster_events.specs.declared.lines.Why.TheVariants.{OldRequest, AheadRequest, Busy, DoneReceipt}
 use Rattle.cluster_events.specs.Outcomes.{Outcome, quietly, telling, for_each}
 use Rattle.cluster_events.specs.Servers.{State, Servers, in_world}
 use Rattle.cluster_events.specs.ClientEvents.{post, take_reply, take_item}

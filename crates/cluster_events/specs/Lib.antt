@@ -9,6 +9,8 @@ pub mod Serving
 pub mod Measure
 pub mod Settled
 pub mod Running
+pub mod Taking
 pub mod Promises
 pub mod Filing
+pub mod OnDisk
 pub mod Breaking

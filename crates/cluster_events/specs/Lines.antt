@@ -1,39 +1,11 @@
--- The lines that events print.
-use Rattle.std.specs.Prelude.{ℕ, Bool, true, false, List, Option}
+-- Words of public clauses: the lines that events print.
+use Rattle.std.specs.Prelude.{ℕ, Bool, true, false, List}
 use Rattle.script_lines.specs.declared.line.Line.{Line}
 use Rattle.script_lines.specs.declared.line.Server.{Server}
+pub use Rattle.cluster_events.specs.declared.lines.ServerRole.{ServerRole}
+pub use Rattle.cluster_events.specs.declared.lines.Why.{Why}
+pub use Rattle.cluster_events.specs.declared.lines.Standing.{Standing}
 use Rattle.cluster_facts.specs.Types.{Call, Reply, Status, Entry, Callback, Message, Receipt}
-
--- what a line tells of a server
-pub data ServerRole : Type 0 where
-  Active : ServerRole
-  Armed : ServerRole
-  Standby : ServerRole
-  Joining : ServerRole
-  Down : ServerRole
-
--- why a delivered message had no effect: the request is older than those whose replies are saved, or is ahead of the next; the
--- entry of this number is in hand; the receipt is not new; the call is answered; the callback queue is full; the item was
--- taken; the item is ahead of the next; the subscription does not live
-pub data Why : Type 0 where
-  OldRequest : Why
-  AheadRequest : Why
-  Busy : (number : ℕ) → Why
-  DoneReceipt : Why
-  AnsweredReply : Why
-  Left : Why
-  TakenItem : Why
-  AheadItem : Why
-  GoneItem : Why
-
--- what a line on a refused event tells: the servers' roles, the lengths of net, link and back, and the number of the entry in hand
-pub record Standing : Type 0 where
-  pub role_of_a : ServerRole
-  pub role_of_b : ServerRole
-  pub net : ℕ
-  pub link : ℕ
-  pub back : ℕ
-  pub in_hand : Option ℕ
 
 -- a line
 pub data Told : Type 0 where

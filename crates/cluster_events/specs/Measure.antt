@@ -1,4 +1,4 @@
--- A number that falls with each round that is not the last of `settle`.
+-- Words of public clauses: a number that falls with each round that is not the last of `settle`.
 use Rattle.std.specs.Prelude.{ℕ, ◌+◌, ◌-◌, ◌*◌, ◌≤◌, Bool, false, ◌&&◌, ◌||◌, ◌==◌, if◌then◌else◌, List, [], ◌∷◌, length}
 use Rattle.cluster_facts.specs.Types.{Entry, Called, Receipted, Message, Request, Receipt}
 use Rattle.cluster_facts.specs.Agents.{Agent}

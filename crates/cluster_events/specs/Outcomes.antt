@@ -1,4 +1,4 @@
--- What an event leads to: the state after it, and its lines, the last one first.
+-- Words of public clauses: what an event leads to: the state after it, and its lines, the last one first.
 use Rattle.std.specs.Prelude.{List, [], ◌∷◌, ◌++◌}
 use Rattle.cluster_events.specs.Lines.{Told}
 

@@ -1,4 +1,4 @@
--- What the lines of a script do where no server fails, and whole runs.
+-- Words of public clauses: what the lines of a script do where no server fails, and whole runs.
 use Rattle.std.specs.Prelude.{◌≡◌, ℕ, ◌≤ℤ◌, Option, Some, None, List, [], ◌∷◌, ◌++◌}
 use Rattle.script_lines.specs.declared.line.Line.{Line}
 use Rattle.script_lines.specs.declared.line.Line.TheVariants as line

@@ -1,9 +1,10 @@
--- What the lines of events say of history, replies, callbacks and net.
+-- Words of public clauses: what the lines of events say of history, replies, callbacks and net.
 use Rattle.std.specs.Prelude.{◌≡◌, ℕ, suc, ◌+◌, ◌<◌, ◌==◌, if◌then◌else◌, None, List, [], ◌∷◌, ◌++◌, length}
 use Rattle.std.specs.List.{AllByRecursion}
-use Rattle.cluster_facts.specs.Types.{Reply, Entry, Callback, Written, Message}
+use Rattle.cluster_facts.specs.Types.{Call, Reply, Entry, Callback, Written, Message}
 use Rattle.cluster_facts.specs.Lists.{Stands, EndsIn}
 use Rattle.cluster_facts.specs.Service.{Plain, answers_in}
+use Rattle.cluster_facts.specs.Storage.{dealt_in}
 use Rattle.cluster_facts.specs.Agents.{Agent, fed_of, kept_call, callbacks_of}
 use Rattle.cluster_facts.specs.History.{committed}
 use Rattle.cluster_facts.specs.World.{World}
@@ -26,6 +27,10 @@ abbrev pub reply_in : ℕ → Told → List (ℕ × Reply)
 reply_in client (Replied other number call reply) = if other == client then (number, reply) ∷ [] else []
 reply_in client _ = []
 
+abbrev pub deal_in : ℕ → Told → List (ℕ × Call × Reply)
+deal_in client (Replied other number call reply) = if other == client then (number, call, reply) ∷ [] else []
+deal_in client _ = []
+
 abbrev pub callback_in : ℕ → Told → List (ℕ × Callback)
 callback_in client (HandedOut other number callback) = if other == client then (number, callback) ∷ [] else []
 callback_in client _ = []
@@ -34,8 +39,8 @@ abbrev pub write_in : ℕ → Told → List Callback
 write_in client (Replied other number call reply) = if other == client then callbacks_of call reply else []
 write_in client _ = []
 
--- the `post` lines, the `acc` lines, and the client's `reply` and `callback` lines, each with its number; and the callbacks that
--- the replies of the client's `reply` lines gave
+-- the `post` lines, the `acc` lines, and the client's `reply` and `callback` lines, each with its number; the calls of the client's
+-- `reply` lines with their numbers and replies; and the callbacks that these replies gave
 abbrev pub posts_told : List Told → List (ℕ × Message)
 posts_told told = gathered post_in told
 
@@ -44,6 +49,9 @@ entries_told told = gathered entry_in told
 
 abbrev pub replies_told : ℕ → List Told → List (ℕ × Reply)
 replies_told client told = gathered (reply_in client) told
+
+abbrev pub deals_told : ℕ → List Told → List (ℕ × Call × Reply)
+deals_told client told = gathered (deal_in client) told
 
 abbrev pub callbacks_told : ℕ → List Told → List (ℕ × Callback)
 callbacks_told client told = gathered (callback_in client) told
@@ -100,5 +108,6 @@ pub record Says (plain : Plain) (old new : World) (told : List Told) : Type 0 wh
   pub entries : Grows (committed old.core) (committed new.core) (entries_told told)
   pub answers : EndsIn new.core.answered old.core.answered
   pub replies : (client : ℕ) → TellsReplies (old.agents client) (new.agents client) (answers_in plain client new.core.answered) (replies_told client told)
+  pub deals : (client : ℕ) → AllByRecursion (λ (deal : ℕ × Call × Reply). Stands deal (dealt_in plain client new.core.answered)) (deals_told client told)
   pub callbacks : (client : ℕ) → Grows (old.agents client).handed (new.agents client).handed (callbacks_told client told)
   pub writes : (client : ℕ) → writes_in (fed_of (new.agents client)) ≡ writes_told client told ++ writes_in (fed_of (old.agents client))

@@ -1,4 +1,4 @@
--- A world with its servers, whatever these are.
+-- Words of public clauses: a world with its servers, whatever these are.
 use Rattle.std.specs.Prelude.{ℕ, zero, suc, Option, Some, None}
 use Rattle.cluster_facts.specs.Types.{Entry}
 use Rattle.cluster_facts.specs.World.{World}

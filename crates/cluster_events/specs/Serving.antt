@@ -1,4 +1,4 @@
--- What is asked of servers, and of a relation of worlds and lines, so that a whole round keeps them.
+-- Words of public clauses: what is asked of servers, and of a relation of worlds and lines, so that a whole round keeps them.
 use Rattle.std.specs.Prelude.{◌≡◌, ℕ, suc, true, false, nat_le, Some, List, [], ◌∷◌, ◌++◌, length}
 use Rattle.cluster_facts.specs.Types.{Call, Reply, Item, Entry, Message, Answer, Delivery, Receipt}
 use Rattle.cluster_facts.specs.Lists.{Stands, EndsIn}

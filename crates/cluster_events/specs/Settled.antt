@@ -1,4 +1,4 @@
--- What a world is after `settle`.
+-- Words of public clauses: what a world is after `settle`.
 use Rattle.std.specs.Prelude.{◌≡◌, ℕ, true, ◌≤◌, Some, length}
 use Rattle.cluster_facts.specs.Types.{Call, Reply, Item, Delivery}
 use Rattle.cluster_facts.specs.Lists.{Stands}

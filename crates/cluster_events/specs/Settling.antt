@@ -1,4 +1,4 @@
--- `settle`: rounds until one in which nothing goes on.
+-- Words of public clauses: `settle`: rounds until one in which nothing goes on.
 use Rattle.std.specs.Prelude.{ℕ, Bool, true, false, ◌≡◌, Option, Some, None, List, [], ◌++◌}
 use Rattle.std.specs.List.{list_any}
 use Rattle.cluster_facts.specs.Types.{Reply, Message, Request, Answer, Delivery}

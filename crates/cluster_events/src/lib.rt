@@ -1,3 +1,7 @@
-//! What happens in a cluster, event by event, with the lines that each prints, over any servers: definitions and laws
-//! alone.
+//! What happens in a cluster, event by event, over any servers, with the lines that each prints: definitions and laws, and the
+//! types of what lines tell.
 #![tactic(auto)]
+
+mod lines;
+
+pub use lines::{ServerRole, Standing, Why};

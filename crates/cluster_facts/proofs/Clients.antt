@@ -192,7 +192,7 @@ subscribed-asked key id (first ∷ sent) stands =
       | inr there ↦ Stands-right (key, id) (subscribes first.0 first.1) (asked_for sent) (subscribed-asked key id sent there)
     ]
 
-subscribes-number : (key id number : ℕ) (call : Call) → Stands (key, id) (subscribes number call) → key ≡ number
+pub subscribes-number : (key id number : ℕ) (call : Call) → Stands (key, id) (subscribes number call) → key ≡ number
 subscribes-number key id number (NtfSubscribe other filters) (inl same) = ap (λ (p : ℕ × ℕ). p.0) same
 subscribes-number key id number (NtfSubscribe other filters) (inr stands) = elim stands [ ]
 subscribes-number key id number _ stands = elim stands [ ]

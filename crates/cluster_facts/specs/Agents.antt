@@ -1,4 +1,4 @@
--- A client's agent: what it keeps, when it refuses, and what each of its events makes of it.
+-- Words of public clauses: a client's agent: what it keeps, when it refuses, and what each of its events makes of it.
 use Rattle.std.specs.Prelude.{ℕ, zero, suc, ◌+◌, Bool, true, false, not, ◌&&◌, ◌||◌, ◌==◌, nat_le, if◌then◌else◌, Option, Some, None, List, [], ◌∷◌, ◌++◌, length}
 use Rattle.ais_values.specs.Statuses.{release_a, supported_version}
 use Rattle.ais_values.specs.FirstRow.{first_row}

@@ -1,4 +1,4 @@
--- What holds of history, net and agents between any two events.
+-- Words of public clauses: what holds of history, net and agents between any two events.
 use Rattle.std.specs.Prelude.{◌≡◌, ℕ, suc, ◌+◌, ◌≤◌, ◌⊎◌, Bool, ℤ, List, [], ◌∷◌, length}
 use Rattle.std.specs.List.{AllByRecursion}
 use Rattle.cluster_facts.specs.Types.{Call, Reply, Refused, Status, Entry, Callback, Written, Message, Request, Answer, Delivery, Receipt}

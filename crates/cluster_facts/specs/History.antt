@@ -1,4 +1,4 @@
--- The history of a cluster, kept as its answered entries and the entry in hand; what is legal.
+-- Words of public clauses: the history of a cluster, kept as its answered entries and the entry in hand; what is legal.
 use Rattle.std.specs.Prelude.{◌≡◌, ℕ, suc, ◌+◌, true, ◌==◌, nat_lt, nat_le, if◌then◌else◌, ◌≤ℤ◌, ℤ, List, [], ◌∷◌, length}
 use Rattle.cluster_facts.specs.Types.{Entry, Called, Receipted}
 use Rattle.cluster_facts.specs.Lists.{IsNumbered}

@@ -5,5 +5,6 @@ pub mod Service
 pub mod Storage
 pub mod Agents
 pub mod History
+pub mod Ranges
 pub mod World
 pub mod Facts

@@ -1,4 +1,4 @@
--- Words on lists whose newest element comes first.
+-- Words of public clauses: words on lists whose newest element comes first.
 use Rattle.std.specs.Prelude.{◌≡◌, ℕ, suc, ◌==◌, if◌then◌else◌, List, [], ◌∷◌, ◌++◌, length}
 pub use Rattle.client_set.specs.Members.{Stands}
 pub use Rattle.client_set.specs.Rising.{put, without}

@@ -1,4 +1,4 @@
--- What stands in the net, a list of messages whose newest comes first, and the calls and receipts of a history.
+-- Words of public clauses: what stands in the net, a list of messages whose newest comes first, and the calls and receipts of a history.
 use Rattle.std.specs.Prelude.{ℕ, ◌==◌, if◌then◌else◌, List, [], ◌∷◌}
 use Rattle.cluster_facts.specs.Types.{Call, Reply, Entry, Called, Receipted, Message, Request, Answer, Receipt}
 

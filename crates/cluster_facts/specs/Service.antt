@@ -1,4 +1,4 @@
--- The plain service as the cluster sees it: what it answers, makes and holds after a history. A history is a list of entries
+-- Words of public clauses: the plain service as the cluster sees it: what it answers, makes and holds after a history. A history is a list of entries
 -- whose newest comes first.
 use Rattle.std.specs.Prelude.{◌≡◌, ℕ, suc, ◌<◌, ◌⊎◌, Bool, true, ◌&&◌, ◌==◌, nat_lt, nat_le, if◌then◌else◌, ℤ, Some, List, [], ◌∷◌, ◌++◌, length, slice_get}
 use Rattle.std.specs.List.{AllByRecursion}

@@ -1,4 +1,4 @@
--- The files that the plain service keeps, and the device calls by which it makes them. They are no part of the world: what the
+-- Words of public clauses: the files that the plain service keeps, and the device calls by which it makes them. They are no part of the world: what the
 -- files are follows from the history.
 use Rattle.std.specs.Prelude.{◌≡◌, ℕ, Bool, ◌==◌, if◌then◌else◌, Option, ◌⊎◌, List, [], ◌∷◌}
 use Rattle.cluster_facts.specs.Types.{Call, Reply, Entry, Called}

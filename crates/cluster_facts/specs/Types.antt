@@ -1,4 +1,4 @@
--- The types of calls, answers, entries and messages, passed on under the names that the definitions here use. Declares nothing.
+-- Words of public clauses: the types of calls, answers, entries and messages, passed on under the names that the definitions here use. Declares nothing.
 pub use Rattle.ais_values.specs.declared.kind.Which.{Which}
 pub use Rattle.ais_values.specs.declared.kind.Which.TheVariants.{Log, Ntf}
 pub use Rattle.ais_values.specs.declared.kind.Version.{Version}

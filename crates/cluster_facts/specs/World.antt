@@ -1,4 +1,4 @@
--- The world of clients, net and history, whatever its servers are.
+-- Words of public clauses: the world of clients, net and history, whatever its servers are.
 use Rattle.std.specs.Prelude.{ℕ, suc, Bool, false, ◌||◌, ◌==◌, nat_lt, if◌then◌else◌, ℤ, Option, Some, None, List, [], ◌∷◌, length}
 use Rattle.cluster_facts.specs.Types.{Message}
 use Rattle.cluster_facts.specs.Lists.{put}

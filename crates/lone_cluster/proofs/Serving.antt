@@ -35,13 +35,13 @@ reply-stands plain past client number time call =
     let P : Bool → Type 0 = λ b. Stands told (if b then told ∷ answers_in plain client past else answers_in plain client past) in
     by_test P client client (λ same. inl refl) (λ different. absurd (different refl))
 
-answer-facts : (plain : Plain) → IsPlain plain → (now : Rattle.std.proofs.Common.ℤ) (past : List Entry) (entry : Entry) (net : List Message) (agents : ℕ → Rattle.cluster_facts.specs.Agents.Agent) → Facts plain now (entry ∷ past) past net agents → Facts plain now (entry ∷ past) (entry ∷ past) (net_answering plain past entry net) agents
+pub answer-facts : (plain : Plain) → IsPlain plain → (now : Rattle.std.proofs.Common.ℤ) (past : List Entry) (entry : Entry) (net : List Message) (agents : ℕ → Rattle.cluster_facts.specs.Agents.Agent) → Facts plain now (entry ∷ past) past net agents → Facts plain now (entry ∷ past) (entry ∷ past) (net_answering plain past entry net) agents
 answer-facts plain is_plain now past (Called client number time call) net agents facts =
     Facts-post_answer plain is_plain now (Called client number time call ∷ past) (Called client number time call ∷ past) net agents client number (plain.reply past client number time call) (reply-stands plain past client number time call) (Facts-answered plain is_plain now (Called client number time call ∷ past) past net agents (Called client number time call) facts)
 answer-facts plain is_plain now past (Receipted client key through time) net agents facts =
     Facts-answered plain is_plain now (Receipted client key through time ∷ past) past net agents (Receipted client key through time) facts
 
-answer-net : (plain : Plain) → IsPlain plain → (past : List Entry) (entry : Entry) (net : List Message) (message : Message) → Stands message net → Stands message (net_answering plain past entry net)
+pub answer-net : (plain : Plain) → IsPlain plain → (past : List Entry) (entry : Entry) (net : List Message) (message : Message) → Stands message net → Stands message (net_answering plain past entry net)
 answer-net plain is_plain past (Called client number time call) net message stands = posted-keeps plain is_plain (Answer client number (plain.reply past client number time call)) message net stands
 answer-net plain is_plain past (Receipted client key through time) net message stands = stands
 
@@ -106,7 +106,7 @@ lone-serves plain is_plain = record {
 
 -- What its lines say.
 
-answer-says : (plain : Plain) (state : State Alone) (entry : Entry) → Says plain (world_with state.world (Ready entry)) (answer_of plain entry (state_with state (Ready entry))).state.world (answer_of plain entry (state_with state (Ready entry))).told
+pub answer-says : (plain : Plain) (state : State Alone) (entry : Entry) → Says plain (world_with state.world (Ready entry)) (answer_of plain entry (state_with state (Ready entry))).state.world (answer_of plain entry (state_with state (Ready entry))).told
 answer-says plain state (Called client number time call) =
     let world = state.world in
     let past = world.core.answered in
@@ -121,6 +121,7 @@ answer-says plain state (Called client number time call) =
         replies = λ other. TellsReplies-none (world.agents other) (world.agents other) (answers_in plain other (entry ∷ past)) (λ number done. done);
         callbacks = λ other. Grows-same (world.agents other).handed;
         writes = λ other. refl;
+        deals = λ other. tt;
       }
       | false ↦ record {
         posts = Grows-one message world.net;
@@ -129,6 +130,7 @@ answer-says plain state (Called client number time call) =
         replies = λ other. TellsReplies-none (world.agents other) (world.agents other) (answers_in plain other (entry ∷ past)) (λ number done. done);
         callbacks = λ other. Grows-same (world.agents other).handed;
         writes = λ other. refl;
+        deals = λ other. tt;
       }
     ]
 answer-says plain state (Receipted client key through time) =
@@ -142,6 +144,7 @@ answer-says plain state (Receipted client key through time) =
       replies = λ other. TellsReplies-none (world.agents other) (world.agents other) (answers_in plain other (entry ∷ past)) (λ number done. done);
       callbacks = λ other. Grows-same (world.agents other).handed;
       writes = λ other. refl;
+      deals = λ other. tt;
     }
 
 accept-says : (plain : Plain) (entry : Entry) (state : State Alone) → state.world.core.hand ≡ Empty → Says plain state.world (accept_alone entry state).state.world (accept_alone entry state).told
@@ -156,6 +159,7 @@ accept-says plain entry state empty =
       replies = λ other. TellsReplies-none (world.agents other) (world.agents other) (answers_in plain other past) (λ number done. done);
       callbacks = λ other. Grows-same (world.agents other).handed;
       writes = λ other. refl;
+      deals = λ other. tt;
     }
 
 drain-says : (plain : Plain) (state : State Alone) (hand : Hand) → IsLone hand → Says plain (world_with state.world hand) (drain (lone plain) (state_with state hand)).state.world (drain (lone plain) (state_with state hand)).told
@@ -171,7 +175,7 @@ lone-says plain = Says-carried plain (lone plain) IsGoodAlone
 
 -- What it spends.
 
-answer-spends : (plain : Plain) (state : State Alone) (entry : Entry) → Spends (world_with state.world (Ready entry)) (answer_of plain entry (state_with state (Ready entry))).state.world (answer_of plain entry (state_with state (Ready entry))).told
+pub answer-spends : (plain : Plain) (state : State Alone) (entry : Entry) → Spends (world_with state.world (Ready entry)) (answer_of plain entry (state_with state (Ready entry))).state.world (answer_of plain entry (state_with state (Ready entry))).told
 answer-spends plain state (Called client number time call) =
     let world = state.world in
     let past = world.core.answered in
@@ -226,7 +230,7 @@ never-steps plain = record { steps = λ state outcome is steady. cc }
 
 -- Its work is a step, which may break off as any step does.
 
-posted-sent : (plain : Plain) (past : List Entry) (entry : Entry) (net : List Message) (client : ℕ) → sent_by client (net_answering plain past entry net) ≡ sent_by client net
+pub posted-sent : (plain : Plain) (past : List Entry) (entry : Entry) (net : List Message) (client : ℕ) → sent_by client (net_answering plain past entry net) ≡ sent_by client net
 posted-sent plain past (Called caller number time call) net client =
     let message = Answer caller number (plain.reply past caller number time call) in
     elim (knows plain message net) as (λ b. sent_by client (if b then net else message ∷ net) ≡ sent_by client net) [ true ↦ refl | false ↦ refl ]

@@ -1,4 +1,4 @@
--- What holds of every run of the lone active server, over any service that does what the cluster asks.
+-- Words of public clauses: what holds of every run of the lone active server, over any service that does what the cluster asks.
 use Rattle.std.specs.Prelude.{ℕ, ℤ, List}
 use Rattle.script_lines.specs.declared.line.Line.{Line}
 use Rattle.cluster_facts.specs.Service.{Plain, IsPlain}

@@ -1,11 +1,12 @@
--- The active server alone, its partner being down.
+-- Words of public clauses: the active server alone, its partner being down.
 use Rattle.std.specs.Prelude.{ℕ, ℤ, suc, Option, Some, None, List, [], ◌∷◌, length}
 use Rattle.cluster_facts.specs.Types.{Entry, Called, Receipted, Answer, Message}
 use Rattle.cluster_facts.specs.Service.{Plain}
 use Rattle.cluster_facts.specs.History.{Hand, Empty, Ready}
 use Rattle.cluster_facts.specs.World.{posted, empty_world}
-use Rattle.cluster_events.specs.Lines.{Told, Committed, Standing}
-use Rattle.cluster_events.specs.Lines.ServerRole.{Active, Down}
+use Rattle.cluster_events.specs.Lines.{Told, Committed}
+use Rattle.cluster_events.specs.declared.lines.Standing.{Standing}
+use Rattle.cluster_events.specs.declared.lines.ServerRole.TheVariants.{Active, Down}
 use Rattle.cluster_events.specs.Outcomes.{Outcome}
 use Rattle.cluster_events.specs.Servers.{State, Servers}
 use Rattle.cluster_events.specs.ClientEvents.{post_lines}

@@ -1,0 +1,48 @@
+//! What the lines of events tell.
+
+/// What a line tells of a server.
+#[derive(Clone, Copy, Debug, PartialEq, Eq)]
+pub enum ServerRole {
+    Active,
+    /// Active, and a device call to come will stop it.
+    Armed,
+    Standby,
+    Joining,
+    Down,
+}
+
+/// Why a delivered message had no effect.
+#[derive(Clone, Copy, Debug, PartialEq, Eq)]
+pub enum Why {
+    /// The request is older than those whose replies are saved.
+    OldRequest,
+    /// The request is ahead of the client's next.
+    AheadRequest,
+    /// The entry of this number is in hand.
+    Busy { number: u64 },
+    /// The receipt is not new.
+    DoneReceipt,
+    /// The reply to the call was taken.
+    AnsweredReply,
+    /// The callback queue is full.
+    Left,
+    /// The item was taken.
+    TakenItem,
+    /// The item is ahead of the next.
+    AheadItem,
+    /// The subscription does not live in the agent.
+    GoneItem,
+}
+
+/// What the line on a refused event tells.
+#[derive(Clone, Copy, Debug, PartialEq, Eq)]
+pub struct Standing {
+    pub role_of_a: ServerRole,
+    pub role_of_b: ServerRole,
+    /// The lengths of the net, of the link and of the way back.
+    pub net: u64,
+    pub link: u64,
+    pub back: u64,
+    /// The number of the entry in hand.
+    pub in_hand: Option<u64>,
+}
