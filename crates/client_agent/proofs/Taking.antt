@@ -1,0 +1,125 @@
+-- What becomes of a reply and of an item, by what is seen of the agent before and after.
+use Rattle.std.proofs.Common.{◌≡◌, ℕ, suc, ◌<◌, ◌≤◌, ◌+◌, Bool, true, false, ◌||◌, nat_lt, if◌then◌else◌, Option, Some, None, List, [], ◌∷◌, ◌++◌, length, reverse, option_map, refl, ap, sym, subst, ◌∙◌, arith, length-append}
+use Rattle.std.proofs.lemmas.List.{length-reverse}
+use Rattle.std.specs.Prelude.{nat_le}
+use Rattle.std.proofs.lemmas.Bool.Decides.{nat_tests}
+use Rattle.cluster_facts.specs.Types.{Call, Reply, Item, Callback, Receipt, BadHandle}
+use Rattle.cluster_facts.specs.Agents.{Living, Agent, kept_call, callbacks_of, lacks_place, find_living, after_reply, after_item, oldest}
+use Rattle.client_agent.specs.declared.answers.MissedWhy.TheVariants.{Answered as AnsweredBefore, Left, Taken as TakenBefore, Ahead, Gone}
+use Rattle.client_agent.specs.declared.answers.Taken.{Taken}
+use Rattle.client_agent.specs.declared.answers.Taken.TheVariants.{Answered, Item as TakenItem, Missed}
+use Rattle.client_agent.specs.declared.answers.How.{How}
+use Rattle.client_agent.specs.declared.answers.How.TheVariants.{One, All}
+use Rattle.client_agent.specs.declared.answers.Numbered.{Numbered}
+use Rattle.client_agent.specs.declared.answers.Dispatched.TheVariants.{Given}
+use Rattle.client_agent.specs.Seen.{Seen, seen_of}
+use Rattle.client_agent.specs.Steps.{IsReply, IsReplyTo, IsItem, IsItemBy, IsDispatched, numbered, handed_out}
+use Rattle.client_agent.specs.Inside.{agent_of, left_over}
+use Rattle.client_agent.proofs.Known.{known, same_seen}
+use Rattle.client_agent.proofs.Handing.{length-numbered}
+
+-- Replies.
+
+-- the call whose callbacks these are
+pub called : (reply : Reply) (callbacks : List Callback) (found : Option Call) → Some callbacks ≡ option_map (λ call. callbacks_of call reply) found → (call : Call) × (found ≡ Some call) × (callbacks ≡ callbacks_of call reply)
+called reply callbacks None is = absurd (let e : Some callbacks ≡ None = is in cc)
+called reply callbacks (Some call) is = (call, refl, (let e : Some callbacks ≡ Some (callbacks_of call reply) = is in cc))
+
+pub not_called : (reply : Reply) (found : Option Call) → None ≡ option_map (λ call. callbacks_of call reply) found → found ≡ None
+not_called reply None is = refl
+not_called reply (Some call) is = absurd (let e : None ≡ Some (callbacks_of call reply) = is in cc)
+
+pub reply_missed : (seen : Seen) (number : ℕ) (reply : Reply) → kept_call number seen.kept ≡ None → (handed : List Callback) → seen.given ≡ length handed → IsReply seen.client seen.places number reply (agent_of seen handed) (kept_call number seen.kept) (Missed AnsweredBefore) seen
+reply_missed seen number reply none handed given =
+    let P : Option Call → Type 0 = λ found. IsReply seen.client seen.places number reply (agent_of seen handed) found (Missed AnsweredBefore) seen in
+    subst P (sym none) (refl, same_seen seen handed given)
+
+pub reply_left : (seen : Seen) (number : ℕ) (reply : Reply) (call : Call) → kept_call number seen.kept ≡ Some call → lacks_place seen.places seen.queue (callbacks_of call reply) ≡ true → (handed : List Callback) → seen.given ≡ length handed → IsReply seen.client seen.places number reply (agent_of seen handed) (kept_call number seen.kept) (Missed Left) seen
+reply_left seen number reply call is full handed given =
+    let P : Option Call → Type 0 = λ found. IsReply seen.client seen.places number reply (agent_of seen handed) found (Missed Left) seen in
+    let Q : Bool → Type 0 = λ b. IsReplyTo seen.client seen.places number reply (agent_of seen handed) call b (Missed Left) seen in
+    subst P (sym is) (subst Q (sym full) (refl, same_seen seen handed given))
+
+pub reply_taken : (seen : Seen) (number : ℕ) (reply copy : Reply) (call : Call) (new : Seen) → kept_call number seen.kept ≡ Some call → lacks_place seen.places seen.queue (callbacks_of call reply) ≡ false → copy ≡ reply → ((handed : List Callback) → seen.given ≡ length handed → new ≡ seen_of seen.client seen.places (after_reply number call reply (agent_of seen handed))) → (handed : List Callback) → seen.given ≡ length handed → IsReply seen.client seen.places number reply (agent_of seen handed) (kept_call number seen.kept) (Answered number copy) new
+reply_taken seen number reply copy call new is free copied after handed given =
+    let P : Option Call → Type 0 = λ found. IsReply seen.client seen.places number reply (agent_of seen handed) found (Answered number copy) new in
+    let Q : Bool → Type 0 = λ b. IsReplyTo seen.client seen.places number reply (agent_of seen handed) call b (Answered number copy) new in
+    subst P (sym is) (subst Q (sym free) (ap (λ (r : Reply). Answered number r) copied, after handed given))
+
+-- Items.
+
+is_below : (one other : ℕ) → one < other → nat_lt one other ≡ true
+is_below one other below = grind (arith, nat_tests)
+
+not_below : (one other : ℕ) → other ≤ one → nat_lt one other ≡ false
+not_below one other above = grind (arith, nat_tests)
+
+is_within : (one other : ℕ) → one ≤ other → nat_le one other ≡ true
+is_within one other within = grind (arith, nat_tests)
+
+not_within : (one other : ℕ) → other < one → nat_le one other ≡ false
+not_within one other above = grind (arith, nat_tests)
+
+-- an item of a subscription that lives, by the tests of its number and of the queue
+item_by : (seen : Seen) (key : ℕ) (item : Item) (found : Living) (taken : Taken) (new : Seen) (handed : List Callback) (before ahead full : Bool) → find_living key seen.living ≡ Some found → nat_lt item.number found.next ≡ before → nat_lt found.next item.number ≡ ahead → nat_le seen.places (length seen.queue) ≡ full → IsItemBy seen.client seen.places key item (agent_of seen handed) found before ahead full taken new → IsItem seen.client seen.places key item (agent_of seen handed) (find_living key seen.living) taken new
+item_by seen key item found taken new handed before ahead full is e f g holds =
+    let P : Option Living → Type 0 = λ living. IsItem seen.client seen.places key item (agent_of seen handed) living taken new in
+    let one : Bool → Type 0 = λ b. IsItemBy seen.client seen.places key item (agent_of seen handed) found b ahead full taken new in
+    let two : Bool → Type 0 = λ b. IsItemBy seen.client seen.places key item (agent_of seen handed) found (nat_lt item.number found.next) b full taken new in
+    let three : Bool → Type 0 = λ b. IsItemBy seen.client seen.places key item (agent_of seen handed) found (nat_lt item.number found.next) (nat_lt found.next item.number) b taken new in
+    subst P (sym is) (subst three (sym g) (subst two (sym f) (subst one (sym e) holds)))
+
+pub item_gone : (seen : Seen) (key : ℕ) (item : Item) → find_living key seen.living ≡ None → (handed : List Callback) → seen.given ≡ length handed → IsItem seen.client seen.places key item (agent_of seen handed) (find_living key seen.living) (Missed Gone) seen
+item_gone seen key item none handed given =
+    let P : Option Living → Type 0 = λ living. IsItem seen.client seen.places key item (agent_of seen handed) living (Missed Gone) seen in
+    subst P (sym none) (refl, same_seen seen handed given)
+
+pub item_before : (seen : Seen) (key : ℕ) (item : Item) (found : Living) → find_living key seen.living ≡ Some found → item.number < found.next → (handed : List Callback) → seen.given ≡ length handed → IsItem seen.client seen.places key item (agent_of seen handed) (find_living key seen.living) (Missed TakenBefore) seen
+item_before seen key item found is below handed given =
+    item_by seen key item found (Missed TakenBefore) seen handed true (nat_lt found.next item.number) (nat_le seen.places (length seen.queue)) is (is_below item.number found.next below) refl refl (refl, same_seen seen handed given)
+
+pub item_ahead : (seen : Seen) (key : ℕ) (item : Item) (found : Living) → find_living key seen.living ≡ Some found → found.next < item.number → (handed : List Callback) → seen.given ≡ length handed → IsItem seen.client seen.places key item (agent_of seen handed) (find_living key seen.living) (Missed Ahead) seen
+item_ahead seen key item found is above handed given =
+    item_by seen key item found (Missed Ahead) seen handed false true (nat_le seen.places (length seen.queue)) is (not_below item.number found.next (omega arith)) (is_below found.next item.number above) refl (refl, same_seen seen handed given)
+
+pub item_left : (seen : Seen) (key : ℕ) (item : Item) (found : Living) → find_living key seen.living ≡ Some found → item.number ≡ found.next → seen.places ≤ length seen.queue → (handed : List Callback) → seen.given ≡ length handed → IsItem seen.client seen.places key item (agent_of seen handed) (find_living key seen.living) (Missed Left) seen
+item_left seen key item found is next full handed given =
+    item_by seen key item found (Missed Left) seen handed false false true is (not_below item.number found.next (omega arith)) (not_below found.next item.number (omega arith)) (is_within seen.places (length seen.queue) full) (refl, same_seen seen handed given)
+
+pub item_taken : (seen : Seen) (key : ℕ) (item : Item) (found : Living) (client number : ℕ) (new : Seen) → find_living key seen.living ≡ Some found → item.number ≡ found.next → length seen.queue < seen.places → client ≡ seen.client → number ≡ item.number → ((handed : List Callback) → seen.given ≡ length handed → new ≡ seen_of seen.client seen.places (after_item key found.id item.content (agent_of seen handed))) → (handed : List Callback) → seen.given ≡ length handed → IsItem seen.client seen.places key item (agent_of seen handed) (find_living key seen.living) (TakenItem (Receipt client key number)) new
+item_taken seen key item found client number new is next free its numbered after handed given =
+    item_by seen key item found (TakenItem (Receipt client key number)) new handed false false false is (not_below item.number found.next (omega arith)) (not_below found.next item.number (omega arith)) (not_within seen.places (length seen.queue) free) ((λ i. TakenItem (Receipt (its i) key (numbered i))), after handed given)
+
+-- Callbacks are handed out.
+
+counted : (before given : ℕ) (out handed : List Callback) (taken : List Numbered) → taken ≡ reverse (numbered before out) → before ≡ length handed → given ≡ before + length taken → given ≡ length (out ++ handed)
+counted before given out handed taken is count after =
+    let long : length taken ≡ length out = ap length is ∙ length-reverse (numbered before out) ∙ length-numbered before out in
+    omega (arith, length-append out handed)
+
+pub dispatched : (seen : Seen) (how : How) (taken : List Numbered) (queue : List Callback) (given client places : ℕ) (agent : Agent) → (seen.log_handle || seen.ntf_handle) ≡ true → taken ≡ reverse (numbered seen.given (handed_out how seen.queue)) → queue ≡ left_over how seen.queue → given ≡ seen.given + length taken → seen ≡ seen_of client places agent → IsDispatched client places how agent (Given taken) (record seen { queue = queue; given = given })
+dispatched seen One taken queue given client places agent handle is left after seen_is =
+    let P : ℕ → ℕ → Agent → Type 0 = λ c p a. IsDispatched c p One a (Given taken) (record seen { queue = queue; given = given }) in
+    known P seen client places agent seen_is (λ handed count.
+    let all = counted seen.given given (oldest seen.queue) handed taken is count after in
+    (ap (λ (b : Bool). if b then None else Some BadHandle) handle, is ∙ ap (λ n. reverse (numbered n (oldest seen.queue))) count, λ i. record { client = seen.client; places = seen.places; next = seen.next; log_handle = seen.log_handle; ntf_handle = seen.ntf_handle; kept = seen.kept; living = seen.living; queue = left i; given = all i }))
+dispatched seen (All workers) taken queue given client places agent handle is left after seen_is =
+    let P : ℕ → ℕ → Agent → Type 0 = λ c p a. IsDispatched c p (All workers) a (Given taken) (record seen { queue = queue; given = given }) in
+    known P seen client places agent seen_is (λ handed count.
+    let all = counted seen.given given seen.queue handed taken is count after in
+    (ap (λ (b : Bool). if b then None else Some BadHandle) handle, is ∙ ap (λ n. reverse (numbered n seen.queue)) count, λ i. record { client = seen.client; places = seen.places; next = seen.next; log_handle = seen.log_handle; ntf_handle = seen.ntf_handle; kept = seen.kept; living = seen.living; queue = left i; given = all i }))
+
+length-oldest : (queue : List Callback) → length (oldest queue) ≤ length queue
+length-oldest [] = omega arith
+length-oldest (x ∷ []) = omega arith
+length-oldest (x ∷ y ∷ queue) = omega (arith, length-oldest (y ∷ queue))
+
+length-handed : (how : How) (queue : List Callback) → length (handed_out how queue) ≤ length queue
+length-handed One queue = length-oldest queue
+length-handed (All workers) queue = omega arith
+
+-- no more is handed out than the queue holds
+pub length-taken : (how : How) (given : ℕ) (queue : List Callback) (taken : List Numbered) → taken ≡ reverse (numbered given (handed_out how queue)) → length taken ≤ length queue
+length-taken how given queue taken is =
+    let long : length taken ≡ length (handed_out how queue) = ap length is ∙ length-reverse (numbered given (handed_out how queue)) ∙ length-numbered given (handed_out how queue) in
+    omega (arith, length-handed how queue)

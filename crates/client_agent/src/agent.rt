@@ -1,0 +1,314 @@
+//! The agent of one client.
+ghost use Rattle.std.specs.Prelude.{◌≡◌, ℕ, ◌<◌, List, [], length, IfOk, OnErr, option_map};
+ghost use Rattle.std.specs.Option.{option_to_list};
+ghost use Rattle.calls.specs.declared.reply.Callback.{Callback};
+ghost use Rattle.cluster_facts.specs.Agents.{Agent as ClientAgent, fresh, can_serve, service_of, has_handle, refusal, kept_call, find_living, callbacks_of, resent};
+ghost use Rattle.client_agent.specs.Seen.{seen_of};
+ghost use Rattle.client_agent.specs.Steps.{IsSent, IsFor, IsReply, IsItem, IsTaken, IsDispatched};
+ghost use Rattle.client_agent.specs.Inside.{calls_kept, agent_of, lack};
+
+use crate::callbacks::{callback_of_item, callback_of_reply, hand_out, lacks_place, put_callback};
+use crate::kept::{
+    Kept, add_requests, call_of, find_call, forget_call, is_shut, log_after, ntf_after, service_of,
+};
+use crate::living::{
+    Subscription, add_receipts, find_subscription, note_call, note_item, note_reply,
+};
+use crate::{Dispatched, How, MissedWhy, Sent, Taken};
+use ais_values::{Duplicate, Seq, Status, Version, Which, negotiate};
+use calls::{Ask, Call, Callback, Reply};
+use std::alloc::{AllocError, Global};
+use std::collections::VecDeque;
+use std::marker::Model;
+use sub_queue::Item;
+use wire::Message;
+
+/// What a client's library keeps: the number of the next call, its handles, the calls whose replies it has not
+/// taken, the subscriptions that live, and the callbacks that it has taken and not handed out.
+///
+/// It keeps no more than that: at most the 32 calls before the next, one entry for each living subscription, and
+/// as many callbacks as its queue has places. Of the callbacks that were handed out it keeps the count.
+#[derive(Drop)]
+pub struct Agent {
+    client: u16,
+    places: u32,
+    next: u32,
+    log_handle: bool,
+    ntf_handle: bool,
+    kept: VecDeque<Kept>,
+    living: VecDeque<Subscription>,
+    queue: VecDeque<Callback>,
+    given: u64,
+}
+
+impl Model for Agent {
+    ghost use Rattle.client_agent.specs.Seen.{Seen};
+
+    ghost Value = { Seen };
+
+    ghost use Rattle.client_agent.specs.Inside.{seen_inside, IsKept};
+
+    ghost view = { seen_inside };
+
+    ghost invariant = { IsKept };
+}
+
+/// Whether the service serves a client that asks for this version.
+fn can_serve(service: Which, wanted: Version) -> bool
+    ensures { result ≡ can_serve service wanted }
+{
+    negotiate(service, wanted).is_ok()
+}
+
+/// The callback of a reply to an unanswered call, if it gives one; `None` where the call is none of these.
+fn callback_of_call(kept: &VecDeque<Kept>, number: u32, reply: &Reply) -> Option<Option<Callback>>
+    ensures { option_map option_to_list result ≡ option_map (λ call.
+        callbacks_of call reply.now) (kept_call number (calls_kept kept.now.items)) }
+{
+    match find_call(kept, number) {
+        Some(call) => Some(callback_of_reply(call, reply)),
+        None => None,
+    }
+}
+
+impl Agent {
+    /// The agent of a client that has asked for nothing, with a queue of so many callbacks. It takes the memory of
+    /// the queue.
+    pub fn new(alloc: Global, client: u16, callbacks: u32) -> Result<Agent, AllocError>
+        ensures { IfOk result (λ agent. agent ≡ seen_of client callbacks fresh) }
+    {
+        Ok(Agent {
+            client,
+            places: callbacks,
+            next: 1,
+            log_handle: false,
+            ntf_handle: false,
+            kept: VecDeque::new(alloc),
+            living: VecDeque::new(alloc),
+            queue: VecDeque::with_capacity(alloc, callbacks as usize)?,
+            given: 0,
+        })
+    }
+
+    /// The client.
+    pub fn client(&self) -> u16
+        ensures { result ≡ self.now.client }
+    {
+        self.client
+    }
+
+    /// The number of the next call.
+    pub fn next(&self) -> u32
+        ensures { result ≡ self.now.next }
+    {
+        self.next
+    }
+
+    /// Asks for a call: the request that is to be posted, under the next number, or a refusal.
+    ///
+    /// It is refused as VERSION where it begins a service in a version that is not served; as BAD_HANDLE where it
+    /// is another call and the last call of its service that begins or ends it, among those sent, is none or ends
+    /// it; and then as TRY_AGAIN where some call whose reply was not taken has a number at most the next number
+    /// minus 32. A refused call has no number, and nothing changes. Where memory runs out nothing changes.
+    pub fn call(&mut self, alloc: Global, ask: &Ask) -> Result<Sent, AllocError>
+        requires { self.old.next < 4294967295 }
+        ensures ok { IfOk result (λ sent. (client places : ℕ) (agent : ClientAgent) →
+            self.old ≡ seen_of client places agent →
+            IsSent client places ask.now agent sent self.new) }
+        ensures err { OnErr result (self.new ≡ self.old) }
+    {
+        if let Some(status) = self.refusal(ask) {
+            return Ok(Sent::Refused { status });
+        }
+        let call = call_of(alloc, ask)?;
+        let message = Message::Request {
+            client: self.client,
+            seq: self.next,
+            call: call.copy(alloc)?,
+        };
+        self.kept.reserve(1)?;
+        self.living.reserve(1)?;
+        note_call(&mut self.living, self.next, &call);
+        self.log_handle = log_after(&call, self.log_handle);
+        self.ntf_handle = ntf_after(&call, self.ntf_handle);
+        let number = self.next;
+        self.kept.push_front_reserved(Kept { number, call });
+        self.next = number + 1;
+        Ok(Sent::Posted { message })
+    }
+
+    /// Takes a reply to this client, or an item for it.
+    ///
+    /// A reply is missed as `Answered` where its call is none whose reply is awaited, and as `Left` where it gives
+    /// a callback and the queue is full. An item is missed as `Gone` where its subscription does not live, as
+    /// `Taken` or `Ahead` where its number is below or above the subscription's next, and as `Left` where the
+    /// queue is full. On a miss, and where memory runs out, nothing changes. A reply that is taken ends the wait
+    /// for it, and the subscription whose call it refuses; an item that is taken gives a receipt to post.
+    pub fn receive(&mut self, alloc: Global, message: &Message) -> Result<Taken, AllocError>
+        requires { IsFor self.old.client message.now }
+        ensures ok { IfOk result (λ taken. (client places : ℕ) (agent : ClientAgent) →
+            self.old ≡ seen_of client places agent →
+            IsTaken client places message.now agent taken self.new) }
+        ensures err { OnErr result (self.new ≡ self.old) }
+    {
+        match message {
+            Message::Reply { seq, reply, .. } => {
+                let taken = self.take_reply(alloc, *seq, reply)?;
+                Ok(taken)
+            }
+            Message::Item { key, item, .. } => {
+                let taken = self.take_item(alloc, *key, item)?;
+                Ok(taken)
+            }
+            _ => unreachable!(),
+        }
+    }
+
+    /// What is sent again: the requests of the calls without reply, by number, and the greatest receipt of each
+    /// living subscription, by key.
+    pub fn resend(&self, alloc: Global) -> Result<Seq<Message>, AllocError>
+        ensures { IfOk result (λ messages. (client places : ℕ) (agent : ClientAgent) →
+            self.now ≡ seen_of client places agent → messages ≡ resent client agent) }
+    {
+        let mut messages = Vec::new(alloc);
+        add_requests(alloc, self.client, &self.kept, &mut messages)?;
+        add_receipts(self.client, &self.living, &mut messages)?;
+        Ok(Seq::from_vec(messages))
+    }
+
+    /// Hands out callbacks, each under its number: the oldest, or all of them.
+    ///
+    /// It is refused as BAD_HANDLE exactly where the client has no handle. Where memory runs out nothing changes;
+    /// the same is answered where the count of callbacks handed out would pass the greatest `u64`.
+    pub fn dispatch(&mut self, alloc: Global, how: How) -> Result<Dispatched, AllocError>
+        ensures ok { IfOk result (λ dispatched. (client places : ℕ) (agent : ClientAgent) →
+            self.old ≡ seen_of client places agent →
+            IsDispatched client places how agent dispatched self.new) }
+        ensures err { OnErr result (self.new ≡ self.old) }
+    {
+        if !self.log_handle && !self.ntf_handle {
+            let status = Status::BadHandle;
+            return Ok(Dispatched::Refused { status });
+        }
+        if self.queue.len() as u64 > u64::MAX - self.given {
+            return Err(AllocError);
+        }
+        let taken = hand_out(alloc, how, &mut self.queue, self.given)?;
+        self.given += taken.as_slice().len() as u64;
+        Ok(Dispatched::Given { taken })
+    }
+
+    /// Whether the client has a handle of the call's service.
+    fn has_handle(&self, call: &Call) -> bool
+        ensures { result ≡ has_handle (service_of call.now) (agent_of self.now []) }
+    {
+        match service_of(call) {
+            Which::Log => self.log_handle,
+            Which::Ntf => self.ntf_handle,
+        }
+    }
+
+    /// What a call lacks before the window is asked.
+    fn lack(&self, ask: &Ask) -> Option<Status>
+        ensures { result ≡ lack ask.now (agent_of self.now []) }
+    {
+        match ask {
+            Ask::Start { service, version } => {
+                if can_serve(*service, *version) {
+                    None
+                } else {
+                    Some(Status::Version)
+                }
+            }
+            Ask::Plain { call } => {
+                if self.has_handle(call) {
+                    None
+                } else {
+                    Some(Status::BadHandle)
+                }
+            }
+        }
+    }
+
+    /// Why a call is refused, if it is.
+    fn refusal(&self, ask: &Ask) -> Option<Status>
+        ensures { result ≡ refusal ask.now (agent_of self.now []) }
+    {
+        match self.lack(ask) {
+            Some(status) => Some(status),
+            None => {
+                if is_shut(self.next, &self.kept) {
+                    Some(Status::TryAgain)
+                } else {
+                    None
+                }
+            }
+        }
+    }
+
+    /// Takes the reply to the call of this number.
+    fn take_reply(&mut self, alloc: Global, number: u32, reply: &Reply) -> Result<Taken, AllocError>
+        ensures ok { IfOk result (λ taken. (handed : List Callback) →
+            self.old.given ≡ length handed →
+            IsReply self.old.client self.old.places number reply.now (agent_of self.old handed)
+            (kept_call number self.old.kept) taken self.new) }
+        ensures err { OnErr result (self.new ≡ self.old) }
+    {
+        match callback_of_call(&self.kept, number, reply) {
+            None => Ok(Taken::Missed {
+                why: MissedWhy::Answered,
+            }),
+            Some(callback) => {
+                if lacks_place(&self.queue, self.places, &callback) {
+                    let why = MissedWhy::Left;
+                    return Ok(Taken::Missed { why });
+                }
+                let copy = reply.copy(alloc)?;
+                put_callback(&mut self.queue, callback);
+                forget_call(&mut self.kept, number);
+                note_reply(&mut self.living, number, reply);
+                Ok(Taken::Answered {
+                    seq: number,
+                    reply: copy,
+                })
+            }
+        }
+    }
+
+    /// Takes an item of the subscription of this key.
+    fn take_item(&mut self, alloc: Global, key: u32, item: &Item) -> Result<Taken, AllocError>
+        ensures ok { IfOk result (λ taken. (handed : List Callback) →
+            self.old.given ≡ length handed →
+            IsItem self.old.client self.old.places key item.now (agent_of self.old handed)
+            (find_living key self.old.living) taken self.new) }
+        ensures err { OnErr result (self.new ≡ self.old) }
+    {
+        let found = match find_subscription(&self.living, key) {
+            Some(found) => found,
+            None => return Ok(Taken::Missed {
+                why: MissedWhy::Gone,
+            }),
+        };
+        if item.number <= found.taken {
+            let why = MissedWhy::Taken;
+            return Ok(Taken::Missed { why });
+        }
+        if item.number - found.taken > 1 {
+            let why = MissedWhy::Ahead;
+            return Ok(Taken::Missed { why });
+        }
+        if self.queue.len() >= self.places as usize {
+            let why = MissedWhy::Left;
+            return Ok(Taken::Missed { why });
+        }
+        let callback = callback_of_item(alloc, found.id, &item.content)?;
+        self.queue.push_front_reserved(callback);
+        note_item(&mut self.living, key, item.number);
+        let receipt = Message::Receipt {
+            client: self.client,
+            key,
+            through: item.number,
+        };
+        Ok(Taken::Item { receipt })
+    }
+}

@@ -1,0 +1,14 @@
+//! The agent of one client: it numbers and sends the client's calls, takes replies and items, and hands out
+//! callbacks.
+#![tactic(auto)]
+
+mod agent;
+mod answers;
+mod callbacks;
+mod kept;
+mod living;
+#[cfg(test)]
+mod tests;
+
+pub use agent::Agent;
+pub use answers::{Dispatched, How, MissedWhy, Numbered, Sent, Taken};
