@@ -1,0 +1,187 @@
+-- Words of public clauses: the text of the lines that events print. Each line of text ends with a line feed.
+use Rattle.std.specs.Prelude.{ℕ, ◌==◌, Option, Some, None, List, [], ◌∷◌, ◌++◌, length, map, codes, if◌then◌else◌}
+use Rattle.std.specs.Fmt.{decimal, signed_decimal}
+use Rattle.std.specs.List.{filter, flat_map, join_by}
+use Rattle.ais_values.specs.Statuses.{status_word}
+use Rattle.script_grammar.specs.Writing.{joined}
+use Rattle.script_language.specs.Printing.{server_text, shown_note_text, line_text}
+use Rattle.sub_queue.specs.declared.item.Lost.{Lost}
+use Rattle.cluster_facts.specs.Types.{Status, Reply, Refused as Rejected, Done, Sent, Found, Entry, Called, Receipted, Callback, Written, Notified, Discarded, Message, Request, Answer, Delivery, Receipt}
+use Rattle.cluster_events.specs.declared.lines.ServerRole.{ServerRole}
+use Rattle.cluster_events.specs.declared.lines.ServerRole.TheVariants.{Active, Armed, Standby, Joining, Down}
+use Rattle.cluster_events.specs.declared.lines.Why.{Why}
+use Rattle.cluster_events.specs.declared.lines.Why.TheVariants.{OldRequest, AheadRequest, Busy, DoneReceipt, AnsweredReply, Left, TakenItem, AheadItem, GoneItem}
+use Rattle.cluster_events.specs.declared.lines.Standing.{Standing}
+use Rattle.cluster_events.specs.Lines.{Told, Posted, Committed, Replied, Declined, HandedOut, Dispatched, Ignored, Refused, Stood, Listed, Shown}
+
+abbrev pub line_end : List ℕ
+line_end = 10 ∷ []
+
+-- a message enters the net; only requests, replies, items and receipts do
+unfoldable pub post_lines : ℕ → Message → List (List ℕ)
+post_lines place (Request client number call) =
+    joined (codes "post " ∷ decimal place ∷ codes " req " ∷ decimal client ∷ codes " " ∷ decimal number ∷ line_end ∷ []) ∷ []
+post_lines place (Answer client number reply) =
+    joined (codes "post " ∷ decimal place ∷ codes " rep " ∷ decimal client ∷ codes " " ∷ decimal number ∷ line_end ∷ []) ∷ []
+post_lines place (Delivery client key item) =
+    joined (codes "post " ∷ decimal place ∷ codes " item " ∷ decimal client ∷ codes " " ∷ decimal key ∷ codes " " ∷ decimal item.number ∷ line_end ∷ []) ∷ []
+post_lines place (Receipt client key through) =
+    joined (codes "post " ∷ decimal place ∷ codes " rcpt " ∷ decimal client ∷ codes " " ∷ decimal key ∷ codes " " ∷ decimal through ∷ line_end ∷ []) ∷ []
+post_lines place _ = []
+
+-- an entry is committed
+unfoldable pub entry_line : ℕ → Entry → List ℕ
+entry_line index (Called client number time call) =
+    joined (codes "acc " ∷ decimal index ∷ codes " call " ∷ decimal client ∷ codes " " ∷ decimal number ∷ codes " " ∷ signed_decimal time ∷ line_end ∷ [])
+entry_line index (Receipted client key through time) =
+    joined (codes "acc " ∷ decimal index ∷ codes " rcpt " ∷ decimal client ∷ codes " " ∷ decimal key ∷ codes " " ∷ decimal through ∷ codes " " ∷ signed_decimal time ∷ line_end ∷ [])
+
+-- a client's agent takes a reply, or refuses what is asked of it
+unfoldable pub reply_line : ℕ → ℕ → Reply → List ℕ
+reply_line client number (Rejected status) =
+    joined (codes "reply " ∷ decimal client ∷ codes " " ∷ decimal number ∷ codes " " ∷ status_word status ∷ line_end ∷ [])
+reply_line client number Done =
+    joined (codes "reply " ∷ decimal client ∷ codes " " ∷ decimal number ∷ codes " ok" ∷ line_end ∷ [])
+reply_line client number (Sent id) =
+    joined (codes "reply " ∷ decimal client ∷ codes " " ∷ decimal number ∷ codes " ok id=" ∷ decimal id ∷ line_end ∷ [])
+reply_line client number (Found notification) =
+    joined (codes "reply " ∷ decimal client ∷ codes " " ∷ decimal number ∷ codes " ok " ∷ shown_note_text notification ∷ line_end ∷ [])
+
+unfoldable pub declined_line : ℕ → Status → List ℕ
+declined_line client status = joined (codes "reply " ∷ decimal client ∷ codes " - " ∷ status_word status ∷ line_end ∷ [])
+
+-- the ids of the lost notifications of the type of this code
+abbrev pub ids_of : ℕ → List Lost → List ℕ
+ids_of kind lost = map (λ (one : Lost). one.id) (filter (λ (one : Lost). one.kind == kind) lost)
+
+-- the line on the lost notifications of one type, if there are any
+unfoldable pub lost_lines_of : ℕ → ℕ → ℕ → List ℕ → List ℕ → List (List ℕ)
+lost_lines_of client number id word ids =
+    if length ids == 0 then [] else
+    joined (
+    codes "callback " ∷ decimal client ∷ codes " " ∷ decimal number ∷ codes " lost " ∷ decimal id ∷ codes " " ∷ word
+    ∷ codes " count=" ∷ decimal (length ids)
+    ∷ codes " ids=" ∷ join_by decimal (codes ",") ids
+    ∷ line_end ∷ []
+    ) ∷ []
+
+-- one line for each type, by rising codes
+unfoldable pub lost_lines : ℕ → ℕ → ℕ → List Lost → List (List ℕ)
+lost_lines client number id lost =
+    lost_lines_of client number id (codes "objects") (ids_of 0x1000 lost)
+    ++ (lost_lines_of client number id (codes "attributes") (ids_of 0x2000 lost)
+    ++ (lost_lines_of client number id (codes "states") (ids_of 0x3000 lost)
+    ++ (lost_lines_of client number id (codes "alarm") (ids_of 0x4000 lost)
+    ++ lost_lines_of client number id (codes "security") (ids_of 0x5000 lost))))
+
+-- a callback is handed out
+unfoldable pub callback_lines : ℕ → ℕ → Callback → List (List ℕ)
+callback_lines client number (Written invocation status) =
+    joined (codes "callback " ∷ decimal client ∷ codes " " ∷ decimal number ∷ codes " write " ∷ decimal invocation ∷ codes " " ∷ status_word status ∷ line_end ∷ []) ∷ []
+callback_lines client number (Notified id notification) =
+    joined (codes "callback " ∷ decimal client ∷ codes " " ∷ decimal number ∷ codes " ntf " ∷ decimal id ∷ codes " " ∷ shown_note_text notification ∷ line_end ∷ []) ∷ []
+callback_lines client number (Discarded id lost) = lost_lines client number id lost
+
+-- a dispatch has handed out so many
+unfoldable pub dispatched_line : ℕ → ℕ → List ℕ
+dispatched_line client count = joined (codes "reply " ∷ decimal client ∷ codes " - ok dispatched=" ∷ decimal count ∷ line_end ∷ [])
+
+-- a delivered message had no effect
+abbrev pub why_text : Why → List ℕ
+why_text OldRequest = codes "old"
+why_text AheadRequest = codes "ahead"
+why_text (Busy number) = codes "busy " ++ decimal number
+why_text DoneReceipt = codes "done"
+why_text AnsweredReply = codes "answered"
+why_text Left = codes "left"
+why_text TakenItem = codes "taken"
+why_text AheadItem = codes "ahead"
+why_text GoneItem = codes "gone"
+
+unfoldable pub ignored_line : ℕ → Why → List ℕ
+ignored_line place why = joined (codes "ignored " ∷ decimal place ∷ codes " " ∷ why_text why ∷ line_end ∷ [])
+
+abbrev pub role_text : ServerRole → List ℕ
+role_text Active = codes "active"
+role_text Armed = codes "armed"
+role_text Standby = codes "standby"
+role_text Joining = codes "joining"
+role_text Down = codes "down"
+
+-- the number of the entry in hand, or a dash
+abbrev pub hand_text : Option ℕ → List ℕ
+hand_text None = codes "-"
+hand_text (Some number) = decimal number
+
+-- the event of a script's line is refused
+unfoldable pub refused_line : Rattle.script_lines.specs.declared.line.Line.Line → Standing → List ℕ
+refused_line line standing =
+    joined (
+    codes "refused " ∷ line_text line
+    ∷ codes " a=" ∷ role_text standing.role_of_a
+    ∷ codes " b=" ∷ role_text standing.role_of_b
+    ∷ codes " net=" ∷ decimal standing.net
+    ∷ codes " link=" ∷ decimal standing.link
+    ∷ codes " back=" ∷ decimal standing.back
+    ∷ codes " hand=" ∷ hand_text standing.in_hand
+    ∷ line_end ∷ []
+    )
+
+unfoldable pub server_line : Rattle.script_lines.specs.declared.line.Server.Server → ServerRole → List ℕ
+server_line server role = joined (codes "server " ∷ server_text server ∷ codes " " ∷ role_text role ∷ line_end ∷ [])
+
+unfoldable pub file_line : List ℕ → ℕ → List ℕ
+file_line name size = joined (codes "file " ∷ name ∷ codes " " ∷ decimal size ∷ line_end ∷ [])
+
+unfoldable pub text_line : List ℕ → List ℕ
+text_line text = joined (codes "text " ∷ text ∷ line_end ∷ [])
+
+-- what is printed of each line that an event tells. The callback of losses of several types is printed in several lines
+abbrev pub lines_of : Told → List (List ℕ)
+lines_of (Posted place message) = post_lines place message
+lines_of (Committed index entry) = entry_line index entry ∷ []
+lines_of (Replied client number call reply) = reply_line client number reply ∷ []
+lines_of (Declined client status) = declined_line client status ∷ []
+lines_of (HandedOut client number callback) = callback_lines client number callback
+lines_of (Dispatched client count) = dispatched_line client count ∷ []
+lines_of (Ignored place why) = ignored_line place why ∷ []
+lines_of (Refused line standing) = refused_line line standing ∷ []
+lines_of (Stood server role) = server_line server role ∷ []
+lines_of (Listed name size) = file_line name size ∷ []
+lines_of (Shown text) = text_line text ∷ []
+
+-- all lines of events, the last of which stands in front
+abbrev pub printed : List Told → List (List ℕ)
+printed [] = []
+printed (line ∷ told) = printed told ++ lines_of line
+
+-- What is shown of a file.
+
+-- a byte before the rest of a line, if that does not leave it the last of the line as a blank
+abbrev pub before_rest : ℕ → List ℕ → List ℕ
+before_rest byte [] = if byte == 32 then [] else byte ∷ []
+before_rest byte (next ∷ rest) = byte ∷ next ∷ rest
+
+-- a line without the blanks at its end
+abbrev pub trimmed : List ℕ → List ℕ
+trimmed [] = []
+trimmed (byte ∷ line) = before_rest byte (trimmed line)
+
+-- what stands behind the last line feed is a line where it is not empty
+abbrev pub last_lines : List ℕ → List (List ℕ)
+last_lines [] = []
+last_lines (byte ∷ front) = trimmed (byte ∷ front) ∷ []
+
+-- the lines of bytes behind the front of their first line
+abbrev pub lines_behind : List ℕ → List ℕ → List (List ℕ)
+lines_behind front [] = last_lines front
+lines_behind front (byte ∷ bytes) =
+    if byte == 10 then trimmed front ∷ lines_behind [] bytes else lines_behind (front ++ byte ∷ []) bytes
+
+-- the lines of a file, without their line feeds and the blanks at their ends
+abbrev pub file_text_lines : List ℕ → List (List ℕ)
+file_text_lines bytes = lines_behind [] bytes
+
+-- and what is printed of them
+abbrev pub shown_lines : List (List ℕ) → List (List ℕ)
+shown_lines lines = map text_line lines

@@ -1,0 +1,13 @@
+//! The text of the lines that events print.
+#![tactic(auto)]
+
+mod client_lines;
+mod cluster_lines;
+mod pieces;
+mod shown;
+
+pub use client_lines::{put_callback, put_declined, put_dispatched, put_reply};
+pub use cluster_lines::{
+    put_entry, put_file, put_ignored, put_post, put_refused, put_server, put_text,
+};
+pub use shown::put_shown;

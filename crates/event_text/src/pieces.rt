@@ -1,0 +1,179 @@
+//! Pieces of lines, and lines of pieces.
+ghost use Rattle.std.specs.Prelude.{◌≡◌, ◌++◌, ◌∷◌, [], OnOk, OnErr, codes};
+ghost use Rattle.std.specs.Fmt.{decimal, signed_decimal};
+ghost use Rattle.std.specs.List.{flat_map, join_by};
+ghost use Rattle.event_text.specs.Texts.{why_text, role_text};
+ghost use Rattle.event_text.specs.Pieces.{piece_text};
+
+use ais_values::{Seq, Status};
+use cluster_events::{ServerRole, Why};
+use ntf_types::Notification;
+use script_lines::{Line, Server};
+use script_printer::{print_line, print_note};
+use std::alloc::{AllocError, Global};
+
+/// A piece of a line.
+#[derive(Clone, Copy)]
+pub(crate) enum Piece<'a> {
+    /// Bytes as they are.
+    Word(&'a [u8]),
+    Number(u64),
+    Signed(i64),
+    Answer(Status),
+    /// A notification as it is shown.
+    Note(&'a Notification),
+    /// A line of a script.
+    Script(&'a Line),
+    /// Numbers with commas between them.
+    Ids(&'a [u64]),
+    Reason(Why),
+    Role(ServerRole),
+    /// The number of the entry in hand.
+    Hand(Option<u64>),
+    Node(Server),
+}
+
+/// Adds bytes at the end.
+fn put(out: &mut Vec<u8>, bytes: &[u8]) -> Result<(), AllocError>
+    ensures { OnOk result (out.new.items ≡ out.old.items ++ bytes.now) }
+{
+    out.extend_from_slice(bytes)
+}
+
+/// Adds a number in decimal.
+fn put_number(alloc: Global, out: &mut Vec<u8>, number: u64) -> Result<(), AllocError>
+    ensures { OnOk result (out.new.items ≡ out.old.items ++ decimal number) }
+{
+    let text = number.to_string(alloc)?;
+    put(out, text.as_bytes())
+}
+
+/// Adds a signed number in decimal.
+fn put_signed(alloc: Global, out: &mut Vec<u8>, number: i64) -> Result<(), AllocError>
+    ensures { OnOk result (out.new.items ≡ out.old.items ++ signed_decimal number) }
+{
+    let text = number.to_string(alloc)?;
+    put(out, text.as_bytes())
+}
+
+/// Adds a comma and a number.
+#[tactic(auto, using(crate::proofs::Chain::chained))]
+fn put_further(alloc: Global, out: &mut Vec<u8>, number: u64) -> Result<(), AllocError>
+    ensures { OnOk result (out.new.items ≡ out.old.items ++ (codes "," ++ decimal number)) }
+{
+    put(out, b",")?;
+    put_number(alloc, out, number)?;
+    Ok(())
+}
+
+/// Adds numbers, each behind a comma.
+fn put_furthers(alloc: Global, out: &mut Vec<u8>, numbers: &[u64]) -> Result<(), AllocError>
+    ensures { OnOk result (out.new.items ≡ out.old.items ++ flat_map (λ one. codes "," ++ decimal one) numbers.now) }
+{
+    for number in numbers {
+        put_further(alloc, out, *number)?;
+    }
+    Ok(())
+}
+
+/// Adds numbers with commas between them.
+#[tactic(auto, using(crate::proofs::Chain::chained))]
+fn put_ids(alloc: Global, out: &mut Vec<u8>, numbers: &[u64]) -> Result<(), AllocError>
+    ensures { OnOk result (out.new.items ≡ out.old.items ++ join_by decimal (codes ",") numbers.now) }
+{
+    match numbers {
+        [] => put(out, b""),
+        [first, others @ ..] => {
+            put_number(alloc, out, *first)?;
+            put_furthers(alloc, out, others)?;
+            Ok(())
+        }
+    }
+}
+
+/// Adds the reason for which a message had no effect.
+#[tactic(auto, using(crate::proofs::Chain::chained))]
+fn put_why(alloc: Global, out: &mut Vec<u8>, why: Why) -> Result<(), AllocError>
+    ensures { OnOk result (out.new.items ≡ out.old.items ++ why_text why) }
+{
+    match why {
+        Why::OldRequest => put(out, b"old"),
+        Why::AheadRequest => put(out, b"ahead"),
+        Why::Busy { number } => {
+            put(out, b"busy ")?;
+            put_number(alloc, out, number)?;
+            Ok(())
+        }
+        Why::DoneReceipt => put(out, b"done"),
+        Why::AnsweredReply => put(out, b"answered"),
+        Why::Left => put(out, b"left"),
+        Why::TakenItem => put(out, b"taken"),
+        Why::AheadItem => put(out, b"ahead"),
+        Why::GoneItem => put(out, b"gone"),
+    }
+}
+
+/// Adds the word of a server's role.
+fn put_role(out: &mut Vec<u8>, role: ServerRole) -> Result<(), AllocError>
+    ensures { OnOk result (out.new.items ≡ out.old.items ++ role_text role) }
+{
+    match role {
+        ServerRole::Active => put(out, b"active"),
+        ServerRole::Armed => put(out, b"armed"),
+        ServerRole::Standby => put(out, b"standby"),
+        ServerRole::Joining => put(out, b"joining"),
+        ServerRole::Down => put(out, b"down"),
+    }
+}
+
+/// Adds a piece.
+fn put_piece(alloc: Global, out: &mut Vec<u8>, piece: &Piece) -> Result<(), AllocError>
+    ensures { OnOk result (out.new.items ≡ out.old.items ++ piece_text piece.now) }
+{
+    match piece {
+        Piece::Word(word) => put(out, word),
+        Piece::Number(number) => put_number(alloc, out, *number),
+        Piece::Signed(number) => put_signed(alloc, out, *number),
+        Piece::Answer(status) => put(out, status.word().as_bytes()),
+        Piece::Note(notification) => {
+            let text = print_note(alloc, notification)?;
+            put(out, text.as_slice())
+        }
+        Piece::Script(line) => {
+            let text = print_line(alloc, line)?;
+            put(out, text.as_slice())
+        }
+        Piece::Ids(ids) => put_ids(alloc, out, ids),
+        Piece::Reason(why) => put_why(alloc, out, *why),
+        Piece::Role(role) => put_role(out, *role),
+        Piece::Hand(Some(number)) => put_number(alloc, out, *number),
+        Piece::Hand(None) => put(out, b"-"),
+        Piece::Node(Server::A) => put(out, b"a"),
+        Piece::Node(Server::B) => put(out, b"b"),
+    }
+}
+
+/// Adds pieces.
+fn put_pieces(alloc: Global, out: &mut Vec<u8>, pieces: &[Piece]) -> Result<(), AllocError>
+    ensures { OnOk result (out.new.items ≡ out.old.items ++ flat_map piece_text pieces.now) }
+{
+    for piece in pieces {
+        put_piece(alloc, out, piece)?;
+    }
+    Ok(())
+}
+
+/// Adds a line of these pieces. Where memory runs out nothing is added.
+pub(crate) fn put_line(
+    alloc: Global,
+    lines: &mut Vec<Seq<u8>>,
+    pieces: &[Piece],
+) -> Result<(), AllocError>
+    ensures ok { OnOk result (lines.new.items ≡ lines.old.items ++ flat_map piece_text pieces.now ∷ []) }
+    ensures err { OnErr result (lines.new.items ≡ lines.old.items) }
+{
+    let mut text = Vec::new(alloc);
+    put_pieces(alloc, &mut text, pieces)?;
+    lines.push(Seq::from_vec(text))?;
+    Ok(())
+}
