@@ -1,0 +1,142 @@
+-- The deeds of streams that end, made again after any attempts, leave what they would have left at once.
+use Rattle.std.proofs.Common.{◌≡◌, ◌≢◌, ℕ, ◌<◌, ◌≤◌, Bool, true, false, cond, List, [], ◌∷◌, ◌++◌, refl, sym, ap, subst, ◌∙◌, inl, inr, arith, leb→le}
+use Rattle.std.specs.Prelude.{ℤ, pos, negsuc, None, is_some}
+use Rattle.std.specs.List.{AllByRecursion}
+use Rattle.std.specs.FinMap.{get}
+use Rattle.std.specs.Option.{option_to_list}
+use Rattle.std.proofs.lemmas.Bool.{and_parts}
+use Rattle.disk_model.specs.Disk.{Files, renamed}
+use Rattle.disk_model.specs.DeviceCalls.{DeviceCall, all_applied}
+use Rattle.disk_model.proofs.Renaming.{renamed_absent}
+use Rattle.stream_config.specs.declared.event.StreamEvent.{StreamEvent}
+use Rattle.stream_config.specs.declared.event.StreamEvent.TheVariants.{Made, Stored, Ended}
+use Rattle.stream_config.specs.declared.state.LogFile.{LogFile}
+use Rattle.stream_config.specs.declared.state.StreamState.{StreamState}
+use Rattle.stream_config.specs.Events.{file_closed}
+use Rattle.stream_config.specs.Fit.{stamps_of, is_last_open}
+use Rattle.stream_config.specs.Stamps.{stamp_after}
+use Rattle.stream_layout.specs.Carrying.{IsFitEnded, IsFitEvent}
+use Rattle.stream_layout.specs.Deeds.{calls_of_all, current_file, deeds_of}
+use Rattle.stream_layout.specs.Names.{log_name}
+use Rattle.stream_layout.proofs.DeedLaws.{some_files, current_stamps}
+use Rattle.stream_layout.proofs.NameLaws.{last_apart}
+use Rattle.log_history.specs.Deeds.{deeds_of_all}
+use Rattle.log_history.specs.Stamps.{IsStampUpTo}
+use Rattle.log_history.specs.Table.{OpenStream, has_nobody, ends_in}
+use Rattle.cluster_facts.specs.Storage.{Attempt, Attempts}
+use Rattle.service_laws.specs.Disks.{service_disk}
+use Rattle.service_laws.proofs.Attempting.{IsRepeatable}
+use Rattle.service_laws.proofs.DoneAgain.{renamed-gone, renamed-stays}
+use Rattle.service_laws.proofs.EventsAgain.{current-open}
+
+-- the end of a stream whose current file was made by this stamp or before, and that is closed later
+pub record IsLateEnd (low : ℕ) (before : StreamState) (closed : ℤ) : Type 0 where
+  pub fit : IsFitEnded before closed
+  pub made : IsStampUpTo (pos low) (current_file before.files).created
+  pub number : ℕ
+  pub stamp : closed ≡ pos number
+  pub later : low < number
+
+abbrev pub IsLateEvent : ℕ → StreamEvent → Type 0
+IsLateEvent low (Ended before closed) = IsLateEnd low before closed
+IsLateEvent low _ = ⊥
+
+abbrev pub from_name : StreamState → List ℕ
+from_name before = log_name before.attrs (current_file before.files)
+
+abbrev pub to_name : StreamState → ℤ → List ℕ
+to_name before closed = log_name before.attrs (file_closed closed (current_file before.files))
+
+unlike-stamp : (low number : ℕ) (made : ℤ) → IsStampUpTo (pos low) made → low < number → made ≢ pos number
+unlike-stamp low number (pos n) is later same =
+    let le : n ≤ low = leb→le n low is.to.le in
+    let e : n ≡ number = cc in absurd (omega (arith, le, later, e))
+unlike-stamp low number (negsuc n) is later same = absurd (is.from.le)
+
+-- the name of a current file is none that a file gets as it is closed later
+pub apart-names : (low : ℕ) (one : StreamState) (other : StreamState) (first closed : ℤ) → IsLateEnd low one first → IsLateEnd low other closed → from_name one ≢ to_name other closed
+apart-names low one other first closed is late =
+    let opened = current-open one.files is.fit.stream.standing.last_open in
+    let made = (current_stamps one.files is.fit.stream.stamps (some_files one.files is.fit.stream.standing.last_open)).created in
+    let current : LogFile = current_file one.files in
+    let open_one : LogFile = record { created = current.created; closed = None } in
+    let whole : open_one ≡ current = λ i. record { created = current.created; closed = sym opened i } in
+    subst (λ (file : LogFile). log_name one.attrs file ≢ to_name other closed) whole
+    (last_apart one.attrs other.attrs open_one (file_closed closed (current_file other.files)) made late.fit.stamp
+    (subst (λ stamp. current.created ≢ stamp) (sym late.stamp) (unlike-stamp low late.number current.created is.made late.later)))
+
+abbrev pub end_calls : List StreamEvent → List DeviceCall
+end_calls events = calls_of_all (deeds_of_all events)
+
+-- a name of a current file that is gone does not come back
+pub stays-gone : (low : ℕ) (one : StreamState) (first : ℤ) → IsLateEnd low one first → (events : List StreamEvent) → AllByRecursion (IsLateEvent low) events → (old new : Files) → get old (from_name one) ≡ None → Attempt service_disk (end_calls events) old new → get new (from_name one) ≡ None
+unfolding deeds_of
+stays-gone low one first is [] late old new gone same = ap (λ files. get files (from_name one)) same ∙ gone
+stays-gone low one first is (Made state ∷ events) late old new gone attempt = elim late.0 [ ]
+stays-gone low one first is (Stored before bytes stamps ∷ events) late old new gone attempt = elim late.0 [ ]
+stays-gone low one first is (Ended before closed ∷ events) late old new gone (inl same) =
+    ap (λ files. get files (from_name one)) same ∙ gone
+stays-gone low one first is (Ended before closed ∷ events) late old new gone (inr (inl (inl same))) =
+    ap (λ files. get files (from_name one)) same ∙ gone
+stays-gone low one first is (Ended before closed ∷ events) late old new gone (inr (inl (inr done))) =
+    ap (λ files. get files (from_name one)) done
+    ∙ renamed-stays old (from_name before) (to_name before closed) (from_name one) (apart-names low one before first closed is late.0) gone
+stays-gone low one first is (Ended before closed ∷ events) late old new gone (inr (inr rest)) =
+    stays-gone low one first is events late.1 (renamed old (from_name before) (to_name before closed)) new
+    (renamed-stays old (from_name before) (to_name before closed) (from_name one) (apart-names low one before first closed is late.0) gone) rest
+
+-- after one attempt
+ends-after : (low : ℕ) (events : List StreamEvent) → AllByRecursion (IsLateEvent low) events → (old new : Files) → Attempt service_disk (end_calls events) old new → all_applied (end_calls events) new ≡ all_applied (end_calls events) old
+unfolding deeds_of
+ends-after low [] late old new same = same
+ends-after low (Made state ∷ events) late old new attempt = elim late.0 [ ]
+ends-after low (Stored before bytes stamps ∷ events) late old new attempt = elim late.0 [ ]
+ends-after low (Ended before closed ∷ events) late old new (inl same) =
+    ap (all_applied (end_calls (Ended before closed ∷ events))) same
+ends-after low (Ended before closed ∷ events) late old new (inr (inl (inl same))) =
+    ap (all_applied (end_calls (Ended before closed ∷ events))) same
+ends-after low (Ended before closed ∷ events) late old new (inr (inl (inr done))) =
+    let from = from_name before in
+    let to = to_name before closed in
+    let gone = renamed-gone old from to (apart-names low before before closed closed late.0 late.0) in
+    ap (λ files. all_applied (end_calls events) (renamed files from to)) done
+    ∙ ap (all_applied (end_calls events)) (renamed_absent (renamed old from to) from to gone)
+ends-after low (Ended before closed ∷ events) late old new (inr (inr rest)) =
+    let from = from_name before in
+    let to = to_name before closed in
+    let gone = renamed-gone old from to (apart-names low before before closed closed late.0 late.0) in
+    ap (all_applied (end_calls events)) (renamed_absent new from to (stays-gone low before closed late.0 events late.1 (renamed old from to) new gone rest))
+    ∙ ends-after low events late.1 (renamed old from to) new rest
+
+pub ends-again : (low : ℕ) (events : List StreamEvent) → AllByRecursion (IsLateEvent low) events → (old : Files) → IsRepeatable (calls_of_all (deeds_of_all events)) old
+ends-again low events late old left Attempts.none = refl
+ends-again low events late old left (Attempts.more {mid = mid} before last) =
+    ends-after low events late mid left last ∙ ends-again low events late old mid before
+
+-- the streams that end
+
+up-to-current : (last : ℤ) (files : List LogFile) → is_last_open files ≡ true → AllByRecursion (IsStampUpTo last) (stamps_of files) → IsStampUpTo last (current_file files).created
+up-to-current last [] is each = cc
+up-to-current last (file ∷ []) is each = each.0
+up-to-current last (file ∷ next ∷ files) is each =
+    up-to-current last (next ∷ files) (and_parts (is_some file.closed) (is_last_open (next ∷ files)) is).1 (behind (option_to_list file.closed) each.1) where
+      behind : (front : List ℤ) → AllByRecursion (IsStampUpTo last) (front ++ stamps_of (next ∷ files)) → AllByRecursion (IsStampUpTo last) (stamps_of (next ∷ files))
+      behind [] all = all
+      behind (stamp ∷ front) all = behind front all.1
+
+pub late-ends : (low last second : ℕ) → low ≤ last → (streams : List OpenStream) → AllByRecursion (λ (stream : OpenStream). AllByRecursion (IsStampUpTo (pos low)) (stamps_of stream.state.files)) streams → AllByRecursion IsFitEvent (ends_in last second streams) → AllByRecursion (IsLateEvent low) (ends_in last second streams)
+late-ends low last second le [] made fit = tt
+late-ends low last second le (stream ∷ streams) made fit =
+    by_case (has_nobody stream) fit (λ rest. late-ends low (stamp_after last second) second (omega (arith, le)) streams made.1 rest) (λ rest. late-ends low last second le streams made.1 rest) where
+      by_case : (b : Bool) → AllByRecursion IsFitEvent (cond b (Ended stream.state (pos (stamp_after last second)) ∷ ends_in (stamp_after last second) second streams) (ends_in last second streams)) → (AllByRecursion IsFitEvent (ends_in (stamp_after last second) second streams) → AllByRecursion (IsLateEvent low) (ends_in (stamp_after last second) second streams)) → (AllByRecursion IsFitEvent (ends_in last second streams) → AllByRecursion (IsLateEvent low) (ends_in last second streams)) → AllByRecursion (IsLateEvent low) (cond b (Ended stream.state (pos (stamp_after last second)) ∷ ends_in (stamp_after last second) second streams) (ends_in last second streams))
+      by_case true all later same = (
+        record {
+          fit = all.0;
+          made = up-to-current (pos low) stream.state.files all.0.stream.standing.last_open made.0;
+          number = stamp_after last second;
+          stamp = refl;
+          later = omega (arith, le);
+        },
+        later all.1,
+      )
+      by_case false all later same = same all

@@ -1,0 +1,16 @@
+pub mod ServiceLaws
+pub mod LastingLaws
+pub mod HistoryLaws
+pub mod Attempting
+pub mod DoneAgain
+pub mod EventsAgain
+pub mod EndsAgain
+pub mod ChangesAgain
+pub mod Untouched
+pub mod BytesKept
+pub mod PlacesMoved
+pub mod ChangesKept
+pub mod EndsKept
+pub mod LogKept
+pub mod EntriesKept
+pub mod StorageLaws

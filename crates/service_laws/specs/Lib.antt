@@ -1,0 +1,3 @@
+pub mod PlainOf
+pub mod Disks
+pub mod StorageOf

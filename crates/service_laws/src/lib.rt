@@ -1,0 +1,9 @@
+//! The plain service as the cluster sees it, and that it keeps what the cluster asks of a service and of its files:
+//! definitions and laws alone.
+#![tactic(auto)]
+
+mod law;
+#[cfg(test)]
+mod tests;
+
+pub use law::{law_of_service, law_of_storage};
