@@ -206,6 +206,5 @@ fn a_saved_value_is_copied(rt: HostRuntime) -> Result<(), Fail> {
             readers,
         },
     )?;
-    law_of_equality();
     Ok(())
 }
