@@ -49,7 +49,8 @@ pub fn code_of<S: AsStr, const N: usize>(table: &[CodeRow<S>; N], name: &str) ->
 /// The name of the row with this code. It is the inverse of [`code_of`]: both speak of the same rows.
 pub fn name_of<S: AsStr + Copy, const N: usize>(table: &[CodeRow<S>; N], code: u32) -> Option<S>
     requires { IsTrue (are_apart S.text table.now) }
-    ensures found { (name : List ℕ) → IsSomeAnd result (λ text. S.text text ≡ name) ↔ HasRow S.text table.now name code }
+    ensures found { (name : List ℕ) → IsSomeAnd result (λ text. S.text text ≡ name)
+        ↔ HasRow S.text table.now name code }
     ensures absent { IsNone result ↔ ((name : List ℕ) → ¬ HasRow S.text table.now name code) }
 {
     match first_coded(table.as_slice(), code) {

@@ -13,12 +13,15 @@ use crate::tables::*;
 /// codes. The table of statuses pairs the number and the word of each.
 pub fn law_of_tables()
     ensures statuses { IsTable (λ name. name.now) STATUSES status_rows }
-    ensures status { (status : Status) → HasRow (λ name. name.now) STATUSES (status_word status) (status_code status) }
+    ensures status { (status : Status) → HasRow (λ name. name.now) STATUSES (status_word status)
+        (status_code status) }
     ensures log_severities { IsTable (λ name. name.now) LOG_SEVERITIES log_severity_rows }
     ensures full_actions { IsTable (λ name. name.now) FULL_ACTIONS full_action_rows }
-    ensures notification_types { IsTable (λ name. name.now) NOTIFICATION_TYPES notification_type_rows }
+    ensures notification_types { IsTable (λ name. name.now) NOTIFICATION_TYPES
+        notification_type_rows }
     ensures event_types { IsTable (λ name. name.now) EVENT_TYPES event_type_rows }
-    ensures perceived_severities { IsTable (λ name. name.now) PERCEIVED_SEVERITIES perceived_severity_rows }
+    ensures perceived_severities { IsTable (λ name. name.now) PERCEIVED_SEVERITIES
+        perceived_severity_rows }
     ensures source_indicators { IsTable (λ name. name.now) SOURCE_INDICATORS source_indicator_rows }
     ensures search_modes { IsTable (λ name. name.now) SEARCH_MODES search_mode_rows }
     ensures months { IsTable (λ name. name.now) MONTHS month_rows }

@@ -1,17 +1,14 @@
 -- The tests of a search tell what is asked.
-use Rattle.std.proofs.Common.{◌≡◌, ℕ, Bool, true, false, not, ◌&&◌, cond, ℤ, pos, negsuc, int_lt, List, refl, ap, sym, subst, ◌∙◌, arith}
+use Rattle.std.proofs.Common.{◌≡◌, Bool, true, false, not, ◌&&◌, cond, ℤ, pos, List, refl, ap, subst, arith}
 use Rattle.std.specs.Prelude.{Option, Some, None, MatchOption, Decides, reverse}
 use Rattle.std.specs.Ordering.{int_eq}
 use Rattle.std.specs.Bool.{MatchBool}
 use Rattle.std.specs.Cmp.Derive.{both_true}
 use Rattle.std.proofs.lemmas.Int.{ints}
-use Rattle.std.proofs.lemmas.Bool.Decides.{nat_tests}
 use Rattle.ntf_types.specs.declared.notification.Notification.{Notification}
 use Rattle.ntf_filters.specs.declared.filter.FilterSet.{FilterSet}
 use Rattle.ntf_filters.specs.Matching.{matches}
-use Rattle.ntf_filters.specs.Meaning.{IsMatch}
 use Rattle.ntf_filters.proofs.Meaning.{matches-decides}
-use Rattle.client_set.specs.Members.{Stands}
 use Rattle.client_set.proofs.MemberLaws.{Stands-reverse, Stands-reversed}
 use Rattle.alarm_view.specs.declared.mode.SearchMode.{SearchMode}
 use Rattle.alarm_view.specs.declared.mode.SearchMode.TheVariants.{BeforeOrAtTime, AtTime, AtOrAfterTime, BeforeTime, AfterTime, NotificationId, OnlyFilter}

@@ -1,5 +1,5 @@
 -- The alarms stay in order when one is added and when those of early records are dropped.
-use Rattle.std.proofs.Common.{◌≡◌, ℕ, ◌+◌, ◌<◌, ◌≤◌, nat_le, Bool, true, false, cond, List, [], ◌∷◌, ◌++◌, length, arith}
+use Rattle.std.proofs.Common.{ℕ, ◌+◌, ◌<◌, ◌≤◌, nat_le, Bool, true, false, cond, List, [], ◌∷◌, ◌++◌, length, arith}
 use Rattle.std.specs.List.{filter}
 use Rattle.ntf_types.specs.declared.notification.Notification.{Notification}
 use Rattle.alarm_view.specs.declared.alarm.KeptAlarm.{KeptAlarm}

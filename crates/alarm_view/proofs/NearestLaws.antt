@@ -1,12 +1,11 @@
 -- The search that computes finds the nearest alarm, and there is one nearest at most.
-use Rattle.std.proofs.Common.{◌≡◌, ℕ, ◌+◌, ◌<◌, ◌≤◌, Bool, true, false, not, cond, ℤ, pos, int_lt, ◌⊎◌, inl, inr, List, [], ◌∷◌, ◌++◌, refl, ap, sym, subst, ◌∙◌, arith}
-use Rattle.std.specs.Prelude.{Option, Some, None, MatchOption, Decides, reverse}
+use Rattle.std.proofs.Common.{◌≡◌, ℕ, ◌+◌, ◌≤◌, Bool, true, false, cond, inl, inr, List, [], ◌∷◌, refl, ap, sym, ◌∙◌, arith}
+use Rattle.std.specs.Prelude.{Option, Some, None, MatchOption, Decides}
 use Rattle.ntf_types.specs.declared.notification.Notification.{Notification}
 use Rattle.client_set.specs.Members.{Stands}
 use Rattle.alarm_view.specs.declared.mode.Direction.{Direction}
-use Rattle.alarm_view.specs.declared.mode.Direction.TheVariants.{Older, Younger}
 use Rattle.alarm_view.specs.declared.alarm.KeptAlarm.{KeptAlarm}
-use Rattle.alarm_view.specs.Order.{Point, point_of, is_older, comes_before}
+use Rattle.alarm_view.specs.Order.{point_of, comes_before}
 use Rattle.alarm_view.specs.Alarms.{notifications, RiseFrom, AreInOrder}
 use Rattle.alarm_view.specs.Nearest.{IsNearest, IsNone}
 use Rattle.alarm_view.specs.Search.{nearer_of, first_with, first_in}

@@ -1,5 +1,5 @@
 -- Words of public clauses: the codes of search modes and directions.
-use Rattle.std.specs.Prelude.{ℕ, ◌==◌, Option, Some, None, List, [], ◌∷◌}
+use Rattle.std.specs.Prelude.{ℕ, ◌==◌, Option, [], ◌∷◌}
 use Rattle.ais_values.specs.FirstRow.{first_row}
 use Rattle.alarm_view.specs.declared.mode.SearchMode.{SearchMode}
 use Rattle.alarm_view.specs.declared.mode.SearchMode.TheVariants.{BeforeOrAtTime, AtTime, AtOrAfterTime, BeforeTime, AfterTime, NotificationId, OnlyFilter}

@@ -1,5 +1,5 @@
 -- Words of public clauses: which alarm a search starts at, and which one is read next: the first on the way of those that are asked for.
-use Rattle.std.specs.Prelude.{◌≡◌, ℤ, pos, ◌≤ℤ◌, ◌<ℤ◌, ⊤, true, false, List, Option, MatchOption}
+use Rattle.std.specs.Prelude.{◌≡◌, ℤ, pos, ◌≤ℤ◌, ◌<ℤ◌, ⊤, true, false, List}
 use Rattle.std.specs.Bool.{MatchBool}
 use Rattle.ntf_types.specs.declared.notification.Notification.{Notification}
 use Rattle.ntf_filters.specs.declared.filter.FilterSet.{FilterSet}

@@ -1,5 +1,5 @@
 -- Words of public clauses: the order of alarms: by event time, and at one time by id. No other file says which of two comes first.
-use Rattle.std.specs.Prelude.{◌≡◌, ℕ, ℤ, Bool, not, ◌&&◌, ◌||◌, int_lt, nat_lt}
+use Rattle.std.specs.Prelude.{ℕ, ℤ, Bool, not, ◌&&◌, ◌||◌, int_lt, nat_lt}
 use Rattle.ntf_types.specs.declared.notification.Notification.{Notification}
 use Rattle.alarm_view.specs.declared.mode.Direction.{Direction}
 use Rattle.alarm_view.specs.declared.mode.Direction.TheVariants.{Older, Younger}

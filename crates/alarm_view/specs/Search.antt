@@ -9,7 +9,7 @@ use Rattle.alarm_view.specs.declared.mode.SearchMode.TheVariants.{BeforeOrAtTime
 use Rattle.alarm_view.specs.declared.mode.Direction.{Direction}
 use Rattle.alarm_view.specs.declared.cursor.Cursor.{Cursor}
 use Rattle.alarm_view.specs.Modes.{way_of}
-use Rattle.alarm_view.specs.Order.{Point, point_of, comes_before}
+use Rattle.alarm_view.specs.Order.{point_of, comes_before}
 use Rattle.alarm_view.specs.Nearest.{point_at}
 
 -- the alarm, unless the other is met before it

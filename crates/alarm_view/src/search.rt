@@ -23,7 +23,11 @@ fn is_older(time: i64, id: u64, other_time: i64, other_id: u64) -> bool
 impl Cursor {
     /// The place of an alarm.
     pub(crate) fn at(alarm: &Notification, fresh: bool) -> Cursor
-        ensures { result ≡ record { time = alarm.now.event_time; id = alarm.now.id; fresh = fresh } }
+        ensures { result ≡ record {
+          time = alarm.now.event_time;
+          id = alarm.now.id;
+          fresh = fresh;
+        } }
     {
         Cursor {
             time: alarm.event_time,

@@ -71,7 +71,8 @@ impl AlarmView {
     pub fn start(&self, mode: SearchMode, value: i64, filters: &FilterSet) -> Option<Cursor>
         ensures found { IfSome result
             (λ cursor. IsStartAt mode value filters.now (notifications self.now) cursor) }
-        ensures none { IfNone result (IsNone (CanStart mode value filters.now) (notifications self.now)) }
+        ensures none { IfNone result (IsNone (CanStart mode value filters.now)
+            (notifications self.now)) }
         ensures order { AreInOrder self.now }
     {
         let test = Start {
@@ -97,7 +98,8 @@ impl AlarmView {
         ensures found { IfSome result
             (λ found. IsNext cursor way filters.now (notifications self.now) found.1.now) }
         ensures after { IfSome result (λ found. found.0 ≡ cursor_after found.1.now) }
-        ensures none { IfNone result (IsNone (CanFollow way cursor filters.now) (notifications self.now)) }
+        ensures none { IfNone result (IsNone (CanFollow way cursor filters.now)
+            (notifications self.now)) }
         ensures order { AreInOrder self.now }
     {
         let test = Next {

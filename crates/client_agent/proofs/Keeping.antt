@@ -1,5 +1,5 @@
 -- The calls that are kept, as the list of them with the newest first.
-use Rattle.std.proofs.Common.{◌≡◌, ℕ, ◌+◌, ◌<◌, ◌==◌, Bool, true, false, not, ◌||◌, cond, if◌then◌else◌, Option, Some, None, List, [], ◌∷◌, ◌++◌, length, map, take, filter, get_or, option_map, refl, ap, sym, ◌∙◌, append_assoc}
+use Rattle.std.proofs.Common.{◌≡◌, ℕ, ◌+◌, ◌<◌, ◌==◌, Bool, true, false, not, ◌||◌, cond, if◌then◌else◌, Some, List, [], ◌∷◌, ◌++◌, length, map, take, filter, get_or, option_map, refl, ap, sym, ◌∙◌, append_assoc}
 use Rattle.std.specs.Prelude.{nat_le}
 use Rattle.std.specs.List.{find, list_any}
 use Rattle.std.proofs.lemmas.List.{take_more}
@@ -7,7 +7,7 @@ use Rattle.cluster_facts.specs.Types.{Call, Message, Request}
 use Rattle.cluster_facts.specs.Agents.{is_shut, kept_call, requests_of}
 use Rattle.client_set.specs.Rising.{without}
 use Rattle.client_agent.specs.declared.kept.Kept.{Kept}
-use Rattle.client_agent.specs.Inside.{call_kept, calls_kept}
+use Rattle.client_agent.specs.Inside.{calls_kept}
 
 -- a list without the elements of a test is the filtered list, seen by another type
 pub without-filter : {X Y : Type 0} (f : X → Y) (test : Y → Bool) (xs : List X) → without test (map f xs) ≡ map f (filter (λ x. not (test (f x))) xs)

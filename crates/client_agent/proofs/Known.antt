@@ -1,7 +1,7 @@
 -- What is seen of an agent tells all of it but the callbacks that were handed out; and what an agent refuses does not rest on these.
-use Rattle.std.proofs.Common.{◌≡◌, ℕ, Bool, true, false, not, cond, if◌then◌else◌, Option, Some, None, List, [], ◌∷◌, length, refl, ap, subst, sym, ◌∙◌}
-use Rattle.cluster_facts.specs.Types.{Which, Log, Ntf, Status, VersionRefused, TryAgain, BadHandle, Ask, Start, Other, Callback}
-use Rattle.cluster_facts.specs.Agents.{Agent, can_serve, service_of, has_handle, is_shut, refusal, refusal_rows}
+use Rattle.std.proofs.Common.{◌≡◌, ℕ, Bool, true, false, not, cond, if◌then◌else◌, Option, Some, None, List, length, refl, ap, subst}
+use Rattle.cluster_facts.specs.Types.{Status, VersionRefused, TryAgain, BadHandle, Ask, Start, Other, Callback}
+use Rattle.cluster_facts.specs.Agents.{Agent, can_serve, service_of, has_handle, is_shut, refusal}
 use Rattle.client_agent.specs.Seen.{Seen, seen_of}
 use Rattle.client_agent.specs.Inside.{agent_of, lack}
 
@@ -35,13 +35,3 @@ refusal-parts (Start service version) agent =
     elim (can_serve service version) as (λ b. refuse (if b then None else Some VersionRefused) (is_shut agent.next agent.kept) ≡ cond (not b) (Some VersionRefused) (cond (is_shut agent.next agent.kept) (Some TryAgain) None)) [ true ↦ refl | false ↦ refl ]
 refusal-parts (Other call) agent =
     elim (has_handle (service_of call) agent) as (λ b. refuse (if b then None else Some BadHandle) (is_shut agent.next agent.kept) ≡ cond (not b) (Some BadHandle) (cond (is_shut agent.next agent.kept) (Some TryAgain) None)) [ true ↦ refl | false ↦ refl ]
-
-has_handle-handed : (service : Which) (seen : Seen) (one other : List Callback) → has_handle service (agent_of seen one) ≡ has_handle service (agent_of seen other)
-has_handle-handed Log seen one other = refl
-has_handle-handed Ntf seen one other = refl
-
--- what was handed out does not bear on a refusal
-pub refusal-handed : (ask : Ask) (seen : Seen) (one other : List Callback) → refusal ask (agent_of seen one) ≡ refusal ask (agent_of seen other)
-refusal-handed (Start service version) seen one other = refl
-refusal-handed (Other call) seen one other =
-    ap (λ (b : Bool). cond (not b) (Some BadHandle) (cond (is_shut seen.next seen.kept) (Some TryAgain) None)) (has_handle-handed (service_of call) seen one other)

@@ -1,19 +1,19 @@
 -- What becomes of a reply and of an item, by what is seen of the agent before and after.
-use Rattle.std.proofs.Common.{◌≡◌, ℕ, suc, ◌<◌, ◌≤◌, ◌+◌, Bool, true, false, ◌||◌, nat_lt, if◌then◌else◌, Option, Some, None, List, [], ◌∷◌, ◌++◌, length, reverse, option_map, refl, ap, sym, subst, ◌∙◌, arith, length-append}
+use Rattle.std.proofs.Common.{◌≡◌, ℕ, ◌<◌, ◌≤◌, ◌+◌, Bool, true, false, ◌||◌, nat_lt, if◌then◌else◌, Option, Some, None, List, [], ◌∷◌, ◌++◌, length, reverse, option_map, refl, ap, sym, subst, ◌∙◌, arith, length-append}
 use Rattle.std.proofs.lemmas.List.{length-reverse}
 use Rattle.std.specs.Prelude.{nat_le}
 use Rattle.std.proofs.lemmas.Bool.Decides.{nat_tests}
 use Rattle.cluster_facts.specs.Types.{Call, Reply, Item, Callback, Receipt, BadHandle}
-use Rattle.cluster_facts.specs.Agents.{Living, Agent, kept_call, callbacks_of, lacks_place, find_living, after_reply, after_item, oldest}
-use Rattle.client_agent.specs.declared.answers.MissedWhy.TheVariants.{Answered as AnsweredBefore, Left, Taken as TakenBefore, Ahead, Gone}
+use Rattle.cluster_facts.specs.Agents.{Living, Agent, callbacks_of, find_living, after_item, oldest}
+use Rattle.client_agent.specs.declared.answers.MissedWhy.TheVariants.{Left, Taken as TakenBefore, Ahead, Gone}
 use Rattle.client_agent.specs.declared.answers.Taken.{Taken}
-use Rattle.client_agent.specs.declared.answers.Taken.TheVariants.{Answered, Item as TakenItem, Missed}
+use Rattle.client_agent.specs.declared.answers.Taken.TheVariants.{Item as TakenItem, Missed}
 use Rattle.client_agent.specs.declared.answers.How.{How}
 use Rattle.client_agent.specs.declared.answers.How.TheVariants.{One, All}
 use Rattle.client_agent.specs.declared.answers.Numbered.{Numbered}
 use Rattle.client_agent.specs.declared.answers.Dispatched.TheVariants.{Given}
 use Rattle.client_agent.specs.Seen.{Seen, seen_of}
-use Rattle.client_agent.specs.Steps.{IsReply, IsReplyTo, IsItem, IsItemBy, IsDispatched, numbered, handed_out}
+use Rattle.client_agent.specs.Steps.{IsItem, IsItemBy, IsDispatched, numbered, handed_out}
 use Rattle.client_agent.specs.Inside.{agent_of, left_over}
 use Rattle.client_agent.proofs.Known.{known, same_seen}
 use Rattle.client_agent.proofs.Handing.{length-numbered}
@@ -24,27 +24,6 @@ use Rattle.client_agent.proofs.Handing.{length-numbered}
 pub called : (reply : Reply) (callbacks : List Callback) (found : Option Call) → Some callbacks ≡ option_map (λ call. callbacks_of call reply) found → (call : Call) × (found ≡ Some call) × (callbacks ≡ callbacks_of call reply)
 called reply callbacks None is = absurd (let e : Some callbacks ≡ None = is in cc)
 called reply callbacks (Some call) is = (call, refl, (let e : Some callbacks ≡ Some (callbacks_of call reply) = is in cc))
-
-pub not_called : (reply : Reply) (found : Option Call) → None ≡ option_map (λ call. callbacks_of call reply) found → found ≡ None
-not_called reply None is = refl
-not_called reply (Some call) is = absurd (let e : None ≡ Some (callbacks_of call reply) = is in cc)
-
-pub reply_missed : (seen : Seen) (number : ℕ) (reply : Reply) → kept_call number seen.kept ≡ None → (handed : List Callback) → seen.given ≡ length handed → IsReply seen.client seen.places number reply (agent_of seen handed) (kept_call number seen.kept) (Missed AnsweredBefore) seen
-reply_missed seen number reply none handed given =
-    let P : Option Call → Type 0 = λ found. IsReply seen.client seen.places number reply (agent_of seen handed) found (Missed AnsweredBefore) seen in
-    subst P (sym none) (refl, same_seen seen handed given)
-
-pub reply_left : (seen : Seen) (number : ℕ) (reply : Reply) (call : Call) → kept_call number seen.kept ≡ Some call → lacks_place seen.places seen.queue (callbacks_of call reply) ≡ true → (handed : List Callback) → seen.given ≡ length handed → IsReply seen.client seen.places number reply (agent_of seen handed) (kept_call number seen.kept) (Missed Left) seen
-reply_left seen number reply call is full handed given =
-    let P : Option Call → Type 0 = λ found. IsReply seen.client seen.places number reply (agent_of seen handed) found (Missed Left) seen in
-    let Q : Bool → Type 0 = λ b. IsReplyTo seen.client seen.places number reply (agent_of seen handed) call b (Missed Left) seen in
-    subst P (sym is) (subst Q (sym full) (refl, same_seen seen handed given))
-
-pub reply_taken : (seen : Seen) (number : ℕ) (reply copy : Reply) (call : Call) (new : Seen) → kept_call number seen.kept ≡ Some call → lacks_place seen.places seen.queue (callbacks_of call reply) ≡ false → copy ≡ reply → ((handed : List Callback) → seen.given ≡ length handed → new ≡ seen_of seen.client seen.places (after_reply number call reply (agent_of seen handed))) → (handed : List Callback) → seen.given ≡ length handed → IsReply seen.client seen.places number reply (agent_of seen handed) (kept_call number seen.kept) (Answered number copy) new
-reply_taken seen number reply copy call new is free copied after handed given =
-    let P : Option Call → Type 0 = λ found. IsReply seen.client seen.places number reply (agent_of seen handed) found (Answered number copy) new in
-    let Q : Bool → Type 0 = λ b. IsReplyTo seen.client seen.places number reply (agent_of seen handed) call b (Answered number copy) new in
-    subst P (sym is) (subst Q (sym free) (ap (λ (r : Reply). Answered number r) copied, after handed given))
 
 -- Items.
 

@@ -1,6 +1,6 @@
 -- Words of public clauses: what each call of an agent answers, and what is seen of the agent after it.
 use Rattle.std.specs.Prelude.{◌≡◌, ℕ, suc, ◌+◌, Bool, true, false, nat_lt, nat_le, Option, Some, None, List, [], ◌∷◌, length, reverse}
-use Rattle.cluster_facts.specs.Types.{Status, Ask, Call, Reply, Item, Callback, Message, Request, Answer, Delivery, Receipt}
+use Rattle.cluster_facts.specs.Types.{Ask, Call, Reply, Item, Callback, Message, Request, Answer, Delivery, Receipt}
 use Rattle.cluster_facts.specs.Agents.{Living, Agent, call_of, refusal, dispatch_refusal, after_call, kept_call, callbacks_of, lacks_place, after_reply, find_living, after_item, oldest, after_dispatch_all, after_dispatch_one}
 use Rattle.client_agent.specs.declared.answers.Sent.{Sent}
 use Rattle.client_agent.specs.declared.answers.Sent.TheVariants.{Posted, Refused}

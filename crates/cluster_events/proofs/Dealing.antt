@@ -1,5 +1,5 @@
 -- Replies with their calls: what is kept by an agent is what the history has.
-use Rattle.std.proofs.Common.{◌≡◌, ℕ, ℤ, inl, inr, Bool, true, false, ◌==◌, if◌then◌else◌, Some, List, [], ◌∷◌, ◌++◌, refl, ap, sym, subst}
+use Rattle.std.proofs.Common.{◌≡◌, ℕ, ℤ, inl, inr, Bool, true, false, ◌==◌, if◌then◌else◌, Some, List, [], ◌∷◌, refl, ap, sym, subst}
 use Rattle.std.specs.List.{AllByRecursion}
 use Rattle.cluster_facts.specs.Types.{Call, Reply, Entry, Called, Receipted, Answer}
 use Rattle.cluster_facts.specs.Lists.{Stands}

@@ -1,9 +1,8 @@
 -- What the files promise, wherever the world is sound.
-use Rattle.std.proofs.Common.{ℕ, ℤ, Bool, true, false, inl, inr, ◌==◌, if◌then◌else◌, List, [], ◌∷◌, refl, ap, sym, subst}
-use Rattle.cluster_facts.specs.Types.{Call, Reply, Entry, Called, Receipted, Answer}
-use Rattle.cluster_facts.specs.Lists.{Stands}
-use Rattle.cluster_facts.specs.Service.{Plain, answers_in}
-use Rattle.cluster_facts.specs.Storage.{Disk, Storage, all_applied, Attempt, Attempts, Between, dealt_in}
+use Rattle.std.proofs.Common.{ℤ, inr, List, [], ◌∷◌, refl, sym, subst}
+use Rattle.cluster_facts.specs.Types.{Entry, Answer}
+use Rattle.cluster_facts.specs.Service.{Plain}
+use Rattle.cluster_facts.specs.Storage.{Disk, Storage, all_applied, Attempt, Attempts, Between}
 use Rattle.cluster_facts.specs.Storage.Attempts.{none as no_attempt, more as one_more}
 use Rattle.cluster_facts.specs.History.{Hand, Empty, Waiting, Applied, Ready, IsLegal, accepted, accepted_by, committed_by}
 use Rattle.cluster_facts.specs.Ranges.{AreInRange}

@@ -1,5 +1,5 @@
 -- Of each subscription a client got its first items: from the facts, by which each callback is that of its receipt's item.
-use Rattle.std.proofs.Common.{◌≡◌, ℕ, zero, suc, ◌+◌, ◌≤◌, inl, inr, Bool, true, false, ◌==◌, if◌then◌else◌, Some, None, List, [], ◌∷◌, ◌++◌, length, slice_get, map, refl, ap, sym, ◌∙◌, subst, arith, length-append, append_assoc}
+use Rattle.std.proofs.Common.{◌≡◌, ℕ, zero, suc, inl, inr, Bool, if◌then◌else◌, Some, List, [], ◌∷◌, ◌++◌, length, slice_get, map, refl, ap, sym, ◌∙◌, subst, arith, length-append, append_assoc}
 use Rattle.cluster_facts.specs.Types.{Call, NtfSubscribe, Content, Single, Losses, Entry, Callback}
 use Rattle.cluster_facts.specs.Lists.{Stands, IsNumbered, IsCounted, count_of}
 use Rattle.cluster_facts.specs.Service.{Plain, subscribes, asked_for}

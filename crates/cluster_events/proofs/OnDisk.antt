@@ -1,5 +1,5 @@
 -- At the end of each line of a run the files are those of the history, and records stay.
-use Rattle.std.proofs.Common.{◌≡◌, ℕ, ℤ, List, [], ◌∷◌, ◌++◌, refl, ap, sym, ◌∙◌, subst}
+use Rattle.std.proofs.Common.{◌≡◌, ℤ, List, [], ◌∷◌, ◌++◌, refl, ap, sym, ◌∙◌, subst}
 use Rattle.script_lines.specs.declared.line.Line.{Line}
 use Rattle.cluster_facts.specs.Types.{Entry}
 use Rattle.cluster_facts.specs.Service.{Plain, IsPlain}

@@ -16,7 +16,7 @@ use Rattle.cluster_facts.specs.Facts.Fits.{empty, of_item, of_write}
 use Rattle.cluster_facts.proofs.Words.{by_test, Stands-left, Stands-right, All-at, All-map, All-of, All-append, IsNumbered-bound, IsNumbered-at, IsCounted-bound, slice_get-within}
 use Rattle.cluster_facts.proofs.Clients.{kept_call-stands, find_living-found}
 use Rattle.cluster_facts.proofs.Posting.{true_or_false, answers_to-stands, answers_to-posted, receipts_of-stands, posted-stands}
-use Rattle.cluster_events.specs.Lines.{Told, Posted, Replied, Ignored, Why, is_progress}
+use Rattle.cluster_events.specs.Lines.{Told, Posted, Replied, Ignored, is_progress}
 use Rattle.cluster_events.specs.declared.lines.Why.TheVariants as because
 use Rattle.cluster_events.specs.Outcomes.{Outcome, quietly, telling, and_then, for_each}
 use Rattle.cluster_events.specs.ClientEvents.{post, reply_by, Fate, fate_of, item_as, item_by}

@@ -12,7 +12,6 @@ use Rattle.cluster_facts.specs.Facts.{Facts, IsSound, IsOfRun}
 use Rattle.cluster_facts.proofs.Words.{each_client}
 use Rattle.cluster_facts.proofs.Posting.{answers_to-stands}
 use Rattle.cluster_facts.proofs.Keeping.{Facts-call, call-new, Facts-reply, Facts-item, receipt-new, Facts-post_answer, Facts-post_item, Facts-accept, Facts-dispatch_all, Facts-dispatch_one, Facts-later}
-use Rattle.cluster_events.specs.Lines.{Why}
 use Rattle.cluster_events.specs.declared.lines.Why.TheVariants as because
 use Rattle.cluster_events.specs.ClientEvents.{post, send, ask_by, ask, reply_by, take_reply, Fate, fate_of, item_as, item_by, take_item, dispatch_all_by, dispatch_all, dispatch_one_by, dispatch_one, set_time}
 use Rattle.cluster_events.specs.ClientEvents.Fate.{Takes, Misses}

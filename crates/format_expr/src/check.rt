@@ -109,7 +109,8 @@ fn end(stand: Stand) -> Option<ExprWhy>
 
 /// Reads a text, or its first 1,024 bytes, and answers where the reading stands then.
 fn read_front(kind: StreamKind, text: &[u8]) -> Result<Stand, ExprFault>
-    ensures read { IfOk result (λ stand. run kind Stand.Between (take MAX_EXPR text.now) ≡ Ok stand) }
+    ensures read { IfOk result (λ stand. run kind Stand.Between (take MAX_EXPR text.now)
+        ≡ Ok stand) }
     ensures stopped { IfErr result (λ fault. StopsAt kind text.now fault.place fault.why) }
     ensures early { IfErr result (λ fault. fault.place < MAX_EXPR) }
 {

@@ -109,7 +109,8 @@ fn read_pieces(alloc: Global, text: &[u8]) -> Result<Vec<Piece>, AllocError>
 pub fn parse_expr(alloc: Global, kind: StreamKind, text: &[u8]) -> Result<Expr, ExprAnswer>
     ensures kind { IfOk result (λ expr. expr.kind ≡ kind) }
     ensures pieces { IfOk result (λ expr. ArePiecesOf kind expr.pieces text.now) }
-    ensures only { IfOk result (λ expr. (others : List Piece) → ArePiecesOf kind others text.now → others ≡ expr.pieces) }
+    ensures only { IfOk result (λ expr. (others : List Piece) → ArePiecesOf kind others text.now
+        → others ≡ expr.pieces) }
     ensures bad { (fault : ExprFault) → IsErrOf result (Bad fault) ↔ IsFault kind text.now fault }
 {
     match check_expr(kind, text) {

@@ -18,7 +18,11 @@ impl Model for CallPlan {
 
     ghost Value = { Plan };
 
-    ghost view = { λ plan. record { failing = plan.failing.items; calls = plan.calls; faults = plan.faults } };
+    ghost view = { λ plan. record {
+      failing = plan.failing.items;
+      calls = plan.calls;
+      faults = plan.faults;
+    } };
 }
 
 impl CallPlan {

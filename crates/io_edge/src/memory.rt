@@ -25,7 +25,10 @@ impl Model for MemSource {
 
     ghost Value = { MemInput };
 
-    ghost view = { λ source. record { left = drop source.at source.bytes.items; plan = source.plan } };
+    ghost view = { λ source. record {
+      left = drop source.at source.bytes.items;
+      plan = source.plan;
+    } };
 
     ghost invariant = { λ source. source.at ≤ length source.bytes.items };
 }
@@ -132,12 +135,15 @@ impl Sink for MemSink {
     fn write(&mut self, bytes: &[u8]) -> Result<usize, SinkAnswer>
         ensures bound { WritesAtMost result bytes.now }
         ensures some { IfOk result (λ count. 0 < length bytes.now → 1 ≤ count) }
-        ensures bytes { WriteAppends (Some self.old.written) (Some self.new.written) result bytes.now }
-        ensures cause { HasCauseOf self.old.plan.faults self.new.plan.faults result SinkAnswer.Failed }
+        ensures bytes { WriteAppends (Some self.old.written) (Some self.new.written) result
+            bytes.now }
+        ensures cause { HasCauseOf self.old.plan.faults self.new.plan.faults result
+            SinkAnswer.Failed }
         ensures fails { IsErrOf result SinkAnswer.Failed ↔ FailsNext self.old.plan }
         ensures whole { IfOk result (λ count. count ≡ length bytes.now) }
         ensures called { OnOk result (self.new.plan ≡ after_call self.old.plan) }
-        ensures failed { IsErrOf result SinkAnswer.Failed → self.new.plan ≡ after_fault self.old.plan }
+        ensures failed { IsErrOf result SinkAnswer.Failed
+            → self.new.plan ≡ after_fault self.old.plan }
         ensures memory { IsErrOf result SinkAnswer.Memory → self.new ≡ self.old }
     {
         if self.plan.fails_next() {

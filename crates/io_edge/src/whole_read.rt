@@ -21,7 +21,8 @@ pub fn read_all<S: Source>(
 ) -> Result<Vec<u8>, ReadAnswer>
     requires { limit < usize.MAX }
     ensures bytes { ReadsAll (S.left source.old) (S.left source.new) limit result }
-    ensures cause { HasCauseOf (S.faults source.old) (S.faults source.new) result ReadAnswer.ReadFault }
+    ensures cause { HasCauseOf (S.faults source.old) (S.faults source.new) result
+        ReadAnswer.ReadFault }
 {
     let mut bytes = Vec::new(alloc);
     let mut chunk = [0; CHUNK];

@@ -70,7 +70,8 @@ pub fn law_of_files()
 /// last of its stream. It stands at its place among the files, with its bytes, until its slot is
 /// given away or its file removed, and no other record stands there.
 pub fn law_of_records()
-    ensures stored { (setup : LogSetup) (past : List LogChange) (name : StreamName) (rec : LogRecord)
+    ensures stored { (setup : LogSetup) (past : List LogChange) (name : StreamName)
+        (rec : LogRecord)
         (second : ℕ) (stream : Stream) → living_stream setup past name ≡ Some stream →
         record_in setup (Stored name rec second ∷ past) (stream_number setup past name)
         (length stream.records)

@@ -1,5 +1,5 @@
 -- Streams that end when a client leaves them.
-use Rattle.std.proofs.Common.{◌≡◌, ℕ, ◌+◌, ◌<◌, ◌≤◌, suc, zero, Bool, true, false, not, ◌||◌, cond, List, [], ◌∷◌, ◌++◌, length, get_or, set, take, drop, map, append_assoc, append-nil, w64, subst, refl, ap, sym, ◌∙◌, arith}
+use Rattle.std.proofs.Common.{◌≡◌, ℕ, ◌+◌, ◌<◌, ◌≤◌, suc, Bool, true, false, ◌||◌, cond, List, [], ◌∷◌, ◌++◌, length, get_or, drop, append_assoc, append-nil, w64, subst, refl, ap, sym, ◌∙◌, arith}
 use Rattle.std.proofs.Math.Seq.{drop-cons}
 use Rattle.std.proofs.Math.ListN.{drop_of_length-le}
 use Rattle.std.proofs.Math.Dec.{T}
@@ -9,12 +9,12 @@ use Rattle.stream_config.specs.declared.state.StreamState.{StreamState}
 use Rattle.stream_config.specs.Fit.{changes_file}
 use Rattle.stream_config.specs.Sizes.{records_per_file}
 use Rattle.log_service.proofs.StreamLemmas.{pos-unsigned_abs}
-use Rattle.std.specs.Prelude.{Option, Some, None, ℤ, pos, negsuc, ◌≤ℤ◌, unsigned_abs}
-use Rattle.std.specs.List.{find, list_any, remove}
+use Rattle.std.specs.Prelude.{ℤ, pos, negsuc, ◌≤ℤ◌, unsigned_abs}
+use Rattle.std.specs.List.{list_any}
 use Rattle.stream_config.specs.declared.event.StreamEvent.{StreamEvent}
 use Rattle.stream_config.specs.declared.event.StreamEvent.TheVariants.{Ended}
 use Rattle.stream_config.specs.Stamps.{stamp_after}
-use Rattle.log_history.specs.Table.{OpenStream, has_nobody, without_opener, last_after_due, last_after_ends, ends_in, left_streams, kept_streams}
+use Rattle.log_history.specs.Table.{OpenStream, has_nobody, without_opener, last_after_due, last_after_ends, ends_in, left_streams}
 use Rattle.log_service.specs.Moments.{IsTimeOfCall, IsMoment, second_of}
 use Rattle.log_service.specs.Changing.{last_of_end, end_of, last_of_endings, endings_of}
 
@@ -44,9 +44,6 @@ endings-more last now client stream streams =
       | true ↦ refl
       | false ↦ refl
     ]
-
-pub last-more : (last now : ℤ) (client : ℕ) (stream : OpenStream) (streams : List OpenStream) → last_of_endings last now client (stream ∷ streams) ≡ last_of_endings (pos (last_of_end last now client stream)) now client streams
-last-more last now client stream streams = refl
 
 -- the stamps and the ends when a client has left so many of the streams
 pub record AreEndings (last now : ℤ) (client : ℕ) (streams : List OpenStream) (left : ℕ) (stamped : ℤ) (events : List StreamEvent) : Type 0 where

@@ -1,7 +1,6 @@
 -- The well-known streams and at most 64 of applications are few.
-use Rattle.std.proofs.Common.{◌≡◌, ℕ, ◌+◌, ◌≤◌, suc, Bool, true, false, cond, List, [], ◌∷◌, length, take, drop, map, refl, ap, sym, ◌∙◌, subst, arith}
+use Rattle.std.proofs.Common.{◌≡◌, ℕ, ◌≤◌, suc, true, cond, List, [], ◌∷◌, length, take, drop, map, refl, ap, sym, ◌∙◌, subst, arith}
 use Rattle.std.specs.List.{AllByRecursion}
-use Rattle.stream_config.specs.declared.attrs.StreamName.{StreamName}
 use Rattle.stream_config.specs.declared.attrs.StreamName.TheVariants as name
 use Rattle.log_history.specs.Names.{is_application}
 use Rattle.log_history.specs.Table.{OpenStream}

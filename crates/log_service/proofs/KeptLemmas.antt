@@ -1,18 +1,16 @@
 -- The state stays as it is kept.
-use Rattle.std.proofs.Common.{◌≡◌, ℕ, ◌+◌, ◌≤◌, ◌<◌, suc, zero, Bool, true, false, not, ◌&&◌, ◌||◌, cond, List, [], ◌∷◌, ◌++◌, length, map, filter, w64, refl, ap, sym, ◌∙◌, subst, arith, add-zero, zero-add}
+use Rattle.std.proofs.Common.{◌≡◌, ℕ, ◌+◌, ◌≤◌, ◌<◌, suc, Bool, true, false, not, ◌||◌, cond, List, [], ◌∷◌, ◌++◌, length, map, filter, w64, refl, ap, sym, ◌∙◌, subst, arith, add-zero, zero-add}
 use Rattle.std.specs.Prelude.{ℤ, pos, negsuc, ◌≤ℤ◌, unsigned_abs, nat_le}
 use Rattle.std.specs.List.{list_any, count_by, fold}
 use mir.Val.{SFits}
 use Rattle.std.proofs.lemmas.Bool.Decides.{nat_tests}
 use Rattle.stream_config.specs.Stamps.{stamp_after}
-use Rattle.stream_config.specs.declared.attrs.StreamName.{StreamName}
 use Rattle.stream_config.specs.declared.event.StreamEvent.{StreamEvent}
-use Rattle.record_print.specs.declared.record.LogRecord.{LogRecord}
 use Rattle.log_history.specs.Firsts.{change_first}
-use Rattle.log_history.specs.Table.{OpenStream, LogTable, is_named, with_opener, without_opener, with_stored, has_nobody, last_after_ends, kept_streams, closed_streams, left_streams}
+use Rattle.log_history.specs.Table.{OpenStream, LogTable, has_nobody, last_after_ends, kept_streams}
 use Rattle.log_history.specs.KeptAnswers.{is_of_application}
 use Rattle.log_service.specs.Moments.{IsTimeOfCall, IsMoment, second_of}
-use Rattle.log_service.specs.Changing.{EndsIn, StoresIn}
+use Rattle.log_service.specs.Changing.{EndsIn}
 use Rattle.log_service.specs.State.{IsCallTime, applications_in, others_in, AreFew}
 use Rattle.log_service.proofs.EndLemmas.{both-false, pos-from, pos-below, abs-bound, second-bound, stamp-bound}
 

@@ -1,12 +1,11 @@
 -- What an ok open tells, and what it makes of the state.
-use Rattle.std.proofs.Common.{◌≡◌, ℕ, ◌≤◌, ◌+◌, nat_lt, nat_le, Bool, true, false, not, ◌&&◌, cond, List, [], ◌∷◌, ◌++◌, w64, refl, ap, sym, ◌∙◌, subst, arith}
+use Rattle.std.proofs.Common.{◌≡◌, ℕ, nat_lt, nat_le, Bool, true, false, not, ◌&&◌, cond, List, [], ◌∷◌, w64, refl, ap, sym, ◌∙◌, subst, arith}
 use Rattle.std.specs.Prelude.{Option, Some, None, option_map, ℤ, pos, ◌≤ℤ◌, unsigned_abs}
 use Rattle.std.specs.Option.{option_map_or, ForSome}
 use Rattle.std.specs.List.{list_any}
 use mir.Val.{SFits}
 use Rattle.client_set.specs.Members.{has}
 use Rattle.client_set.specs.Rising.{put}
-use Rattle.ais_values.specs.declared.status.Status.{Status}
 use Rattle.ais_values.specs.declared.status.Status.TheVariants as status
 use Rattle.stream_config.specs.Attributes.{kind_of, PassesAttrs}
 use Rattle.stream_config.specs.AttributeTests.{passes_attrs}
@@ -20,7 +19,7 @@ use Rattle.log_history.specs.Answers.{answer, open_rows}
 use Rattle.log_history.specs.Changes.{Opened}
 use Rattle.log_history.specs.Chronicle.{is_empty}
 use Rattle.log_history.specs.Table.{OpenStream, LogTable, is_named, with_opener, has_nobody, opened_stream}
-use Rattle.log_history.specs.KeptAnswers.{kept_stream, has_place, is_crowd, is_of_application, open_status, making_in}
+use Rattle.log_history.specs.KeptAnswers.{kept_stream, has_place, is_crowd, open_status, making_in}
 use Rattle.log_service.specs.Moments.{IsTimeOfCall, IsMoment, second_of}
 use Rattle.log_service.specs.State.{Made, AreFew, table_with}
 use Rattle.log_service.specs.Changing.{OpensIn}

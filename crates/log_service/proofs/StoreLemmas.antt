@@ -1,12 +1,10 @@
 -- The streams once a record is stored in one of them.
-use Rattle.std.proofs.Common.{◌≡◌, ℕ, List, [], ◌∷◌, ◌++◌, get_or, set, refl, ap, sym, ◌∙◌}
-use Rattle.std.specs.Prelude.{Option, Some, None, ℤ, pos, ◌≤ℤ◌, unsigned_abs}
+use Rattle.std.proofs.Common.{◌≡◌, ℕ, List, [], ◌∷◌, get_or, set, ap, sym, ◌∙◌}
+use Rattle.std.specs.Prelude.{Option, ℤ, pos, ◌≤ℤ◌, unsigned_abs}
 use Rattle.std.specs.Option.{option_map_or}
-use Rattle.std.specs.List.{find}
 use Rattle.stream_config.specs.declared.attrs.StreamName.{StreamName}
 use Rattle.stream_config.specs.declared.event.StreamEvent.{StreamEvent}
 use Rattle.record_print.specs.declared.record.LogRecord.{LogRecord}
-use Rattle.log_history.specs.Firsts.{change_first}
 use Rattle.log_history.specs.Table.{OpenStream, is_named, last_after_due, storing, with_stored}
 use Rattle.log_service.specs.Moments.{second_of, HasStored}
 use Rattle.log_service.specs.Changing.{StoresIn}

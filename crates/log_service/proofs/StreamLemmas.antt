@@ -1,5 +1,5 @@
 -- Facts of one stream: who is left when a client leaves, the last file closed, an expression read.
-use Rattle.std.proofs.Common.{◌≡◌, ℕ, ◌+◌, ◌-◌, ◌<◌, ◌==◌, suc, Bool, true, false, not, ◌&&◌, cond, List, [], ◌∷◌, length, get_or, set, subst, refl, ap, sym, ◌∙◌, arith}
+use Rattle.std.proofs.Common.{◌≡◌, ℕ, ◌+◌, ◌-◌, ◌<◌, ◌==◌, suc, true, false, ◌&&◌, cond, List, [], ◌∷◌, length, get_or, set, refl, ap, sym, ◌∙◌, arith}
 use Rattle.std.specs.Prelude.{Option, Some, None, ℤ, pos, negsuc, ◌≤ℤ◌, unsigned_abs, Ok, Err, Result}
 use Rattle.std.specs.List.{list_all}
 use Rattle.client_set.specs.Rising.{without}
@@ -7,7 +7,7 @@ use Rattle.ais_values.specs.declared.kind.StreamKind.{StreamKind}
 use Rattle.format_expr.specs.declared.fault.ExprFault.{ExprFault}
 use Rattle.format_expr.specs.Faults.{IsFault}
 use Rattle.format_expr.proofs.LanguageLaws.{expression_is_accepted}
-use Rattle.format_expr.proofs.FaultLaws.{IsChecked, checked_ok}
+use Rattle.format_expr.proofs.FaultLaws.{checked_ok}
 use Rattle.stream_config.specs.declared.state.LogFile.{LogFile}
 use Rattle.stream_config.specs.Attributes.{IsFormat}
 use Rattle.stream_config.specs.Events.{last_closed, files_changed}

@@ -1,8 +1,8 @@
 -- What an ok write tells, and that the state stays as it is kept once a record is stored.
-use Rattle.std.proofs.Common.{◌≡◌, ℕ, ◌≤◌, ◌+◌, Bool, true, false, not, ◌&&◌, ◌||◌, cond, List, [], ◌∷◌, nat_lt, nat_le, w64, refl, ap, sym, ◌∙◌, subst, arith}
+use Rattle.std.proofs.Common.{◌≡◌, ℕ, ◌≤◌, Bool, true, false, not, ◌&&◌, ◌||◌, cond, List, [], ◌∷◌, nat_lt, nat_le, w64, refl, ap, sym, ◌∙◌, subst, arith}
 use Rattle.std.specs.Prelude.{Option, Some, None, ℤ, pos, negsuc, ◌≤ℤ◌, unsigned_abs}
 use Rattle.std.specs.Option.{option_map_or}
-use Rattle.std.specs.List.{find, list_any}
+use Rattle.std.specs.List.{find}
 use Rattle.std.specs.Int.{is_negative}
 use Rattle.std.specs.Ordering.{int_eq}
 use mir.Val.{SFits}
@@ -11,7 +11,6 @@ use Rattle.ais_values.specs.Times.{unknown_time}
 use Rattle.ais_values.specs.TimeTests.{is_time}
 use Rattle.ais_values.specs.Events.{is_event_type}
 use Rattle.ais_values.specs.declared.kind.StreamKind.{StreamKind}
-use Rattle.ais_values.specs.declared.status.Status.{Status}
 use Rattle.ais_values.specs.declared.status.Status.TheVariants as status
 use Rattle.format_expr.specs.Language.{is_notified}
 use Rattle.stream_config.specs.declared.attrs.StreamName.{StreamName}

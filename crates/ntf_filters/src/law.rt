@@ -6,5 +6,6 @@ use crate::FilterSet;
 
 /// Two sets of filters are told equal by `==` exactly where they are equal.
 pub fn law_of_equality()
-    ensures { (one other : FilterSetOf) → IsTrue (⟦<FilterSet as PartialEq>⟧.eq one other) ↔ (one ≡ other) }
+    ensures { (one other : FilterSetOf) → IsTrue (⟦<FilterSet as PartialEq>⟧.eq one other)
+        ↔ (one ≡ other) }
 {}

@@ -1,5 +1,5 @@
 -- Stored alarms as the view keeps them: one is added where one is sent, early ones are dropped, and they stay in order.
-use Rattle.std.proofs.Common.{◌≡◌, ℕ, ◌+◌, ◌<◌, ◌≤◌, nat_le, nat_lt, Bool, true, false, cond, List, [], ◌∷◌, ◌++◌, refl, ap, sym, subst, ◌∙◌, arith}
+use Rattle.std.proofs.Common.{◌≡◌, ℕ, ◌+◌, ◌≤◌, nat_le, Bool, true, false, cond, List, [], ◌∷◌, ◌++◌, refl, ap, sym, subst, ◌∙◌, arith}
 use Rattle.std.specs.Prelude.{⊤, filter}
 use Rattle.std.proofs.lemmas.Bool.Decides.{nat_tests}
 use Rattle.ntf_types.specs.declared.notification.Body.{Body}
@@ -8,7 +8,7 @@ use Rattle.ntf_types.specs.declared.notification.Notification.{Notification}
 use Rattle.alarm_view.specs.declared.alarm.KeptAlarm.{KeptAlarm}
 use Rattle.alarm_view.specs.Alarms.{IsAlarm, kept_alarm, IsAboveAll, CanAdd, AreInOrder, from_record}
 use Rattle.alarm_view.proofs.Keeping.{AreInOrder-added, AreInOrder-from_record}
-use Rattle.ntf_history.specs.Changes.{Sub, NtfChange, last_id}
+use Rattle.ntf_history.specs.Changes.{NtfChange, last_id}
 use Rattle.ntf_history.specs.Changes.NtfChange.{Began, Ended, Subscribed, Unsubscribed, Sent, Receipted}
 use Rattle.ntf_history.specs.StoredAlarms.{is_alarm, alarms_sent, stored_alarms}
 use Rattle.ntf_history.specs.Possible.{HaveNumbersBelow, CanSend, ArePossible}

@@ -1,5 +1,5 @@
 -- What the answers and the receipts ask of the history, the kept table tells.
-use Rattle.std.proofs.Common.{◌≡◌, ℕ, suc, ◌<◌, ◌==◌, nat_lt, nat_le, Bool, true, false, ◌&&◌, ◌||◌, cond, List, [], ◌∷◌, map, length, refl, ap, sym, ◌∙◌, arith}
+use Rattle.std.proofs.Common.{◌≡◌, ℕ, suc, ◌<◌, nat_le, Bool, true, false, ◌&&◌, ◌||◌, cond, List, [], ◌∷◌, map, length, refl, ap, ◌∙◌, arith}
 use Rattle.std.specs.Prelude.{Option, Some, None, find, option_map, is_some}
 use Rattle.std.specs.List.{list_any}
 use Rattle.std.proofs.lemmas.Bool.Decides.{nat_tests}
@@ -7,17 +7,15 @@ use Rattle.ais_values.specs.FirstRow.{first_row}
 use Rattle.ntf_filters.specs.declared.filter.FilterSet.{FilterSet}
 use Rattle.ntf_filters.specs.FitTests.{is_fit}
 use Rattle.sub_queue.specs.Queue.{IsCapacity}
-use Rattle.sub_queue.specs.History.{account_of, is_new_receipt, queue_for}
-use Rattle.client_set.specs.Members.{Stands, has}
-use Rattle.ntf_history.specs.declared.subscription.Subscription.{Subscription}
-use Rattle.ntf_history.specs.Changes.{Sub, NtfChange, is_using, users}
-use Rattle.ntf_history.specs.Subscriptions.{has_key, has_id, subs, sub_at, happened, account, is_new, is_known}
+use Rattle.sub_queue.specs.History.{is_new_receipt}
+use Rattle.ntf_history.specs.Changes.{Sub, NtfChange, is_using}
+use Rattle.ntf_history.specs.Subscriptions.{has_key, has_id, subs, sub_at, account, is_new, is_known}
 use Rattle.ntf_history.specs.Possible.{CanSubscribe, ArePossible}
 use Rattle.ntf_history.specs.Rows.{subscribe_by, subscribe_rows}
-use Rattle.ntf_history.specs.Tables.{HaveQueues, IsSoundTable, has_item, is_kept_at, is_kept_under, is_new_for, is_new_in, kept_of, table_of}
+use Rattle.ntf_history.specs.Tables.{HaveQueues, IsSoundTable, is_kept_at, is_kept_under, is_new_for, is_new_in, kept_of, table_of}
 use Rattle.ntf_history.proofs.KeyLaws.{has_key-is, sub_at-stands}
 use Rattle.ntf_history.proofs.TableLaws.{has_item-queue_for}
-use Rattle.ntf_history.proofs.FitLaws.{has-users, users-rising, kept-rising, length-subs, queues-sound}
+use Rattle.ntf_history.proofs.FitLaws.{users-rising, kept-rising, length-subs, queues-sound}
 
 -- whether a client has a subscription of an id
 list_any-kept : (capacity : ℕ) (past : List NtfChange) (client id : ℕ) (xs : List Sub) → list_any (is_kept_under client id) (map (kept_of capacity past) xs) ≡ list_any (has_id client id) xs

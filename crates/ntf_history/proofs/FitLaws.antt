@@ -1,9 +1,7 @@
 -- What holds of the users, the subscriptions and the queues after changes that could follow one another.
-use Rattle.std.proofs.Common.{◌≡◌, ℕ, suc, ◌+◌, ◌-◌, ◌<◌, ◌≤◌, ◌==◌, nat_lt, Bool, true, false, not, ◌&&◌, ◌||◌, cond, ◌⊎◌, inl, inr, List, [], ◌∷◌, length, map, refl, ap, sym, subst, ◌∙◌, arith}
-use Rattle.std.specs.Prelude.{Option, Some, None}
+use Rattle.std.proofs.Common.{◌≡◌, ℕ, ◌+◌, ◌<◌, ◌≤◌, ◌==◌, nat_lt, Bool, true, false, not, ◌&&◌, ◌||◌, cond, inl, inr, List, [], ◌∷◌, length, map, refl, ap, ◌∙◌, arith}
 use Rattle.std.specs.List.{list_any}
 use Rattle.std.proofs.lemmas.Bool.Decides.{nat_tests}
-use Rattle.ntf_types.specs.declared.notification.Notification.{Notification}
 use Rattle.sub_queue.specs.Queue.{IsCapacity, IsSound}
 use Rattle.sub_queue.specs.History.{account_of, queue_for}
 use Rattle.sub_queue.proofs.Accounts.{account_of-possible, queue_for-sound}
@@ -12,7 +10,7 @@ use Rattle.client_set.specs.Rising.{put, without, ComesFirst, IsRising}
 use Rattle.client_set.proofs.RisingLaws.{IsOrder-nat_lt, IsRising-put, IsRising-without, Stands-put, Stands-without, has-put, has-without}
 use Rattle.ntf_history.specs.Changes.{Sub, NtfChange, is_using, users, last_id}
 use Rattle.ntf_history.specs.Changes.NtfChange.{Began, Ended, Subscribed, Unsubscribed, Sent, Receipted}
-use Rattle.ntf_history.specs.Subscriptions.{has_id, is_of, comes_first, subs, happened, made}
+use Rattle.ntf_history.specs.Subscriptions.{has_id, is_of, comes_first, subs, happened}
 use Rattle.ntf_history.specs.Possible.{HaveIds, ArePossible}
 use Rattle.ntf_history.specs.Tables.{kept_first, kept_of, table_of}
 use Rattle.ntf_history.proofs.KeyLaws.{subs-rising}

@@ -1,23 +1,20 @@
 -- What one more change does to the items made for a subscription, to its receipts and to those that last.
-use Rattle.std.proofs.Common.{◌≡◌, ℕ, suc, ◌+◌, ◌-◌, ◌<◌, ◌≤◌, ◌==◌, nat_lt, nat_le, Bool, true, false, ◌&&◌, ◌||◌, cond, ◌⊎◌, inl, inr, List, [], ◌∷◌, ◌++◌, length, refl, ap, sym, subst, ◌∙◌, arith, length-append}
-use Rattle.std.specs.Prelude.{Option, Some, None, is_some}
+use Rattle.std.proofs.Common.{◌≡◌, ℕ, ◌+◌, ◌≤◌, ◌==◌, Bool, true, false, ◌&&◌, cond, ◌⊎◌, inl, inr, List, [], ◌∷◌, ◌++◌, length, refl, ap, sym, ◌∙◌, arith, length-append}
+use Rattle.std.specs.Prelude.{Option, Some, None}
 use Rattle.std.proofs.lemmas.Bool.Decides.{nat_tests}
 use Rattle.std.proofs.lemmas.List.{append-nil}
 use Rattle.ntf_types.specs.declared.notification.Notification.{Notification}
 use Rattle.ntf_filters.specs.Matching.{matches}
-use Rattle.sub_queue.specs.declared.item.Content.{Content}
 use Rattle.sub_queue.specs.declared.item.Content.TheVariants.{Notified}
-use Rattle.sub_queue.specs.declared.item.Lost.{Lost}
 use Rattle.sub_queue.specs.Items.{discarded}
 use Rattle.sub_queue.specs.History.{Happening, Account, account_of, has_place, is_new_receipt, after_offer, after_receipt}
 use Rattle.sub_queue.specs.History.{Happening as happening}
 use Rattle.sub_queue.proofs.Keeping.{length-discarded}
 use Rattle.client_set.specs.Members.{Stands}
-use Rattle.client_set.specs.Rising.{put, without}
 use Rattle.client_set.proofs.RisingLaws.{Stands-put, Stands-without}
 use Rattle.ntf_history.specs.Changes.{Sub, NtfChange}
 use Rattle.ntf_history.specs.Changes.NtfChange.{Began, Ended, Subscribed, Unsubscribed, Sent, Receipted}
-use Rattle.ntf_history.specs.Subscriptions.{has_key, has_id, is_of, comes_first, subs, sub_at, lasts, offered_to, happened, account, made, through_of, is_new, Extends}
+use Rattle.ntf_history.specs.Subscriptions.{has_id, is_of, comes_first, subs, sub_at, lasts, offered_to, happened, account, made, through_of, is_new, Extends}
 
 Extends-same : {X : Type 0} (xs : List X) → Extends xs xs
 Extends-same xs = record { more = []; is = sym (append-nil xs) }

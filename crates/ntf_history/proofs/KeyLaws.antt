@@ -1,10 +1,10 @@
 -- Subscriptions stand in order of client and key, so each is found by these.
-use Rattle.std.proofs.Common.{◌≡◌, ℕ, ◌==◌, nat_lt, Bool, true, false, ◌&&◌, ◌||◌, cond, ◌⊎◌, inl, inr, List, [], ◌∷◌, refl, ap, sym, subst, ◌∙◌, arith}
-use Rattle.std.specs.Prelude.{Option, Some, None, find}
+use Rattle.std.proofs.Common.{◌≡◌, ℕ, ◌==◌, Bool, true, false, ◌&&◌, cond, inl, inr, List, [], ◌∷◌, refl, ap, sym, subst, ◌∙◌, arith}
+use Rattle.std.specs.Prelude.{Some, find}
 use Rattle.std.proofs.lemmas.Bool.Decides.{nat_tests}
 use Rattle.client_set.specs.Members.{Stands}
-use Rattle.client_set.specs.Rising.{put, without, ComesFirst, IsRising, IsOrder}
-use Rattle.client_set.proofs.RisingLaws.{IsRising-put, IsRising-without, Stands-put, Stands-without}
+use Rattle.client_set.specs.Rising.{ComesFirst, IsRising, IsOrder}
+use Rattle.client_set.proofs.RisingLaws.{IsRising-put, IsRising-without}
 use Rattle.ntf_history.specs.Changes.{Sub, NtfChange}
 use Rattle.ntf_history.specs.Changes.NtfChange.{Began, Ended, Subscribed, Unsubscribed, Sent, Receipted}
 use Rattle.ntf_history.specs.Subscriptions.{has_key, has_id, is_of, key_first, comes_first, subs, sub_at}

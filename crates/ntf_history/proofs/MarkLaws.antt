@@ -1,22 +1,21 @@
 -- A subscription's items, and what was lost since the last, tell of the matching notifications since it was made, each once and in order.
-use Rattle.std.proofs.Common.{◌≡◌, ℕ, ◌==◌, Bool, true, false, ◌&&◌, ◌||◌, cond, ◌⊎◌, inl, inr, List, [], ◌∷◌, ◌++◌, map, refl, ap, sym, subst, ◌∙◌}
-use Rattle.std.specs.Prelude.{Option, Some, None, filter}
+use Rattle.std.proofs.Common.{◌≡◌, ℕ, ◌==◌, Bool, true, false, ◌&&◌, cond, ◌⊎◌, inl, inr, List, [], ◌∷◌, ◌++◌, map, refl, ap, sym, subst, ◌∙◌}
+use Rattle.std.specs.Prelude.{Some, filter}
 use Rattle.std.proofs.lemmas.List.{append-nil}
 use Rattle.ntf_types.specs.declared.notification.Notification.{Notification}
 use Rattle.ntf_filters.specs.Matching.{matches}
-use Rattle.sub_queue.specs.declared.item.Lost.{Lost}
 use Rattle.sub_queue.specs.Items.{mark_of, marks_in}
-use Rattle.sub_queue.specs.History.{Happening, account_of, marks_offered}
+use Rattle.sub_queue.specs.History.{Happening, marks_offered}
 use Rattle.sub_queue.specs.History.{Happening as happening}
 use Rattle.sub_queue.proofs.Accounts.{marks_told-account_of}
 use Rattle.client_set.specs.Members.{Stands}
-use Rattle.client_set.specs.Rising.{put, without}
+use Rattle.client_set.specs.Rising.{without}
 use Rattle.client_set.proofs.RisingLaws.{Stands-put, Stands-without}
 use Rattle.ntf_history.specs.Changes.{Sub, NtfChange}
 use Rattle.ntf_history.specs.Changes.NtfChange.{Began, Ended, Subscribed, Unsubscribed, Sent, Receipted}
 use Rattle.ntf_history.specs.Subscriptions.{has_key, has_id, is_of, comes_first, subs, sub_at, lasts, offered_to, happened, account, made, is_known, sent_since, asked_since}
 use Rattle.ntf_history.specs.Possible.{ArePossible}
-use Rattle.ntf_history.proofs.KeyLaws.{has_key-self, has_key-is, sub_at-stands, sub_at-named, sub_at-member}
+use Rattle.ntf_history.proofs.KeyLaws.{has_key-is, sub_at-stands, sub_at-named, sub_at-member}
 use Rattle.ntf_history.proofs.TableLaws.{unknown-nothing}
 
 -- the marks of one notification more among those that pass

@@ -1,8 +1,7 @@
 -- The list of readers has each client's reader, as it is told by what changed the readers.
-use Rattle.std.proofs.Common.{◌≡◌, ℕ, ◌==◌, nat_lt, Bool, true, false, cond, List, [], ◌∷◌, map, refl, ap, sym, subst, ◌∙◌, arith}
+use Rattle.std.proofs.Common.{◌≡◌, ℕ, ◌==◌, nat_lt, Bool, true, false, cond, List, [], ◌∷◌, map, refl, ap, sym, ◌∙◌, arith}
 use Rattle.std.specs.Prelude.{Option, Some, None, find, option_map}
 use Rattle.std.proofs.lemmas.Bool.Decides.{nat_tests}
-use Rattle.ntf_filters.specs.declared.filter.FilterSet.{FilterSet}
 use Rattle.alarm_view.specs.declared.cursor.Cursor.{Cursor}
 use Rattle.client_set.specs.Rising.{put, without, ComesFirst, IsRising, IsOrder}
 use Rattle.client_set.proofs.RisingLaws.{IsRising-put, IsRising-without}

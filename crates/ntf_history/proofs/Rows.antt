@@ -1,27 +1,24 @@
 -- Worked rows: what the definitions give on small histories.
-use Rattle.std.proofs.Common.{◌≡◌, ℕ, Bool, true, false, List, [], ◌∷◌, length, map, refl}
-use Rattle.std.specs.Prelude.{Option, Some, None, pos}
+use Rattle.std.proofs.Common.{◌≡◌, ℕ, true, false, List, [], ◌∷◌, length, map, refl}
+use Rattle.std.specs.Prelude.{Some, None, pos}
 use Rattle.ais_values.specs.FirstRow.{first_row}
-use Rattle.ais_values.specs.declared.kind.ClassId.{ClassId}
-use Rattle.ais_values.specs.declared.status.Status.{Status}
-use Rattle.ais_values.specs.declared.status.Status.TheVariants.{BadHandle, NotExist, Exist, NoSpace, NoResources}
-use Rattle.ntf_types.specs.declared.notification.Body.TheVariants.{Alarm, States}
+use Rattle.ais_values.specs.declared.status.Status.TheVariants.{BadHandle, NotExist, Exist, NoResources}
+use Rattle.ntf_types.specs.declared.notification.Body.TheVariants.{Alarm}
 use Rattle.ntf_types.specs.declared.notification.Notification.{Notification}
 use Rattle.ntf_filters.specs.declared.filter.Filter.{Filter}
 use Rattle.ntf_filters.specs.declared.filter.FilterSet.{FilterSet}
 use Rattle.ntf_filters.specs.Matching.{admits, admits_option, admits_common, admits_body}
 use Rattle.ntf_filters.specs.FitTests.{is_fit}
-use Rattle.sub_queue.specs.declared.item.Lost.{Lost}
 use Rattle.sub_queue.specs.declared.item.Content.TheVariants.{Notified, Discarded}
 use Rattle.alarm_view.specs.declared.cursor.Cursor.{Cursor}
 use Rattle.alarm_view.specs.declared.alarm.KeptAlarm.{KeptAlarm}
-use Rattle.ntf_history.specs.Changes.{Sub, NtfChange, users, last_id}
+use Rattle.ntf_history.specs.Changes.{Sub, NtfChange, last_id}
 use Rattle.ntf_history.specs.Changes.NtfChange.{Began, Ended, Subscribed, Unsubscribed, Sent, Receipted}
-use Rattle.ntf_history.specs.Subscriptions.{subs, account, made, through_of, is_new}
+use Rattle.ntf_history.specs.Subscriptions.{subs, account, made, through_of}
 use Rattle.ntf_history.specs.StoredAlarms.{stored_alarms}
-use Rattle.ntf_history.specs.Readers.{Reader, ReaderChange, reader_of, readers}
+use Rattle.ntf_history.specs.Readers.{reader_of}
 use Rattle.ntf_history.specs.Readers.ReaderChange.{Started, Told, Stopped}
-use Rattle.ntf_history.specs.Rows.{begin_rows, end_rows, send_rows, subscribe_rows, unsubscribe_rows, read_rows, stop_rows, read_by}
+use Rattle.ntf_history.specs.Rows.{begin_rows, end_rows, subscribe_rows, unsubscribe_rows, stop_rows, read_by}
 
 -- an alarm of this id, at the time 100
 abbrev alarm : ℕ → Notification

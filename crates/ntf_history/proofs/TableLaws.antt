@@ -1,9 +1,8 @@
 -- What is kept after one more change is what the call makes of what was kept.
-use Rattle.std.proofs.Common.{◌≡◌, ℕ, suc, ◌+◌, ◌-◌, ◌<◌, ◌≤◌, ◌==◌, nat_lt, nat_le, Bool, true, false, ◌&&◌, ◌||◌, cond, ◌⊎◌, inl, inr, List, [], ◌∷◌, ◌++◌, map, length, refl, ap, sym, subst, ◌∙◌, arith}
+use Rattle.std.proofs.Common.{◌≡◌, ℕ, suc, ◌==◌, nat_lt, nat_le, Bool, true, false, ◌&&◌, ◌||◌, cond, inl, inr, List, [], ◌∷◌, ◌++◌, map, refl, ap, sym, subst, ◌∙◌}
 use Rattle.std.specs.Prelude.{Option, Some, None, is_some, Decides}
 use Rattle.std.specs.Bool.{one_answer}
 use Rattle.std.specs.Cmp.Derive.{both_true}
-use Rattle.std.proofs.lemmas.Bool.Decides.{nat_tests}
 use Rattle.std.proofs.lemmas.Bool.{leb-true, le-leb}
 use Rattle.ntf_types.specs.declared.notification.Notification.{Notification}
 use Rattle.ntf_filters.specs.Matching.{matches}
@@ -13,14 +12,14 @@ use Rattle.sub_queue.specs.History.{Happening, Account, account_of, is_new_recei
 use Rattle.sub_queue.specs.History.{Happening as happening}
 use Rattle.sub_queue.proofs.Accounts.{account_of-possible, offered-queue_for, received-queue_for, is_new_receipt-decides}
 use Rattle.client_set.specs.Members.{Stands}
-use Rattle.client_set.specs.Rising.{put, without}
+use Rattle.client_set.specs.Rising.{put}
 use Rattle.client_set.proofs.RisingLaws.{map-put, map-without, Stands-put, Stands-without}
 use Rattle.ntf_history.specs.declared.subscription.Subscription.{Subscription}
-use Rattle.ntf_history.specs.Changes.{Sub, NtfChange, users, last_id}
+use Rattle.ntf_history.specs.Changes.{Sub, NtfChange}
 use Rattle.ntf_history.specs.Changes.NtfChange.{Began, Ended, Subscribed, Unsubscribed, Sent, Receipted}
 use Rattle.ntf_history.specs.Subscriptions.{has_key, has_id, is_of, comes_first, subs, sub_at, lasts, offered_to, happened, account, is_known}
 use Rattle.ntf_history.specs.Possible.{CanFollow}
-use Rattle.ntf_history.specs.Tables.{NtfTable, sub_with, requeued, is_kept_at, is_kept_under, is_kept_for, kept_first, has_item, offered_sub, received_sub, after_change, kept_of, table_of}
+use Rattle.ntf_history.specs.Tables.{NtfTable, sub_with, is_kept_under, is_kept_for, kept_first, has_item, offered_sub, received_sub, after_change, kept_of, table_of}
 use Rattle.ntf_history.proofs.KeyLaws.{has_key-self, has_key-is, sub_at-member, sub_at-stands}
 
 -- functions that agree on what stands in a list map it alike

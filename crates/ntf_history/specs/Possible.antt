@@ -1,10 +1,10 @@
 -- Words of public clauses: which changes can follow others. The rows of answers see to it; the laws of histories rest on it.
-use Rattle.std.specs.Prelude.{◌≡◌, ℕ, ◌+◌, ◌<◌, Bool, true, false, ⊤, List, [], ◌∷◌, length}
+use Rattle.std.specs.Prelude.{◌≡◌, ℕ, ◌+◌, ◌<◌, true, false, ⊤, List, [], ◌∷◌, length}
 use Rattle.std.specs.List.{list_any}
 use Rattle.ntf_types.specs.declared.notification.Notification.{Notification}
 use Rattle.alarm_view.specs.declared.alarm.KeptAlarm.{KeptAlarm}
 use Rattle.ntf_history.specs.Changes.{Sub, NtfChange, is_using, last_id}
-use Rattle.ntf_history.specs.Changes.NtfChange.{Began, Ended, Subscribed, Unsubscribed, Sent, Receipted}
+use Rattle.ntf_history.specs.Changes.NtfChange.{Subscribed, Sent}
 use Rattle.ntf_history.specs.Subscriptions.{has_id, subs, is_known}
 use Rattle.ntf_history.specs.StoredAlarms.{is_alarm, alarms_sent}
 

@@ -1,5 +1,5 @@
 -- Words of public clauses: readers of stored alarms, by what changed them.
-use Rattle.std.specs.Prelude.{◌≡◌, ℕ, ◌==◌, nat_lt, Bool, if◌then◌else◌, List, [], ◌∷◌, map, Option, Some, None}
+use Rattle.std.specs.Prelude.{ℕ, ◌==◌, nat_lt, Bool, if◌then◌else◌, List, [], ◌∷◌, map, Option, Some, None}
 use Rattle.ntf_filters.specs.declared.filter.FilterSet.{FilterSet}
 use Rattle.alarm_view.specs.declared.cursor.Cursor.{Cursor}
 use Rattle.client_set.specs.Rising.{put, without}

@@ -1,5 +1,5 @@
 -- Words of public clauses: the answers of the Notification Service: for each call the rows of a condition and a status, in order, of which the first whose condition holds decides; with none the call is answered ok.
-use Rattle.std.specs.Prelude.{◌≡◌, ℕ, ℤ, pos, ◌==◌, nat_le, int_lt, Bool, true, false, not, ◌&&◌, ◌||◌, List, [], ◌∷◌, length, reverse, Option, Some, None, is_some, is_none, unwrap_or}
+use Rattle.std.specs.Prelude.{ℕ, ℤ, pos, ◌==◌, nat_le, int_lt, Bool, not, ◌&&◌, List, [], ◌∷◌, length, reverse, Option, Some, None, is_some, is_none, unwrap_or}
 use Rattle.std.specs.List.{list_any}
 use Rattle.ais_values.specs.FirstRow.{first_row}
 use Rattle.ais_values.specs.declared.status.Status.{Status}

@@ -1,5 +1,5 @@
 -- Words of public clauses: subscriptions, and all that happened to each.
-use Rattle.std.specs.Prelude.{◌≡◌, ℕ, ◌==◌, nat_lt, Bool, true, false, ◌&&◌, ◌||◌, if◌then◌else◌, List, [], ◌∷◌, ◌++◌, Option, Some, None, is_some, find, filter}
+use Rattle.std.specs.Prelude.{◌≡◌, ℕ, ◌==◌, nat_lt, Bool, false, ◌&&◌, ◌||◌, if◌then◌else◌, List, [], ◌∷◌, ◌++◌, Option, Some, None, is_some, find, filter}
 use Rattle.ntf_types.specs.declared.notification.Notification.{Notification}
 use Rattle.ntf_filters.specs.Matching.{matches}
 use Rattle.sub_queue.specs.declared.item.Content.{Content}
@@ -7,7 +7,7 @@ use Rattle.sub_queue.specs.History.{Happening, Account, account_of, is_new_recei
 use Rattle.sub_queue.specs.History.{Happening as happening}
 use Rattle.client_set.specs.Rising.{put, without}
 use Rattle.ntf_history.specs.Changes.{Sub, NtfChange}
-use Rattle.ntf_history.specs.Changes.NtfChange.{Began, Ended, Subscribed, Unsubscribed, Sent, Receipted}
+use Rattle.ntf_history.specs.Changes.NtfChange.{Ended, Subscribed, Unsubscribed, Sent, Receipted}
 
 -- whether a subscription has this client and this key
 abbrev pub has_key : ℕ → ℕ → Sub → Bool

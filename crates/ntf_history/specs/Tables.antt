@@ -1,7 +1,6 @@
 -- Words of public clauses: what the service keeps, what each call makes of it, and what it is after all that changed.
 use Rattle.std.specs.Prelude.{◌≡◌, ℕ, ◌+◌, ◌==◌, ◌≤◌, nat_lt, nat_le, Bool, false, ◌&&◌, ⊤, if◌then◌else◌, List, [], ◌∷◌, length, map, Option, Some, None, find}
 use Rattle.ntf_types.specs.declared.notification.Notification.{Notification}
-use Rattle.ntf_filters.specs.declared.filter.FilterSet.{FilterSet}
 use Rattle.ntf_filters.specs.Matching.{matches}
 use Rattle.sub_queue.specs.Queue.{Queue, IsCapacity, IsSound, empty_queue, next_number, offered, received}
 use Rattle.sub_queue.specs.History.{queue_for}

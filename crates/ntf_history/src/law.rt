@@ -86,7 +86,8 @@ pub fn law_of_subscriptions()
 
 /// The users stand in order, and are those who began their use and have not ended it since.
 pub fn law_of_users()
-    ensures users { (past : List NtfChange) (client : ℕ) → has client (users past) ≡ is_using past client }
+    ensures users { (past : List NtfChange) (client : ℕ) → has client (users past)
+        ≡ is_using past client }
     ensures order { (past : List NtfChange) → IsRising nat_lt (users past) }
     ensures ids { (past : List NtfChange) → last_id past ≤ length past }
 {}

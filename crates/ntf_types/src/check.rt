@@ -29,7 +29,8 @@ fn has_row(rows: &[CodeRow], kind: u16, event_type: u16) -> bool
 /// Whether the event type is one of those of the notification's type, by a table of event types.
 fn has_event_type(rows: &[CodeRow], notification: &Notification) -> bool
     requires { HasEventTypes rows.now }
-    ensures { IsTrue result ↔ Contains (event_types_of notification.now.body) notification.now.event_type }
+    ensures { IsTrue result ↔ Contains (event_types_of notification.now.body)
+        notification.now.event_type }
 {
     has_row(rows, kind_of(notification), notification.event_type)
 }

@@ -7,7 +7,8 @@ use crate::{Notification, Value};
 
 /// Two values, and two notifications, are told equal by `==` exactly where they are equal.
 pub fn law_of_equality()
-    ensures values { (one other : ValueOf) → IsTrue (⟦<Value as PartialEq>⟧.eq one other) ↔ (one ≡ other) }
+    ensures values { (one other : ValueOf) → IsTrue (⟦<Value as PartialEq>⟧.eq one other)
+        ↔ (one ≡ other) }
     ensures notifications { (one other : NotificationOf) →
         IsTrue (⟦<Notification as PartialEq>⟧.eq one other) ↔ (one ≡ other) }
 {}

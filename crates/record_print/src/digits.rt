@@ -93,7 +93,8 @@ impl Sheet {
 
     /// Adds what is shown of a time.
     pub(crate) fn put_time(&mut self, clock: &Clock, part: TimePart)
-        ensures { Adds self.old self.new (civil_text clock.now.half clock.now.nanoseconds clock.now.civil part) }
+        ensures { Adds self.old self.new (civil_text clock.now.half clock.now.nanoseconds
+            clock.now.civil part) }
     {
         let civil = clock.civil;
         match part {

@@ -100,7 +100,8 @@ impl Sheet {
         requires { IsTrue (has_codes rec.now.header) }
         ensures kept { Keeps self.old self.new }
         ensures text { (half : Moment → Bool) → AreFigures figures.now half rec.now
-            → Adds self.old self.new (part_text half figures.now.number figures.now.mark rec.now part) }
+            → Adds self.old self.new (part_text half figures.now.number figures.now.mark rec.now
+            part) }
     {
         match part {
             Part::Number => self.put_number(figures.number),
@@ -152,7 +153,8 @@ impl Sheet {
         requires open { IsOpen self.old }
         ensures kept { Keeps self.old self.new }
         ensures text { (half : Moment → Bool) → AreFigures figures.now half rec.now
-            → Adds self.old self.new (piece_text half figures.now.number figures.now.mark rec.now piece.now) }
+            → Adds self.old self.new (piece_text half figures.now.number figures.now.mark rec.now
+            piece.now) }
     {
         match piece {
             Piece::Plain { text } => self.put(text.as_slice()),
@@ -165,7 +167,8 @@ impl Sheet {
         requires open { IsOpen self.old }
         ensures kept { Keeps self.old self.new }
         ensures text { (half : Moment → Bool) → AreFigures figures.now half rec.now
-            → Adds self.old self.new (pieces_text half figures.now.number figures.now.mark rec.now pieces.now) }
+            → Adds self.old self.new (pieces_text half figures.now.number figures.now.mark rec.now
+            pieces.now) }
     {
         for piece in pieces {
             self.put_piece(figures, rec, piece);
@@ -255,7 +258,8 @@ fn sheet_of(
     requires codes { IsTrue (has_codes rec.now.header) }
     ensures open { IfOk result IsOpen }
     ensures size { IfOk result (λ sheet. length sheet.bytes.items ≡ size) }
-    ensures text { IfOk result (λ sheet. (half : Moment → Bool) → AreFigures figures.now half rec.now
+    ensures text { IfOk result (λ sheet. (half : Moment → Bool)
+        → AreFigures figures.now half rec.now
         → Has sheet (pieces_text half figures.now.number figures.now.mark rec.now pieces.now)) }
 {
     let mut sheet = Sheet::new(alloc, size)?;

@@ -20,7 +20,8 @@ pub(crate) struct Sheet {
 /// Lays a text over the bytes at a place.
 fn lay(bytes: &mut [u8], place: usize, text: &[u8])
     requires { place + length text.now ≤ length bytes.old }
-    ensures { bytes.new ≡ take place bytes.old ++ text.now ++ drop (place + length text.now) bytes.old }
+    ensures { bytes.new ≡ take place bytes.old ++ text.now
+        ++ drop (place + length text.now) bytes.old }
 {
     bytes[place..place + text.len()].copy_from_slice(text);
 }
@@ -44,7 +45,8 @@ fn hide_controls(bytes: &mut [u8])
 fn hide_between(bytes: &mut [u8], start: usize, end: usize)
     requires order { start ≤ end }
     requires inside { end ≤ length bytes.old }
-    ensures { bytes.new ≡ take start bytes.old ++ map shown_byte (take (end - start) (drop start bytes.old)) ++ drop end bytes.old }
+    ensures { bytes.new ≡ take start bytes.old
+        ++ map shown_byte (take (end - start) (drop start bytes.old)) ++ drop end bytes.old }
 {
     hide_controls(&mut bytes[start..end]);
 }
@@ -118,7 +120,8 @@ impl Sheet {
         ensures open { IsOpen self.new }
         ensures bytes { self.new.bytes.items ≡ self.old.bytes.items }
         ensures text { (text base : List ℕ) (width : ℕ)
-            → self.old.limit ≡ min (min (length text) (length self.old.bytes.items) + width) (length self.old.bytes.items)
+            → self.old.limit ≡ min (min (length text) (length self.old.bytes.items) + width)
+            (length self.old.bytes.items)
             → Has self.old (text ++ base) → Has self.new (text ++ fitted width base) }
     {
         self.used = self.limit;
@@ -129,7 +132,8 @@ impl Sheet {
     pub(crate) fn into_text(self) -> Text
         requires open { IsOpen self }
         requires bound { IsText self.bytes.items }
-        ensures { (text : List ℕ) → Has self text → result ≡ line_of (length self.bytes.items) text }
+        ensures { (text : List ℕ) → Has self text
+            → result ≡ line_of (length self.bytes.items) text }
     {
         Text::from_vec(self.bytes)
     }

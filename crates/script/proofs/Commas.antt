@@ -18,9 +18,6 @@ pub commas_end : {X : Type 0} (at : List ℕ → Option (X × List ℕ)) (n : �
 commas_end at zero front bytes no_comma = ap (λ f. Some (f, bytes)) (append-nil front)
 commas_end at (suc n) front bytes no_comma = rw no_comma (ap (λ f. Some (f, bytes)) (append-nil front))
 
-pub commas_full : {X : Type 0} (at : List ℕ → Option (X × List ℕ)) (n : ℕ) (front : List X) (bytes : List ℕ) → n ≡ 0 → left at n front bytes ≡ Some (front, bytes)
-commas_full at n front bytes none = rw none (ap (λ f. Some (f, bytes)) (append-nil front))
-
 pub commas_fail : {X : Type 0} (at : List ℕ → Option (X × List ℕ)) (n m : ℕ) (front : List X) (bytes after : List ℕ) → n ≡ suc m → skipped (44 ∷ []) bytes ≡ Some after → at after ≡ None → left at n front bytes ≡ None
 commas_fail at n m front bytes after e comma none = rw (e, comma, none) refl
 

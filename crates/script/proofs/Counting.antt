@@ -1,5 +1,5 @@
 -- From reading on lists to a count of lines.
-use Rattle.std.proofs.Common.{◌≡◌, ◌⊎◌, ℕ, ◌+◌, ◌∙◌, List, [], ◌∷◌, length, Option, Some, None, Result, Ok, Err, true, false, refl, sym, ap, inl, inr, arith, zero-add, add-zero}
+use Rattle.std.proofs.Common.{◌≡◌, ◌⊎◌, ℕ, ◌+◌, ◌∙◌, List, [], ◌∷◌, length, Option, Some, None, Result, Ok, Err, true, false, refl, sym, ap, inl, inr, arith, add-zero}
 use Rattle.std.specs.Prelude.{ℤ, is_some, IfOk, IfErr, MatchResult, IsErrAnd}
 use Rattle.script_lines.specs.declared.line.Line.{Line}
 use Rattle.script_lines.specs.declared.answer.ScriptWhy.{ScriptWhy}
@@ -33,11 +33,6 @@ tally_unbegun count (Some now) number h = cc
 pub tally_begun : (count : ℕ) (now : Option ℤ) (number : ℕ) → is_some now ≡ true → more count (counted (judged now number [])) ≡ Ok count
 tally_begun count None number h = cc
 tally_begun count (Some now) number h = ap (λ o. more count (counted o)) (judged_ends (Some now) number) ∙ ap Ok (add-zero count)
-
--- before the first line
-pub more_zero : (outcome : Result ℕ (ℕ × ScriptWhy)) → outcome ≡ more 0 outcome
-more_zero (Ok count) = ap Ok (sym (zero-add count))
-more_zero (Err bad) = refl
 
 same_ok : {a b : ℕ} → ◌≡◌ {A = Result ℕ (ℕ × ScriptWhy)} (Ok a) (Ok b) → a ≡ b
 same_ok h = cc

@@ -29,7 +29,8 @@ fn init(service: Which, bytes: &[u8]) -> Option<(Ask, &[u8])>
 
 /// The attributes behind ` create file=`, where it stands.
 fn create(alloc: Global, bytes: &[u8]) -> Result<(Option<StreamAttrs>, &[u8]), Trouble>
-    ensures { Gives (λ found. (found.0, found.1.now)) result (maybe (codes " create file=") attrs_at bytes.now) }
+    ensures { Gives (λ found. (found.0, found.1.now)) result
+        (maybe (codes " create file=") attrs_at bytes.now) }
 {
     match skip(bytes, b" create file=") {
         Some(rest) => {

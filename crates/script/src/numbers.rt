@@ -90,7 +90,8 @@ fn magnitude(bytes: &[u8]) -> Option<(u64, &[u8])>
 /// A number from `low` to `high`.
 #[tactic(auto, unfolding(script_grammar::specs::ValueReading::number_at))]
 pub(crate) fn number(bytes: &[u8], low: u64, high: u64) -> Option<(u64, &[u8])>
-    ensures found { number_at low high bytes.now ≡ option_map (λ found. (found.0, found.1.now)) result }
+    ensures found { number_at low high bytes.now
+        ≡ option_map (λ found. (found.0, found.1.now)) result }
     ensures bound { IfSome result (λ found. found.0 ≤ high) }
 {
     let (value, rest) = magnitude(bytes)?;
@@ -167,7 +168,8 @@ pub(crate) fn count(bytes: &[u8]) -> Option<(u64, &[u8])>
 
 /// The signed number, where it is in the range.
 fn within(value: i64, rest: &[u8], low: i64, high: i64) -> Option<(i64, &[u8])>
-    ensures { in_signed_range low high value rest.now ≡ option_map (λ found. (found.0, found.1.now)) result }
+    ensures { in_signed_range low high value rest.now
+        ≡ option_map (λ found. (found.0, found.1.now)) result }
 {
     if low <= value && value <= high {
         Some((value, rest))
@@ -209,7 +211,8 @@ pub(crate) fn script_time(bytes: &[u8]) -> Option<(i64, &[u8])>
 
 /// The time behind the word, or the unknown time where the word does not stand.
 pub(crate) fn time_unless<'a>(bytes: &'a [u8], word: &[u8]) -> Option<(i64, &'a [u8])>
-    ensures { unless unknown_time word.now signed64_at bytes.now ≡ option_map (λ found. (found.0, found.1.now)) result }
+    ensures { unless unknown_time word.now signed64_at bytes.now
+        ≡ option_map (λ found. (found.0, found.1.now)) result }
 {
     match skip(bytes, word) {
         Some(rest) => signed64(rest),
@@ -219,7 +222,8 @@ pub(crate) fn time_unless<'a>(bytes: &'a [u8], word: &[u8]) -> Option<(i64, &'a 
 
 /// A number of 16 bits behind the word, where the word stands.
 pub(crate) fn maybe_number16<'a>(bytes: &'a [u8], word: &[u8]) -> Option<(Option<u16>, &'a [u8])>
-    ensures { maybe word.now number16_at bytes.now ≡ option_map (λ found. (found.0, found.1.now)) result }
+    ensures { maybe word.now number16_at bytes.now
+        ≡ option_map (λ found. (found.0, found.1.now)) result }
 {
     match skip(bytes, word) {
         Some(rest) => {

@@ -25,7 +25,8 @@ fn option_quoted<'a>(
     stream: &[u8],
     option: &[u8],
 ) -> Result<(Option<Text>, &'a [u8]), Trouble>
-    ensures { Gives (λ found. (found.0, found.1.now)) result (maybe (stream.now ++ option.now) quoted_at bytes.now) }
+    ensures { Gives (λ found. (found.0, found.1.now)) result
+        (maybe (stream.now ++ option.now) quoted_at bytes.now) }
 {
     match skip_both(bytes, stream, option) {
         Some(rest) => {
@@ -42,7 +43,8 @@ fn option_number32<'a>(
     stream: &[u8],
     option: &[u8],
 ) -> Option<(Option<u32>, &'a [u8])>
-    ensures { maybe (stream.now ++ option.now) number32_at bytes.now ≡ option_map (λ found. (found.0, found.1.now)) result }
+    ensures { maybe (stream.now ++ option.now) number32_at bytes.now
+        ≡ option_map (λ found. (found.0, found.1.now)) result }
 {
     match skip_both(bytes, stream, option) {
         Some(rest) => {
@@ -59,7 +61,8 @@ fn option_number64<'a>(
     stream: &[u8],
     option: &[u8],
 ) -> Option<(Option<u64>, &'a [u8])>
-    ensures { maybe (stream.now ++ option.now) number64_at bytes.now ≡ option_map (λ found. (found.0, found.1.now)) result }
+    ensures { maybe (stream.now ++ option.now) number64_at bytes.now
+        ≡ option_map (λ found. (found.0, found.1.now)) result }
 {
     match skip_both(bytes, stream, option) {
         Some(rest) => {
@@ -76,7 +79,8 @@ fn option_full<'a>(
     stream: &[u8],
     option: &[u8],
 ) -> Option<(Option<FullAction>, &'a [u8])>
-    ensures { maybe (stream.now ++ option.now) full_action_at bytes.now ≡ option_map (λ found. (found.0, found.1.now)) result }
+    ensures { maybe (stream.now ++ option.now) full_action_at bytes.now
+        ≡ option_map (λ found. (found.0, found.1.now)) result }
 {
     match skip_both(bytes, stream, option) {
         Some(rest) => {

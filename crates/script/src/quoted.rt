@@ -91,7 +91,8 @@ fn part(bytes: &[u8]) -> Option<(u8, &[u8])>
 /// The bytes up to the quotation mark that ends them, without escapes.
 #[tactic(auto, unfolding(script_grammar::specs::ValueReading::inner_at))]
 fn inner(alloc: Global, bytes: &[u8]) -> Result<(Vec<u8>, &[u8]), Trouble>
-    ensures { Gives (λ found. (found.0.items, found.1.now)) result (inner_at (length bytes.now) bytes.now) }
+    ensures { Gives (λ found. (found.0.items, found.1.now)) result
+        (inner_at (length bytes.now) bytes.now) }
 {
     let mut content = Vec::new(alloc);
     let mut rest = bytes;

@@ -264,7 +264,8 @@ pub fn parse_script(alloc: Global, bytes: &[u8]) -> Result<Seq<Line>, ScriptAnsw
     // What is told to be bad is the least bad line, and the least bad line is told, unless memory runs out.
     ensures fault { IfErr result (λ answer. Tells answer bytes.now) }
     ensures every_fault { (number : ℕ) (why : ScriptWhy) → IsBadAt bytes.now number why
-        → IsErrAnd result (λ answer. (answer ≡ ScriptAnswer.Memory) ⊎ (answer ≡ ScriptAnswer.Bad number why)) }
+        → IsErrAnd result (λ answer. (answer ≡ ScriptAnswer.Memory)
+        ⊎ (answer ≡ ScriptAnswer.Bad number why)) }
 {
     judge(alloc, bytes)
 }
@@ -277,12 +278,14 @@ pub fn count_lines(alloc: Global, bytes: &[u8]) -> Result<u32, ScriptAnswer>
     // What is counted are the lines that are spelled, unless memory runs out.
     ensures lines { IfOk result (CountsScript bytes.now) }
     ensures every_script { (lines : List Line) → IsScriptOf lines bytes.now
-        → MatchResult result (λ count. count ≡ length lines) (λ answer. answer ≡ ScriptAnswer.Memory) }
+        → MatchResult result (λ count. count ≡ length lines)
+        (λ answer. answer ≡ ScriptAnswer.Memory) }
 
     // What is told to be bad is the least bad line, and the least bad line is told, unless memory runs out.
     ensures fault { IfErr result (λ answer. Tells answer bytes.now) }
     ensures every_fault { (number : ℕ) (why : ScriptWhy) → IsBadAt bytes.now number why
-        → IsErrAnd result (λ answer. (answer ≡ ScriptAnswer.Memory) ⊎ (answer ≡ ScriptAnswer.Bad number why)) }
+        → IsErrAnd result (λ answer. (answer ≡ ScriptAnswer.Memory)
+        ⊎ (answer ≡ ScriptAnswer.Bad number why)) }
 {
     tally(alloc, bytes)
 }

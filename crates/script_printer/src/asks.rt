@@ -58,7 +58,8 @@ fn put_maybe_filter(
     words: &[u8],
     filter: &Option<Filter>,
 ) -> Result<(), AllocError>
-    ensures { OnOk result (out.new.items ≡ out.old.items ++ maybe_text words.now filter_text filter.now) }
+    ensures { OnOk result (out.new.items ≡ out.old.items
+        ++ maybe_text words.now filter_text filter.now) }
 {
     let Some(filter) = filter else {
         return Ok(());
@@ -89,7 +90,8 @@ fn put_open(
     stream: &StreamName,
     create: &Option<StreamAttrs>,
 ) -> Result<(), AllocError>
-    ensures { OnOk result (out.new.items ≡ out.old.items ++ call_text (asked.LogOpen stream.now create.now)) }
+    ensures { OnOk result (out.new.items ≡ out.old.items
+        ++ call_text (asked.LogOpen stream.now create.now)) }
 {
     put(out, b"open ")?;
     put_stream(alloc, out, stream)?;
@@ -153,7 +155,8 @@ fn put_subscribe(
     id: u32,
     filters: &FilterSet,
 ) -> Result<(), AllocError>
-    ensures { OnOk result (out.new.items ≡ out.old.items ++ call_text (asked.NtfSubscribe id filters.now)) }
+    ensures { OnOk result (out.new.items ≡ out.old.items
+        ++ call_text (asked.NtfSubscribe id filters.now)) }
 {
     put(out, b"subscribe ")?;
     put_number(alloc, out, u64::from(id))?;
@@ -170,7 +173,8 @@ fn put_reader(
     value: i64,
     filters: &FilterSet,
 ) -> Result<(), AllocError>
-    ensures { OnOk result (out.new.items ≡ out.old.items ++ call_text (asked.ReaderStart mode value filters.now)) }
+    ensures { OnOk result (out.new.items ≡ out.old.items
+        ++ call_text (asked.ReaderStart mode value filters.now)) }
 {
     put(out, b"reader mode=")?;
     put_number(alloc, out, u64::from(mode))?;
@@ -222,7 +226,8 @@ fn put_call(alloc: Global, out: &mut Vec<u8>, call: &Call) -> Result<(), AllocEr
 /// Adds an initialisation.
 #[tactic(auto, using(crate::proofs::Chain::chained, crate::proofs::Chain::chained_last))]
 fn put_init(alloc: Global, out: &mut Vec<u8>, version: Version) -> Result<(), AllocError>
-    ensures { OnOk result (out.new.items ≡ out.old.items ++ joined (codes "init " ∷ version_text version ∷ [])) }
+    ensures { OnOk result (out.new.items ≡ out.old.items
+        ++ joined (codes "init " ∷ version_text version ∷ [])) }
 {
     put(out, b"init ")?;
     put_version(alloc, out, version)?;

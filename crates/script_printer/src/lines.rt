@@ -92,7 +92,8 @@ fn put_arm(alloc: Global, out: &mut Vec<u8>, server: Server, count: u64) -> Resu
 /// Adds a word and a server's letter.
 #[tactic(auto, using(crate::proofs::Chain::chained, crate::proofs::Chain::chained_last))]
 fn put_word_server(out: &mut Vec<u8>, word: &[u8], server: Server) -> Result<(), AllocError>
-    ensures { OnOk result (out.new.items ≡ out.old.items ++ joined (word.now ∷ server_text server ∷ [])) }
+    ensures { OnOk result (out.new.items ≡ out.old.items
+        ++ joined (word.now ∷ server_text server ∷ [])) }
 {
     put(out, word)?;
     put_server(out, server)?;
@@ -196,8 +197,10 @@ pub fn print_line(alloc: Global, line: &Line) -> Result<Vec<u8>, AllocError>
 /// are written in the same way. Bytes of a text outside 32 to 126 stand by their numbers, and no others.
 pub fn print_script(alloc: Global, lines: &Seq<Line>) -> Result<Vec<u8>, AllocError>
     ensures written { IfOk result (λ bytes. bytes.items ≡ script_text lines.now) }
-    ensures spelled { (line : Line) (raw : List ℕ) → Spells line raw → Spells line (line_text line) }
-    ensures again { IfOk result (λ bytes. (other : List ℕ) → IsScriptOf lines.now other → IsScriptOf lines.now bytes.items) }
+    ensures spelled { (line : Line) (raw : List ℕ) → Spells line raw
+        → Spells line (line_text line) }
+    ensures again { IfOk result (λ bytes. (other : List ℕ) → IsScriptOf lines.now other
+        → IsScriptOf lines.now bytes.items) }
 {
     let bytes = written(alloc, lines.as_slice())?;
     Ok(bytes)

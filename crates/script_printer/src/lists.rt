@@ -25,7 +25,8 @@ pub(crate) fn put_list<E: Writable>(
     word: &[u8],
     values: &[E::Value],
 ) -> Result<(), AllocError>
-    ensures { OnOk result (out.new.items ≡ out.old.items ++ listed_text word.now E.text values.now) }
+    ensures { OnOk result (out.new.items ≡ out.old.items
+        ++ listed_text word.now E.text values.now) }
 {
     let mut front = word;
     for value in values {

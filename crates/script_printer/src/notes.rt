@@ -24,14 +24,16 @@ fn kind_word(body: &Body) -> &'static [u8]
 
 /// Adds the word of the type that a notification's body is of.
 fn put_kind(out: &mut Vec<u8>, body: &Body) -> Result<(), AllocError>
-    ensures { OnOk result (out.new.items ≡ out.old.items ++ note_kind_text (note_kind_of body.now)) }
+    ensures { OnOk result (out.new.items ≡ out.old.items
+        ++ note_kind_text (note_kind_of body.now)) }
 {
     put(out, kind_word(body))
 }
 
 /// Adds an event time: always where it is asked for, and else where it is known.
 fn put_time(alloc: Global, out: &mut Vec<u8>, time: &i64, always: bool) -> Result<(), AllocError>
-    ensures { OnOk result (out.new.items ≡ out.old.items ++ (if always then given_time_text else known_time_text (codes " time=")) time.now) }
+    ensures { OnOk result (out.new.items ≡ out.old.items
+        ++ (if always then given_time_text else known_time_text (codes " time=")) time.now) }
 {
     if always {
         put_word_signed(alloc, out, b" time=", *time)
@@ -48,7 +50,8 @@ fn put_heading(
     note: &Notification,
     always: bool,
 ) -> Result<(), AllocError>
-    ensures { OnOk result (out.new.items ≡ out.old.items ++ heading_text_by (if always then given_time_text else known_time_text (codes " time=")) (heading_part note.now)) }
+    ensures { OnOk result (out.new.items ≡ out.old.items ++ heading_text_by (if always then
+        given_time_text else known_time_text (codes " time=")) (heading_part note.now)) }
 {
     put_labelled(alloc, out, b" type=", &Piece::Hex(note.event_type))?;
     put_labelled(alloc, out, b" obj=", &Piece::Quoted(note.object.as_slice()))?;
@@ -77,7 +80,8 @@ fn put_security(
     user: &Value,
     provider: &Value,
 ) -> Result<(), AllocError>
-    ensures { OnOk result (out.new.items ≡ out.old.items ++ body_text (Body.Security cause severity detector.now user.now provider.now)) }
+    ensures { OnOk result (out.new.items ≡ out.old.items
+        ++ body_text (Body.Security cause severity detector.now user.now provider.now)) }
 {
     put_labelled(alloc, out, b" cause=", &Piece::Number(u64::from(cause)))?;
     put_labelled(alloc, out, b" sev=", &Piece::Number(u64::from(severity)))?;
@@ -98,7 +102,8 @@ fn put_objects(
     source: u16,
     attrs: &[Pair],
 ) -> Result<(), AllocError>
-    ensures { OnOk result (out.new.items ≡ out.old.items ++ body_text (Body.Objects source attrs.now)) }
+    ensures { OnOk result (out.new.items ≡ out.old.items
+        ++ body_text (Body.Objects source attrs.now)) }
 {
     put(out, b" source=")?;
     put_number(alloc, out, u64::from(source))?;
@@ -114,7 +119,8 @@ fn put_attributes(
     source: u16,
     changes: &[Change],
 ) -> Result<(), AllocError>
-    ensures { OnOk result (out.new.items ≡ out.old.items ++ body_text (Body.Attributes source changes.now)) }
+    ensures { OnOk result (out.new.items ≡ out.old.items
+        ++ body_text (Body.Attributes source changes.now)) }
 {
     put(out, b" source=")?;
     put_number(alloc, out, u64::from(source))?;
@@ -130,7 +136,8 @@ fn put_states(
     source: u16,
     changes: &[StateChange],
 ) -> Result<(), AllocError>
-    ensures { OnOk result (out.new.items ≡ out.old.items ++ body_text (Body.States source changes.now)) }
+    ensures { OnOk result (out.new.items ≡ out.old.items
+        ++ body_text (Body.States source changes.now)) }
 {
     put(out, b" source=")?;
     put_number(alloc, out, u64::from(source))?;

@@ -52,7 +52,8 @@ pub(crate) fn put_stream(
 #[tactic(auto, using(crate::proofs::Chain::chained))]
 fn put_format(out: &mut Vec<u8>, expr: &[u8]) -> Result<(), AllocError>
     ensures { OnOk result (out.new.items ≡ out.old.items
-        ++ unless_text (λ text. bytes_eq text (default_format kinds.Application)) (codes " fmt=") quoted_text expr.now) }
+        ++ unless_text (λ text. bytes_eq text (default_format kinds.Application)) (codes " fmt=")
+        quoted_text expr.now) }
 {
     if expr == default_format(StreamKind::Application) {
         return Ok(());
@@ -96,7 +97,8 @@ pub(crate) fn put_create(
     out: &mut Vec<u8>,
     create: &Option<StreamAttrs>,
 ) -> Result<(), AllocError>
-    ensures { OnOk result (out.new.items ≡ out.old.items ++ maybe_text (codes " create file=") attrs_text create.now) }
+    ensures { OnOk result (out.new.items ≡ out.old.items
+        ++ maybe_text (codes " create file=") attrs_text create.now) }
 {
     let Some(attrs) = create else {
         return Ok(());
@@ -184,7 +186,8 @@ fn put_option(
     option: &[u8],
     piece: &Piece,
 ) -> Result<(), AllocError>
-    ensures { OnOk result (out.new.items ≡ out.old.items ++ (stream.now ++ option.now ++ piece_text piece.now)) }
+    ensures { OnOk result (out.new.items ≡ out.old.items
+        ++ (stream.now ++ option.now ++ piece_text piece.now)) }
 {
     put(out, stream)?;
     put(out, option)?;
@@ -200,7 +203,8 @@ fn put_option_number(
     option: &[u8],
     given: Option<u64>,
 ) -> Result<(), AllocError>
-    ensures { OnOk result (out.new.items ≡ out.old.items ++ maybe_text (stream.now ++ option.now) decimal given) }
+    ensures { OnOk result (out.new.items ≡ out.old.items
+        ++ maybe_text (stream.now ++ option.now) decimal given) }
 {
     match given {
         Some(value) => put_option(alloc, out, stream, option, &Piece::Number(value)),
@@ -216,7 +220,8 @@ fn put_option_number32(
     option: &[u8],
     given: Option<u32>,
 ) -> Result<(), AllocError>
-    ensures { OnOk result (out.new.items ≡ out.old.items ++ maybe_text (stream.now ++ option.now) decimal given) }
+    ensures { OnOk result (out.new.items ≡ out.old.items
+        ++ maybe_text (stream.now ++ option.now) decimal given) }
 {
     match given {
         Some(value) => put_option(alloc, out, stream, option, &Piece::Number(u64::from(value))),
@@ -232,7 +237,8 @@ fn put_option_text(
     option: &[u8],
     given: &Option<Text>,
 ) -> Result<(), AllocError>
-    ensures { OnOk result (out.new.items ≡ out.old.items ++ maybe_text (stream.now ++ option.now) quoted_text given.now) }
+    ensures { OnOk result (out.new.items ≡ out.old.items
+        ++ maybe_text (stream.now ++ option.now) quoted_text given.now) }
 {
     match given {
         Some(value) => put_option(alloc, out, stream, option, &Piece::Quoted(value.as_slice())),
@@ -248,7 +254,8 @@ fn put_option_full(
     option: &[u8],
     given: Option<FullAction>,
 ) -> Result<(), AllocError>
-    ensures { OnOk result (out.new.items ≡ out.old.items ++ maybe_text (stream.now ++ option.now) full_action_text given) }
+    ensures { OnOk result (out.new.items ≡ out.old.items
+        ++ maybe_text (stream.now ++ option.now) full_action_text given) }
 {
     match given {
         Some(value) => put_option(alloc, out, stream, option, &Piece::Word(full_word(value))),

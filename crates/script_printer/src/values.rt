@@ -82,7 +82,8 @@ pub(crate) fn put_pair(alloc: Global, out: &mut Vec<u8>, pair: &Pair) -> Result<
 /// Adds the value before a change, where it is known.
 #[tactic(auto, using(crate::proofs::Chain::chained))]
 fn put_before(alloc: Global, out: &mut Vec<u8>, before: &Option<Value>) -> Result<(), AllocError>
-    ensures { OnOk result (out.new.items ≡ out.old.items ++ maybe_text (codes "<") value_text before.now) }
+    ensures { OnOk result (out.new.items ≡ out.old.items
+        ++ maybe_text (codes "<") value_text before.now) }
 {
     let Some(value) = before else {
         return Ok(());

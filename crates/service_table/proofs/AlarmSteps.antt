@@ -1,6 +1,6 @@
 -- The stored alarms after one more call are what the call makes of those stored before.
 use Rattle.std.proofs.Common.{◌≡◌, ℕ, zero, suc, ◌+◌, ◌-◌, ◌*◌, ◌/◌, ◌<◌, ◌≤◌, nat_le, Bool, true, false, cond, List, [], ◌∷◌, ◌++◌, length, refl, ap, sym, ◌∙◌, arith}
-use Rattle.std.specs.Prelude.{Option, Some, None, option_map, ℤ, filter}
+use Rattle.std.specs.Prelude.{Option, Some, None, option_map, ℤ}
 use Rattle.std.specs.Option.{option_map_or}
 use Rattle.std.specs.List.{cons_option}
 use Rattle.std.proofs.Math.Nat.{mul-le-mul_left, mul-le-mul_right}
@@ -16,15 +16,13 @@ use Rattle.stream_config.specs.declared.attrs.StreamName.TheVariants as name
 use Rattle.stream_config.specs.Equality.{same_name}
 use Rattle.stream_config.specs.Sizes.{records_per_file}
 use Rattle.record_print.specs.declared.record.LogRecord.{LogRecord}
-use Rattle.ntf_types.specs.declared.notification.Notification.{Notification}
 use Rattle.alarm_view.specs.declared.alarm.KeptAlarm.{KeptAlarm}
 use Rattle.alarm_view.specs.Alarms.{kept_alarm, from_record}
 use Rattle.calls.specs.declared.call.Call.{Call}
 use Rattle.calls.specs.declared.call.Call.TheVariants.{LogInit, LogOpen, LogWrite, LogClose, LogFini, NtfInit, NtfSend, NtfSubscribe, NtfUnsubscribe, ReaderStart, ReaderRead, ReaderEnd, NtfFini}
 use Rattle.log_history.specs.Changes.{LogChange}
 use Rattle.log_history.specs.Changes.{LogChange as log}
-use Rattle.log_history.specs.Chronicle.{Stream, chronicle}
-use Rattle.log_history.specs.Answers.{living_stream}
+use Rattle.log_history.specs.Chronicle.{chronicle}
 use Rattle.log_history.specs.Table.{OpenStream, open_stream, table}
 use Rattle.log_history.proofs.TableLaws.{find-living}
 use Rattle.ntf_history.specs.Changes.{NtfChange}
@@ -33,7 +31,7 @@ use Rattle.ntf_history.specs.StoredAlarms.{is_alarm, alarms_sent, stored_alarms}
 use Rattle.ntf_history.proofs.AlarmLaws.{stored-later}
 use Rattle.plain_service.specs.Setups.{Setup, log_setup}
 use Rattle.plain_service.specs.Pasts.{Past}
-use Rattle.plain_service.specs.Alarms.{taken_by, first_in, first_standing, alarms_stored}
+use Rattle.plain_service.specs.Alarms.{first_in, first_standing, alarms_stored}
 use Rattle.plain_service.specs.Changing.{log_change, ntf_change, if_ok, past_after}
 use Rattle.plain_service.proofs.WellKnown.{stored_in, well_known, living-alarm, taken-alarm}
 use Rattle.service_table.specs.Steps.{standing_from, alarms_with, alarms_after}

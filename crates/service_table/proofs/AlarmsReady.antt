@@ -1,10 +1,7 @@
 -- The stored alarms stay those of records that were stored and ids that were given.
-use Rattle.std.proofs.Common.{◌≡◌, ℕ, ◌+◌, ◌<◌, ◌≤◌, nat_le, Bool, true, false, cond, List, [], ◌∷◌, ◌++◌, length, refl, ap, sym, ◌∙◌, arith}
+use Rattle.std.proofs.Common.{◌≡◌, ℕ, ◌<◌, ◌≤◌, nat_le, Bool, true, false, cond, List, [], ◌∷◌, ◌++◌, refl, arith}
 use Rattle.std.specs.Prelude.{Option, Some, None}
 use Rattle.std.specs.List.{AllByRecursion}
-use Rattle.record_print.specs.declared.record.LogRecord.{LogRecord}
-use Rattle.stream_config.specs.declared.attrs.StreamName.{StreamName}
-use Rattle.stream_config.specs.declared.attrs.StreamName.TheVariants as name
 use Rattle.ntf_types.specs.declared.notification.Body.{Body}
 use Rattle.ntf_types.specs.declared.notification.Body.TheVariants.{Objects, Attributes, States, Alarm, Security}
 use Rattle.ntf_types.specs.declared.notification.Notification.{Notification}
@@ -14,8 +11,8 @@ use Rattle.log_history.specs.Table.{OpenStream}
 use Rattle.ntf_history.specs.Changes.{NtfChange}
 use Rattle.ntf_history.specs.Changes.NtfChange.{Began, Ended, Subscribed, Unsubscribed, Sent, Receipted}
 use Rattle.ntf_history.specs.StoredAlarms.{is_alarm}
-use Rattle.service_table.specs.Steps.{standing_from, alarms_with}
-use Rattle.service_table.specs.Ready.{IsReadyStream, IsAlarmFirst, alarm_count, IsReadyAlarm}
+use Rattle.service_table.specs.Steps.{alarms_with}
+use Rattle.service_table.specs.Ready.{IsReadyStream, alarm_count, IsReadyAlarm}
 use Rattle.service_table.proofs.FileSteps.{all-append, all-weaker}
 use Rattle.service_table.proofs.LogSteps.{all-filtered}
 

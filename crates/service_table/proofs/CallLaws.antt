@@ -1,17 +1,15 @@
 -- What the parts ask of their calls, and what each call makes of the whole.
-use Rattle.std.proofs.Common.{◌≡◌, ◌≢◌, ℕ, ◌+◌, ◌<◌, ◌≤◌, Bool, true, false, cond, List, [], ◌∷◌, map, refl, ap, sym, ◌∙◌, subst, arith, leb→le}
-use Rattle.std.specs.Prelude.{Option, Some, None, ℤ, pos, negsuc, unsigned_abs}
+use Rattle.std.proofs.Common.{◌≡◌, ◌≢◌, ℕ, ◌<◌, ◌≤◌, Bool, true, false, cond, List, [], ◌∷◌, refl, ap, sym, subst, arith, leb→le}
+use Rattle.std.specs.Prelude.{Some, ℤ, pos, negsuc}
 use Rattle.std.specs.Option.{option_map_or}
-use Rattle.std.specs.List.{find, AllByRecursion}
+use Rattle.std.specs.List.{AllByRecursion}
 use Rattle.ais_values.specs.declared.status.Status.{Status}
 use Rattle.ais_values.specs.declared.status.Status.TheVariants as status
 use Rattle.stream_config.specs.declared.attrs.StreamName.{StreamName}
 use Rattle.stream_config.specs.declared.event.StreamEvent.{StreamEvent}
 use Rattle.stream_layout.specs.Carrying.{IsFitEvent}
-use Rattle.client_set.specs.Rising.{without}
 use Rattle.calls.specs.declared.call.Call.{Call}
 use Rattle.calls.specs.declared.call.Call.TheVariants.{LogInit, LogOpen, LogWrite, LogClose, LogFini, NtfInit, NtfSend, NtfSubscribe, NtfUnsubscribe, ReaderStart, ReaderRead, ReaderEnd, NtfFini}
-use Rattle.calls.specs.declared.saved.SavedReader.{SavedReader}
 use Rattle.log_history.specs.Changes.{LogChange}
 use Rattle.log_history.specs.Times.{second_of}
 use Rattle.log_history.specs.Table.{OpenStream, LogTable, is_named, table_after, events_of}
@@ -23,11 +21,10 @@ use Rattle.ntf_service.specs.State.{IsKeyAbove}
 use Rattle.plain_service.specs.Setups.{IsMoment}
 use Rattle.plain_service.specs.Changing.{if_ok}
 use Rattle.service_table.specs.declared.caller.ClientWindow.{ClientWindow}
-use Rattle.service_table.specs.Tables.{ServiceTable, is_reader_for}
-use Rattle.service_table.specs.Answering.{status_in}
-use Rattle.service_table.specs.Steps.{log_change_in, ntf_change_in, logged, notified, alarms_after, readers_after, where_ok, window_for, changed, events_in}
-use Rattle.service_table.specs.Ready.{IsReadyStream, IsReadySub, IsReadyLog, IsReady}
-use Rattle.service_table.specs.Conditions.{CanCallLog, CanCall, with_log, with_readers}
+use Rattle.service_table.specs.Tables.{ServiceTable}
+use Rattle.service_table.specs.Steps.{log_change_in, logged, notified, window_for, changed}
+use Rattle.service_table.specs.Ready.{IsReadyStream, IsReadySub, IsReady}
+use Rattle.service_table.specs.Conditions.{CanCallLog, CanCall, with_log}
 use Rattle.service_table.proofs.LogSteps.{CanChange, second_in}
 use Rattle.service_table.proofs.EventsFit.{events-fit}
 use Rattle.service_table.proofs.NtfReady.{can-send}

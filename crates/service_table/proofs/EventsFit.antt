@@ -1,16 +1,13 @@
 -- Each event that a change of the log brings to a stream can happen to it, so that its deeds are defined.
-use Rattle.std.proofs.Common.{◌≡◌, ℕ, suc, ◌+◌, ◌*◌, ◌<◌, ◌≤◌, Bool, true, false, not, cond, List, [], ◌∷◌, length, map, refl, ap, sym, subst, ◌∙◌, arith, le→leb, leb→le}
-use Rattle.std.specs.Prelude.{Option, Some, None, is_some, ℤ, pos, negsuc, ◌≤ℤ◌, IfSome, All}
+use Rattle.std.proofs.Common.{◌≡◌, ℕ, ◌+◌, ◌<◌, ◌≤◌, Bool, true, false, cond, List, [], ◌∷◌, length, refl, subst, arith, le→leb, leb→le}
+use Rattle.std.specs.Prelude.{Option, Some, None, is_some, ℤ, pos, negsuc, IfSome, All}
 use Rattle.std.specs.Option.{option_map_or}
-use Rattle.std.specs.List.{find, AllByRecursion}
+use Rattle.std.specs.List.{AllByRecursion}
 use Rattle.std.proofs.lemmas.List.{length-map}
 use Rattle.std.proofs.lemmas.List.Elements.{All-nil, All-cons}
-use Rattle.stream_config.specs.declared.attrs.StreamAttrs.{StreamAttrs}
 use Rattle.stream_config.specs.declared.attrs.StreamName.{StreamName}
 use Rattle.stream_config.specs.declared.event.Stamps.{Stamps}
-use Rattle.stream_config.specs.declared.event.StreamEvent.{StreamEvent}
 use Rattle.stream_config.specs.declared.event.StreamEvent.TheVariants as event
-use Rattle.stream_config.specs.Attributes.{kind_of, PassesAttrs}
 use Rattle.stream_config.specs.Fit.{stamps_of, changes_file}
 use Rattle.stream_config.specs.Sizes.{records_per_file}
 use Rattle.stream_config.specs.Stamps.{stamp_after}
@@ -20,7 +17,7 @@ use Rattle.record_print.proofs.LineLaws.{length-printed_record}
 use Rattle.format_expr.specs.Reading.{pieces_of}
 use Rattle.log_history.specs.Changes.{LogChange, Began, Opened, Stored, Closed, Ended}
 use Rattle.log_history.specs.Answers.{holds_all}
-use Rattle.log_history.specs.Table.{OpenStream, LogTable, is_named, new_state, without_opener, storing, has_nobody, ends_in, closed_streams, left_streams, events_of, opened_stream}
+use Rattle.log_history.specs.Table.{OpenStream, LogTable, is_named, without_opener, storing, has_nobody, ends_in, closed_streams, left_streams, events_of, opened_stream}
 use Rattle.log_history.specs.KeptAnswers.{kept_stream}
 use Rattle.log_history.specs.Stamps.{IsStampUpTo}
 use Rattle.log_history.proofs.SoundStreams.{room-left}

@@ -1,6 +1,6 @@
 -- The files of a living stream stay fit as a record is stored.
-use Rattle.std.proofs.Common.{◌≡◌, ℕ, zero, suc, ◌+◌, ◌-◌, ◌*◌, ◌/◌, ◌%◌, ◌<◌, ◌≤◌, min, Bool, true, false, ◌&&◌, cond, List, [], ◌∷◌, ◌++◌, length, drop, refl, ap, sym, ◌∙◌, subst, arith, append_assoc, length-append, length-drop, le→leb, leb→le}
-use Rattle.std.specs.Prelude.{Option, Some, None, is_some, is_none, ℤ, pos, negsuc, int_lt, ◌≤ℤ◌}
+use Rattle.std.proofs.Common.{◌≡◌, ℕ, zero, suc, ◌+◌, ◌-◌, ◌/◌, ◌<◌, ◌≤◌, min, Bool, true, false, ◌&&◌, cond, List, [], ◌∷◌, ◌++◌, length, drop, refl, ap, sym, ◌∙◌, subst, arith, append_assoc, length-append, length-drop, le→leb, leb→le}
+use Rattle.std.specs.Prelude.{Option, Some, None, is_some, is_none, ℤ, pos, negsuc, int_lt}
 use Rattle.std.specs.Option.{option_to_list}
 use Rattle.std.specs.List.{AllByRecursion}
 use Rattle.std.proofs.lemmas.Int.{ints}
@@ -8,14 +8,12 @@ use Rattle.stream_config.specs.declared.attrs.FullAction.{FullAction}
 use Rattle.stream_config.specs.declared.attrs.FullAction.TheVariants.{Wrap, Halt, Rotate}
 use Rattle.stream_config.specs.declared.attrs.StreamAttrs.{StreamAttrs}
 use Rattle.stream_config.specs.declared.state.LogFile.{LogFile}
-use Rattle.stream_config.specs.declared.state.StreamState.{StreamState}
-use Rattle.stream_config.specs.declared.event.Stamps.{Stamps}
-use Rattle.stream_config.specs.Events.{open_file, file_closed, last_closed, most_files, standing, files_changed, state_after}
-use Rattle.stream_config.specs.Fit.{stamps_of, rises, is_last_open, file_count, changes_file, HasFitFiles}
+use Rattle.stream_config.specs.Events.{open_file, last_closed, most_files, files_changed}
+use Rattle.stream_config.specs.Fit.{stamps_of, rises, is_last_open, file_count, changes_file}
 use Rattle.stream_config.specs.Sizes.{records_per_file}
 use Rattle.stream_config.specs.Stamps.{stamp_after}
 use Rattle.record_print.specs.declared.record.LogRecord.{LogRecord}
-use Rattle.log_history.specs.Table.{OpenStream, due_stamps, last_after_due, storing, with_stored}
+use Rattle.log_history.specs.Table.{OpenStream, last_after_due, with_stored}
 use Rattle.stream_layout.proofs.StoredBytes.{same_round, begins_round}
 use Rattle.log_history.specs.Stamps.{IsStampUpTo}
 use Rattle.log_history.proofs.StreamLaws.{some-records}

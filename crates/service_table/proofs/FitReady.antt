@@ -1,17 +1,14 @@
 -- The table of a value that is fit is ready for the next entry.
-use Rattle.std.proofs.Common.{◌≡◌, ℕ, suc, ◌+◌, ◌-◌, ◌*◌, ◌<◌, ◌≤◌, ◌==◌, nat_lt, Bool, true, false, cond, List, [], ◌∷◌, length, take, drop, map, refl, ap, sym, ◌∙◌, subst, arith, length-drop}
-use Rattle.std.specs.Prelude.{Option, Some, None, MatchOption, ℤ, pos, negsuc, unsigned_abs, ◌≤ℤ◌, slice_get, find}
+use Rattle.std.proofs.Common.{◌≡◌, ℕ, ◌+◌, ◌-◌, ◌<◌, ◌≤◌, ◌==◌, nat_lt, Bool, true, false, cond, List, [], ◌∷◌, length, take, drop, map, refl, ◌∙◌, subst, arith, length-drop}
+use Rattle.std.specs.Prelude.{Some, MatchOption, ℤ, pos, negsuc, unsigned_abs, ◌≤ℤ◌, slice_get, find}
 use Rattle.std.specs.Option.{option_map_or}
 use Rattle.std.specs.List.{AllByRecursion}
 use Rattle.std.proofs.lemmas.Bool.Decides.{nat_tests}
 use Rattle.std.proofs.lemmas.List.{length-map}
-use Rattle.stream_config.specs.declared.attrs.StreamName.{StreamName}
 use Rattle.stream_config.specs.declared.attrs.StreamName.TheVariants as name
 use Rattle.stream_config.specs.Fit.{stamps_of}
 use Rattle.client_set.specs.Rising.{IsRising, ComesFirst}
-use Rattle.sub_queue.specs.Queue.{IsSound, queue_of_parts}
-use Rattle.alarm_view.specs.declared.alarm.KeptAlarm.{KeptAlarm}
-use Rattle.alarm_view.specs.Alarms.{RiseFrom, AreInOrder}
+use Rattle.alarm_view.specs.Alarms.{RiseFrom}
 use Rattle.client_window.specs.Windows.{window_of}
 use Rattle.calls.specs.declared.saved.Saved.{Saved}
 use Rattle.calls.specs.declared.saved.SavedWindow.{SavedWindow}
@@ -21,9 +18,9 @@ use Rattle.calls.specs.declared.saved.SavedSub.{SavedSub}
 use Rattle.calls.specs.declared.saved.SavedReader.{SavedReader}
 use Rattle.log_history.specs.Stamps.{IsStampUpTo}
 use Rattle.ntf_history.specs.Tables.{HaveQueues}
-use Rattle.plain_service.specs.Fitness.{IsFit, IsFitStream, IsFitAlarm, IsFitSub, IsFitWindow, IsStanding, HasCalled, is_record_before, is_id_before}
+use Rattle.plain_service.specs.Fitness.{IsFit, IsFitStream, IsFitAlarm, IsFitSub, IsFitWindow, IsStanding, is_record_before, is_id_before}
 use Rattle.service_table.specs.declared.caller.ClientWindow.{ClientWindow}
-use Rattle.service_table.specs.Tables.{kept_window, kept_stream_of, kept_alarm_of, kept_sub_of, table_of_saved, is_window_for, reader_before, window_before}
+use Rattle.service_table.specs.Tables.{kept_window, kept_stream_of, kept_alarm_of, kept_sub_of, table_of_saved, is_window_for, window_before}
 use Rattle.service_table.specs.Steps.{window_for}
 use Rattle.service_table.specs.Ready.{IsReadyStream, IsAlarmFirst, alarm_count, IsReadySub, IsReadyAlarm, IsReadyWindow, IsReady}
 

@@ -1,25 +1,22 @@
 -- What an ok answer tells of what is kept.
-use Rattle.std.proofs.Common.{◌≡◌, ℕ, nat_lt, Bool, true, false, not, ◌&&◌, List, [], ◌∷◌, refl, ap, sym, ◌∙◌}
-use Rattle.std.specs.Prelude.{Option, Some, None, option_map, is_some, is_none, ℤ}
+use Rattle.std.proofs.Common.{◌≡◌, ℕ, nat_lt, Bool, true, false, not, [], ◌∷◌, refl, ap, sym, ◌∙◌}
+use Rattle.std.specs.Prelude.{Option, Some, None, option_map, ℤ}
 use Rattle.std.specs.Option.{option_map_or}
 use Rattle.ais_values.specs.declared.status.Status.TheVariants as status
 use Rattle.stream_config.specs.declared.attrs.StreamAttrs.{StreamAttrs}
 use Rattle.stream_config.specs.declared.attrs.StreamName.{StreamName}
-use Rattle.stream_config.specs.Attributes.{kind_of, PassesAttrs}
+use Rattle.stream_config.specs.Attributes.{kind_of}
 use Rattle.stream_config.specs.AttributeTests.{passes_attrs}
-use Rattle.stream_config.specs.Equality.{same_attrs}
 use Rattle.stream_config.proofs.AttributeLaws.{decides_attrs}
-use Rattle.record_print.specs.declared.record.Header.{Header}
 use Rattle.record_print.specs.Records.{can_write}
 use Rattle.ntf_types.specs.SoundTests.{is_sound}
-use Rattle.ntf_filters.specs.FitTests.{is_fit}
 use Rattle.client_set.specs.Members.{has}
 use Rattle.calls.specs.declared.call.Call.{Call}
 use Rattle.calls.specs.declared.call.Call.TheVariants.{LogInit, LogOpen, LogWrite, LogClose, LogFini, NtfInit, NtfSend, NtfSubscribe, NtfUnsubscribe, ReaderStart, ReaderRead, ReaderEnd, NtfFini}
 use Rattle.log_history.specs.Changes.{LogChange}
 use Rattle.log_history.specs.Changes.{LogChange as log}
 use Rattle.log_history.specs.Names.{is_application}
-use Rattle.log_history.specs.Answers.{answer, open_rows, holds_all}
+use Rattle.log_history.specs.Answers.{answer, open_rows}
 use Rattle.log_history.specs.Times.{second_of}
 use Rattle.log_history.specs.Table.{OpenStream, LogTable}
 use Rattle.log_history.specs.KeptAnswers.{kept_stream, kept_attrs, has_place, is_crowd, has_opener, is_filled, open_status, making_in}

@@ -1,13 +1,12 @@
 -- The readers after one more call are what the call makes of those before.
 use Rattle.std.proofs.Common.{◌≡◌, ℕ, ◌==◌, Bool, true, false, cond, List, [], ◌∷◌, map, refl, ap, sym, ◌∙◌}
-use Rattle.std.specs.Prelude.{Option, Some, None, option_map, ℤ}
+use Rattle.std.specs.Prelude.{Option, Some, None, option_map}
 use Rattle.std.specs.Option.{option_map_or}
 use Rattle.std.specs.List.{cons_option}
 use Rattle.ais_values.specs.declared.status.Status.{Status}
 use Rattle.ais_values.specs.declared.status.Status.TheVariants as status
 use Rattle.ntf_types.specs.declared.notification.Notification.{Notification}
 use Rattle.ntf_filters.specs.declared.filter.FilterSet.{FilterSet}
-use Rattle.alarm_view.specs.declared.alarm.KeptAlarm.{KeptAlarm}
 use Rattle.alarm_view.specs.Modes.{mode_of}
 use Rattle.alarm_view.specs.Nearest.{cursor_before, cursor_after}
 use Rattle.client_set.specs.Rising.{put, without}
@@ -23,8 +22,7 @@ use Rattle.plain_service.specs.Pasts.{Past}
 use Rattle.plain_service.specs.Alarms.{alarms_stored}
 use Rattle.plain_service.specs.Changing.{reader_change, if_ok}
 use Rattle.plain_service.specs.Values.{saved_reader}
-use Rattle.service_table.specs.Tables.{is_reader_for, reader_for, reader_before}
-use Rattle.service_table.specs.Answering.{read_in}
+use Rattle.service_table.specs.Tables.{is_reader_for, reader_before}
 use Rattle.service_table.specs.Steps.{started_at, told_alarm, readers_after, where_ok}
 use Rattle.service_table.proofs.StatusLaws.{read-kept}
 

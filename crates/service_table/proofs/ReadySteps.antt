@@ -1,14 +1,12 @@
 -- What a call or a receipt leaves is ready for the next entry.
-use Rattle.std.proofs.Common.{◌≡◌, ℕ, suc, ◌+◌, ◌*◌, ◌<◌, ◌≤◌, Bool, true, false, cond, List, [], ◌∷◌, map, refl, ap, sym, ◌∙◌, subst, arith}
+use Rattle.std.proofs.Common.{◌≡◌, ℕ, ◌+◌, ◌<◌, ◌≤◌, true, cond, List, [], ◌∷◌, map, refl, ap, ◌∙◌, arith}
 use Rattle.std.specs.Prelude.{Option, Some, None, ℤ}
 use Rattle.std.specs.Option.{option_map_or}
 use Rattle.std.specs.List.{AllByRecursion}
 use Rattle.ais_values.specs.declared.status.Status.{Status}
 use Rattle.ais_values.specs.declared.status.Status.TheVariants as status
 use Rattle.stream_config.specs.declared.attrs.StreamName.TheVariants as name
-use Rattle.record_print.specs.declared.record.LogRecord.{LogRecord}
 use Rattle.ntf_types.specs.declared.notification.Notification.{Notification}
-use Rattle.ntf_filters.specs.declared.filter.FilterSet.{FilterSet}
 use Rattle.client_set.specs.Rising.{put, IsRising, ComesFirst}
 use Rattle.client_set.proofs.RisingLaws.{IsRising-put, IsRising-without}
 use Rattle.alarm_view.specs.declared.alarm.KeptAlarm.{KeptAlarm}
@@ -24,14 +22,13 @@ use Rattle.log_history.specs.Table.{OpenStream, LogTable, table_after}
 use Rattle.ntf_history.specs.Changes.{NtfChange}
 use Rattle.ntf_history.specs.Changes.{NtfChange as ntf}
 use Rattle.ntf_history.specs.StoredAlarms.{is_alarm}
-use Rattle.ntf_history.specs.Tables.{NtfTable, HaveQueues, after_change, after_receipt}
+use Rattle.ntf_history.specs.Tables.{NtfTable, HaveQueues, after_receipt}
 use Rattle.ntf_history.specs.Rows.{start_by}
 use Rattle.plain_service.specs.Alarms.{stream_for, record_for}
-use Rattle.service_table.specs.declared.caller.ClientWindow.{ClientWindow}
 use Rattle.service_table.specs.Tables.{ServiceTable, is_reader_for, reader_for, reader_before}
 use Rattle.service_table.specs.Answering.{read_in, status_in, reply_in}
 use Rattle.service_table.specs.Steps.{taken_in, accepted_in, log_change_in, ntf_change_in, logged, notified, standing_from, alarms_with, alarms_after, started_at, told_alarm, readers_after, window_for, answered, changed, replied, after_call, after_receipt_in}
-use Rattle.service_table.specs.Ready.{IsReadyStream, IsAlarmFirst, alarm_count, IsReadyLog, IsReadyNtf, IsReadyAlarm, IsReadyWindow, AreReadyWindows, IsReady}
+use Rattle.service_table.specs.Ready.{IsReadyStream, IsAlarmFirst, alarm_count, IsReadyLog, IsReadyNtf, IsReadyAlarm, IsReadyWindow, IsReady}
 use Rattle.service_table.proofs.FileSteps.{all-weaker, later-stream}
 use Rattle.service_table.proofs.LogSteps.{second_in, ready-log, count-stored, count-is, count-grows}
 use Rattle.service_table.proofs.WindowsReady.{IsOrder-by, next-grows, next-own, ready-windows}

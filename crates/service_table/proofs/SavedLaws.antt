@@ -1,24 +1,22 @@
 -- A table and its value tell each other; the table of a history has the history's value.
-use Rattle.std.proofs.Common.{◌≡◌, ℕ, ◌+◌, List, [], ◌∷◌, length, take, map, reverse, refl, ap, sym, ◌∙◌}
-use Rattle.std.specs.Prelude.{Option}
+use Rattle.std.proofs.Common.{◌≡◌, ℕ, ◌+◌, List, [], ◌∷◌, take, map, reverse, refl, ap, sym, ◌∙◌}
 use Rattle.std.proofs.lemmas.List.{reverse-reverse}
-use Rattle.sub_queue.specs.Queue.{Queue, queue_of_parts}
-use Rattle.client_window.specs.Windows.{window_of}
+use Rattle.sub_queue.specs.Queue.{queue_of_parts}
 use Rattle.alarm_view.specs.declared.alarm.KeptAlarm.{KeptAlarm}
 use Rattle.calls.specs.declared.reply.Reply.{Reply}
 use Rattle.calls.specs.declared.entry.Entry.{Entry}
 use Rattle.calls.specs.declared.saved.Saved.{Saved}
 use Rattle.calls.specs.declared.saved.SavedWindow.{SavedWindow}
 use Rattle.calls.specs.declared.saved.SavedSub.{SavedSub}
-use Rattle.log_history.specs.Table.{OpenStream, LogTable}
+use Rattle.log_history.specs.Table.{OpenStream}
 use Rattle.ntf_history.specs.declared.subscription.Subscription.{Subscription}
 use Rattle.ntf_history.specs.Changes.{Sub, NtfChange}
 use Rattle.ntf_history.specs.Subscriptions.{subs}
-use Rattle.ntf_history.specs.Tables.{NtfTable, HaveQueues, kept_of, table_of}
-use Rattle.plain_service.specs.Setups.{Setup, log_setup}
+use Rattle.ntf_history.specs.Tables.{HaveQueues, kept_of}
+use Rattle.plain_service.specs.Setups.{Setup}
 use Rattle.plain_service.specs.Pasts.{Past}
 use Rattle.plain_service.specs.Changing.{past_of}
-use Rattle.plain_service.specs.Replies.{replies_to, next_number, callers, window_of as saved_window_of, windows_of}
+use Rattle.plain_service.specs.Replies.{replies_to, callers, window_of as saved_window_of, windows_of}
 use Rattle.plain_service.specs.Values.{saved_stream, saved_alarm, saved_sub, saved_with, saved_of, StandsFor}
 use Rattle.plain_service.proofs.ReplyLaws.{length-replies}
 use Rattle.service_table.specs.declared.caller.ClientWindow.{ClientWindow}

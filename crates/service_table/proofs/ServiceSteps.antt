@@ -1,27 +1,22 @@
 -- What is kept after one more entry of a history is what the entry makes of what was kept before.
 use Rattle.std.proofs.Common.{◌≡◌, ℕ, ◌+◌, List, [], ◌∷◌, length, map, refl, ap, sym, ◌∙◌, arith}
-use Rattle.std.specs.Prelude.{Option, ℤ}
+use Rattle.std.specs.Prelude.{ℤ}
 use Rattle.std.specs.Option.{option_map_or}
-use Rattle.ais_values.specs.declared.status.Status.{Status}
 use Rattle.stream_config.specs.declared.event.StreamEvent.{StreamEvent}
 use Rattle.alarm_view.specs.declared.alarm.KeptAlarm.{KeptAlarm}
 use Rattle.calls.specs.declared.call.Call.{Call}
-use Rattle.calls.specs.declared.reply.Reply.{Reply}
 use Rattle.calls.specs.declared.entry.Entry.{Entry}
 use Rattle.calls.specs.declared.entry.Entry.TheVariants.{Called, Receipted}
 use Rattle.calls.specs.declared.saved.SavedReader.{SavedReader}
-use Rattle.log_history.specs.Changes.{LogChange}
 use Rattle.log_history.specs.Table.{LogTable, table, events_of}
-use Rattle.ntf_history.specs.Changes.{NtfChange}
 use Rattle.ntf_history.specs.Tables.{NtfTable, table_of}
 use Rattle.ntf_history.specs.Readers.{readers}
 use Rattle.plain_service.specs.Setups.{Setup, log_setup}
-use Rattle.plain_service.specs.Pasts.{Past}
 use Rattle.plain_service.specs.Alarms.{alarms_stored}
 use Rattle.plain_service.specs.Answers.{status_of}
 use Rattle.plain_service.specs.Changing.{log_change, ntf_change, if_ok, past_of}
 use Rattle.plain_service.specs.Legal.{IsHistory}
-use Rattle.plain_service.specs.Replies.{reply_of, reply_after, callers}
+use Rattle.plain_service.specs.Replies.{reply_of, callers}
 use Rattle.log_history.specs.Deeds.{deeds_of_all}
 use Rattle.plain_service.specs.Storing.{events_by, deeds_of}
 use Rattle.plain_service.specs.Values.{saved_reader}

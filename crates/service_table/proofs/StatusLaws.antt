@@ -2,21 +2,16 @@
 use Rattle.std.proofs.Common.{◌≡◌, ℕ, nat_le, List, length, map, refl, ap, ◌∙◌}
 use Rattle.std.specs.Prelude.{Option, Some, None, option_map, is_some, is_none, ℤ}
 use Rattle.std.specs.Option.{option_map_or}
-use Rattle.std.specs.List.{find}
 use Rattle.std.proofs.lemmas.List.{length-map}
-use Rattle.ais_values.specs.declared.status.Status.{Status}
 use Rattle.stream_config.specs.declared.attrs.StreamName.{StreamName}
 use Rattle.ntf_types.specs.declared.notification.Notification.{Notification}
 use Rattle.ntf_types.specs.SoundTests.{is_sound}
 use Rattle.ntf_filters.specs.declared.filter.FilterSet.{FilterSet}
-use Rattle.client_set.specs.Members.{has}
 use Rattle.alarm_view.specs.declared.alarm.KeptAlarm.{KeptAlarm}
 use Rattle.alarm_view.specs.Modes.{mode_of}
 use Rattle.calls.specs.declared.call.Call.{Call}
 use Rattle.calls.specs.declared.call.Call.TheVariants.{LogInit, LogOpen, LogWrite, LogClose, LogFini, NtfInit, NtfSend, NtfSubscribe, NtfUnsubscribe, ReaderStart, ReaderRead, ReaderEnd, NtfFini}
-use Rattle.calls.specs.declared.reply.Reply.{Reply}
 use Rattle.calls.specs.declared.entry.Entry.{Entry}
-use Rattle.calls.specs.declared.saved.SavedReader.{SavedReader}
 use Rattle.log_history.specs.Answers as log
 use Rattle.log_history.specs.Chronicle.{Stream, chronicle}
 use Rattle.log_history.specs.Legal.{IsLogHistory}
@@ -26,7 +21,6 @@ use Rattle.log_history.proofs.FirstLaws.{find-map}
 use Rattle.log_history.proofs.TableLaws.{find-living}
 use Rattle.log_history.proofs.KeptLaws as kept
 use Rattle.ntf_history.specs.Changes as ntf
-use Rattle.ntf_history.specs.Tables.{table_of}
 use Rattle.ntf_history.specs.Readers.{Reader, ReaderChange, reader_of, is_reader_of, readers}
 use Rattle.ntf_history.specs.Rows.{answer, start_by, read_by}
 use Rattle.ntf_history.proofs.FitLaws.{has-users}
@@ -38,7 +32,7 @@ use Rattle.plain_service.specs.Alarms.{stream_for, alarms_stored, taken_by}
 use Rattle.plain_service.specs.Answers.{status_of}
 use Rattle.plain_service.specs.Replies.{found_reply, reply_by, ok_reply, reply_after}
 use Rattle.plain_service.specs.Values.{saved_reader}
-use Rattle.service_table.specs.Tables.{ServiceTable, is_reader_for, reader_for}
+use Rattle.service_table.specs.Tables.{is_reader_for, reader_for}
 use Rattle.service_table.specs.Answering.{send_by, start_rows_by, read_rows_by, stop_rows_by, read_in, status_in, told_in, reply_in}
 use Rattle.service_table.specs.Steps.{taken_in}
 use Rattle.service_table.specs.Histories.{table_with}

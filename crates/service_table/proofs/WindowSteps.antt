@@ -1,6 +1,6 @@
 -- The windows after one more call: the client's has one reply more, and the others are as they were.
 use Rattle.std.proofs.Common.{◌≡◌, ℕ, ◌+◌, ◌==◌, nat_lt, Bool, true, false, ◌||◌, cond, List, [], ◌∷◌, length, take, map, refl, ap, sym, ◌∙◌, arith}
-use Rattle.std.specs.Prelude.{Option, Some, None, ℤ, find}
+use Rattle.std.specs.Prelude.{Some, ℤ, find}
 use Rattle.std.specs.Option.{option_map_or}
 use Rattle.std.proofs.lemmas.Bool.Decides.{nat_tests}
 use Rattle.client_set.specs.Members.{has}

@@ -1,10 +1,10 @@
 -- The windows of clients stay in order as one has a reply more, and no client's next number falls.
-use Rattle.std.proofs.Common.{◌≡◌, ℕ, ◌+◌, ◌<◌, ◌≤◌, ◌==◌, nat_lt, Bool, true, false, cond, List, [], ◌∷◌, refl, ap, sym, ◌∙◌, subst, arith}
-use Rattle.std.specs.Prelude.{Option, Some, None, find}
+use Rattle.std.proofs.Common.{◌≡◌, ℕ, ◌+◌, ◌≤◌, ◌==◌, nat_lt, Bool, true, false, cond, List, [], ◌∷◌, refl, ap, sym, ◌∙◌, subst, arith}
+use Rattle.std.specs.Prelude.{Option, Some, find}
 use Rattle.std.specs.Option.{option_map_or}
 use Rattle.std.specs.List.{AllByRecursion}
 use Rattle.std.proofs.lemmas.Bool.Decides.{nat_tests}
-use Rattle.client_set.specs.Rising.{put, without, IsRising, IsOrder}
+use Rattle.client_set.specs.Rising.{put, without, IsOrder}
 use Rattle.client_set.proofs.RisingLaws.{IsRising-put}
 use Rattle.client_window.specs.Windows.{Kept, window_of}
 use Rattle.calls.specs.declared.reply.Reply.{Reply}

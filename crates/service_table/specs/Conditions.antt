@@ -1,11 +1,10 @@
 -- Words of bodies alone: what the calls of the parts ask of what is kept.
 use Rattle.std.specs.Prelude.{ℕ, ◌<◌, ℤ, List}
 use Rattle.std.specs.List.{AllByRecursion}
-use Rattle.ntf_service.specs.State.{CanSendMore, HaveNumbersLeft, IsKeyAbove}
+use Rattle.ntf_service.specs.State.{CanSendMore, IsKeyAbove}
 use Rattle.calls.specs.declared.saved.SavedReader.{SavedReader}
-use Rattle.log_history.specs.Table.{OpenStream, LogTable}
+use Rattle.log_history.specs.Table.{LogTable}
 use Rattle.plain_service.specs.Setups.{IsMoment}
-use Rattle.service_table.specs.declared.caller.ClientWindow.{ClientWindow}
 use Rattle.service_table.specs.Tables.{ServiceTable}
 use Rattle.service_table.specs.Ready.{alarm_count, IsReadyLog, IsReadyAlarm}
 

@@ -8,7 +8,6 @@ use Rattle.client_set.specs.Rising.{IsRising}
 use Rattle.sub_queue.specs.Queue.{next_number}
 use Rattle.alarm_view.specs.declared.alarm.KeptAlarm.{KeptAlarm}
 use Rattle.alarm_view.specs.Alarms.{AreInOrder}
-use Rattle.calls.specs.declared.saved.SavedReader.{SavedReader}
 use Rattle.log_history.specs.Table.{OpenStream, LogTable}
 use Rattle.ntf_history.specs.declared.subscription.Subscription.{Subscription}
 use Rattle.ntf_history.specs.Tables.{NtfTable, HaveQueues}

@@ -1,5 +1,5 @@
 -- Words of bodies alone: what a service keeps, part by part, and the value that it stands for.
-use Rattle.std.specs.Prelude.{ℕ, pos, unsigned_abs, ◌==◌, nat_lt, Bool, List, map, reverse, Option, None, Some, find}
+use Rattle.std.specs.Prelude.{ℕ, pos, unsigned_abs, ◌==◌, nat_lt, Bool, List, map, reverse, Option, find}
 use Rattle.client_window.specs.Windows.{Kept}
 use Rattle.alarm_view.specs.declared.alarm.KeptAlarm.{KeptAlarm}
 use Rattle.alarm_view.specs.declared.cursor.Cursor.{Cursor}

@@ -37,8 +37,10 @@ fn put_line(text: &mut Vec<u8>, word: &[u8], value: &[u8]) -> Result<(), AllocEr
 
 /// Adds a line whose value is a number.
 fn put_number(text: &mut Vec<u8>, word: &[u8], value: u64) -> Result<(), AllocError>
-    ensures line { OnOk result (text.new.items ≡ text.old.items ++ cfg_line word.now (decimal value)) }
-    ensures length { OnOk result (length text.new.items ≤ length text.old.items + length word.now + 43) }
+    ensures line { OnOk result (text.new.items ≡ text.old.items
+        ++ cfg_line word.now (decimal value)) }
+    ensures length { OnOk result (length text.new.items
+        ≤ length text.old.items + length word.now + 43) }
 {
     let mut buffer = Buffer::new();
     put_line(text, word, buffer.format(value).as_bytes())?;

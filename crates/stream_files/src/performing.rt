@@ -16,11 +16,14 @@ use stream_layout::Deed;
 /// those after some calls from the front, fewer than all. What is said speaks of the files that the disk
 /// tells; how many calls it was asked for is no part of it.
 pub fn perform<D: SharedDisk>(disk: &mut D, deeds: &Seq<Deed>) -> Result<(), DiskAnswer>
-    ensures done { OnOk result (D.files disk.new ≡ option_map (all_applied (calls_of_all deeds.now)) (D.files disk.old)) }
+    ensures done { OnOk result (D.files disk.new
+        ≡ option_map (all_applied (calls_of_all deeds.now)) (D.files disk.old)) }
     ensures memory { IsErrOf result DiskAnswer.Memory →
-        (count : ℕ) × LacksMemoryAfter (calls_of_all deeds.now) count (D.files disk.old) (D.files disk.new) }
+        (count : ℕ) × LacksMemoryAfter (calls_of_all deeds.now) count (D.files disk.old)
+        (D.files disk.new) }
     ensures failed { IsErrOf result DiskAnswer.Failed →
-        (count : ℕ) × FailsAfter (calls_of_all deeds.now) count (D.files disk.old) (D.files disk.new) }
+        (count : ℕ) × FailsAfter (calls_of_all deeds.now) count (D.files disk.old)
+        (D.files disk.new) }
     ensures cause { HasCauseOf (D.faults disk.old) (D.faults disk.new) result DiskAnswer.Failed }
 {
     for deed in deeds.as_slice() {
@@ -46,7 +49,8 @@ fn perform_one<D: SharedDisk>(disk: &mut D, deed: &Deed) -> Result<(), DiskAnswe
 }
 
 fn put<D: SharedDisk>(disk: &mut D, name: &Text, bytes: &Text) -> Result<(), DiskAnswer>
-    ensures performs { Performs (CallCreate name.now ∷ CallWrite name.now 0 bytes.now ∷ CallSync name.now ∷ [])
+    ensures performs { Performs (CallCreate name.now ∷ CallWrite name.now 0 bytes.now
+        ∷ CallSync name.now ∷ [])
         result (D.files disk.old) (D.files disk.new) }
     ensures cause { HasCauseOf (D.faults disk.old) (D.faults disk.new) result DiskAnswer.Failed }
 {
@@ -57,7 +61,8 @@ fn put<D: SharedDisk>(disk: &mut D, name: &Text, bytes: &Text) -> Result<(), Dis
 }
 
 fn create<D: SharedDisk>(disk: &mut D, name: &Text) -> Result<(), DiskAnswer>
-    ensures performs { Performs (CallCreate name.now ∷ []) result (D.files disk.old) (D.files disk.new) }
+    ensures performs { Performs (CallCreate name.now
+        ∷ []) result (D.files disk.old) (D.files disk.new) }
     ensures cause { HasCauseOf (D.faults disk.old) (D.faults disk.new) result DiskAnswer.Failed }
 {
     disk.create(name.as_slice())
@@ -80,14 +85,16 @@ fn write_and_sync<D: SharedDisk>(
 }
 
 fn rename<D: SharedDisk>(disk: &mut D, from: &Text, to: &Text) -> Result<(), DiskAnswer>
-    ensures performs { Performs (CallRename from.now to.now ∷ []) result (D.files disk.old) (D.files disk.new) }
+    ensures performs { Performs (CallRename from.now to.now
+        ∷ []) result (D.files disk.old) (D.files disk.new) }
     ensures cause { HasCauseOf (D.faults disk.old) (D.faults disk.new) result DiskAnswer.Failed }
 {
     disk.rename(from.as_slice(), to.as_slice())
 }
 
 fn remove<D: SharedDisk>(disk: &mut D, name: &Text) -> Result<(), DiskAnswer>
-    ensures performs { Performs (CallRemove name.now ∷ []) result (D.files disk.old) (D.files disk.new) }
+    ensures performs { Performs (CallRemove name.now
+        ∷ []) result (D.files disk.old) (D.files disk.new) }
     ensures cause { HasCauseOf (D.faults disk.old) (D.faults disk.new) result DiskAnswer.Failed }
 {
     disk.remove(name.as_slice())

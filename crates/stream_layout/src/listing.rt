@@ -64,7 +64,8 @@ fn close(
     requires stamps { HasStamps current }
     requires closed { IsStamp closed }
     ensures { IfOk result (λ done. done
-        ≡ deed.Rename (log_name attrs.now current) (log_name attrs.now (file_closed closed current))) }
+        ≡ deed.Rename (log_name attrs.now current)
+        (log_name attrs.now (file_closed closed current))) }
 {
     let from = name_of(alloc, attrs, current)?;
     let to = file_name(alloc, attrs, current.created, Some(closed))?;
@@ -83,7 +84,8 @@ fn remove_oldest(
     requires some { 0 < length files.now }
     requires oldest { HasStamps (oldest_closed stamps.closed files.now) }
     ensures { IfOk result (λ gone. option_to_list gone
-        ≡ removal attrs.now (last_closed stamps.closed files.now ++ open_file stamps.created ∷ [])) }
+        ≡ removal attrs.now (last_closed stamps.closed files.now ++ open_file stamps.created
+        ∷ [])) }
 {
     if (files.len() as u64) < u64::from(attrs.rotated) {
         return Ok(None);

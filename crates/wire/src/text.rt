@@ -22,7 +22,8 @@ fn spell_counted(bytes: &[u8], out: &mut Vec<u8>) -> Result<(), AllocError>
 
 /// The first `count` bytes, which must be printable, and the rest.
 fn read_printable(bytes: &[u8], count: usize) -> Result<(&[u8], &[u8]), Fault>
-    ensures gives { GivesAlways (λ found. (found.0.now, found.1.now)) result (many_at (byte_at 32 126) count bytes.now) }
+    ensures gives { GivesAlways (λ found. (found.0.now, found.1.now)) result
+        (many_at (byte_at 32 126) count bytes.now) }
     ensures printable { IfOk result (λ found. All IsPrintable found.0.now) }
     ensures count { IfOk result (λ found. length found.0.now ≡ count) }
 {

@@ -14,10 +14,6 @@ abbrev pub with_front : {X : Type 0} → List X → Result (List X × List ℕ) 
 with_front front (Ok found) = Ok (front ++ found.0, found.1)
 with_front front (Err fault) = Err fault
 
-pub with_front-nil : {X : Type 0} (read : Result (List X × List ℕ) Fault) → with_front [] read ≡ read
-with_front-nil (Ok found) = refl
-with_front-nil (Err fault) = refl
-
 with_front-twice : {X : Type 0} (one two : List X) (read : Result (List X × List ℕ) Fault) → with_front one (with_front two read) ≡ with_front (one ++ two) read
 with_front-twice one two (Ok found) = ap (λ (xs : List _). Ok (xs, found.1)) (sym (append_assoc one two found.0))
 with_front-twice one two (Err fault) = refl
@@ -50,11 +46,6 @@ pub read_wrong : {X : Type 0} (at : At X) (items : List X) (left : ℕ) (bytes :
 read_wrong at items left bytes fault whole before some first =
     let one : left ≡ suc (left - 1) = omega arith in
     sym before ∙ ap (λ n. with_front items (many_at at n bytes)) one ∙ ap (with_front items) (many_wrong at (left - 1) bytes fault first)
-
--- all were read
-pub read_end : {X : Type 0} (at : At X) (items : List X) (left : ℕ) (bytes : List ℕ) (whole : Result (List X × List ℕ) Fault) → with_front items (many_at at left bytes) ≡ whole → left ≡ 0 → whole ≡ Ok (items, bytes)
-read_end at items left bytes whole before none =
-    sym before ∙ ap (λ n. with_front items (many_at at n bytes)) none ∙ ap (λ (xs : List _). Ok (xs, bytes)) (append-nil items)
 
 texts-append : {X : Type 0} (text : X → List ℕ) (xs ys : List X) → texts text (xs ++ ys) ≡ texts text xs ++ texts text ys
 texts-append text [] ys = refl

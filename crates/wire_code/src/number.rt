@@ -19,7 +19,8 @@ pub fn read_first(bytes: &[u8]) -> Result<(u8, &[u8]), Fault>
 /// Reads a number of two bytes from `low` to `high`.
 #[tactic(auto, unfolding(crate::specs::Reading::within_at))]
 pub fn read_within(bytes: &[u8], low: u16, high: u16) -> Result<(u16, &[u8]), Fault>
-    ensures gives { GivesAlways (λ found. (found.0, found.1.now)) result (within_at low high bytes.now) }
+    ensures gives { GivesAlways (λ found. (found.0, found.1.now)) result
+        (within_at low high bytes.now) }
     ensures range { IfOk result (λ found. IsWithin low high found.0) }
 {
     let left = bytes.len();

@@ -1,4 +1,4 @@
-use Rattle.std.proofs.Common.{◌≡◌, ◌+◌, List, ◌++◌, ◌∷◌, [], length, vec_len, ap, sym, ◌∙◌, arith}
+use Rattle.std.proofs.Common.{◌+◌, List, ◌++◌, ◌∷◌, [], ap, sym, ◌∙◌, arith}
 use Rattle.cluster_facts.specs.Types.{Callback}
 use Rattle.client_agent.specs.declared.answers.Numbered.{Numbered}
 use Rattle.std.specs.Global.{Vec}

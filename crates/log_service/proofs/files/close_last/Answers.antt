@@ -1,4 +1,4 @@
-use Rattle.std.proofs.Common.{◌≡◌, ℤ, ◌-◌, ap, ◌∙◌, sym, subst, length, get_or, set, Some, w64, arith}
+use Rattle.std.proofs.Common.{◌≡◌, ℤ, ◌-◌, ap, ◌∙◌, length, get_or, set, Some, w64, arith}
 use Rattle.std.proofs.lemmas.Int.{to_z-of_z}
 use Rattle.stream_config.specs.declared.state.LogFile.{LogFile}
 use Rattle.log_service.proofs.StreamLemmas.{set-last_closed}

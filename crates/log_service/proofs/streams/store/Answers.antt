@@ -1,8 +1,8 @@
-use Rattle.std.proofs.Common.{◌≡◌, sym, ◌∙◌, ap, subst, Some, None, refl, w64, set, [], ◌∷◌, ◌++◌, List}
+use Rattle.std.proofs.Common.{◌≡◌, sym, ◌∙◌, ap, Some, None, w64, set, [], ◌∷◌, ◌++◌, List}
 use Rattle.std.proofs.lemmas.Int.{to_z-of_z}
 use Rattle.std.specs.List.{position}
 use Rattle.stream_config.specs.declared.event.StreamEvent.{StreamEvent}
-use Rattle.log_history.specs.Table.{OpenStream, is_named}
+use Rattle.log_history.specs.Table.{is_named}
 use Rattle.log_service.proofs.PlaceLemmas.{first-is, nowhere-is, found-at, set-read, on-err}
 use Rattle.log_service.proofs.EndLemmas.{due-fits}
 use Rattle.log_service.proofs.StoreLemmas.{stores-nowhere, stores-at}

@@ -1,4 +1,4 @@
-use Rattle.std.proofs.Common.{◌≡◌, List, subst, sym, ◌∙◌}
+use Rattle.std.proofs.Common.{List, subst, sym}
 use Rattle.alarm_view.specs.declared.alarm.KeptAlarm.{KeptAlarm}
 use Rattle.alarm_view.specs.Alarms.{AreInOrder, CanAdd}
 use Rattle.alarm_view.proofs.Keeping.{AreInOrder-added}

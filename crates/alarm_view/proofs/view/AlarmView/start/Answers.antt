@@ -1,5 +1,5 @@
-use Rattle.std.proofs.Common.{◌≡◌, refl, rules}
-use Rattle.std.specs.Prelude.{Option, Some, None, reverse}
+use Rattle.std.proofs.Common.{◌≡◌, rules}
+use Rattle.std.specs.Prelude.{Some, None, reverse}
 use Rattle.alarm_view.specs.Alarms.{notifications}
 use Rattle.alarm_view.specs.Search.{starting}
 use Rattle.alarm_view.proofs.AskedLaws.{starting-found, none-found, nearest-found}

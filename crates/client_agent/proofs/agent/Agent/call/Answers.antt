@@ -1,4 +1,4 @@
-use Rattle.std.proofs.Common.{◌≡◌, List, subst, sym, ap, ◌∙◌, ◌+◌}
+use Rattle.std.proofs.Common.{List, subst, sym, ap, ◌∙◌, ◌+◌}
 use Rattle.cluster_facts.specs.Agents.{Living, living_after}
 use Rattle.client_agent.specs.declared.living.Subscription.{Subscription}
 use Rattle.client_agent.specs.Inside.{all_living, AreBelow}

@@ -1,4 +1,4 @@
-use Rattle.std.proofs.Common.{◌≡◌, suc, ◌<◌, ◌≤◌, Some, None, List, [], ◌∷◌, length, option_map, refl, subst, sym, ap, ◌∙◌, arith}
+use Rattle.std.proofs.Common.{◌≡◌, suc, ◌<◌, ◌≤◌, List, ◌∷◌, length, option_map, refl, subst, sym, ap, ◌∙◌, arith}
 use Rattle.cluster_facts.specs.Types.{Callback}
 use Rattle.cluster_facts.specs.Agents.{Living, find_living, after_item}
 use Rattle.client_agent.specs.Seen.{Seen, seen_of}

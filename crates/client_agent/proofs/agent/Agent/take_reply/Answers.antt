@@ -1,4 +1,4 @@
-use Rattle.std.proofs.Common.{◌≡◌, List, subst, sym, ap, ◌∙◌, arith}
+use Rattle.std.proofs.Common.{List, subst, sym, arith}
 use Rattle.cluster_facts.specs.Agents.{Living}
 use Rattle.client_agent.specs.Inside.{all_living, AreBelow}
 use Rattle.client_agent.proofs.Subscribed.{AreBelow-reply}

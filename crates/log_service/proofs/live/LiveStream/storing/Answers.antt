@@ -1,4 +1,4 @@
-use Rattle.std.proofs.Common.{ap, w64}
+use Rattle.std.proofs.Common.{ap}
 use Rattle.std.proofs.lemmas.Int.{to_z-of_z}
 use Rattle.stream_config.specs.declared.state.StreamState.{StreamState}
 use Rattle.stream_config.specs.declared.event.StreamEvent.TheVariants as event

@@ -1,4 +1,4 @@
-use Rattle.std.proofs.Common.{ℤ, List, length, pos, ◌≤ℤ◌, ◌≤◌, w64, refl, sym, subst, ap, ◌∙◌, arith}
+use Rattle.std.proofs.Common.{ℤ, List, pos, ◌≤ℤ◌, w64, refl, sym, subst, ap, ◌∙◌, arith}
 use Rattle.std.specs.List.{list_any}
 use Rattle.std.proofs.lemmas.Int.{to_z-of_z}
 use Rattle.log_history.specs.Table.{OpenStream, LogTable, is_named, has_nobody, without_opener, closed_streams}

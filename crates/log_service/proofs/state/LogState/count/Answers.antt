@@ -1,4 +1,4 @@
-use Rattle.std.proofs.Common.{Fits, w32, arith}
+use Rattle.std.proofs.Common.{arith}
 use Rattle.log_service.proofs.KeptLemmas.{few-bound}
 use Rattle.log_service.proofs.state.LogState.count.Goals as goal
 

@@ -1,10 +1,10 @@
-use Rattle.std.proofs.Common.{◌≡◌, rules, ℤ, List, pos, ◌≤ℤ◌, Option, w64, refl, sym, subst, ap, ◌∙◌}
+use Rattle.std.proofs.Common.{◌≡◌, rules, ℤ, pos, ◌≤ℤ◌, Option, w64, sym, subst, ap, ◌∙◌}
 use Rattle.std.specs.Option.{option_copied, ForSome}
 use Rattle.std.proofs.lemmas.Int.{to_z-of_z}
 use Rattle.ais_values.specs.declared.status.Status.TheVariants as Status
 use Rattle.stream_config.specs.Attributes.{kind_of, PassesAttrs}
 use Rattle.stream_config.specs.declared.attrs.StreamAttrs.{StreamAttrs}
-use Rattle.log_history.specs.Table.{OpenStream, LogTable}
+use Rattle.log_history.specs.Table.{LogTable}
 use Rattle.log_history.specs.KeptAnswers.{open_status, making_in}
 use Rattle.log_service.specs.declared.step.Step.{Step}
 use Rattle.log_service.specs.Kept.{table_of}

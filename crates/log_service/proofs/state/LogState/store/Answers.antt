@@ -1,7 +1,7 @@
 use Rattle.std.proofs.Common.{ℤ, List, pos, ◌≤ℤ◌, w64, refl, sym, subst, ap, ◌∙◌}
 use Rattle.std.specs.List.{list_any}
 use Rattle.std.proofs.lemmas.Int.{to_z-of_z}
-use Rattle.log_history.specs.Table.{OpenStream, LogTable, is_named, has_nobody, with_stored}
+use Rattle.log_history.specs.Table.{OpenStream, LogTable, has_nobody}
 use Rattle.log_service.specs.State.{AreFew}
 use Rattle.log_service.proofs.KeptLemmas.{AreFew-changed, busy-changed, moment-of, moment-fits}
 use Rattle.log_service.proofs.WriteLemmas.{stores-fit, stored-from}

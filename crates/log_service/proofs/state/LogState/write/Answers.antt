@@ -1,7 +1,7 @@
 use Rattle.std.proofs.Common.{◌≡◌, rules, ℤ, List, pos, ◌≤ℤ◌, w64, refl, sym, subst, ap, ◌∙◌}
 use Rattle.std.specs.List.{list_any}
 use Rattle.std.proofs.lemmas.Int.{to_z-of_z}
-use Rattle.log_history.specs.Table.{OpenStream, LogTable, is_named, has_nobody, with_stored}
+use Rattle.log_history.specs.Table.{OpenStream, LogTable, has_nobody}
 use Rattle.ais_values.specs.declared.status.Status.TheVariants as Status
 use Rattle.stream_config.specs.Attributes.{kind_of}
 use Rattle.record_print.specs.Printing.{can_print}
