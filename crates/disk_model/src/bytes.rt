@@ -24,7 +24,8 @@ pub fn grow(
 ) -> Result<(), AllocError>
     ensures ok { OnOk result ((bytes.new.items ≡ bytes.old.items ++ tail.now)
         × (loose.new.items ≡ loose.old.items ++ range ∷ [])) }
-    ensures err { OnErr result ((bytes.new.items ≡ bytes.old.items) × (loose.new.items ≡ loose.old.items)) }
+    ensures err { OnErr result ((bytes.new.items ≡ bytes.old.items)
+        × (loose.new.items ≡ loose.old.items)) }
 {
     let old = bytes.len();
     bytes.extend_from_slice(tail)?;

@@ -16,9 +16,9 @@ use std::rt::Files;
 /// The files below the folder `ais_log_root` of the current folder. It tells nothing of them.
 ///
 /// A name is the path below that folder: 1 byte or more, each from 32 to 126, its parts between slashes
-/// neither empty nor `.` nor `..`; any other name is a fault. Missing folders are made. A symbolic link and
-/// any other thing that is neither a file nor a folder is a fault, and so is a `read` or `write_at` of a file
-/// that does not stand.
+/// neither empty nor `.` nor `..`; any other name is that of no file, which `len` tells and every other call
+/// takes for a fault. Missing folders are made. A symbolic link and any other thing that is neither a file nor
+/// a folder is a fault, and so is a `read` or `write_at` of a file that does not stand.
 ///
 /// `sync` has the system write the file through to its device. `create`, `rename` and `remove` sync the
 /// folders whose names they changed, and `create` each folder above one that it made; where the system
@@ -89,7 +89,7 @@ impl<R: Files + AllocGlobal + Clone + Drop> SharedDisk for DirDisk<R> {
         let mut buffer = [0; PATH_BYTES];
         let found = match path_of(name, &mut buffer) {
             Some(path) => folders::look(&self.rt, path),
-            None => Err(io::Error::from(io::ErrorKind::InvalidFilename)),
+            None => Ok(None),
         };
         match found {
             Ok(None) => Ok(None),

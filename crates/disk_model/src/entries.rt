@@ -24,7 +24,8 @@ fn place_in(entries: &[(Text, StoredFile)], name: &[u8]) -> usize
 /// Where a name stands, or else where it would stand.
 pub fn find_in(entries: &[(Text, StoredFile)], name: &[u8]) -> Result<usize, usize>
     requires { IsTrue (is_sorted (slice_cmp nat_cmp) entries.now) }
-    ensures { MatchResult result (KeyStandsAt (slice_cmp nat_cmp) name.now entries.now) (KeyLacksAt (slice_cmp nat_cmp) name.now entries.now) }
+    ensures { MatchResult result (KeyStandsAt (slice_cmp nat_cmp) name.now entries.now)
+        (KeyLacksAt (slice_cmp nat_cmp) name.now entries.now) }
 {
     let place = place_in(entries, name);
     if place < entries.len() {
@@ -60,7 +61,8 @@ pub fn put_in(
 ) -> Result<(), AllocError>
     requires sorted { IsTrue (is_sorted (slice_cmp nat_cmp) entries.old.items) }
     requires short { IsText name.now }
-    ensures ok { OnOk result (entries.new.items ≡ put (slice_cmp nat_cmp) name.now file entries.old.items) }
+    ensures ok { OnOk result (entries.new.items
+        ≡ put (slice_cmp nat_cmp) name.now file entries.old.items) }
     ensures err { OnErr result (entries.new.items ≡ entries.old.items) }
     ensures standing { IsSome (find (slice_cmp nat_cmp) name.now entries.old.items) → IsOk result }
 {
@@ -103,7 +105,8 @@ pub fn write_in(
 ) -> Result<(), AllocError>
     requires { IsTrue (is_sorted (slice_cmp nat_cmp) entries.old.items) }
     ensures ok { OnOk result
-        (entries.new.items ≡ adjusted_in (slice_cmp nat_cmp) (file_written at bytes.now) name.now entries.old.items) }
+        (entries.new.items ≡ adjusted_in (slice_cmp nat_cmp) (file_written at bytes.now) name.now
+        entries.old.items) }
     ensures err { OnErr result (entries.new.items ≡ entries.old.items) }
 {
     match find_in(entries.as_slice(), name) {
@@ -125,7 +128,8 @@ pub fn tear_write_in(
 ) -> Result<(), AllocError>
     requires { IsTrue (is_sorted (slice_cmp nat_cmp) entries.old.items) }
     ensures ok { OnOk result
-        (entries.new.items ≡ adjusted_in (slice_cmp nat_cmp) (file_torn_by_write torn.now at bytes.now) name.now entries.old.items) }
+        (entries.new.items ≡ adjusted_in (slice_cmp nat_cmp)
+        (file_torn_by_write torn.now at bytes.now) name.now entries.old.items) }
     ensures err { OnErr result (entries.new.items ≡ entries.old.items) }
 {
     match find_in(entries.as_slice(), name) {
@@ -140,7 +144,8 @@ pub fn tear_write_in(
 /// Makes nothing of a file loose.
 pub fn sync_in(entries: &mut Vec<(Text, StoredFile)>, name: &[u8])
     requires { IsTrue (is_sorted (slice_cmp nat_cmp) entries.old.items) }
-    ensures { entries.new.items ≡ adjusted_in (slice_cmp nat_cmp) file_synced name.now entries.old.items }
+    ensures { entries.new.items ≡ adjusted_in (slice_cmp nat_cmp) file_synced name.now
+        entries.old.items }
 {
     if let Ok(place) = find_in(entries.as_slice(), name) {
         let entry = &mut entries[place];
@@ -151,7 +156,8 @@ pub fn sync_in(entries: &mut Vec<(Text, StoredFile)>, name: &[u8])
 /// Breaks a sync of a file off.
 pub fn tear_sync_in(entries: &mut Vec<(Text, StoredFile)>, name: &[u8], torn: &[u8])
     requires { IsTrue (is_sorted (slice_cmp nat_cmp) entries.old.items) }
-    ensures { entries.new.items ≡ adjusted_in (slice_cmp nat_cmp) (file_torn_by_sync torn.now) name.now entries.old.items }
+    ensures { entries.new.items ≡ adjusted_in (slice_cmp nat_cmp) (file_torn_by_sync torn.now)
+        name.now entries.old.items }
 {
     if let Ok(place) = find_in(entries.as_slice(), name) {
         let entry = &mut entries[place];

@@ -86,7 +86,10 @@ impl MemDisk {
     /// Puts a file with these bytes on the disk, of which nothing is loose. It counts as no call.
     pub fn hold(&mut self, name: &[u8], bytes: Vec<u8>) -> Result<(), AllocError>
         requires { IsText name.now }
-        ensures ok { OnOk result (self.new ≡ record self.old { files = map.insert self.old.files name.now (settled_file bytes.items) }) }
+        ensures ok { OnOk result (self.new ≡ record self.old {
+          files = map.insert self.old.files
+              name.now (settled_file bytes.items);
+        }) }
         ensures err { OnErr result (self.new ≡ self.old) }
     {
         let file = StoredFile::holding(self.alloc, bytes);
@@ -164,7 +167,8 @@ impl SharedDisk for MemDisk {
 
     fn read(&mut self, name: &[u8], at: u64, buf: &mut [u8]) -> Result<usize, DiskFault>
         ensures exact { ReadsAt result self.old self.new }
-        ensures told { IfOk result (λ count. Gives count buf.old buf.new (bytes_at self.old.files name.now at (length buf.old))) }
+        ensures told { IfOk result (λ count. Gives count buf.old buf.new
+            (bytes_at self.old.files name.now at (length buf.old))) }
         ensures cause { HasCauseOf self.old.faults self.new.faults result DiskFault.Failed }
     {
         let fails = self.read_fails();
@@ -197,8 +201,10 @@ impl SharedDisk for MemDisk {
 
     fn write_at(&mut self, name: &[u8], at: u64, bytes: &[u8]) -> Result<(), DiskAnswer>
         ensures exact { Changes result (λ f. written_at f name.now at bytes.now)
-            (λ f. adjusted (file_torn_by_write self.old.torn at bytes.now) f name.now) self.old self.new }
-        ensures left { IsErrOf result DiskAnswer.Failed → LeftByWrite name.now at bytes.now self.old.files self.new.files }
+            (λ f. adjusted (file_torn_by_write self.old.torn at bytes.now) f name.now) self.old
+            self.new }
+        ensures left { IsErrOf result DiskAnswer.Failed
+            → LeftByWrite name.now at bytes.now self.old.files self.new.files }
         ensures cause { HasCauseOf self.old.faults self.new.faults result DiskAnswer.Failed }
     {
         if self.fails() {
@@ -216,7 +222,8 @@ impl SharedDisk for MemDisk {
     fn sync(&mut self, name: &[u8]) -> Result<(), DiskAnswer>
         ensures exact { Changes result (λ f. synced f name.now)
             (λ f. adjusted (file_torn_by_sync self.old.torn) f name.now) self.old self.new }
-        ensures left { IsErrOf result DiskAnswer.Failed → LeftBySync name.now self.old.files self.new.files }
+        ensures left { IsErrOf result DiskAnswer.Failed
+            → LeftBySync name.now self.old.files self.new.files }
         ensures never_memory { IsErrOf result DiskAnswer.Memory → ⊥ }
         ensures cause { HasCauseOf self.old.faults self.new.faults result DiskAnswer.Failed }
     {

@@ -32,7 +32,8 @@ pub trait SharedDisk {
 
     /// The length of a file in bytes; `None` exactly where no file has that name.
     fn len(&mut self, name: &[u8]) -> Result<Option<u64>, DiskFault>
-        ensures told { IfOk result (λ len. IfSome (files self.old) (λ f. len ≡ length_of f name.now)) }
+        ensures told { IfOk result (λ len. IfSome (files self.old)
+            (λ f. len ≡ length_of f name.now)) }
         ensures same { files self.new ≡ files self.old }
         ensures cause { HasCauseOf (faults self.old) (faults self.new) result DiskFault.Failed };
 
@@ -49,7 +50,8 @@ pub trait SharedDisk {
     /// Makes an empty file of that name; an old one is replaced. A failed call was done wholly or not at all.
     fn create(&mut self, name: &[u8]) -> Result<(), DiskAnswer>
         requires { IsText name.now }
-        ensures done { OnOk result (files self.new ≡ option_map (λ f. created f name.now) (files self.old)) }
+        ensures done { OnOk result (files self.new
+            ≡ option_map (λ f. created f name.now) (files self.old)) }
         ensures memory { IsErrOf result DiskAnswer.Memory → files self.new ≡ files self.old }
         ensures failed { IsErrOf result DiskAnswer.Failed →
             WhereTold (LeftByCreate name.now) (files self.old) (files self.new) }
@@ -61,7 +63,8 @@ pub trait SharedDisk {
     /// After a failed call the range holds any bytes and stays loose, and the file's length is any
     /// between the old one and the new one.
     fn write_at(&mut self, name: &[u8], at: u64, bytes: &[u8]) -> Result<(), DiskAnswer>
-        ensures done { OnOk result (files self.new ≡ option_map (λ f. written_at f name.now at bytes.now) (files self.old)) }
+        ensures done { OnOk result (files self.new
+            ≡ option_map (λ f. written_at f name.now at bytes.now) (files self.old)) }
         ensures memory { IsErrOf result DiskAnswer.Memory → files self.new ≡ files self.old }
         ensures failed { IsErrOf result DiskAnswer.Failed →
             WhereTold (LeftByWrite name.now at bytes.now) (files self.old) (files self.new) }
@@ -72,7 +75,8 @@ pub trait SharedDisk {
     /// After a failed call the file's loose ranges hold any bytes and stay loose, and its length is any
     /// between the one when it last had no loose range and the present one.
     fn sync(&mut self, name: &[u8]) -> Result<(), DiskAnswer>
-        ensures done { OnOk result (files self.new ≡ option_map (λ f. synced f name.now) (files self.old)) }
+        ensures done { OnOk result (files self.new
+            ≡ option_map (λ f. synced f name.now) (files self.old)) }
         ensures memory { IsErrOf result DiskAnswer.Memory → files self.new ≡ files self.old }
         ensures failed { IsErrOf result DiskAnswer.Failed →
             WhereTold (LeftBySync name.now) (files self.old) (files self.new) }
@@ -82,7 +86,8 @@ pub trait SharedDisk {
     /// absent, or both names are equal, nothing changes. A failed call was done wholly or not at all.
     fn rename(&mut self, from: &[u8], to: &[u8]) -> Result<(), DiskAnswer>
         requires { IsText to.now }
-        ensures done { OnOk result (files self.new ≡ option_map (λ f. renamed f from.now to.now) (files self.old)) }
+        ensures done { OnOk result (files self.new
+            ≡ option_map (λ f. renamed f from.now to.now) (files self.old)) }
         ensures memory { IsErrOf result DiskAnswer.Memory → files self.new ≡ files self.old }
         ensures failed { IsErrOf result DiskAnswer.Failed →
             WhereTold (LeftByRename from.now to.now) (files self.old) (files self.new) }
@@ -90,7 +95,8 @@ pub trait SharedDisk {
 
     /// Removes a file. Where it is absent nothing changes. A failed call was done wholly or not at all.
     fn remove(&mut self, name: &[u8]) -> Result<(), DiskAnswer>
-        ensures done { OnOk result (files self.new ≡ option_map (λ f. removed f name.now) (files self.old)) }
+        ensures done { OnOk result (files self.new
+            ≡ option_map (λ f. removed f name.now) (files self.old)) }
         ensures memory { IsErrOf result DiskAnswer.Memory → files self.new ≡ files self.old }
         ensures failed { IsErrOf result DiskAnswer.Failed →
             WhereTold (LeftByRemove name.now) (files self.old) (files self.new) }

@@ -104,7 +104,8 @@ impl Shelf {
 
     /// Writes into a file. Where memory runs out nothing changes.
     pub fn write_at(&mut self, name: &[u8], at: u64, bytes: &[u8]) -> Result<(), AllocError>
-        ensures ok { OnOk result (self.new ≡ adjusted (file_written at bytes.now) self.old name.now) }
+        ensures ok { OnOk result (self.new ≡ adjusted (file_written at bytes.now) self.old
+            name.now) }
         ensures err { OnErr result (self.new ≡ self.old) }
     {
         write_in(&mut self.entries, name, at, bytes)
@@ -118,7 +119,8 @@ impl Shelf {
         bytes: &[u8],
         torn: &[u8],
     ) -> Result<(), AllocError>
-        ensures ok { OnOk result (self.new ≡ adjusted (file_torn_by_write torn.now at bytes.now) self.old name.now) }
+        ensures ok { OnOk result (self.new ≡ adjusted (file_torn_by_write torn.now at bytes.now)
+            self.old name.now) }
         ensures err { OnErr result (self.new ≡ self.old) }
     {
         tear_write_in(&mut self.entries, name, at, bytes, torn)

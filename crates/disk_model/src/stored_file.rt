@@ -20,7 +20,11 @@ impl Model for StoredFile {
 
     ghost Value = { File };
 
-    ghost view = { λ file. record { bytes = file.bytes.items; loose = file.loose.items; settled = file.settled } };
+    ghost view = { λ file. record {
+      bytes = file.bytes.items;
+      loose = file.loose.items;
+      settled = file.settled;
+    } };
 }
 
 /// How many of these bytes lie within a file of that length, where they are put at that place.

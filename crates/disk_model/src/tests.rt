@@ -114,6 +114,7 @@ fn a_disk_on_folders_changes_its_files(rt: HostRuntime) -> Result<(), Fail> {
     );
     assert_eq!(rt; disk.write_at(b"absent", 0, b"x"), Err(DiskAnswer::Failed));
     assert_eq!(rt; disk.create(b"../x"), Err(DiskAnswer::Failed));
+    assert_eq!(rt; disk.len(b"../x")?, None, "no file has such a name");
     assert_eq!(rt; disk.len(b"b")?, None, "a folder is no file");
     fs::write(&rt, "ais_log_root/b/a\nb", "x")?;
     assert!(rt; disk.names(alloc).is_err(), "a name that is not plain");
