@@ -1,5 +1,5 @@
 -- Lists of which the first so many elements are changed.
-use Rattle.std.proofs.Common.{◌≡◌, ℕ, zero, suc, ◌+◌, ◌<◌, ◌≤◌, List, [], ◌∷◌, length, map, get_or, set, refl, ap, sym, subst, ◌∙◌, arith}
+use Rattle.std.proofs.Common.{◌≡◌, ℕ, zero, suc, ◌<◌, List, [], ◌∷◌, length, map, get_or, set, refl, ap, sym, subst, ◌∙◌, arith}
 use Rattle.ntf_types.specs.declared.notification.Notification.{Notification}
 use Rattle.sub_queue.specs.Queue.{IsSound, HasNumberLeft}
 use Rattle.ntf_history.specs.declared.subscription.Subscription.{Subscription}
@@ -59,10 +59,6 @@ set-same : {X : Type 0} (xs : List X) (n : ℕ) (d : X) → set xs n (get_or xs 
 set-same [] n d = refl
 set-same (x ∷ xs) zero d = refl
 set-same (x ∷ xs) (suc n) d = ap (λ ys. x ∷ ys) (set-same xs n d)
-
-pub set-unchanged : {X : Type 0} (xs : List X) (n : ℕ) (element new : X) → element ≡ get_or xs n element → new ≡ element → set xs n new ≡ xs
-set-unchanged xs n element new there same =
-    ap (λ x. set xs n x) (same ∙ there) ∙ set-same xs n element
 
 module _ (notification : Notification) (n : ℕ) (xs subs : List Subscription) (element : Subscription) (within : n < length subs) (there : element ≡ get_or subs n element) where
   -- the next subscription is not changed yet

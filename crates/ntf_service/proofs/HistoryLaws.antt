@@ -1,13 +1,11 @@
 -- A state that stands for all that changed answers by the rows of the history.
-use Rattle.std.proofs.Common.{◌≡◌, ℕ, ◌+◌, ◌<◌, ◌≤◌, nat_le, inl, inr, List, [], ◌∷◌, length, map, refl, ap, ◌∙◌, arith}
+use Rattle.std.proofs.Common.{◌≡◌, ℕ, ◌<◌, nat_le, inl, inr, List, [], ◌∷◌, length, map, refl, ap, ◌∙◌, arith}
 use Rattle.std.specs.List.{list_any}
-use Rattle.ais_values.specs.declared.status.Status.{Status}
 use Rattle.ntf_filters.specs.declared.filter.FilterSet.{FilterSet}
 use Rattle.ntf_filters.specs.FitTests.{is_fit}
-use Rattle.sub_queue.specs.Queue.{next_number}
-use Rattle.sub_queue.specs.History.{account_of, queue_for}
+use Rattle.sub_queue.specs.History.{account_of}
 use Rattle.sub_queue.proofs.Accounts.{account_of-possible, next_number-made}
-use Rattle.client_set.specs.Members.{Stands, has}
+use Rattle.client_set.specs.Members.{Stands}
 use Rattle.ntf_history.specs.Changes.{Sub, NtfChange, is_using}
 use Rattle.ntf_history.specs.Subscriptions.{has_id, subs, happened}
 use Rattle.ntf_history.specs.Tables.{is_kept_under, kept_of, table_of}

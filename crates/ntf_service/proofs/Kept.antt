@@ -1,11 +1,11 @@
 -- The state stays sound.
-use Rattle.std.proofs.Common.{◌≡◌, ℕ, suc, ◌+◌, ◌-◌, ◌<◌, ◌≤◌, ◌==◌, nat_lt, nat_le, Bool, true, false, ◌&&◌, cond, inl, inr, List, [], ◌∷◌, ◌++◌, length, map, refl, ap, sym, subst, ◌∙◌, arith}
+use Rattle.std.proofs.Common.{◌≡◌, ℕ, suc, ◌<◌, ◌≤◌, ◌==◌, nat_lt, Bool, true, false, ◌&&◌, cond, inl, inr, List, [], ◌∷◌, ◌++◌, length, map, refl, ap, sym, subst, ◌∙◌, arith}
 use Rattle.std.proofs.lemmas.Bool.Decides.{leb_tells}
 use Rattle.ntf_types.specs.declared.notification.Notification.{Notification}
 use Rattle.ntf_filters.specs.Matching.{matches}
 use Rattle.sub_queue.specs.declared.item.Content.TheVariants.{Notified}
 use Rattle.sub_queue.specs.Items.{mark_of}
-use Rattle.sub_queue.specs.Queue.{Queue, IsCapacity, IsSound, IsNew, HasNumberLeft, empty_queue, has_room, offered, received}
+use Rattle.sub_queue.specs.Queue.{Queue, IsCapacity, IsSound, HasNumberLeft, empty_queue, offered, received}
 use Rattle.sub_queue.proofs.Keeping.{IsSound-more, IsSound-lost, IsSound-received}
 use Rattle.client_set.specs.Rising.{put, without, ComesFirst, IsRising, IsOrder}
 use Rattle.client_set.proofs.RisingLaws.{IsOrder-nat_lt, IsRising-put, IsRising-without}

@@ -1,13 +1,13 @@
 -- A receipt for the subscription that stands at a place.
-use Rattle.std.proofs.Common.{◌≡◌, ℕ, ◌+◌, ◌<◌, ◌≤◌, Bool, true, false, not, ◌&&◌, cond, List, [], ◌∷◌, length, map, get_or, set, refl, ap, sym, subst, ◌∙◌, arith}
-use Rattle.std.specs.Prelude.{Option, Some, None, find, filter}
+use Rattle.std.proofs.Common.{◌≡◌, ℕ, ◌<◌, ◌≤◌, Bool, true, false, not, ◌&&◌, cond, List, [], ◌∷◌, length, map, get_or, set, refl, ap, sym, subst, ◌∙◌, arith}
+use Rattle.std.specs.Prelude.{Some, find, filter}
 use Rattle.sub_queue.specs.Queue.{Queue, IsNew, HasNumberLeft, received}
 use Rattle.client_set.specs.Rising.{IsRising, without}
 use Rattle.ntf_history.specs.declared.subscription.Subscription.{Subscription}
 use Rattle.ntf_history.specs.Tables.{requeued, is_kept_at, is_new_for, has_item, kept_first, received_sub}
 use Rattle.ntf_history.proofs.TableLaws.{has_item-decides}
 use Rattle.ntf_service.specs.State.{HaveNumbersLeft}
-use Rattle.ntf_service.proofs.Places.{place_in, set-map, map-absent, find-at, find-absent}
+use Rattle.ntf_service.proofs.Places.{place_in, set-map, map-absent, find-at}
 use Rattle.ntf_service.proofs.Changed.{number-at}
 
 -- a filter by what does not pass takes out what passes

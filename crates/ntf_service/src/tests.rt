@@ -1,8 +1,9 @@
 use crate::{NtfState, law_of_history};
-use ais_values::{ClassId, Name, Seq, Status, Text};
+use ais_values::{ClassId, Duplicate, Name, Seq, Status, Text};
 use ntf_filters::{Filter, FilterSet};
 use ntf_types::{Body, Notification};
 use std::alloc::{AllocError, Global};
+use std::mem;
 use std::process::Abort;
 use std::test::Fail;
 
@@ -152,5 +153,36 @@ fn offers_to_each_that_asks(rt: HostRuntime) -> Result<(), Fail> {
     assert!(rt; told(&state, 2) == (7, 2, 3));
     assert_eq!(rt; state.last_id(), 5);
     law_of_history();
+    Ok(())
+}
+
+/// Sends an alarm and takes it back.
+fn send_in_vain(rt: &impl Abort, alloc: Global, state: &mut NtfState) -> Result<(), Fail> {
+    assert!(rt; state.can_send());
+    let notification = alarm(alloc)?;
+    let mut sent = notification.copy(alloc)?;
+    let id = state.send(alloc, notification)?;
+    sent.id = id;
+    state.take_back(&sent);
+    mem::drop(sent);
+    Ok(())
+}
+
+/// The third of three alarms to queues of two is lost; taken back, it leaves two held and none lost,
+/// and its id is given again.
+#[test]
+fn takes_a_send_back(rt: HostRuntime) -> Result<(), Fail> {
+    let alloc = rt.alloc();
+    let mut state = three_users(&rt, alloc)?;
+    send_in_vain(&rt, alloc, &mut state)?;
+    assert!(rt; told(&state, 0) == (2, 0, 0));
+    for id in 1..3u64 {
+        assert_eq!(rt; send(&rt, alloc, &mut state)?, id);
+    }
+    send_in_vain(&rt, alloc, &mut state)?;
+    assert!(rt; told(&state, 0) == (2, 2, 0));
+    assert!(rt; told(&state, 2) == (7, 2, 0));
+    assert_eq!(rt; send(&rt, alloc, &mut state)?, 3);
+    assert!(rt; told(&state, 0) == (2, 2, 1));
     Ok(())
 }

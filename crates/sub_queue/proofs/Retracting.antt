@@ -1,5 +1,5 @@
 -- Taking the last offer back.
-use Rattle.std.proofs.Common.{◌≡◌, ℕ, zero, suc, ◌+◌, ◌-◌, ◌<◌, ◌≤◌, ◌==◌, nat_lt, Bool, true, false, cond, inl, inr, List, [], ◌∷◌, ◌++◌, length, take, refl, ap, sym, subst, ◌∙◌, arith, length-append}
+use Rattle.std.proofs.Common.{◌≡◌, ℕ, zero, suc, ◌+◌, ◌-◌, ◌≤◌, ◌==◌, Bool, true, false, cond, inl, inr, List, [], ◌∷◌, ◌++◌, length, take, refl, ap, sym, ◌∙◌, arith, length-append}
 use Rattle.std.proofs.lemmas.Bool.Decides.{leb_tells, nat_tests}
 use Rattle.std.proofs.lemmas.List.{length-take}
 use Rattle.ntf_types.specs.declared.notification.Notification.{Notification}
@@ -93,16 +93,6 @@ IsSound-front queue sound none =
       places = omega arith;
       lost = inl none;
     }
-
--- a queue in which something is lost is sound without the last that is lost
-pub IsSound-unlost : (queue : Queue) → IsSound queue → (none : queue.lost ≡ [] → ⊥) → IsSound (queue_of_parts queue.capacity queue.first queue.held (front queue.lost))
-IsSound-unlost queue sound some = record {
-  capacity = sound.capacity;
-  first = sound.first;
-  numbers = sound.numbers;
-  places = sound.places;
-  lost = elim sound.lost [ inl none ↦ absurd (some none) | inr full ↦ inr full ];
-}
 
 -- a queue as it is kept without its last item
 pub kept-front : (capacity first count places : ℕ) (held : List Content) (lost : List Lost) (items rest : List Item) (room : ℕ) → IsKeptAs (queue_of_parts capacity first held lost) items room → held ≡ contents_of items → lost ≡ [] → count ≡ length items → rest ≡ take (count - 1) items → places ≡ room → IsKeptAs (queue_of_parts capacity first (contents_of rest) lost) rest places

@@ -15,13 +15,15 @@ use crate::{Content, Item};
 /// those lost, are the ones that were offered, each once and in order.
 pub fn law_of_marks()
     ensures marks { (capacity : ℕ) (past : List Happening) →
-        marks_in (account_of capacity past).made ++ (account_of capacity past).lost ≡ marks_offered past }
+        marks_in (account_of capacity past).made ++ (account_of capacity past).lost
+        ≡ marks_offered past }
 {}
 
 /// A queue goes with what happened to its subscription: a new one stands for nothing, and each call makes
 /// of the queue that stands for what happened before the one that stands for that and the call.
 pub fn law_of_calls()
-    ensures new { (capacity : ℕ) → empty_queue capacity ≡ queue_for capacity (account_of capacity []) }
+    ensures new { (capacity : ℕ) → empty_queue capacity
+        ≡ queue_for capacity (account_of capacity []) }
     ensures offer { (capacity : ℕ) (past : List Happening) (notification : Notification) →
         offered notification (queue_for capacity (account_of capacity past))
         ≡ queue_for capacity (account_of capacity (Offered notification ∷ past)) }
@@ -33,7 +35,8 @@ pub fn law_of_calls()
         IsTrue (is_new_receipt through (account_of capacity past))
         ↔ IsNew through (queue_for capacity (account_of capacity past)) }
     ensures items { (capacity : ℕ) (past : List Happening) →
-        numbered (queue_for capacity (account_of capacity past)).first (queue_for capacity (account_of capacity past)).held
+        numbered (queue_for capacity (account_of capacity past)).first
+        (queue_for capacity (account_of capacity past)).held
         ≡ drop (account_of capacity past).through (numbered 1 (account_of capacity past).made) }
 {}
 
@@ -55,6 +58,8 @@ pub fn law_of_counts()
 
 /// Two items are told equal by `==` exactly where they are equal; likewise what they hold.
 pub fn law_of_equality()
-    ensures contents { (one other : ContentOf) → IsTrue (⟦<Content as PartialEq>⟧.eq one other) ↔ (one ≡ other) }
-    ensures items { (one other : ItemOf) → IsTrue (⟦<Item as PartialEq>⟧.eq one other) ↔ (one ≡ other) }
+    ensures contents { (one other : ContentOf) → IsTrue (⟦<Content as PartialEq>⟧.eq one other)
+        ↔ (one ≡ other) }
+    ensures items { (one other : ItemOf) → IsTrue (⟦<Item as PartialEq>⟧.eq one other)
+        ↔ (one ≡ other) }
 {}

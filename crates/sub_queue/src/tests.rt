@@ -124,3 +124,24 @@ fn rebuilds(rt: HostRuntime) -> Result<(), Fail> {
     law_of_equality();
     Ok(())
 }
+
+/// What is held and what is lost once the last offer is taken back.
+fn taken_back(queue: &mut SubQueue) -> (usize, usize) {
+    queue.take_back();
+    (queue.items().len(), queue.lost().len())
+}
+
+/// An offer that is taken back leaves what was before it, whether it was held or lost.
+#[test]
+fn takes_offers_back(rt: HostRuntime) -> Result<(), Fail> {
+    let alloc = rt.alloc();
+    let mut queue = SubQueue::new(alloc, 1)?;
+    for id in 1..4u64 {
+        offer(&rt, &mut queue, alarm(alloc, id)?)?;
+    }
+    assert!(rt; taken_back(&mut queue) == (1, 1));
+    assert!(rt; queue.lost() == alarms_lost(alloc, &[2])?.as_slice());
+    assert!(rt; taken_back(&mut queue) == (1, 0));
+    assert!(rt; taken_back(&mut queue) == (0, 0));
+    Ok(())
+}

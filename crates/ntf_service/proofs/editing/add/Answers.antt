@@ -1,4 +1,4 @@
-use Rattle.std.proofs.Common.{◌≡◌, ◌≤◌, List, length, ap, sym, ◌∙◌, arith}
+use Rattle.std.proofs.Common.{◌≡◌, ap, ◌∙◌, arith}
 use Rattle.std.specs.Prelude.{insert}
 use Rattle.ntf_service.proofs.Places.{place_before, within-before, insert-put}
 use Rattle.ntf_service.proofs.editing.add.Goals as goal

@@ -1,4 +1,4 @@
-use Rattle.std.proofs.Common.{◌≡◌, ◌<◌, ◌≤◌, length, ap, ◌∙◌, arith}
+use Rattle.std.proofs.Common.{ap, ◌∙◌, arith}
 use Rattle.ntf_service.proofs.Places.{place_in}
 use Rattle.ntf_service.proofs.Received.{place-new, place-number, place-received, none-received}
 use Rattle.ntf_service.proofs.editing.receive.Goals as goal

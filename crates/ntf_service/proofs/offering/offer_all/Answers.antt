@@ -1,4 +1,4 @@
-use Rattle.std.proofs.Common.{◌≡◌, suc, ◌+◌, ◌<◌, length, ap, sym, ◌∙◌, arith}
+use Rattle.std.proofs.Common.{◌≡◌, suc, ◌+◌, ◌<◌, length, ap, ◌∙◌, arith}
 use Rattle.ntf_history.specs.Tables.{offered_sub}
 use Rattle.ntf_service.proofs.Changed.{length-changed_front, changed_front-all, next-number, step-on}
 use Rattle.ntf_service.proofs.offering.offer_all.Goals as goal

@@ -1,4 +1,4 @@
-use Rattle.std.proofs.Common.{◌≡◌, ◌+◌, subst, sym}
+use Rattle.std.proofs.Common.{◌+◌, subst, sym}
 use Rattle.ntf_history.specs.Tables.{NtfTable, IsSoundTable}
 use Rattle.ntf_service.specs.State.{HaveNumbersLeft}
 use Rattle.ntf_service.specs.Inside.{table_inside}

@@ -1,4 +1,4 @@
-use Rattle.std.proofs.Common.{◌≡◌, ◌-◌, ◌∙◌, sym, subst, arith, length}
+use Rattle.std.proofs.Common.{◌∙◌, sym, subst, arith}
 use Rattle.ntf_history.specs.Tables.{IsSoundTable}
 use Rattle.ntf_service.specs.Inside.{table_inside}
 use Rattle.ntf_service.proofs.TakenBack.{taken-back}
