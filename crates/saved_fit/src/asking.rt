@@ -24,14 +24,16 @@ fn is_usable(filters: &FilterSet) -> bool
 
 /// The window of a client.
 fn window_of(windows: &[SavedWindow], client: u16) -> Option<&SavedWindow>
-    ensures { option_copied result ≡ find (λ (window : WindowOf). window.client == client) windows.now }
+    ensures { option_copied result ≡ find (λ (window : WindowOf). window.client == client)
+        windows.now }
 {
     windows.iter().find(|window| window.client == client)
 }
 
 /// Whether a window tells of a call of this number.
 fn tells_of(window: Option<&SavedWindow>, number: u32) -> bool
-    ensures { IsTrue result ↔ MatchOption (option_copied window.entry) ⊥ (λ window. number < window.next) }
+    ensures { IsTrue result ↔ MatchOption (option_copied window.entry) ⊥
+        (λ window. number < window.next) }
 {
     match window {
         None => false,
@@ -81,7 +83,8 @@ impl Judged for SavedSub {
     ghost use Rattle.client_set.specs.Rising.{IsRising};
     ghost use Rattle.plain_service.specs.Fitness.{IsFitSub};
 
-    ghost known = { λ (saved : SavedOf). IsRising nat_lt saved.ntf_users × (saved.number ≤ 4000000000) };
+    ghost known = { λ (saved : SavedOf). IsRising nat_lt saved.ntf_users
+        × (saved.number ≤ 4000000000) };
 
     ghost fits = { IsFitSub };
 

@@ -43,14 +43,16 @@ pub(crate) fn are_clients(clients: &[u16]) -> bool
 
 /// Whether the clients of windows rise.
 fn windows_rise(windows: &[SavedWindow]) -> bool
-    ensures { IsTrue result ↔ IsRising nat_lt (map (λ (window : WindowOf). window.client) windows.now) }
+    ensures { IsTrue result ↔ IsRising nat_lt (map (λ (window : WindowOf). window.client)
+        windows.now) }
 {
     are_rising(windows)
 }
 
 /// Whether each window is a client's.
 fn are_of_clients(windows: &[SavedWindow]) -> bool
-    ensures { IsTrue result ↔ AllByRecursion (λ (window : WindowOf). IsClient window.client) windows.now }
+    ensures { IsTrue result ↔ AllByRecursion (λ (window : WindowOf). IsClient window.client)
+        windows.now }
 {
     windows.iter().all(|window| is_client(window.client))
 }
@@ -72,14 +74,16 @@ pub(crate) fn are_windows_of_clients(windows: &[SavedWindow]) -> bool
 
 /// Whether the clients of readers rise.
 fn readers_rise(readers: &[SavedReader]) -> bool
-    ensures { IsTrue result ↔ IsRising nat_lt (map (λ (reader : ReaderOf). reader.client) readers.now) }
+    ensures { IsTrue result ↔ IsRising nat_lt (map (λ (reader : ReaderOf). reader.client)
+        readers.now) }
 {
     are_rising(readers)
 }
 
 /// Whether each reader is a client's.
 fn are_readers(readers: &[SavedReader]) -> bool
-    ensures { IsTrue result ↔ AllByRecursion (λ (reader : ReaderOf). IsClient reader.client) readers.now }
+    ensures { IsTrue result ↔ AllByRecursion (λ (reader : ReaderOf). IsClient reader.client)
+        readers.now }
 {
     readers.iter().all(|reader| is_client(reader.client))
 }

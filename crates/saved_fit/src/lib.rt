@@ -10,5 +10,7 @@ mod judging;
 mod rising;
 mod standing;
 mod streams;
+#[cfg(test)]
+mod tests;
 
 pub use fit::is_fit;
