@@ -1,9 +1,9 @@
 -- Blanks at the ends of lines.
-use Rattle.std.proofs.Common.{◌≡◌, ℕ, zero, suc, ◌+◌, ◌-◌, ◌<◌, ◌≤◌, inl, inr, Bool, true, false, ◌==◌, if◌then◌else◌, List, [], ◌∷◌, ◌++◌, map, length, take, get_or, refl, ap, sym, ◌∙◌, subst, append_assoc, append-nil, arith}
+use Rattle.std.proofs.Common.{◌≡◌, ℕ, zero, suc, ◌+◌, ◌-◌, ◌<◌, ◌≤◌, inl, inr, true, false, ◌==◌, if◌then◌else◌, List, [], ◌∷◌, ◌++◌, length, take, get_or, refl, ap, sym, ◌∙◌, arith}
 use Rattle.std.proofs.lemmas.Bool.Decides.{eqb_tells}
 use Rattle.std.proofs.lemmas.List.{take_more}
 use Rattle.event_text.specs.Pieces.{ends_blank}
-use Rattle.event_text.specs.Texts.{text_line, before_rest, trimmed, last_lines, lines_behind, shown_lines}
+use Rattle.event_text.specs.Texts.{before_rest, trimmed}
 
 -- Blanks at the end.
 
@@ -22,18 +22,6 @@ trimmed-other [] byte other = ap (λ b. if b then [] else byte ∷ []) other
 trimmed-other (first ∷ line) byte other = ap (before_rest first) (trimmed-other line byte other) ∙ before-more first line byte
 
 -- The end of a line goes back over blanks.
-
-pub blank-at : (line : List ℕ) (end last : ℕ) → 0 < end → last ≡ end - 1 → ends_blank line end ≡ (get_or line last 0 == 32)
-blank-at line zero last some is = absurd (omega arith)
-blank-at line (suc n) last some is = let same : n ≡ last = omega arith in ap (λ i. get_or line i 0 == 32) same
-
-pub blank-none : (line : List ℕ) (end : ℕ) → end ≡ 0 → ends_blank line end ≡ false
-blank-none line zero none = refl
-blank-none line (suc n) none = absurd (omega arith)
-
-pub blank-some : (line : List ℕ) (end : ℕ) → ends_blank line end ≡ true → 0 < end
-blank-some line zero is = cc
-blank-some line (suc n) is = omega arith
 
 grown : (line : List ℕ) (n : ℕ) → n < length line → take (suc n) line ≡ take n line ++ get_or line n 0 ∷ []
 grown line n within = let e : suc n ≡ n + 1 = omega arith in ap (λ i. take i line) e ∙ take_more line n 0 within

@@ -17,7 +17,8 @@ pub fn put_reply(
     seq: u32,
     reply: &Reply,
 ) -> Result<(), AllocError>
-    ensures ok { OnOk result (lines.new.items ≡ lines.old.items ++ reply_line client seq reply.now ∷ []) }
+    ensures ok { OnOk result (lines.new.items ≡ lines.old.items ++ reply_line client seq reply.now
+        ∷ []) }
     ensures err { OnErr result (lines.new.items ≡ lines.old.items) }
 {
     match reply {
@@ -83,7 +84,8 @@ pub fn put_declined(
     client: u16,
     status: Status,
 ) -> Result<(), AllocError>
-    ensures ok { OnOk result (lines.new.items ≡ lines.old.items ++ declined_line client status ∷ []) }
+    ensures ok { OnOk result (lines.new.items ≡ lines.old.items ++ declined_line client status
+        ∷ []) }
     ensures err { OnErr result (lines.new.items ≡ lines.old.items) }
 {
     put_line(
@@ -107,7 +109,8 @@ pub fn put_dispatched(
     client: u16,
     count: u64,
 ) -> Result<(), AllocError>
-    ensures ok { OnOk result (lines.new.items ≡ lines.old.items ++ dispatched_line client count ∷ []) }
+    ensures ok { OnOk result (lines.new.items ≡ lines.old.items ++ dispatched_line client count
+        ∷ []) }
     ensures err { OnErr result (lines.new.items ≡ lines.old.items) }
 {
     put_line(
@@ -150,7 +153,8 @@ fn put_ids_of<'a>(
     word: &'a [u8],
     ids: &'a [u64],
 ) -> Result<(), AllocError>
-    ensures { OnOk result (lines.new.items ≡ lines.old.items ++ lost_lines_of place.client place.number place.id word.now ids.now) }
+    ensures { OnOk result (lines.new.items ≡ lines.old.items
+        ++ lost_lines_of place.client place.number place.id word.now ids.now) }
 {
     if ids.is_empty() {
         return Ok(());
@@ -185,7 +189,8 @@ fn put_lost_of(
     lost: &[Lost],
     kind: u16,
 ) -> Result<(), AllocError>
-    ensures { OnOk result (lines.new.items ≡ lines.old.items ++ lost_lines_of place.client place.number place.id word.now (ids_of kind lost.now)) }
+    ensures { OnOk result (lines.new.items ≡ lines.old.items
+        ++ lost_lines_of place.client place.number place.id word.now (ids_of kind lost.now)) }
 {
     let ids = ids_of_kind(alloc, lost, kind)?;
     put_ids_of(alloc, lines, place, word, ids.as_slice())
@@ -199,7 +204,8 @@ fn put_lost(
     place: Place,
     lost: &[Lost],
 ) -> Result<(), AllocError>
-    ensures { OnOk result (lines.new.items ≡ lines.old.items ++ lost_lines place.client place.number place.id lost.now) }
+    ensures { OnOk result (lines.new.items ≡ lines.old.items
+        ++ lost_lines place.client place.number place.id lost.now) }
 {
     put_lost_of(alloc, lines, place, b"objects", lost, 0x1000)?;
     put_lost_of(alloc, lines, place, b"attributes", lost, 0x2000)?;
@@ -220,7 +226,8 @@ pub fn put_callback(
     number: u64,
     callback: &Callback,
 ) -> Result<(), AllocError>
-    ensures { OnOk result (lines.new.items ≡ lines.old.items ++ callback_lines client number callback.now) }
+    ensures { OnOk result (lines.new.items ≡ lines.old.items
+        ++ callback_lines client number callback.now) }
 {
     match callback {
         Callback::Written { invocation, status } => put_line(

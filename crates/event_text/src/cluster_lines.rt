@@ -95,7 +95,8 @@ pub fn put_entry(
     number: u64,
     entry: &Entry,
 ) -> Result<(), AllocError>
-    ensures ok { OnOk result (lines.new.items ≡ lines.old.items ++ entry_line number entry.now ∷ []) }
+    ensures ok { OnOk result (lines.new.items ≡ lines.old.items ++ entry_line number entry.now
+        ∷ []) }
     ensures err { OnErr result (lines.new.items ≡ lines.old.items) }
 {
     match entry {
@@ -177,7 +178,8 @@ pub fn put_refused(
     line: &Line,
     standing: &Standing,
 ) -> Result<(), AllocError>
-    ensures ok { OnOk result (lines.new.items ≡ lines.old.items ++ refused_line line.now standing.now ∷ []) }
+    ensures ok { OnOk result (lines.new.items ≡ lines.old.items
+        ++ refused_line line.now standing.now ∷ []) }
     ensures err { OnErr result (lines.new.items ≡ lines.old.items) }
 {
     put_line(

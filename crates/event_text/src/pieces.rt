@@ -68,7 +68,8 @@ fn put_further(alloc: Global, out: &mut Vec<u8>, number: u64) -> Result<(), Allo
 
 /// Adds numbers, each behind a comma.
 fn put_furthers(alloc: Global, out: &mut Vec<u8>, numbers: &[u64]) -> Result<(), AllocError>
-    ensures { OnOk result (out.new.items ≡ out.old.items ++ flat_map (λ one. codes "," ++ decimal one) numbers.now) }
+    ensures { OnOk result (out.new.items ≡ out.old.items
+        ++ flat_map (λ one. codes "," ++ decimal one) numbers.now) }
 {
     for number in numbers {
         put_further(alloc, out, *number)?;
@@ -79,7 +80,8 @@ fn put_furthers(alloc: Global, out: &mut Vec<u8>, numbers: &[u64]) -> Result<(),
 /// Adds numbers with commas between them.
 #[tactic(auto, using(crate::proofs::Chain::chained))]
 fn put_ids(alloc: Global, out: &mut Vec<u8>, numbers: &[u64]) -> Result<(), AllocError>
-    ensures { OnOk result (out.new.items ≡ out.old.items ++ join_by decimal (codes ",") numbers.now) }
+    ensures { OnOk result (out.new.items ≡ out.old.items
+        ++ join_by decimal (codes ",") numbers.now) }
 {
     match numbers {
         [] => put(out, b""),
@@ -169,7 +171,8 @@ pub(crate) fn put_line(
     lines: &mut Vec<Seq<u8>>,
     pieces: &[Piece],
 ) -> Result<(), AllocError>
-    ensures ok { OnOk result (lines.new.items ≡ lines.old.items ++ flat_map piece_text pieces.now ∷ []) }
+    ensures ok { OnOk result (lines.new.items ≡ lines.old.items ++ flat_map piece_text pieces.now
+        ∷ []) }
     ensures err { OnErr result (lines.new.items ≡ lines.old.items) }
 {
     let mut text = Vec::new(alloc);

@@ -51,7 +51,8 @@ fn put_byte(
 
 /// Adds the lines that show these bytes of a file. Where memory runs out, some of them may have been added.
 pub fn put_shown(alloc: Global, lines: &mut Vec<Seq<u8>>, bytes: &[u8]) -> Result<(), AllocError>
-    ensures { OnOk result (lines.new.items ≡ lines.old.items ++ shown_lines (file_text_lines bytes.now)) }
+    ensures { OnOk result (lines.new.items ≡ lines.old.items
+        ++ shown_lines (file_text_lines bytes.now)) }
 {
     let mut front = Vec::new(alloc);
     for byte in bytes {
