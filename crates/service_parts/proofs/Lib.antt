@@ -1,0 +1,3 @@
+pub mod ClientPlaces
+pub mod Lookups
+pub mod ReaderLists

@@ -1,0 +1,12 @@
+use Rattle.std.proofs.Common.{nat_lt, rules}
+use Rattle.std.proofs.lemmas.List.Sorted.{IsPartitionPoint-from_clause, IsPartitionedBy-ltb}
+use Rattle.service_table.specs.declared.caller.ClientWindow.{ClientWindow}
+use Rattle.service_parts.proofs.ClientPlaces.{point-is, non-decreasing}
+use Rattle.service_parts.proofs.windows.place_of.Goals as goal
+
+pub returns : goal.returns
+returns c =
+    let test = λ (x : ClientWindow). nat_lt x.client c.args.client in
+    let parted = IsPartitionedBy-ltb (λ (x : ClientWindow). x.client) c.args.callers.now c.args.client (non-decreasing (λ (x : ClientWindow). x.client) c.args.callers.now c.requires) in
+    let point = IsPartitionPoint-from_clause test _ _ c.partition_point.ensures.partitioned parted (λ a r q k. search rules) in
+    point-is test c.args.callers.now c.partition_point.result c.partition_point.ensures.bound point
