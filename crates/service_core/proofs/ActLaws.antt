@@ -1,0 +1,68 @@
+-- What a call came to, by what each part answered.
+use Rattle.std.proofs.Common.{◌≡◌, ◌≢◌, ℕ, zero, suc, ◌<◌, List, [], ◌∷◌, ◌++◌, length, get_or, refl, ap, sym, subst, ◌∙◌, arith, append_assoc}
+use Rattle.std.specs.List.{AllByRecursion}
+use Rattle.std.specs.Prelude.{Some, ℤ}
+use Rattle.std.specs.Option.{option_map_or}
+use Rattle.std.proofs.lemmas.List.{append-nil}
+use Rattle.ais_values.specs.declared.status.Status.{Status}
+use Rattle.ais_values.specs.declared.status.Status.TheVariants as status
+use Rattle.stream_config.specs.declared.event.StreamEvent.{StreamEvent}
+use Rattle.stream_layout.specs.declared.deed.Deed.{Deed}
+use Rattle.stream_layout.specs.Deeds.{deeds_of}
+use Rattle.calls.specs.declared.call.Call.{Call}
+use Rattle.calls.specs.declared.call.Call.TheVariants.{LogInit, LogOpen, LogWrite, LogClose, LogFini, NtfInit, NtfSend, NtfSubscribe, NtfUnsubscribe, ReaderStart, ReaderRead, ReaderEnd, NtfFini}
+use Rattle.calls.specs.declared.reply.Reply.TheVariants.{Done}
+use Rattle.log_history.specs.Changes.{LogChange}
+use Rattle.log_history.specs.Deeds.{deeds_of_all}
+use Rattle.log_history.specs.Table.{LogTable, table_after, events_of}
+use Rattle.plain_service.specs.Changing.{if_ok}
+use Rattle.plain_service.specs.Replies.{reply_by}
+use Rattle.service_table.specs.Tables.{ServiceTable}
+use Rattle.service_table.specs.Answering.{status_in, told_in}
+use Rattle.service_table.specs.Steps.{log_change_in, logged, changed}
+use Rattle.service_table.specs.Conditions.{with_log}
+use Rattle.service_table.proofs.CallLaws.{logged-by, events-by, IsLogOnly, log-only}
+use Rattle.service_parts.specs.Telling.{IsTold}
+use Rattle.service_core.specs.declared.parts.Acted.{Acted}
+use Rattle.service_core.specs.Acting.{HasActed}
+
+told-log : (kept : ServiceTable) (client : ℕ) (call : Call) → IsLogOnly call → told_in kept client call ≡ Done
+told-log kept client LogInit alone = refl
+told-log kept client (LogOpen stream create) alone = refl
+told-log kept client (LogClose stream) alone = refl
+told-log kept client LogFini alone = refl
+told-log kept client (LogWrite stream invocation flags time header body) alone = refl
+told-log kept client NtfInit alone = refl
+told-log kept client (NtfSend notification) alone = absurd alone
+told-log kept client (NtfSubscribe id filters) alone = refl
+told-log kept client (NtfUnsubscribe id) alone = refl
+told-log kept client (ReaderStart mode value filters) alone = refl
+told-log kept client (ReaderRead direction) alone = absurd alone
+told-log kept client ReaderEnd alone = refl
+told-log kept client NtfFini alone = refl
+
+-- **a call of the log that changes nothing else**
+pub log-acted : (kept : ServiceTable) (client seq : ℕ) (moment : ℤ) (call : Call) (change : LogChange) (answered : Status) (later : LogTable) (events : List StreamEvent) (deeds : List Deed) (acted : Acted) → IsLogOnly call → log_change_in kept client moment call ≡ Some change → answered ≡ status_in kept client call → (answered ≡ status.Ok → later ≡ table_after change kept.log) → (answered ≢ status.Ok → later ≡ kept.log) → (answered ≡ status.Ok → events ≡ events_of change kept.log) → (answered ≢ status.Ok → events ≡ []) → deeds ≡ deeds_of_all events → IsTold answered Done acted.told → acted.deeds ≡ deeds → HasActed kept client seq moment call (with_log kept later) acted
+log-acted kept client seq moment call change answered later events deeds acted alone is same made left done nothing deeds_are told has =
+    let log_is : later ≡ logged (if_ok answered (log_change_in kept client moment call)) kept.log =
+    logged-by answered change kept.log later made left ∙ ap (λ c. logged (if_ok answered c) kept.log) (sym is) in
+    let events_are : events ≡ option_map_or (λ c. events_of c kept.log) (if_ok answered (log_change_in kept client moment call)) [] =
+    events-by answered change kept.log events done nothing ∙ ap (λ c. option_map_or (λ x. events_of x kept.log) (if_ok answered c) []) (sym is) in
+    let plain = ap (λ s. reply_by s Done) same ∙ ap (reply_by (status_in kept client call)) (sym (told-log kept client call alone)) in
+    record {
+      now = ap (with_log kept) log_is ∙ log-only kept client seq moment call answered alone ∙ ap (changed kept client seq moment call) same;
+      told = record { reply = told.reply ∙ plain; kept = told.kept ∙ plain };
+      deeds = has ∙ deeds_are ∙ ap deeds_of_all events_are ∙ ap (λ s. deeds_of_all (option_map_or (λ x. events_of x kept.log) (if_ok s (log_change_in kept client moment call)) [])) same;
+    }
+
+-- the deeds of more and more events
+pub deeds-more : (events : List StreamEvent) (event : StreamEvent) → deeds_of_all (events ++ event ∷ []) ≡ deeds_of_all events ++ deeds_of event
+deeds-more [] event = append-nil (deeds_of event)
+deeds-more (first ∷ events) event =
+    ap (λ rest. deeds_of first ++ rest) (deeds-more events event) ∙ sym (append_assoc (deeds_of first) (deeds_of_all events) (deeds_of event))
+
+-- what holds of all holds of the one at a place
+pub all-at : {X : Type 0} (P : X → Type 0) (xs : List X) (n : ℕ) (x : X) → n < length xs → x ≡ get_or xs n x → AllByRecursion P xs → P x
+all-at P [] n x within at each = absurd (omega arith)
+all-at P (y ∷ xs) zero x within at each = subst P (sym at) each.0
+all-at P (y ∷ xs) (suc n) x within at each = all-at P xs n x (omega arith) at each.1

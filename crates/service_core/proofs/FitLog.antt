@@ -1,0 +1,28 @@
+-- The log can be made again of a value that is fit.
+use Rattle.std.proofs.Common.{◌≡◌, List, [], ◌∷◌, map, refl, ap, sym, subst}
+use Rattle.std.specs.Prelude.{unsigned_abs}
+use Rattle.calls.specs.declared.saved.Saved.{Saved}
+use Rattle.calls.specs.declared.saved.SavedStream.{SavedStream}
+use Rattle.log_history.specs.Table.{OpenStream}
+use Rattle.log_service.specs.State.{IsSoundStream, IsSoundTable, joined_streams, table_with}
+use Rattle.log_service.proofs.FewLemmas.{few-known}
+use Rattle.plain_service.specs.Fitness.{IsFit}
+use Rattle.service_table.specs.Tables.{kept_stream_of, table_of_saved}
+use Rattle.service_table.proofs.FitReadyParts.{streams-fit, names-fit, others-fit, few-fit}
+
+pub log-fit : (saved : Saved) → IsFit saved → IsSoundTable (table_of_saved saved).log
+log-fit saved fit = record {
+  users = fit.streams.users.rising;
+  streams = streams-fit IsSoundStream (λ stream passes openers opened. record { passes = passes; openers = openers; opened = opened }) saved fit;
+  few = few-known (table_of_saved saved).log.streams (names-fit saved fit) (others-fit saved fit) (few-fit saved fit);
+}
+
+-- the streams of a value, from their states and from those that have them open
+pub joined-saved : (streams : List SavedStream) → joined_streams (map (λ (stream : SavedStream). stream.state) streams) (map (λ (stream : SavedStream). stream.openers) streams) ≡ map kept_stream_of streams
+joined-saved [] = refl
+joined-saved (stream ∷ streams) = ap (λ rest. kept_stream_of stream ∷ rest) (joined-saved streams)
+
+-- **what making the log again asks**
+pub rebuilt-fit : (saved : Saved) → IsFit saved → IsSoundTable (table_with (unsigned_abs saved.last_stamp) saved.log_users (joined_streams (map (λ (stream : SavedStream). stream.state) saved.streams) (map (λ (stream : SavedStream). stream.openers) saved.streams)))
+rebuilt-fit saved fit =
+    subst (λ (streams : List OpenStream). IsSoundTable (table_with (unsigned_abs saved.last_stamp) saved.log_users streams)) (sym (joined-saved saved.streams)) (log-fit saved fit)

@@ -1,0 +1,127 @@
+-- A service that nobody has used stands for the empty history.
+use Rattle.std.proofs.Common.{◌≡◌, ℕ, ◌≤◌, List, [], ◌∷◌, map, refl, ap, sym, subst, ◌∙◌, arith}
+use Rattle.std.specs.Prelude.{ℤ, pos}
+use Rattle.std.specs.List.{AllByRecursion}
+use Rattle.stream_config.specs.declared.attrs.StreamAttrs.{StreamAttrs}
+use Rattle.stream_config.specs.declared.attrs.StreamName.{StreamName}
+use Rattle.stream_config.specs.declared.attrs.StreamName.TheVariants as name
+use Rattle.stream_config.specs.declared.state.LogFile.{LogFile}
+use Rattle.stream_config.specs.declared.state.StreamState.{StreamState}
+use Rattle.stream_config.specs.declared.event.StreamEvent.{StreamEvent}
+use Rattle.stream_config.specs.declared.event.StreamEvent.TheVariants as event
+use Rattle.stream_config.specs.Events.{open_file}
+use Rattle.stream_config.specs.Stamps.{stamp_after}
+use Rattle.stream_layout.specs.declared.deed.Deed.{Deed}
+use Rattle.stream_layout.specs.Carrying.{IsFitEvent}
+use Rattle.log_history.specs.Chronicle.{LogSetup, new_stream, beginning}
+use Rattle.log_history.specs.Deeds.{made_stream, deeds_of_all, opening_deeds}
+use Rattle.log_history.specs.Legal.{IsSetup}
+use Rattle.log_history.specs.Table.{LogTable, state_of, new_state, table}
+use Rattle.log_history.specs.Times.{second_of}
+use Rattle.log_history.proofs.EventLaws.{fit-making}
+use Rattle.log_history.proofs.FileLists.{standing-one}
+use Rattle.log_service.specs.State.{BeginsWith, HasBegun as HasBegunLog, made_event}
+use Rattle.calls.specs.declared.entry.Entry.{Entry}
+use Rattle.plain_service.specs.Setups.{Setup, log_setup}
+use Rattle.plain_service.specs.Legal.{IsHistory}
+use Rattle.plain_service.specs.Storing.{opening_of}
+use Rattle.plain_service.specs.Values.{saved_of}
+use Rattle.plain_service.proofs.FitReaders.{saved-fit}
+use Rattle.service_table.specs.Tables.{ServiceTable}
+use Rattle.service_table.specs.Histories.{service_of}
+use Rattle.service_table.specs.Ready.{IsReady}
+use Rattle.service_table.proofs.CallLaws.{second-bound}
+use Rattle.service_table.proofs.FitReady.{ready-fit}
+use Rattle.service_table.proofs.FitReadyParts.{value-table}
+use Rattle.service_core.specs.declared.kept.Kept.{Kept}
+use Rattle.service_core.specs.Beginning.{BeginsAs, CanBeginAs}
+use Rattle.service_core.specs.Inside.{kept_table, IsKeptAs}
+use Rattle.service_core.specs.Opening.{unused_table, HasOpened}
+
+-- a stream as it is made
+
+new-state : (name : StreamName) (attrs : StreamAttrs) (created : ℕ) → 1 ≤ attrs.rotated → state_of (new_stream name attrs created) ≡ new_state name attrs created
+new-state name attrs created some =
+    ap (λ (files : List LogFile). let state : StreamState = record { name = name; attrs = attrs; taken = 0; files = files } in state) (standing-one attrs (open_file (pos created)) some)
+
+-- the events of the start are those by which the well-known streams are made
+opening-events : (setup : LogSetup) → IsSetup setup → map made_event (table setup []).streams ≡ map made_stream (beginning setup).streams
+opening-events setup passes =
+    let alarm = setup.start in
+    let notification = stamp_after alarm setup.start in
+    let system = stamp_after notification setup.start in
+    let made : StreamState → StreamState → StreamState → List StreamEvent =
+    λ one two three. event.Made one ∷ event.Made two ∷ event.Made three ∷ [] in
+    let one = new-state name.Alarm setup.alarm alarm passes.alarm.some_rotated in
+    let two = new-state name.Notification setup.notification notification passes.notification.some_rotated in
+    let three = new-state name.System setup.system system passes.system.some_rotated in
+    ap (λ s. made s (state_of (new_stream name.Notification setup.notification notification)) (state_of (new_stream name.System setup.system system))) one
+    ∙ ap (λ s. made (new_state name.Alarm setup.alarm alarm) s (state_of (new_stream name.System setup.system system))) two
+    ∙ ap (made (new_state name.Alarm setup.alarm alarm) (new_state name.Notification setup.notification notification)) three
+
+opening-fit : (setup : LogSetup) → IsSetup setup → setup.start ≤ 20000000000 → AllByRecursion IsFitEvent (map made_stream (beginning setup).streams)
+opening-fit setup passes early =
+    let alarm = setup.start in
+    let notification = stamp_after alarm setup.start in
+    let system = stamp_after notification setup.start in
+    (fit-making name.Alarm setup.alarm alarm (omega (arith, early)) passes.alarm, (fit-making name.Notification setup.notification notification (omega (arith, early)) passes.notification, (fit-making name.System setup.system system (omega (arith, early)) passes.system, tt)))
+
+-- what the log asks as it begins
+
+begins-log : (setup : Setup) (start : ℤ) (cap : ℕ) (wells : List StreamAttrs) → BeginsAs setup start cap wells → BeginsWith (log_setup setup) start wells
+begins-log setup start cap wells begins =
+    record { second = ap second_of begins.start_is; attributes = begins.attributes; sound = begins.sound.streams }
+
+-- what the log begins with
+abbrev pub LogBegins : ℤ → List StreamAttrs → LogTable → List StreamEvent → Type 0
+LogBegins start wells log events = (setup : LogSetup) → BeginsWith setup start wells → HasBegunLog setup (log, events)
+
+-- the events can happen
+pub begun-fit : (start : ℤ) (cap : ℕ) (wells : List StreamAttrs) (log : LogTable) (events slice : List StreamEvent) → CanBeginAs start cap wells → LogBegins start wells log events → slice ≡ events → AllByRecursion IsFitEvent slice
+begun-fit start cap wells log events slice can begun same =
+    let setup = can.0 in
+    let sound = can.1.sound in
+    let is = begun (log_setup setup) (begins-log setup start cap wells can.1) in
+    subst (AllByRecursion IsFitEvent) (sym (same ∙ is.done ∙ opening-events (log_setup setup) sound.streams))
+    (opening-fit (log_setup setup) sound.streams (omega (arith, second-bound setup.start sound.start)))
+
+unused-is : (setup : Setup) → unused_table setup.capacity (table (log_setup setup) []) ≡ service_of setup []
+unfolding service_of
+unused-is setup = refl
+
+opening-is : (setup : Setup) → opening_deeds (log_setup setup) ≡ opening_of setup
+unfolding opening_of
+opening-is setup = refl
+
+-- **what is kept is the table of the empty history**
+pub opened-as : (start : ℤ) (cap : ℕ) (wells : List StreamAttrs) (log : LogTable) (events slice : List StreamEvent) (deeds : List Deed) (kept : Kept) → LogBegins start wells log events → slice ≡ events → deeds ≡ deeds_of_all slice → kept_table kept ≡ unused_table cap log → (setup : Setup) → BeginsAs setup start cap wells → HasOpened setup kept deeds
+opened-as start cap wells log events slice deeds kept begun same done unused setup begins =
+    let is = begun (log_setup setup) (begins-log setup start cap wells begins) in
+    record {
+      now = unused ∙ ap (λ c. unused_table c log) (sym begins.capacity_is) ∙ ap (unused_table setup.capacity) is.now ∙ unused-is setup;
+      done = done ∙ ap deeds_of_all (same ∙ is.done ∙ opening-events (log_setup setup) begins.sound.streams) ∙ opening-is setup;
+    }
+
+-- a service that stands for a history is ready
+ready-history : (setup : Setup) (entries : List Entry) → IsHistory setup entries → IsReady (service_of setup entries)
+ready-history setup entries history =
+    let fit = saved-fit setup entries history in
+    subst IsReady (value-table setup entries (saved_of setup entries) fit refl) (ready-fit (saved_of setup entries) fit)
+
+capacity-of : (setup : Setup) → (service_of setup []).ntf.capacity ≡ setup.capacity
+unfolding service_of
+capacity-of setup = refl
+
+-- what the service begins with
+abbrev pub Opens : ℤ → ℕ → List StreamAttrs → Kept → List Deed → Type 0
+Opens start cap wells kept deeds = (setup : Setup) → BeginsAs setup start cap wells → HasOpened setup kept deeds
+
+-- **the service keeps what it must**
+pub opened-kept : (start : ℤ) (cap : ℕ) (wells : List StreamAttrs) (kept : Kept) (deeds : List Deed) → CanBeginAs start cap wells → Opens start cap wells kept deeds → IsKeptAs (kept_table kept) cap
+opened-kept start cap wells kept deeds can opened =
+    let setup = can.0 in
+    let is = opened setup can.1 in
+    record {
+      ready = subst IsReady (sym is.now) (ready-history setup [] can.1.sound);
+      capacity = sym (ap (λ (whole : ServiceTable). whole.ntf.capacity) is.now ∙ capacity-of setup ∙ can.1.capacity_is);
+    }

@@ -1,0 +1,69 @@
+-- What is made again of a value that is fit.
+use Rattle.std.proofs.Common.{◌≡◌, ℕ, ◌<◌, List, length, get_or, take, drop, suc, map, ap, sym, subst, ◌∙◌}
+use Rattle.std.specs.Prelude.{unsigned_abs}
+use Rattle.ntf_types.specs.declared.notification.Notification.{Notification}
+use Rattle.stream_config.specs.declared.state.StreamState.{StreamState}
+use Rattle.alarm_view.specs.declared.alarm.KeptAlarm.{KeptAlarm}
+use Rattle.alarm_view.specs.Alarms.{CanAdd}
+use Rattle.calls.specs.declared.saved.Saved.{Saved}
+use Rattle.calls.specs.declared.saved.SavedAlarm.{SavedAlarm}
+use Rattle.log_service.specs.State.{IsSoundTable as IsSoundLog, joined_streams, table_with as log_with}
+use Rattle.ntf_history.specs.declared.subscription.Subscription.{Subscription}
+use Rattle.ntf_history.specs.Tables.{IsSoundTable as IsSoundNtf, table_with as ntf_with}
+use Rattle.plain_service.specs.Fitness.{IsFit}
+use Rattle.service_table.specs.Tables.{ServiceTable, kept_alarm_of, kept_sub_of, table_of_saved, saved_table}
+use Rattle.service_table.specs.Ready.{IsReady}
+use Rattle.service_table.proofs.FitReady.{ready-fit}
+use Rattle.service_table.proofs.FitReadyParts.{ntf-fit, value-back}
+use Rattle.service_core.specs.declared.kept.Kept.{Kept}
+use Rattle.service_core.specs.Inside.{kept_table, IsKeptAs}
+use Rattle.service_core.specs.Restoring.{states_in, openers_in, CanAddEach}
+use Rattle.service_core.proofs.FitLog.{joined-saved, rebuilt-fit}
+use Rattle.service_core.proofs.ListSteps.{parted-at}
+
+-- the log
+
+module _ (saved : Saved) (users : List ℕ) (states : List StreamState) (openers : List (List ℕ)) (users_are : users ≡ saved.log_users) (states_are : states ≡ states_in saved.streams) (openers_are : openers ≡ openers_in saved.streams) where
+  log-same : log_with (unsigned_abs saved.last_stamp) users (joined_streams states openers) ≡ log_with (unsigned_abs saved.last_stamp) saved.log_users (joined_streams (states_in saved.streams) (openers_in saved.streams))
+  log-same =
+      let made = log_with (unsigned_abs saved.last_stamp) in
+      ap (λ these. made these (joined_streams states openers)) users_are
+      ∙ ap (λ these. made saved.log_users (joined_streams these openers)) states_are
+      ∙ ap (λ these. made saved.log_users (joined_streams (states_in saved.streams) these)) openers_are
+
+  pub log-sound : IsFit saved → IsSoundLog (log_with (unsigned_abs saved.last_stamp) users (joined_streams states openers))
+  log-sound fit = subst IsSoundLog (sym log-same) (rebuilt-fit saved fit)
+
+  pub log-made : log_with (unsigned_abs saved.last_stamp) users (joined_streams states openers) ≡ (table_of_saved saved).log
+  log-made =
+      log-same ∙ ap (log_with (unsigned_abs saved.last_stamp) saved.log_users) (joined-saved saved.streams)
+
+-- the Notification Service
+
+module _ (saved : Saved) (users : List ℕ) (subs : List Subscription) (users_are : users ≡ saved.ntf_users) (subs_are : subs ≡ map (kept_sub_of saved.capacity) saved.subs) where
+  pub ntf-made : ntf_with saved.capacity users saved.last_id subs ≡ (table_of_saved saved).ntf
+  ntf-made =
+      ap (λ these. ntf_with saved.capacity these saved.last_id subs) users_are
+      ∙ ap (ntf_with saved.capacity saved.ntf_users saved.last_id) subs_are
+
+  pub ntf-sound : IsFit saved → IsSoundNtf (ntf_with saved.capacity users saved.last_id subs)
+  ntf-sound fit = subst IsSoundNtf (sym ntf-made) (ntf-fit saved fit)
+
+-- stored alarms
+
+pub can-add-next : (alarms : List SavedAlarm) (n : ℕ) (alarm : SavedAlarm) (notification : Notification) (view : List KeptAlarm) → CanAddEach alarms → n < length alarms → alarm ≡ get_or alarms n alarm → notification ≡ alarm.notification → view ≡ map kept_alarm_of (take n alarms) → CanAdd alarm.k notification view
+can-add-next alarms n alarm notification view can within read copy is =
+    subst (λ kept. CanAdd alarm.k notification kept) (sym is)
+    (subst (λ told. CanAdd alarm.k told (map kept_alarm_of (take n alarms))) (sym copy)
+    (can (take n alarms) alarm (drop (suc n) alarms) (parted-at alarms n alarm within read)))
+
+-- **the service keeps what it must, and has the value**
+
+pub restored-kept : (saved : Saved) (kept : Kept) → IsFit saved → kept_table kept ≡ table_of_saved saved → IsKeptAs (kept_table kept) saved.capacity
+restored-kept saved kept fit is = record {
+  ready = subst IsReady (sym is) (ready-fit saved fit);
+  capacity = sym (ap (λ (table : ServiceTable). table.ntf.capacity) is);
+}
+
+pub restored-value : (saved : Saved) (kept : Kept) → IsFit saved → kept_table kept ≡ table_of_saved saved → saved_table (kept_table kept) ≡ saved
+restored-value saved kept fit is = ap saved_table is ∙ value-back saved fit

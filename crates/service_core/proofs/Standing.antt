@@ -1,0 +1,102 @@
+-- The alarm stream tells which alarms stand; and what a write came to.
+use Rattle.std.proofs.Common.{◌≡◌, ◌≢◌, ℕ, ◌+◌, ◌≤◌, true, cond, List, [], ◌∷◌, refl, ap, sym, ◌∙◌, subst}
+use Rattle.std.specs.Prelude.{ℤ, Some, None, option_map, slice_get}
+use Rattle.std.specs.Option.{option_map_or}
+use Rattle.std.specs.List.{AllByRecursion}
+use Rattle.ais_values.specs.declared.status.Status.{Status}
+use Rattle.ais_values.specs.declared.status.Status.TheVariants as status
+use Rattle.stream_config.specs.declared.attrs.StreamName.{StreamName}
+use Rattle.stream_config.specs.declared.attrs.StreamName.TheVariants as name
+use Rattle.stream_config.specs.declared.state.StreamState.{StreamState}
+use Rattle.stream_config.specs.declared.event.StreamEvent.{StreamEvent}
+use Rattle.stream_config.specs.Attributes.{kind_of, PassesAttrs}
+use Rattle.stream_config.specs.Equality.{same_name}
+use Rattle.stream_config.specs.Sizes.{records_per_file}
+use Rattle.stream_layout.specs.declared.deed.Deed.{Deed}
+use Rattle.record_print.specs.declared.record.Header.{Header}
+use Rattle.alarm_view.specs.declared.alarm.KeptAlarm.{KeptAlarm}
+use Rattle.alarm_view.specs.Alarms.{from_record}
+use Rattle.calls.specs.declared.call.Call.TheVariants.{LogWrite}
+use Rattle.calls.specs.declared.reply.Reply.TheVariants.{Done}
+use Rattle.log_history.specs.Changes.{LogChange, Stored}
+use Rattle.log_history.specs.Deeds.{deeds_of_all}
+use Rattle.log_history.specs.Times.{second_of, record_at}
+use Rattle.log_history.specs.Table.{OpenStream, LogTable, table_after, events_of}
+use Rattle.log_history.specs.KeptAnswers.{kept_stream}
+use Rattle.plain_service.specs.Alarms.{first_in}
+use Rattle.plain_service.specs.Changing.{if_ok}
+use Rattle.plain_service.specs.Replies.{reply_by}
+use Rattle.service_table.specs.Tables.{ServiceTable}
+use Rattle.service_table.specs.Answering.{status_in}
+use Rattle.service_table.specs.Steps.{logged, standing_from, where_ok, changed}
+use Rattle.service_table.specs.Ready.{IsReadyStream, IsAlarmFirst, IsReadyLog}
+use Rattle.service_table.proofs.LogSteps.{CanChange, second_in, ready-log}
+use Rattle.service_table.proofs.ReadySteps.{same-log}
+use Rattle.service_table.proofs.CallLaws.{logged-by, events-by}
+use Rattle.service_parts.specs.Telling.{IsTold}
+use Rattle.service_core.specs.declared.parts.Acted.{Acted}
+use Rattle.service_core.specs.Acting.{HasActed}
+
+-- the first stream is the alarm stream
+
+pub first-passes : (number : ℕ) (kept : LogTable) (state : StreamState) → IsReadyLog number kept → Some state ≡ option_map (λ (s : OpenStream). s.state) (slice_get kept.streams 0) → PassesAttrs (kind_of state.name) state.attrs
+first-passes number kept state ready is = by_case kept.streams is (ready.each) where
+  by_case : (streams : List OpenStream) → Some state ≡ option_map (λ (s : OpenStream). s.state) (slice_get streams 0) → AllByRecursion (IsReadyStream kept.last number) streams → PassesAttrs (kind_of state.name) state.attrs
+  by_case [] same each = cc
+  by_case (s ∷ streams) same each =
+      let e : state ≡ s.state = cc in
+      subst (λ (st : StreamState). PassesAttrs (kind_of st.name) st.attrs) (sym e) each.0.attributes
+
+abbrev first_of_state : StreamState → ℕ
+first_of_state state = first_in state.attrs.action (records_per_file state.attrs) state.attrs.rotated state.taken
+
+pub first-stands : (kept : List OpenStream) (state : StreamState) → IsAlarmFirst kept → Some state ≡ option_map (λ (s : OpenStream). s.state) (slice_get kept 0) → first_in state.attrs.action (records_per_file state.attrs) state.attrs.rotated state.taken ≡ standing_from kept
+first-stands [] state first is = absurd first
+first-stands (s ∷ streams) state first is =
+    let e : state ≡ s.state = cc in
+    let named : same_name s.state.name name.Alarm ≡ true = ap (λ n. same_name n name.Alarm) first in
+    ap first_of_state e
+    ∙ sym (ap (λ b. option_map_or (λ (one : OpenStream). first_of_state one.state) (cond b (Some s) (kept_stream streams name.Alarm)) 0) named)
+
+pub some-first : (kept : List OpenStream) → IsAlarmFirst kept → None ≡ option_map (λ (s : OpenStream). s.state) (slice_get kept 0) → ⊥
+some-first [] first is = first
+some-first (s ∷ streams) first is = cc
+
+-- a write
+
+abbrev pub with_log_alarms : ServiceTable → LogTable → List KeptAlarm → ServiceTable
+with_log_alarms kept log alarms = record {
+  number = kept.number;
+  log = log;
+  ntf = kept.ntf;
+  alarms = alarms;
+  readers = kept.readers;
+  windows = kept.windows;
+}
+
+write-changed : (kept : ServiceTable) (client seq invocation flags : ℕ) (moment time : ℤ) (stream : StreamName) (header : Header) (body : List ℕ) (answered : Status) → let later = logged (if_ok answered (Some (Stored stream (record_at time header body moment) (second_of moment)))) kept.log in with_log_alarms kept later (where_ok answered (from_record (standing_from later.streams) kept.alarms) kept.alarms) ≡ changed kept client seq moment (LogWrite stream invocation flags time header body) answered
+write-changed kept client seq invocation flags moment time stream header body status.Ok = refl
+write-changed kept client seq invocation flags moment time stream header body _ = refl
+
+pub write-acted : (kept : ServiceTable) (client seq invocation flags : ℕ) (moment time : ℤ) (stream : StreamName) (header : Header) (body : List ℕ) (answered : Status) (later : LogTable) (alarms : List KeptAlarm) (events : List StreamEvent) (deeds : List Deed) (acted : Acted) → let change = Stored stream (record_at time header body moment) (second_of moment) in answered ≡ status_in kept client (LogWrite stream invocation flags time header body) → (answered ≡ status.Ok → later ≡ table_after change kept.log) → (answered ≢ status.Ok → later ≡ kept.log) → (answered ≡ status.Ok → events ≡ events_of change kept.log) → (answered ≢ status.Ok → events ≡ []) → alarms ≡ where_ok answered (from_record (standing_from later.streams) kept.alarms) kept.alarms → deeds ≡ deeds_of_all events → IsTold answered Done acted.told → acted.deeds ≡ deeds → HasActed kept client seq moment (LogWrite stream invocation flags time header body) (with_log_alarms kept later alarms) acted
+write-acted kept client seq invocation flags moment time stream header body answered later alarms events deeds acted same made left done nothing alarms_are deeds_are told has =
+    let change = Stored stream (record_at time header body moment) (second_of moment) in
+    let log_is : later ≡ logged (if_ok answered (Some change)) kept.log = logged-by answered change kept.log later made left in
+    let events_are = events-by answered change kept.log events done nothing in
+    let plain = ap (λ s. reply_by s Done) same in
+    record {
+      now = ap (with_log_alarms kept later) alarms_are
+          ∙ ap (λ (l : LogTable). with_log_alarms kept l (where_ok answered (from_record (standing_from l.streams) kept.alarms) kept.alarms)) log_is
+          ∙ write-changed kept client seq invocation flags moment time stream header body answered
+          ∙ ap (changed kept client seq moment (LogWrite stream invocation flags time header body)) same;
+      told = record { reply = told.reply ∙ plain; kept = told.kept ∙ plain };
+      deeds = has ∙ deeds_are ∙ ap deeds_of_all events_are ∙ ap (λ s. deeds_of_all (option_map_or (λ x. events_of x kept.log) (if_ok s (Some change)) [])) same;
+    }
+
+-- what is kept of the log after a call is ready
+pub ready-after : (number : ℕ) (kept later : LogTable) (change : LogChange) (answered : Status) → IsReadyLog number kept → second_in change ≤ 9000000000 → (answered ≡ status.Ok → CanChange kept change) → (answered ≡ status.Ok → later ≡ table_after change kept) → (answered ≢ status.Ok → later ≡ kept) → IsReadyLog (number + 1) later
+ready-after number kept later change status.Ok ready early can made left =
+    subst (IsReadyLog (number + 1)) (sym (made refl)) (ready-log number kept change early (can refl) ready)
+ready-after number kept later change _ ready early can made left =
+    let same : later ≡ kept = left (λ e. cc) in
+    subst (IsReadyLog (number + 1)) (sym same) (same-log number kept ready)

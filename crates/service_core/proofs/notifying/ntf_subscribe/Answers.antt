@@ -1,0 +1,14 @@
+use Rattle.std.proofs.Common.{refl, ◌∙◌}
+use Rattle.calls.specs.declared.call.Call.TheVariants.{NtfSubscribe}
+use Rattle.calls.specs.declared.reply.Reply.TheVariants.{Done}
+use Rattle.ntf_history.specs.Changes.{NtfChange as ntf}
+use Rattle.service_table.proofs.CallLaws.{notified-by}
+use Rattle.ntf_service.specs.State.{sub_of}
+use Rattle.service_core.specs.Acting.{table_of}
+use Rattle.service_core.proofs.NtfActs.{quiet-acted, same-readers}
+use Rattle.service_core.proofs.notifying.ntf_subscribe.Goals as goal
+
+pub returns-clause-ok : goal.returns-clause-ok
+returns-clause-ok c =
+    let parts = c.args.parts.now in
+    λ now. quiet-acted (table_of parts) c.args.client c.args.seq now (NtfSubscribe c.args.id c.args.filters.now) c.in_ok-status.status Done c.subscribe.new.self parts.readers.items c.act_of.result tt c.in_ok-status.ensures.status refl (notified-by c.in_ok-status.status (ntf.Subscribed (sub_of c.args.client c.args.seq c.args.id c.args.filters.now)) parts.ntf c.subscribe.new.self c.in_ok-status.ensures.ok c.in_ok-status.ensures.refused) (same-readers c.in_ok-status.status parts.readers.items) c.act_of.ensures.told (c.act_of.ensures.deeds ∙ c.new.ensures)

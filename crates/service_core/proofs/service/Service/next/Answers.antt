@@ -1,0 +1,12 @@
+use Rattle.std.proofs.Common.{ap, sym, ◌∙◌}
+use Rattle.service_table.specs.Steps.{window_for}
+use Rattle.service_core.specs.Applying.{next_in}
+use Rattle.service_core.specs.Inside.{kept_table}
+use Rattle.service_core.proofs.FollowLaws.{next-is}
+use Rattle.service_core.proofs.service.Service.next.Goals as goal
+
+pub returns : goal.returns
+returns c =
+    c.next_call.ensures ∙ ap (λ callers. (window_for c.args.client callers).next) c.as_slice.ensures.value
+    ∙ sym (next-is (kept_table c.self.inside.kept) c.args.client)
+    ∙ ap (λ saved. next_in saved c.args.client) c.self.view_is

@@ -1,0 +1,9 @@
+pub mod Applying
+pub mod Acting
+pub mod Sending
+pub mod Inside
+pub mod Following
+pub mod Beginning
+pub mod Opening
+pub mod Holding
+pub mod Restoring

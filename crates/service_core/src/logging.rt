@@ -1,0 +1,87 @@
+//! Calls of the Log Service.
+ghost use Rattle.std.specs.Prelude.{◌≡◌, ℕ, IfOk, OnErr};
+ghost use Rattle.std.specs.Option.{option_copied};
+ghost use Rattle.calls.specs.declared.call.Call.TheVariants.{LogInit, LogOpen, LogWrite, LogClose, LogFini};
+ghost use Rattle.service_table.specs.Conditions.{CanCallLog};
+ghost use Rattle.service_core.specs.Acting.{table_of, HasActed};
+
+use crate::deeds::deeds_of_all;
+use crate::parts::{Acted, Parts, act_of};
+use ais_values::{Seq, Text};
+use record_print::Header;
+use std::alloc::{AllocError, Global};
+use stream_config::{StreamAttrs, StreamName};
+
+/// A client begins to use the service.
+pub(crate) fn log_init(
+    parts: &mut Parts,
+    alloc: Global,
+    client: u16,
+    now: i64,
+) -> Result<Acted, AllocError>
+    ensures ok { IfOk result (λ acted. (seq : ℕ) →
+        HasActed (table_of parts.old) client seq now LogInit (table_of parts.new) acted) }
+    ensures err { OnErr result (table_of parts.new ≡ table_of parts.old) }
+{
+    let step = parts.log.init(alloc, client, now)?;
+    Ok(act_of(step.status, Seq::new(alloc)))
+}
+
+/// A client ends its use of the service.
+pub(crate) fn log_fini(
+    parts: &mut Parts,
+    alloc: Global,
+    client: u16,
+    now: i64,
+) -> Result<Acted, AllocError>
+    requires { CanCallLog parts.old.log now }
+    ensures ok { IfOk result (λ acted. (seq : ℕ) →
+        HasActed (table_of parts.old) client seq now LogFini (table_of parts.new) acted) }
+    ensures err { OnErr result (table_of parts.new ≡ table_of parts.old) }
+{
+    let foreseen = parts.log.foresee_close_all(alloc, client, now)?;
+    let deeds = deeds_of_all(alloc, foreseen.events.as_slice())?;
+    let step = parts.log.close_all(alloc, client, now)?;
+    Ok(act_of(step.status, deeds))
+}
+
+/// A client opens a stream.
+pub(crate) fn log_open(
+    parts: &mut Parts,
+    alloc: Global,
+    client: u16,
+    now: i64,
+    name: &StreamName,
+    create: Option<&StreamAttrs>,
+) -> Result<Acted, AllocError>
+    requires { CanCallLog parts.old.log now }
+    ensures ok { IfOk result (λ acted. (seq : ℕ) →
+        HasActed (table_of parts.old) client seq now (LogOpen name.now (option_copied create.entry))
+        (table_of parts.new) acted) }
+    ensures err { OnErr result (table_of parts.new ≡ table_of parts.old) }
+{
+    let foreseen = parts.log.foresee_open(alloc, client, name, create, now)?;
+    let deeds = deeds_of_all(alloc, foreseen.events.as_slice())?;
+    let step = parts.log.open_stream(alloc, client, name, create, now)?;
+    Ok(act_of(step.status, deeds))
+}
+
+/// A client closes a stream.
+pub(crate) fn log_close(
+    parts: &mut Parts,
+    alloc: Global,
+    client: u16,
+    now: i64,
+    name: &StreamName,
+) -> Result<Acted, AllocError>
+    requires { CanCallLog parts.old.log now }
+    ensures ok { IfOk result (λ acted. (seq : ℕ) →
+        HasActed (table_of parts.old) client seq now (LogClose name.now) (table_of parts.new)
+        acted) }
+    ensures err { OnErr result (table_of parts.new ≡ table_of parts.old) }
+{
+    let foreseen = parts.log.foresee_close(alloc, client, name, now)?;
+    let deeds = deeds_of_all(alloc, foreseen.events.as_slice())?;
+    let step = parts.log.close(alloc, client, name, now)?;
+    Ok(act_of(step.status, deeds))
+}

@@ -1,0 +1,230 @@
+//! The service.
+ghost use Rattle.std.specs.Prelude.{◌≡◌, ◌<◌, ◌↔◌, true, ℕ, List, [], IfOk, OnErr, IsErrOf};
+ghost use Rattle.calls.specs.declared.entry.Entry.{Entry};
+ghost use Rattle.calls.specs.declared.reply.Reply.{Reply};
+ghost use Rattle.client_window.specs.Windows.{window_of};
+ghost use Rattle.client_window.specs.Judgement.{IsJudged};
+ghost use Rattle.plain_service.specs.Setups.{Setup, IsMoment};
+ghost use Rattle.plain_service.specs.Replies.{replies_to};
+ghost use Rattle.plain_service.specs.Legal.{CanFollow, IsHistory};
+ghost use Rattle.plain_service.specs.Values.{StandsFor};
+ghost use Rattle.plain_service.specs.Items.{items_of};
+ghost use Rattle.plain_service.specs.Fitness.{IsFit};
+ghost use Rattle.service_table.specs.Steps.{window_for, after_receipt_in};
+ghost use Rattle.service_table.specs.Ready.{IsReady};
+ghost use Rattle.ntf_history.specs.Tables.{HaveQueues, is_new_in as is_new_for_table};
+ghost use Rattle.service_core.specs.Applying.{CanApply, next_in, is_new_in};
+ghost use Rattle.service_core.specs.Beginning.{BeginsAs, CanBeginAs, HasBegun};
+ghost use Rattle.service_core.specs.Following.{HasFollowed};
+ghost use Rattle.alarm_view.specs.Alarms.{AreInOrder};
+ghost use Rattle.service_core.specs.Inside.{kept_table, HasApplied};
+
+use crate::acting::act;
+use crate::kept::Kept;
+use crate::parts::Parts;
+use crate::{Effect, RestoreAnswer, holding, opening, restoring, saving};
+use ais_values::Seq;
+use calls::{Call, Entry, Held, Reply, Saved};
+use client_window::Judged;
+use saved_fit::is_fit;
+use service_parts::{answer_call, judge_call, next_call, room_for};
+use std::alloc::{AllocError, Global};
+use std::marker::Model;
+use stream_config::StreamAttrs;
+use stream_layout::Deed;
+
+/// The whole service. Contracts see the value that it can hand on.
+#[derive(Drop)]
+pub struct Service {
+    kept: Kept,
+    /// How many items a subscription holds.
+    cap: u32,
+}
+
+impl Model for Service {
+    ghost use Rattle.calls.specs.declared.saved.Saved.{Saved};
+
+    ghost Value = { Saved };
+
+    ghost use Rattle.service_core.specs.Inside.{saved_inside, IsKept};
+
+    ghost view = { saved_inside };
+
+    ghost invariant = { IsKept };
+}
+
+/// What the types of the parts keep. It does nothing else.
+fn show_sound(parts: &Parts)
+    ensures queues { HaveQueues parts.now.ntf.capacity parts.now.ntf.subs }
+    ensures order { AreInOrder parts.now.alarms }
+{
+    let _ = parts.ntf.count();
+    let _ = parts.alarms.count();
+}
+
+/// Applies a client's next call. On an error nothing changes.
+fn apply_call(
+    kept: &mut Kept,
+    alloc: Global,
+    client: u16,
+    seq: u32,
+    now: i64,
+    call: &Call,
+) -> Result<Effect, AllocError>
+    requires ready { IsReady (kept_table kept.old) }
+    requires few { kept.old.number < 4000000000 }
+    requires moment { IsMoment now }
+    requires next { seq ≡ (window_for client kept.old.callers.items).next }
+    ensures ok { IfOk result (λ effect.
+        HasApplied (kept_table kept.old) client seq now call.now (kept_table kept.new) effect) }
+    ensures ready { IsReady (kept_table kept.new) }
+    ensures capacity { kept.new.parts.ntf.capacity ≡ kept.old.parts.ntf.capacity }
+    ensures err { OnErr result (kept_table kept.new ≡ kept_table kept.old) }
+{
+    let fresh = room_for(alloc, &mut kept.callers, client)?;
+    let acted = act(&mut kept.parts, alloc, client, seq, now, call)?;
+    answer_call(&mut kept.callers, client, fresh, acted.told.kept);
+    kept.number += 1;
+    show_sound(&kept.parts);
+    Ok(Effect {
+        reply: Some(acted.told.reply),
+        deeds: acted.deeds,
+    })
+}
+
+/// Applies a new receipt. It takes no memory.
+fn apply_receipt(kept: &mut Kept, alloc: Global, client: u16, key: u32, through: u32) -> Effect
+    requires ready { IsReady (kept_table kept.old) }
+    requires few { kept.old.number < 4000000000 }
+    requires new { is_new_for_table kept.old.parts.ntf client key through ≡ true }
+    ensures now { kept_table kept.new ≡ after_receipt_in (kept_table kept.old) client key through }
+    ensures ready { IsReady (kept_table kept.new) }
+    ensures capacity { kept.new.parts.ntf.capacity ≡ kept.old.parts.ntf.capacity }
+    ensures reply { result.reply ≡ None }
+    ensures deeds { result.deeds ≡ [] }
+{
+    kept.parts.ntf.acked(client, key, through);
+    kept.number += 1;
+    show_sound(&kept.parts);
+    Effect {
+        reply: None,
+        deeds: Seq::new(alloc),
+    }
+}
+
+impl Service {
+    /// A service that nobody has used. It begins at a time from 0 to 9,000,000,000,000,000,000, each of its subscriptions
+    /// holds at most `cap` items, 1 to 256, and `wells` are the attributes of the alarm, the notification and the system stream:
+    /// three sets that pass, no two of one path and file. It stands for the empty history, and the deeds are those by which
+    /// the three streams are made. On an error, which is want of memory, there is no service.
+    pub fn new(
+        alloc: Global,
+        start: i64,
+        cap: u32,
+        wells: Seq<StreamAttrs>,
+    ) -> Result<(Service, Seq<Deed>), AllocError>
+        requires { CanBeginAs start cap wells }
+        ensures { IfOk result (λ made. (setup : Setup) → BeginsAs setup start cap wells →
+            HasBegun setup made) }
+    {
+        let (kept, deeds) = opening::opened(alloc, start, cap, wells)?;
+        Ok((Service { kept, cap }, deeds))
+    }
+
+    /// The service of a value: with it each further entry is answered as by the service that handed the value on.
+    /// `Refused` comes exactly where the value is not fit, and `Memory` only for want of memory.
+    pub fn restore(alloc: Global, saved: &Saved) -> Result<Service, RestoreAnswer>
+        ensures ok { IfOk result (λ service. service ≡ saved.now) }
+        ensures refused { IsErrOf result RestoreAnswer.Refused ↔ (¬ IsFit saved.now) }
+    {
+        if !is_fit(saved) {
+            return Err(RestoreAnswer::Refused);
+        }
+        match restoring::restored(alloc, saved) {
+            Ok(kept) => Ok(Service {
+                kept,
+                cap: saved.capacity,
+            }),
+            Err(_) => Err(RestoreAnswer::Memory),
+        }
+    }
+
+    /// The value that can be handed on. The service stays as it is; an error is want of memory.
+    pub fn save(&self, alloc: Global) -> Result<Saved, AllocError>
+        ensures { IfOk result (λ saved. saved ≡ self.now) }
+    {
+        let saved = saving::saved(alloc, &self.kept, self.cap)?;
+        Ok(saved)
+    }
+
+    /// The items that subscriptions hold, in order of client, key and number. The service stays as it is; an error is
+    /// want of memory.
+    pub fn items(&self, alloc: Global) -> Result<Seq<Held>, AllocError>
+        ensures { IfOk result (λ items. (setup : Setup) (past : List Entry) →
+            StandsFor setup past self.now → items ≡ items_of setup past) }
+    {
+        let items = holding::items_of(alloc, &self.kept.parts.ntf)?;
+        Ok(items)
+    }
+
+    /// The number of a client's next call. It takes no memory.
+    pub fn next(&self, client: u16) -> u32
+        ensures { result ≡ next_in self.now client }
+    {
+        next_call(self.kept.callers.as_slice(), client)
+    }
+
+    /// What the call of this number of a client is, by all replies that the client was ever given. It takes no memory.
+    pub fn judge(&self, client: u16, seq: u32) -> Judged<'_, Reply>
+        ensures { (setup : Setup) (past : List Entry) → IsHistory setup past
+            → StandsFor setup past self.now →
+            IsJudged seq (replies_to setup client past) result }
+    {
+        judge_call(self.kept.callers.as_slice(), client, seq)
+    }
+
+    /// Whether a receipt is new: the subscription of this client and key lasts, and holds an item of this number. It
+    /// takes no memory.
+    pub fn is_new(&self, client: u16, key: u32, through: u32) -> bool
+        ensures { result ≡ is_new_in self.now client key through }
+    {
+        self.kept.parts.ntf.is_new(client, key, through)
+    }
+
+    /// How many entries were accepted. It takes no memory.
+    pub fn number(&self) -> u64
+        ensures { result ≡ self.now.number }
+    {
+        self.kept.number
+    }
+
+    /// Applies an entry: a call that has the number of its client's next one, or a new receipt, of a client from 1 to
+    /// 4,096, at a time from 0 to 9,000,000,000,000,000,000, after fewer than 4,000,000,000 entries. A service that stands
+    /// for a history stands for the history with the entry then, and the reply and the deeds are the entry's. On an error,
+    /// which is want of memory, nothing changes.
+    pub fn apply(&mut self, alloc: Global, entry: &Entry) -> Result<Effect, AllocError>
+        requires { CanApply entry.now self.old }
+        ensures ok { IfOk result (λ effect. (setup : Setup) (past : List Entry) →
+            IsHistory setup past → StandsFor setup past self.old → CanFollow setup entry.now past →
+            HasFollowed setup past entry.now self.new effect) }
+        ensures err { OnErr result (self.new ≡ self.old) }
+    {
+        match entry {
+            Entry::Called {
+                client,
+                seq,
+                time,
+                call,
+            } => {
+                let effect = apply_call(&mut self.kept, alloc, *client, *seq, *time, call)?;
+                Ok(effect)
+            }
+            Entry::Receipted {
+                client,
+                key,
+                through,
+                time: _,
+            } => Ok(apply_receipt(&mut self.kept, alloc, *client, *key, *through)),
+        }
+    }
+}

@@ -1,0 +1,69 @@
+//! Records that clients write.
+ghost use Rattle.std.specs.Prelude.{◌≡◌, ℕ, IfOk, OnErr};
+ghost use Rattle.alarm_view.specs.Alarms.{from_record};
+ghost use Rattle.calls.specs.declared.call.Call.TheVariants.{LogWrite};
+ghost use Rattle.service_table.specs.Conditions.{CanCallLog};
+ghost use Rattle.service_table.specs.Steps.{standing_from, where_ok};
+ghost use Rattle.service_table.specs.Ready.{IsReadyLog};
+ghost use Rattle.service_core.specs.Acting.{table_of, HasActed};
+
+use crate::deeds::deeds_of_all;
+use crate::parts::{Acted, Parts, act_of};
+use ais_values::{Status, Text};
+use alarm_view::AlarmView;
+use log_service::LogState;
+use record_print::Header;
+use service_parts::first_standing;
+use std::alloc::{AllocError, Global};
+use stream_config::StreamName;
+
+/// Drops the alarms whose records stand no more.
+pub(crate) fn keep_standing(alarms: &mut AlarmView, log: &LogState)
+    requires { (number : ℕ) × IsReadyLog number log.now }
+    ensures { alarms.new ≡ from_record (standing_from log.now.streams) alarms.old }
+{
+    match log.stream_at(0) {
+        Some(state) => alarms.keep_from(first_standing(state)),
+        None => {}
+    }
+}
+
+/// Drops them where a record was stored.
+fn keep_after(alarms: &mut AlarmView, log: &LogState, status: Status)
+    requires { (number : ℕ) × IsReadyLog number log.now }
+    ensures { alarms.new ≡ where_ok status
+        (from_record (standing_from log.now.streams) alarms.old) alarms.old }
+{
+    if status == Status::Ok {
+        keep_standing(alarms, log);
+    }
+}
+
+/// A client writes a record.
+pub(crate) fn log_write(
+    parts: &mut Parts,
+    alloc: Global,
+    client: u16,
+    now: i64,
+    name: &StreamName,
+    flags: u32,
+    time: i64,
+    header: &Header,
+    body: &Text,
+) -> Result<Acted, AllocError>
+    requires { CanCallLog parts.old.log now }
+    ensures ok { IfOk result (λ acted. (seq invocation : ℕ) →
+        HasActed (table_of parts.old) client seq now
+        (LogWrite name.now invocation flags time header.now body.now) (table_of parts.new) acted) }
+    ensures err { OnErr result (table_of parts.new ≡ table_of parts.old) }
+{
+    let foreseen = parts
+        .log
+        .foresee_write(alloc, client, name, flags, time, header, body, now)?;
+    let deeds = deeds_of_all(alloc, foreseen.events.as_slice())?;
+    let step = parts
+        .log
+        .write(alloc, client, name, flags, time, header, body, now)?;
+    keep_after(&mut parts.alarms, &parts.log, step.status);
+    Ok(act_of(step.status, deeds))
+}
