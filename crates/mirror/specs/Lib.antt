@@ -1,0 +1,5 @@
+pub mod Hearing
+pub mod Inside
+pub mod Nodes
+pub mod Reacting
+pub mod Working

@@ -1,0 +1,26 @@
+-- Words of public clauses: what the active server makes of the entry in hand once it works.
+use Rattle.std.specs.Prelude.{List, [], Option, Some, None}
+use Rattle.stream_layout.specs.declared.deed.Deed.{Deed}
+use Rattle.wire.specs.declared.message.Message.{Message}
+use Rattle.mirror.specs.declared.heard.Outcome.TheVariants.{Worked}
+use Rattle.mirror.specs.declared.heard.Heard.{Heard}
+use Rattle.mirror.specs.declared.owed.Owed.{Owed}
+use Rattle.mirror.specs.Nodes.{Server}
+
+-- the deeds of the entry in hand
+abbrev pub deeds_in : Option Owed → List Deed
+deeds_in None = []
+deeds_in (Some owed) = owed.deeds
+
+-- the reply to it, where it has one
+abbrev pub replies_in : Option Owed → List Message
+replies_in None = []
+replies_in (Some owed) = owed.to_net
+
+-- the work is done, and the reply is posted, if there is one
+abbrev pub worked : List Message → Heard
+worked replies = record { to_net = replies; to_peer = []; committed = None; outcome = Worked }
+
+-- the server once nothing is in hand any more
+abbrev pub emptied : Server → Server
+emptied server = record { role = server.role; service = server.service; owed = None }

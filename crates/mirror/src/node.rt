@@ -1,0 +1,209 @@
+//! A server of the cluster.
+ghost use Rattle.std.specs.Prelude.{◌≡◌, ◌≢◌, ◌↔◌, IsTrue, ℕ, suc, List, [], ◌∷◌, length, is_some, option_map, IsSome, IfOk, OnOk, OnErr, IsErrOf};
+ghost use Rattle.ais_values.specs.Causes.{HasCauseOf};
+ghost use Rattle.disk_model.specs.DeviceCalls.{all_applied, FailsAfter, LacksMemoryAfter};
+ghost use Rattle.disk_model.specs.declared.answers.DiskAnswer.{DiskAnswer};
+ghost use Rattle.stream_layout.specs.Deeds.{calls_of_all};
+ghost use Rattle.calls.specs.declared.entry.Entry.{Entry as EntryOf};
+ghost use Rattle.plain_service.specs.Setups.{Setup};
+ghost use Rattle.plain_service.specs.Legal.{IsHistory};
+ghost use Rattle.service_laws.specs.PlainOf.{plain_of};
+ghost use Rattle.mirror.specs.declared.heard.Role.TheVariants.{Active};
+ghost use Rattle.mirror.specs.declared.heard.Why.TheVariants.{Busy, NotForRole};
+ghost use Rattle.mirror.specs.Nodes.{HasService, HasRoom, down, started, number_of, number_in_hand, at_rest, at_work};
+ghost use Rattle.mirror.specs.Hearing.{CanHear, IsHeardAtRest, ignored};
+ghost use Rattle.mirror.specs.Working.{deeds_in, replies_in, worked, emptied};
+
+use crate::hearing::ignore;
+use crate::parts::{do_deeds, hear_or_ignore, post_owed, push_items};
+use crate::{Heard, Owed, Role, Why};
+use ais_values::Seq;
+use disk_model::{DiskAnswer, SharedDisk};
+use service_core::Service;
+use std::alloc::{AllocError, Global};
+use std::marker::Model;
+use std::mem::replace;
+use wire::Message;
+
+/// How many entries a service accepts.
+const MOST: u64 = 4_000_000_000;
+
+/// A server: its role, its service, where the role has one, and what the entry in hand asks for. Contracts see the
+/// service by the value that it can hand on.
+#[derive(Drop)]
+pub struct Node {
+    role: Role,
+    service: Option<Service>,
+    owed: Option<Owed>,
+}
+
+impl Model for Node {
+    ghost use Rattle.mirror.specs.Nodes.{Server};
+
+    ghost Value = { Server };
+
+    ghost use Rattle.mirror.specs.Inside.{server_of};
+
+    ghost view = { server_of };
+}
+
+impl Node {
+    /// A server that is down.
+    pub fn down() -> Node
+        ensures { result ≡ down }
+    {
+        Node {
+            role: Role::Down,
+            service: None,
+            owed: None,
+        }
+    }
+
+    /// A server that begins with a service, as the active one or as its partner, with nothing in hand.
+    pub fn start(role: Role, service: Service) -> Node
+        requires { HasService role }
+        ensures { result ≡ started role service }
+    {
+        Node {
+            role,
+            service: Some(service),
+            owed: None,
+        }
+    }
+
+    /// The server's role.
+    pub fn role(&self) -> Role
+        ensures { result ≡ self.now.role }
+    {
+        self.role
+    }
+
+    /// How many entries the server's service has applied, the one in hand included; `None` where it has no service.
+    pub fn number(&self) -> Option<u64>
+        ensures { result ≡ number_of self.now }
+    {
+        match &self.service {
+            None => None,
+            Some(service) => Some(service.number()),
+        }
+    }
+
+    /// Whether a further entry can be accepted: fewer than 4,000,000,000 were.
+    pub fn has_room(&self) -> bool
+        ensures { IsTrue result ↔ HasRoom self.now.service }
+    {
+        match &self.service {
+            None => true,
+            Some(service) => service.number() < MOST,
+        }
+    }
+
+    /// The number of the entry in hand: the first that was ever accepted has number 1.
+    pub fn in_hand(&self) -> Option<u64>
+        ensures { result ≡ number_in_hand self.now }
+    {
+        if self.owed.is_none() {
+            return None;
+        }
+        self.number()
+    }
+
+    /// Whether an entry is in hand that is ready to work.
+    pub fn ready(&self) -> bool
+        ensures { result ≡ is_some self.now.owed }
+    {
+        self.owed.is_some()
+    }
+
+    /// Hears a message at a moment, from 0 to 9,000,000,000,000,000,000; a request or a receipt is that of a client
+    /// from 1 to 4,096, and a request's number is at least 1. Fewer than 4,000,000,000 entries were accepted.
+    ///
+    /// The active server with an entry in hand ignores it as busy. With nothing in hand it accepts the client's next
+    /// request and a new receipt as the next entry of the history, which is committed and in hand from then on; it
+    /// asks for the reply to one of the 32 requests before the client's next to be posted again; and it ignores a
+    /// request before these as old, one behind the next as ahead, a receipt that is not new as done, and any other
+    /// message as not for its role. A server of another role ignores all messages as not for its role. Where a
+    /// message is not accepted nothing changes. `Err` comes only for want of memory, and nothing changes then.
+    pub fn receive(
+        &mut self,
+        alloc: Global,
+        message: &Message,
+        now: i64,
+    ) -> Result<Heard, AllocError>
+        requires hear { CanHear message.now now }
+        requires few { HasRoom self.old.service }
+        ensures role { IfOk result (λ heard. self.old.role ≢ Active →
+            (heard ≡ ignored (NotForRole self.old.role)) × (self.new ≡ self.old)) }
+        ensures busy { IfOk result (λ heard. (setup : Setup) (past : List EntryOf)
+            (entry : EntryOf) → self.old ≡ at_work setup past entry →
+            (heard ≡ ignored (Busy (suc (length past)))) × (self.new ≡ self.old)) }
+        ensures rest { IfOk result (λ heard. (setup : Setup) (past : List EntryOf) →
+            IsHistory setup past → self.old ≡ at_rest setup past →
+            IsHeardAtRest setup past now message.now heard self.new) }
+        ensures err { OnErr result (self.new ≡ self.old) }
+    {
+        let role = self.role;
+        if role != Role::Active {
+            return Ok(ignore(alloc, Why::NotForRole { role }));
+        }
+        match &mut self.service {
+            None => Ok(ignore(alloc, Why::NotForRole { role })),
+            Some(service) => {
+                let heard = hear_or_ignore(service, &mut self.owed, alloc, message, now)?;
+                Ok(heard)
+            }
+        }
+    }
+
+    /// Does the deeds of the entry in hand, in order, and then asks for the reply to be posted, if there is one;
+    /// nothing is in hand after it.
+    ///
+    /// `Memory`: some of the deeds' calls from the front were made, fewer than all, and the server is as it was, so
+    /// that it can work again. `Failed`, which comes only where the disk's count of faults rose: some calls from the
+    /// front were made and the next one failed, and the server is down.
+    pub fn work<D: SharedDisk>(&mut self, alloc: Global, disk: &mut D) -> Result<Heard, DiskAnswer>
+        requires { IsSome self.old.owed }
+        ensures done { IfOk result (λ heard. (heard ≡ worked (replies_in self.old.owed))
+            × (self.new ≡ emptied self.old)) }
+        ensures files { OnOk result (D.files disk.new ≡ option_map
+            (all_applied (calls_of_all (deeds_in self.old.owed))) (D.files disk.old)) }
+        ensures memory { IsErrOf result DiskAnswer.Memory → (self.new ≡ self.old)
+            × (count : ℕ) × LacksMemoryAfter (calls_of_all (deeds_in self.old.owed)) count
+            (D.files disk.old) (D.files disk.new) }
+        ensures failed { IsErrOf result DiskAnswer.Failed → (self.new ≡ down)
+            × (count : ℕ) × FailsAfter (calls_of_all (deeds_in self.old.owed)) count
+            (D.files disk.old) (D.files disk.new) }
+        ensures cause { HasCauseOf (D.faults disk.old) (D.faults disk.new) result
+            DiskAnswer.Failed }
+    {
+        match do_deeds(disk, &self.owed) {
+            Ok(()) => {
+                let owed = self.owed.take();
+                Ok(post_owed(alloc, owed))
+            }
+            Err(DiskAnswer::Memory) => Err(DiskAnswer::Memory),
+            Err(DiskAnswer::Failed) => {
+                let failed = replace(self, Node::down());
+                drop(failed);
+                Err(DiskAnswer::Failed)
+            }
+        }
+    }
+
+    /// The messages that bring the items without receipt to their clients, in order of client, key and number. An
+    /// entry may not be in hand. `Err` comes only for want of memory.
+    pub fn push(&self, alloc: Global) -> Result<Seq<Message>, AllocError>
+        requires role { self.now.role ≡ Active }
+        requires idle { self.now.owed ≡ None }
+        ensures { IfOk result (λ messages. (setup : Setup) (past : List EntryOf) →
+            self.now ≡ at_rest setup past → messages ≡ (plain_of setup).held past) }
+    {
+        match &self.service {
+            None => Ok(Seq::new(alloc)),
+            Some(service) => {
+                let messages = push_items(service, alloc)?;
+                Ok(messages)
+            }
+        }
+    }
+}
