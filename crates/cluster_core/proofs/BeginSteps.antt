@@ -1,0 +1,85 @@
+-- The start of a cluster.
+use Rattle.std.proofs.Common.{◌≡◌, ℕ, List, [], ◌∷◌, Option, Some, None, refl, ap, sym, subst, ◌∙◌, inr}
+use Rattle.std.specs.Prelude.{ℤ, option_map}
+use Rattle.disk_model.specs.Disk.{Files}
+use Rattle.disk_model.specs.DeviceCalls.{all_applied}
+use Rattle.stream_layout.specs.Deeds.{calls_of_all}
+use Rattle.stream_layout.specs.declared.deed.Deed.{Deed}
+use Rattle.script_lines.specs.declared.line.WellOptions.{WellOptions}
+use Rattle.script_lines.specs.declared.line.Line.{Line}
+use Rattle.script_lines.specs.declared.line.Line.TheVariants.{Cluster}
+use Rattle.script_language.specs.Lines.{Spells}
+use Rattle.stream_config.specs.declared.attrs.StreamAttrs.{StreamAttrs}
+use Rattle.plain_service.specs.Setups.{Setup, CanBegin}
+use Rattle.plain_service.specs.Storing.{opening_of}
+use Rattle.plain_service.proofs.FilesLaws.{files-open}
+use Rattle.service_laws.specs.PlainOf.{plain_of}
+use Rattle.service_core.specs.Beginning.{BeginsAs}
+use Rattle.cluster_facts.proofs.Keeping.{IsSound-start}
+use Rattle.lone_cluster.specs.Lone.{lone_start}
+use Rattle.mirror.specs.Nodes.{Server, at_rest}
+use Rattle.cluster_core.specs.declared.world.World.{World}
+use Rattle.cluster_core.specs.Worlds.{Shows, IsGood, LeavesFiles}
+use Rattle.cluster_core.specs.Beginning.{Begins, HoldsNone, Begun}
+use Rattle.cluster_core.specs.Starting.{wells_of, world_of, Starts, StartsWorld}
+use Rattle.cluster_core.proofs.BeginSpelled.{spelled-begins}
+
+good-start : (setup : Setup) (places : ℕ) → CanBegin setup → IsGood setup (lone_start setup.start places)
+good-start setup places begins = record {
+  begins = begins;
+  steady = record { sound = IsSound-start (plain_of setup) setup.start places; good = tt };
+  range = tt;
+  moment = begins.start;
+}
+
+shows-start : (setup : Setup) (places : ℕ) → Shows setup (lone_start setup.start places) (world_of (at_rest setup []) setup.start places)
+shows-start setup places = record {
+  active = refl;
+  partner = refl;
+  link = refl;
+  back = refl;
+  net = tt;
+  agents = record { shown = refl; rising = tt; listed = λ client. inr refl };
+  history = refl;
+  now = refl;
+  armed = refl;
+  callbacks = refl;
+}
+
+files-start : (setup : Setup) (places : ℕ) (held left : Option Files) → CanBegin setup → HoldsNone held → left ≡ option_map (all_applied (calls_of_all (opening_of setup))) held → LeavesFiles setup (lone_start setup.start places) held left
+files-start setup places None left begins none done = done
+files-start setup places (Some files) left begins none done =
+    done ∙ ap Some (ap (all_applied (calls_of_all (opening_of setup))) none ∙ files-open setup begins)
+
+-- **the start was done**
+pub begun : (setup : Setup) (places : ℕ) (held left : Option Files) (world : World) → CanBegin setup → world ≡ world_of (at_rest setup []) setup.start places → HoldsNone held → left ≡ option_map (all_applied (calls_of_all (opening_of setup))) held → Begun setup places held left world
+begun setup places held left world begins is none done = record {
+  good = good-start setup places begins;
+  shows = subst (λ w. Shows setup (lone_start setup.start places) w) (sym is) (shows-start setup places);
+  files = files-start setup places held left begins none done;
+}
+
+-- a cluster line of a script tells what a service begins as
+pub begins-as : (one : Line) (start : ℤ) (queue callbacks : ℕ) (alarm ntf sys : WellOptions) (wells : List StreamAttrs) → one ≡ Cluster start queue callbacks alarm ntf sys → wells ≡ wells_of alarm ntf sys
+    → (raw : List ℕ) → Spells one raw → (setup : Setup) (places : ℕ) → Begins one setup places → BeginsAs setup start queue wells
+begins-as one start queue callbacks alarm ntf sys wells is attributes raw spelled setup places begins =
+    let tells : Begins (Cluster start queue callbacks alarm ntf sys) setup places = subst (λ l. Begins l setup places) is begins in
+    let wells_by : Setup → List StreamAttrs = λ s. s.alarm ∷ s.notification ∷ s.system ∷ [] in
+    record {
+      start_is = ap (λ (s : Setup). s.start) tells.0;
+      capacity_is = ap (λ (s : Setup). s.capacity) tells.0;
+      attributes = attributes ∙ sym (ap wells_by tells.0);
+      sound = spelled-begins one raw setup places spelled begins;
+    }
+
+-- and the world at the start
+pub starts-world : (one : Line) (start : ℤ) (queue callbacks : ℕ) (alarm ntf sys : WellOptions) (active : Server) (deeds : List Deed) (world : World) → one ≡ Cluster start queue callbacks alarm ntf sys → world ≡ world_of active start callbacks
+    → (setup : Setup) (places : ℕ) → Begins one setup places → Starts setup active deeds → StartsWorld setup places world deeds
+starts-world one start queue callbacks alarm ntf sys active deeds world is made setup places begins starts =
+    let tells : Begins (Cluster start queue callbacks alarm ntf sys) setup places = subst (λ l. Begins l setup places) is begins in (
+      made
+          ∙ ap (λ a. world_of a start callbacks) starts.0
+          ∙ ap (λ now. world_of (at_rest setup []) now callbacks) (sym (ap (λ (s : Setup). s.start) tells.0))
+          ∙ ap (λ n. world_of (at_rest setup []) setup.start n) (sym tells.1),
+      starts.1,
+    )

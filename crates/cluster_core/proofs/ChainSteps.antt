@@ -1,0 +1,164 @@
+-- Events of the world of the code, one after another.
+use Rattle.std.proofs.Common.{◌≡◌, ℕ, zero, suc, ◌+◌, ◌<◌, inl, inr, Option, Some, None, List, [], ◌∷◌, ◌++◌, length, get_or, slice_get, take, refl, ap, sym, ◌∙◌, subst, arith, append_assoc}
+use Rattle.std.specs.List.{AllByRecursion}
+use Rattle.std.proofs.lemmas.List.{take_more}
+use Rattle.wire.specs.MessageSpelling.{MessageFits, MessageInRange}
+use Rattle.plain_service.specs.Setups.{Setup}
+use Rattle.service_laws.specs.PlainOf.{plain_of}
+use Rattle.service_laws.proofs.ServiceLaws.{is_plain}
+use Rattle.cluster_facts.specs.Types.{Entry, Message, Request, Answer, Delivery, Receipt}
+use Rattle.cluster_facts.specs.Lists.{Stands}
+use Rattle.cluster_facts.specs.Service.{Plain}
+use Rattle.cluster_facts.specs.Agents.{Agent, fresh, resent}
+use Rattle.cluster_facts.specs.World.{number_of}
+use Rattle.cluster_facts.specs.Facts.{IsOfRun}
+use Rattle.cluster_facts.proofs.Words.{All-map, All-at}
+use Rattle.cluster_events.specs.Outcomes.{Outcome, and_then, for_each}
+use Rattle.cluster_events.specs.Servers.{State}
+use Rattle.cluster_events.specs.Saying.{Says}
+use Rattle.cluster_events.specs.Serving.{IsSteady}
+use Rattle.cluster_events.proofs.Carrying.{Goes, for_each-goes, hear-goes, resent-posted}
+use Rattle.cluster_events.proofs.Looping.{for_each-append}
+use Rattle.event_text.specs.Texts.{printed}
+use Rattle.lone_cluster.specs.Lone.{Alone, lone, IsGoodAlone}
+use Rattle.lone_cluster.proofs.Serving.{lone-serves, lone-says}
+use Rattle.cluster_core.specs.declared.world.World.{World as Kept}
+use Rattle.client_agent.specs.Seen.{Seen, seen_of}
+use Rattle.cluster_core.specs.Spelled.{AreSpelled, IsNumberIn}
+use Rattle.cluster_core.specs.Clients.{place_of}
+use Rattle.cluster_core.specs.Worlds.{Shows, IsGood, HasState, Happened, Does, DoesIf, StandsIn, heard_by}
+use Rattle.cluster_core.specs.Delivered.{again, resent_by, HearsAll, StandAll}
+use Rattle.cluster_core.proofs.DispatchSteps.{absent, seen-at}
+use Rattle.cluster_core.proofs.PostAllSteps.{printed-append}
+
+-- one event after another
+pub happened-then : (setup : Setup) (first : Outcome (State Alone)) (event : State Alone → Outcome (State Alone)) (middle new : Kept) (before between after : List (List ℕ)) → Happened setup first middle before between → Happened setup (event first.state) new between after → Happened setup (and_then first event) new before after
+happened-then setup first event middle new before between after one two =
+    let next = event first.state in (
+      two.0,
+      two.1,
+      two.2 ∙ ap (λ lines. lines ++ printed next.told) one.2
+          ∙ append_assoc before (printed first.told) (printed next.told)
+          ∙ ap (λ lines. before ++ lines) (sym (printed-append next.told first.told)),
+    )
+
+-- What an agent sends again is heard.
+
+pub again-goes : (setup : Setup) (messages : List Message) (state : State Alone) → IsSteady (plain_of setup) IsGoodAlone state → AllByRecursion (λ message. Stands message state.world.net) messages → Goes (Says (plain_of setup)) (IsSteady (plain_of setup) IsGoodAlone) state (for_each (again setup) messages state)
+again-goes setup messages state steady stands =
+    let plain = plain_of setup in
+    let plainly = is_plain setup in
+    for_each-goes plain plainly (lone plain) IsGoodAlone (lone-serves plain plainly) (Says plain) (lone-says plain) (IsSteady plain IsGoodAlone) (λ message world. Stands message world.net) (again setup) (λ message now held there. hear-goes plain plainly (lone plain) IsGoodAlone (lone-serves plain plainly) (Says plain) (lone-says plain) (number_of plain message now.world.net) message now there held) (λ message old new stays there. stays.net message there) messages state steady stands
+
+all-front : {X : Type 0} (P : X → Type 0) (front : List X) (x : X) → AllByRecursion P (front ++ x ∷ []) → AllByRecursion P front
+all-front P [] x all = tt
+all-front P (first ∷ front) x all = (all.0, all-front P front x all.1)
+
+all-last : {X : Type 0} (P : X → Type 0) (front : List X) (x : X) → AllByRecursion P (front ++ x ∷ []) → P x
+all-last P [] x all = all.0
+all-last P (first ∷ front) x all = all-last P front x all.1
+
+pub all-take : {X : Type 0} (P : X → Type 0) (count : ℕ) (xs : List X) → AllByRecursion P xs → AllByRecursion P (take count xs)
+all-take P zero xs all = tt
+all-take P (suc count) [] all = tt
+all-take P (suc count) (x ∷ xs) all = (all.0, all-take P count xs all.1)
+
+pub hears-none_yet : (world : Kept) (lines : List (List ℕ)) → HearsAll [] world world lines lines
+hears-none_yet world lines setup state good shows stands = (shows, good, sym (Rattle.std.proofs.Common.append-nil lines))
+
+pub hears-one_more : (messages : List Message) (count place : ℕ) (message : Message) (old middle new : Kept) (before between after : List (List ℕ)) → count < length messages → message ≡ get_or messages count message → HearsAll (take count messages) old middle before between → IsNumberIn message middle.net place → DoesIf (StandsIn message) (heard_by place message) middle new between after → HearsAll (take (count + 1) messages) old new before after
+hears-one_more messages count place message old middle new before between after within is so_far number hears setup state good shows all =
+    let plain = plain_of setup in
+    let front = take count messages in
+    let more : take (count + 1) messages ≡ front ++ message ∷ [] = take_more messages count message within ∙ ap (λ m. front ++ m ∷ []) (sym is) in
+    let S : Message → Type 0 = λ m. Stands m state.world.net in
+    let split : AllByRecursion S (front ++ message ∷ []) = subst (AllByRecursion S) more all in
+    let heard = for_each (again setup) front state in
+    let stands_front = all-front S front message split in
+    let first = so_far setup state good shows stands_front in
+    let goes = again-goes setup front state good.steady stands_front in
+    let stands = goes.stays.net message (all-last S front message split) in
+    let second = hears setup heard.state first.1 first.0 stands in
+    let same : place ≡ number_of plain message heard.state.world.net = number plain heard.state.world.net (is_plain setup) first.0.net in
+    let H : ℕ → Type 0 = λ at. Happened setup (heard_by at message setup heard.state) new between after in
+    let last : Happened setup (again setup message heard.state) new between after = subst H same second in
+    let both = happened-then setup heard (for_each (again setup) (message ∷ [])) middle new before between after first last in
+    let W : Outcome (State Alone) → Type 0 = λ outcome. Happened setup outcome new before after in
+    subst (λ ms. W (for_each (again setup) ms state)) (sym more) (subst W (sym (for_each-append (again setup) front (message ∷ []) state)) both)
+
+pub hears-whole : (messages : List Message) (count : ℕ) (old new : Kept) (before after : List (List ℕ)) → take count messages ≡ messages → HearsAll (take count messages) old new before after → HearsAll messages old new before after
+hears-whole messages count old new before after whole hears =
+    let H : List Message → Type 0 = λ ms. HearsAll ms old new before after in
+    subst H whole hears
+
+-- the world stands for a state in which these messages stand in the net
+pub still-standing : (messages : List Message) (count : ℕ) (old new : Kept) (before after : List (List ℕ)) → StandAll messages old → HearsAll (take count messages) old new before after → HasState new
+still-standing messages count old new before after stand hears =
+    let all = all-take (λ m. Stands m stand.state.world.net) count messages stand.stand in
+    let done = hears stand.setup stand.state stand.good stand.shows all in
+    record { setup = stand.setup; state = (for_each (again stand.setup) (take count messages) stand.state).state; good = done.1; shows = done.0 }
+
+-- What is sent again.
+
+stands-fits : (message : Message) (messages : List Message) (net : List (List ℕ)) → AreSpelled messages net → Stands message messages → MessageFits message
+stands-fits message [] net spelled stands = elim stands [ ]
+stands-fits message (other ∷ messages) [] spelled stands = elim spelled [ ]
+stands-fits message (other ∷ messages) (known ∷ net) spelled (inl same) = subst MessageFits (sym same) spelled.0.fits
+stands-fits message (other ∷ messages) (known ∷ net) spelled (inr stands) = stands-fits message messages net spelled.1 stands
+
+fits-run : (plain : Plain) (past : List Entry) (message : Message) → IsOfRun plain past message → MessageFits message → MessageInRange message
+fits-run plain past (Request client number call) is fits = (fits.0, fits.1)
+fits-run plain past (Answer client number reply) is fits = (fits.0, fits.1)
+fits-run plain past (Delivery client key item) is fits = (fits.0, fits.1, record { number = fits.2.number })
+fits-run plain past (Receipt client key through) is fits = (fits.0, fits.1, fits.2)
+fits-run plain past _ is fits = elim is [ ]
+
+-- a message of the net is in range
+pub standing-range : (setup : Setup) (state : State Alone) (old : Kept) (message : Message) → IsGood setup state → Shows setup state old → Stands message state.world.net → MessageInRange message
+standing-range setup state old message good shows stands =
+    let plain = plain_of setup in
+    fits-run plain state.world.core.answered message (All-at (IsOfRun plain state.world.core.answered) message state.world.net good.steady.sound.facts.run stands) (stands-fits message state.world.net old.net shows.net stands)
+
+pub all-range : (messages : List Message) (old : Kept) → StandAll messages old → AllByRecursion MessageInRange messages
+all-range messages old stand =
+    All-map (λ m. Stands m stand.state.world.net) MessageInRange messages (λ message stands. standing-range stand.setup stand.state old message stand.good stand.shows stands) stand.stand
+
+pub resent-stand : (setup : Setup) (client : ℕ) (state : State Alone) → IsGood setup state → AllByRecursion (λ message. Stands message state.world.net) (resent client (state.world.agents client))
+resent-stand setup client state good = resent-posted (plain_of setup) client state.world good.steady.sound
+
+get-read : {X : Type 0} (xs : List X) (place : ℕ) (other x : X) → slice_get xs place ≡ Some x → get_or xs place other ≡ x
+get-read [] place other x is = cc
+get-read (first ∷ xs) zero other x is = cc
+get-read (first ∷ xs) (suc place) other x is = get-read xs place other x is
+
+-- the messages that the agent of a client sends again
+pub resent-by : (client at : ℕ) (old : Kept) (agent : Seen) (messages : List Message) → place_of client old.agents ≡ Some at → agent ≡ get_or old.agents at agent → ((c places : ℕ) (a : Agent) → agent ≡ seen_of c places a → messages ≡ resent c a) → (setup : Setup) (state : State Alone) → Shows setup state old → messages ≡ resent client (state.world.agents client)
+resent-by client at old agent messages found is are setup state shows =
+    let there = seen-at client at old.agents state.world shows.agents found in
+    let seen = seen_of client state.world.places (state.world.agents client) in
+    are client state.world.places (state.world.agents client) (is ∙ get-read old.agents at agent seen there.1)
+
+pub resent-standing : (client at : ℕ) (old : Kept) (agent : Seen) (messages : List Message) → HasState old → place_of client old.agents ≡ Some at → agent ≡ get_or old.agents at agent → ((c places : ℕ) (a : Agent) → agent ≡ seen_of c places a → messages ≡ resent c a) → StandAll messages old
+resent-standing client at old agent messages stands found is are =
+    let same = resent-by client at old agent messages found is are stands.setup stands.state stands.shows in
+    record {
+      setup = stands.setup;
+      state = stands.state;
+      good = stands.good;
+      shows = stands.shows;
+      stand = subst (λ ms. AllByRecursion (λ message. Stands message stands.state.world.net) ms) (sym same) (resent-stand stands.setup client stands.state stands.good);
+    }
+
+pub resends : (client at : ℕ) (old new : Kept) (agent : Seen) (messages : List Message) (before after : List (List ℕ)) → place_of client old.agents ≡ Some at → agent ≡ get_or old.agents at agent → ((c places : ℕ) (a : Agent) → agent ≡ seen_of c places a → messages ≡ resent c a) → HearsAll messages old new before after → Does (resent_by client) old new before after
+resends client at old new agent messages before after found is are hears setup state good shows =
+    let same = resent-by client at old agent messages found is are setup state shows in
+    let H : List Message → Type 0 = λ ms. HearsAll ms old new before after in
+    subst H same hears setup state good shows (resent-stand setup client state good)
+
+-- a client without an agent sends nothing
+pub resends-nothing : (client : ℕ) (old : Kept) (before : List (List ℕ)) → place_of client old.agents ≡ None → Does (resent_by client) old old before before
+resends-nothing client old before none setup state good shows =
+    let nowhere = absent client state.world.places state.world.agents state.world.clients (ap (place_of client) (sym shows.agents.shown) ∙ none) in
+    let is_fresh : state.world.agents client ≡ fresh = elim (shows.agents.listed client) [ inl stands ↦ absurd (nowhere stands) | inr is ↦ is ] in
+    let H : Agent → Type 0 = λ agent. Happened setup (for_each (again setup) (resent client agent) state) old before before in
+    subst H (sym is_fresh) (shows, good, sym (Rattle.std.proofs.Common.append-nil before))

@@ -1,0 +1,235 @@
+-- What is printed of the events of a round, and which of them were loud.
+use Rattle.std.proofs.Common.{◌≡◌, ℕ, suc, ◌<◌, ◌≤◌, inl, inr, Bool, true, false, ◌||◌, nat_lt, if◌then◌else◌, Option, Some, None, List, [], ◌∷◌, ◌++◌, length, refl, ap, sym, ◌∙◌, subst, append_assoc, append-nil, arith}
+use Rattle.std.specs.List.{AllByRecursion}
+use Rattle.std.proofs.lemmas.Bool.Decides.{leb_tells}
+use Rattle.cluster_facts.specs.Types.{Call, Reply, Entry, Called, Receipted, Message, Request, Answer, Delivery, Receipt}
+use Rattle.cluster_facts.specs.Lists.{without}
+use Rattle.cluster_facts.specs.Service.{Plain, answers_in, is_new}
+use Rattle.cluster_facts.specs.History.{Hand, Empty, Waiting, Applied, Ready, Judged, New, Repeat, Old, Ahead, judged_call, committed}
+use Rattle.cluster_facts.specs.World.{World, knows}
+use Rattle.cluster_events.specs.Lines.{Told, Posted, Committed, Ignored, is_ignored, is_progress}
+use Rattle.cluster_events.specs.declared.lines.Why.{Why}
+use Rattle.cluster_events.specs.Outcomes.{Outcome, for_each}
+use Rattle.cluster_events.specs.ClientEvents.{post, post_lines}
+use Rattle.cluster_events.specs.Servers.{State, in_world, drain}
+use Rattle.cluster_events.specs.Events.{reply_at, post_again, request_as, receipt_as, hear_at_rest, hear_by, hear, push_by, push}
+use Rattle.cluster_events.specs.Settling.{is_loud}
+use Rattle.cluster_events.proofs.Carrying.{IsMadeItem}
+use Rattle.event_text.specs.Texts.{printed, lines_of}
+use Rattle.lone_cluster.specs.Lone.{Alone, lone}
+use Rattle.cluster_core.specs.Rounds.{kept_lines}
+
+-- Lines of several events.
+
+pub printed-append : (second first : List Told) → printed (second ++ first) ≡ printed first ++ printed second
+printed-append [] first = sym (append-nil (printed first))
+printed-append (line ∷ second) first =
+    ap (λ front. front ++ lines_of line) (printed-append second first) ∙ append_assoc (printed first) (printed second) (lines_of line)
+
+without-append : (second first : List Told) → without is_ignored (second ++ first) ≡ without is_ignored second ++ without is_ignored first
+without-append [] first = refl
+without-append (line ∷ second) first =
+    let deeper = without-append second first in
+    elim (is_ignored line) as (λ b. (if b then without is_ignored (second ++ first) else line ∷ without is_ignored (second ++ first)) ≡ (if b then without is_ignored second else line ∷ without is_ignored second) ++ without is_ignored first) [
+      | true ↦ deeper
+      | false ↦ ap (λ rest. line ∷ rest) deeper
+    ]
+
+pub kept-append : (second first : List Told) → kept_lines (second ++ first) ≡ kept_lines first ++ kept_lines second
+kept-append second first = ap printed (without-append second first) ∙ printed-append (without is_ignored second) (without is_ignored first)
+
+swap : (a b c : Bool) → (a || (b || c)) ≡ (b || (a || c))
+swap true true c = refl
+swap true false c = refl
+swap false true c = refl
+swap false false c = refl
+
+or-false : (b : Bool) → b ≡ (b || false)
+or-false true = refl
+or-false false = refl
+
+pub loud-append : (second first : List Told) → is_loud (second ++ first) ≡ (is_loud first || is_loud second)
+loud-append [] first = or-false (is_loud first)
+loud-append (line ∷ second) first =
+    ap (λ rest. is_progress line || rest) (loud-append second first) ∙ swap (is_progress line) (is_loud first) (is_loud second)
+
+-- Numbers that grow.
+
+pub not-less : (n : ℕ) → nat_lt n n ≡ false
+not-less n = elim (leb_tells (suc n) n) [ inl below ↦ let less = below.1 in absurd (omega arith) | inr not ↦ not.0 ]
+
+pub less-on : (a b : ℕ) → a < b → nat_lt a b ≡ true
+less-on a b less = elim (leb_tells (suc a) b) [ inl below ↦ below.0 | inr not ↦ let more = not.1 in absurd (omega arith) ]
+
+pub less-off : (a b : ℕ) → b ≤ a → nat_lt a b ≡ false
+less-off a b more = elim (leb_tells (suc a) b) [ inl below ↦ let less = below.1 in absurd (omega arith) | inr not ↦ not.0 ]
+
+pub less-one : (n : ℕ) → nat_lt n (suc n) ≡ true
+less-one n = elim (leb_tells (suc n) (suc n)) [ inl below ↦ below.0 | inr not ↦ let less = not.1 in absurd (omega arith) ]
+
+-- Outcomes that differ at most in the places that lines on messages without effect name.
+
+pub record SameButPlace {S : Type 0} (one other : Outcome S) : Type 0 where
+  pub state : one.state ≡ other.state
+  pub lines : kept_lines one.told ≡ kept_lines other.told
+  pub loud : is_loud one.told ≡ is_loud other.told
+
+pub same-outcome : {S : Type 0} (outcome : Outcome S) → SameButPlace outcome outcome
+same-outcome outcome = record { state = refl; lines = refl; loud = refl }
+
+module _ (plain : Plain) (one other : ℕ) where
+  request-places : (client number : ℕ) (call : Call) (verdict : Judged) (state : State Alone) → SameButPlace (request_as plain (lone plain) one client number call verdict state) (request_as plain (lone plain) other client number call verdict state)
+  request-places client number call New state = same-outcome (request_as plain (lone plain) one client number call New state)
+  request-places client number call Repeat state = same-outcome (request_as plain (lone plain) one client number call Repeat state)
+  request-places client number call Old state = record { state = refl; lines = refl; loud = refl }
+  request-places client number call Ahead state = record { state = refl; lines = refl; loud = refl }
+
+  receipt-places : (client key through : ℕ) (new : Bool) (state : State Alone) → SameButPlace (receipt_as (lone plain) one client key through new state) (receipt_as (lone plain) other client key through new state)
+  receipt-places client key through true state = same-outcome (receipt_as (lone plain) one client key through true state)
+  receipt-places client key through false state = record { state = refl; lines = refl; loud = refl }
+
+  rest-places : (message : Message) (state : State Alone) → SameButPlace (hear_at_rest plain (lone plain) one message state) (hear_at_rest plain (lone plain) other message state)
+  rest-places (Request client number call) state = request-places client number call (judged_call state.world.core.answered client number) state
+  rest-places (Receipt client key through) state = receipt-places client key through (is_new plain state.world.core.answered client key through) state
+  rest-places _ state = record { state = refl; lines = refl; loud = refl }
+
+  hand-places : (message : Message) (hand : Hand) (state : State Alone) → SameButPlace (hear_by plain (lone plain) one message hand state) (hear_by plain (lone plain) other message hand state)
+  hand-places message Empty state = rest-places message state
+  hand-places message _ state = record { state = refl; lines = refl; loud = refl }
+
+  pub hear-places : (message : Message) (state : State Alone) → SameButPlace (hear plain (lone plain) one message state) (hear plain (lone plain) other message state)
+  hear-places message state = hand-places message state.world.core.hand state
+
+-- What hearing a message did is told by the lengths of history and net.
+
+pub record Measured (past more net posted : ℕ) (told : List Told) : Type 0 where
+  pub loud : is_loud told ≡ nat_lt past more
+  pub lines : kept_lines told ≡ (if nat_lt past more || nat_lt net posted then printed told else [])
+
+either : (lines : List (List ℕ)) (a b : Bool) (x y : ℕ) → nat_lt x y ≡ a → (m n : ℕ) → nat_lt m n ≡ b → (if a || b then lines else []) ≡ (if nat_lt x y || nat_lt m n then lines else [])
+either lines a b x y first m n second = λ i. if sym first i || sym second i then lines else []
+
+measured-nothing : (past net : ℕ) → Measured past past net net []
+measured-nothing past net = record {
+  loud = sym (not-less past);
+  lines = either [] false false past past (not-less past) net net (not-less net);
+}
+
+measured-ignored : (past net place : ℕ) (why : Why) → Measured past past net net (Ignored place why ∷ [])
+measured-ignored past net place why = record {
+  loud = sym (not-less past);
+  lines = either (printed (Ignored place why ∷ [])) false false past past (not-less past) net net (not-less net);
+}
+
+measured-entry : (past net number : ℕ) (entry : Entry) → Measured past (suc past) net net (Committed number entry ∷ [])
+measured-entry past net number entry = record {
+  loud = sym (less-one past);
+  lines = either (printed (Committed number entry ∷ [])) true false past (suc past) (less-one past) net net (not-less net);
+}
+
+measured-answer : (past net number client seq : ℕ) (reply : Reply) → Measured past past net (suc net) (Posted number (Answer client seq reply) ∷ [])
+measured-answer past net number client seq reply = record {
+  loud = sym (not-less past);
+  lines = either (printed (Posted number (Answer client seq reply) ∷ [])) false true past past (not-less past) net (suc net) (less-one net);
+}
+
+abbrev Between : World → Outcome (State Alone) → Type 0
+Between old outcome =
+    Measured (length (committed old.core)) (length (committed outcome.state.world.core)) (length old.net) (length outcome.state.world.net) outcome.told
+
+-- a world is written with its hand, so that each case computes
+abbrev state_with : State Alone → Hand → State Alone
+state_with state hand = record {
+  world = record state.world { core = record { answered = state.world.core.answered; hand = hand } };
+  peers = state.peers;
+}
+
+module _ (plain : Plain) (place : ℕ) where
+  again-measured : (client number : ℕ) (found : Option Reply) (state : State Alone) → Between (state_with state Empty).world (in_world (post_again plain client number found) (state_with state Empty))
+  again-measured client number None state = measured-nothing (length state.world.core.answered) (length state.world.net)
+  again-measured client number (Some reply) state =
+      let past = length state.world.core.answered in
+      let net = state.world.net in
+      let message = Answer client number reply in
+      elim (knows plain message net) as (λ b. Measured past past (length net) (length (if b then net else message ∷ net)) (if b then [] else Posted (suc (length net)) message ∷ [])) [
+        | true ↦ measured-nothing past (length net)
+        | false ↦ measured-answer past (length net) (suc (length net)) client number reply
+      ]
+
+  request-measured : (client number : ℕ) (call : Call) (verdict : Judged) (state : State Alone) → Between (state_with state Empty).world (request_as plain (lone plain) place client number call verdict (state_with state Empty))
+  request-measured client number call New state =
+      measured-entry (length state.world.core.answered) (length state.world.net) (suc (length state.world.core.answered)) (Called client number state.world.now call)
+  request-measured client number call Repeat state =
+      again-measured client number (reply_at number (answers_in plain client state.world.core.answered)) state
+  request-measured client number call Old state = measured-ignored (length state.world.core.answered) (length state.world.net) place Rattle.cluster_events.specs.declared.lines.Why.TheVariants.OldRequest
+  request-measured client number call Ahead state = measured-ignored (length state.world.core.answered) (length state.world.net) place Rattle.cluster_events.specs.declared.lines.Why.TheVariants.AheadRequest
+
+  receipt-measured : (client key through : ℕ) (new : Bool) (state : State Alone) → Between (state_with state Empty).world (receipt_as (lone plain) place client key through new (state_with state Empty))
+  receipt-measured client key through true state =
+      measured-entry (length state.world.core.answered) (length state.world.net) (suc (length state.world.core.answered)) (Receipted client key through state.world.now)
+  receipt-measured client key through false state = measured-ignored (length state.world.core.answered) (length state.world.net) place Rattle.cluster_events.specs.declared.lines.Why.TheVariants.DoneReceipt
+
+  rest-measured : (message : Message) (state : State Alone) → Between (state_with state Empty).world (hear_at_rest plain (lone plain) place message (state_with state Empty))
+  rest-measured (Request client number call) state = request-measured client number call (judged_call state.world.core.answered client number) state
+  rest-measured (Receipt client key through) state = receipt-measured client key through (is_new plain state.world.core.answered client key through) state
+  rest-measured _ state = measured-nothing (length state.world.core.answered) (length state.world.net)
+
+  hand-measured : (message : Message) (hand : Hand) (state : State Alone) → Between (state_with state hand).world (hear plain (lone plain) place message (state_with state hand))
+  hand-measured message Empty state = rest-measured message state
+  hand-measured message (Waiting entry) state = measured-ignored (length state.world.core.answered) (length state.world.net) place (Rattle.cluster_events.specs.declared.lines.Why.TheVariants.Busy (suc (length state.world.core.answered)))
+  hand-measured message (Applied entry) state = measured-ignored (suc (length state.world.core.answered)) (length state.world.net) place (Rattle.cluster_events.specs.declared.lines.Why.TheVariants.Busy (suc (length state.world.core.answered)))
+  hand-measured message (Ready entry) state = measured-ignored (suc (length state.world.core.answered)) (length state.world.net) place (Rattle.cluster_events.specs.declared.lines.Why.TheVariants.Busy (suc (length state.world.core.answered)))
+
+  pub hear-measured : (message : Message) (state : State Alone) → Between state.world (hear plain (lone plain) place message state)
+  hear-measured message state = hand-measured message state.world.core.hand state
+
+-- A drain and a push print all their lines, and are not loud.
+
+pub record IsQuiet (told : List Told) : Type 0 where
+  pub lines : kept_lines told ≡ printed told
+  pub quiet : is_loud told ≡ false
+
+quiet-answer : (plain : Plain) (client number : ℕ) (reply : Reply) (net : List Message) → IsQuiet (post_lines plain (Answer client number reply) net)
+quiet-answer plain client number reply net =
+    elim (knows plain (Answer client number reply) net) as (λ b. IsQuiet (if b then [] else Posted (suc (length net)) (Answer client number reply) ∷ [])) [
+      | true ↦ record { lines = refl; quiet = refl }
+      | false ↦ record { lines = refl; quiet = refl }
+    ]
+
+drain-by : (plain : Plain) (hand : Hand) (state : State Alone) → IsQuiet (drain (lone plain) (state_with state hand)).told
+drain-by plain Empty state = record { lines = refl; quiet = refl }
+drain-by plain (Waiting entry) state = record { lines = refl; quiet = refl }
+drain-by plain (Applied entry) state = record { lines = refl; quiet = refl }
+drain-by plain (Ready (Called client number time call)) state =
+    quiet-answer plain client number (plain.reply state.world.core.answered client number time call) state.world.net
+drain-by plain (Ready (Receipted client key through time)) state = record { lines = refl; quiet = refl }
+
+pub drain-quiet : (plain : Plain) (state : State Alone) → IsQuiet (drain (lone plain) state).told
+drain-quiet plain state = drain-by plain state.world.core.hand state
+
+quiet-both : (second first : List Told) → IsQuiet first → IsQuiet second → IsQuiet (second ++ first)
+quiet-both second first one two = record {
+  lines = kept-append second first ∙ ap (λ l. l ++ kept_lines second) one.lines ∙ ap (λ l. printed first ++ l) two.lines ∙ sym (printed-append second first);
+  quiet = loud-append second first ∙ ap (λ b. b || is_loud second) one.quiet ∙ two.quiet;
+}
+
+quiet-item : (plain : Plain) (past : List Entry) (item : Message) (net : List Message) → IsMadeItem plain past item → IsQuiet (post_lines plain item net)
+quiet-item plain past (Delivery client key item) net is =
+    elim (knows plain (Delivery client key item) net) as (λ b. IsQuiet (if b then [] else Posted (suc (length net)) (Delivery client key item) ∷ [])) [
+      | true ↦ record { lines = refl; quiet = refl }
+      | false ↦ record { lines = refl; quiet = refl }
+    ]
+quiet-item plain past _ net is = elim is [ ]
+
+post_all-quiet : (plain : Plain) (past : List Entry) (items : List Message) (state : State Alone) → AllByRecursion (IsMadeItem plain past) items → IsQuiet (for_each (λ item. in_world (post plain item)) items state).told
+post_all-quiet plain past [] state made = record { lines = refl; quiet = refl }
+post_all-quiet plain past (item ∷ items) state made =
+    let after = (in_world (post plain item) state).state in
+    quiet-both (for_each (λ one. in_world (post plain one)) items after).told (post_lines plain item state.world.net)
+    (quiet-item plain past item state.world.net made.0)
+    (post_all-quiet plain past items after made.1)
+
+pub push-quiet : (plain : Plain) (state : State Alone) → state.world.core.hand ≡ Empty → AllByRecursion (IsMadeItem plain state.world.core.answered) (plain.held state.world.core.answered) → IsQuiet (push plain (lone plain) state).told
+push-quiet plain state empty made =
+    let Q : Hand → Type 0 = λ hand. IsQuiet (push_by plain (lone plain) hand state).told in
+    subst Q (sym empty) (post_all-quiet plain state.world.core.answered (plain.held state.world.core.answered) state made)

@@ -1,0 +1,46 @@
+use Rattle.std.proofs.Common.{◌∙◌, sym, subst}
+use Rattle.script_lines.specs.declared.line.Line.{Line}
+use Rattle.script_lines.specs.declared.line.Line.TheVariants as line
+use Rattle.cluster_core.specs.Worlds.{Does}
+use Rattle.cluster_core.specs.Showing.{refused}
+use Rattle.cluster_core.proofs.DispatchSteps.{on-ok, on-err}
+use Rattle.cluster_core.proofs.WorkSteps.{is-some, is-none}
+use Rattle.cluster_core.proofs.LineBroken.{alone-same, ends-broken, work-broken}
+use Rattle.cluster_core.proofs.LineSteps.{plays-as, plays-alone, plays-idle, plays-work, played-as, ends-ok, ends-cause}
+use Rattle.cluster_core.proofs.playing.work_line.Goals as goal
+
+pub drain-requires : goal.drain-requires
+drain-requires g c = c.requires.state
+
+pub returns-then-ready-clause-ok : goal.returns-then-ready-clause-ok
+returns-then-ready-clause-ok g c =
+    let old = c.args.world.now in
+    let new = c.drain.new.world in
+    let before = c.args.lines.now.items in
+    let after = c.drain.new.lines.items in
+    let held = g.D.SharedDisk.files c.args.disk.now in
+    let left = g.D.SharedDisk.files c.drain.new.disk in
+    on-ok c.drain.result (λ does. played-as line.Work c.args.line.now old new before after held left c.requires.line (plays-work old new before after held left (is-some old.a.owed c.if-ready.ensures) does)) c.drain.ensures.ok
+
+pub returns-clause-ok : goal.returns-clause-ok
+returns-clause-ok g c =
+    let old = c.args.world.now in
+    let before = c.args.lines.now.items in
+    let after = c.refused.new.lines.items in
+    let held = g.D.SharedDisk.files c.args.disk.now in
+    let none = is-none old.a.owed (sym c.if-ready.false ∙ c.ready.ensures) in
+    let R : Line → Type 0 = λ next. Does (refused next) old old before after in
+    ends-ok c.refused.result c.as_answer.result c.as_answer.ensures
+    (λ refuses. plays-alone c.args.line.now old old before after held (plays-as line.Work c.args.line.now old old before after c.requires.line (plays-idle old before after none (subst R c.requires.line refuses))))
+    c.refused.ensures
+
+pub returns-clause-cause : goal.returns-clause-cause
+returns-clause-cause g c = ends-cause c.refused.result c.as_answer.result (g.D.SharedDisk.faults c.args.disk.now) c.as_answer.ensures
+
+pub returns-then-ready-clause-broken : goal.returns-then-ready-clause-broken
+returns-then-ready-clause-broken g c =
+    work-broken c.drain.result c.args.line.now c.args.world.now c.drain.new.world c.args.lines.now.items c.drain.new.lines.items (g.D.SharedDisk.files c.args.disk.now) (g.D.SharedDisk.files c.drain.new.disk) c.requires.line c.drain.ensures.err
+
+pub returns-clause-broken : goal.returns-clause-broken
+returns-clause-broken g c =
+    ends-broken c.refused.result c.as_answer.result c.args.line.now c.args.world.now c.args.world.now c.args.lines.now.items c.refused.new.lines.items (g.D.SharedDisk.files c.args.disk.now) c.as_answer.ensures (on-err c.refused.result (alone-same c.args.world.now))

@@ -1,0 +1,30 @@
+use Rattle.std.proofs.Common.{Option, Some, subst}
+use Rattle.wire.specs.declared.message.Message.{Message}
+use Rattle.cluster_core.specs.Worlds.{StandsIn}
+use Rattle.cluster_core.specs.Rounds.{any_state, FindsReply}
+use Rattle.cluster_core.proofs.ResultSteps.{if-ok, on-err}
+use Rattle.cluster_core.proofs.BrokenClients.{same-breaks-if}
+use Rattle.cluster_core.proofs.ErrorSteps.{alone-so}
+use Rattle.cluster_core.proofs.ErrorTurns.{reply-follows}
+use Rattle.cluster_core.proofs.RoundSteps.{reply-ready, reply-taken}
+use Rattle.cluster_core.proofs.rounds.take_reply.Goals as goal
+
+pub take_owned-requires : goal.take_owned-requires
+take_owned-requires c =
+    let F : Option Message → Type 0 = λ o. FindsReply c.args.client c.args.seq c.args.world.now.net o in
+    reply-ready c.args.client c.args.seq c.in-Ok-Some.reply c.args.world.now (subst F c.in-Ok-Some.field-0-is c.in-Ok-Some.ensures) c.requires.state
+
+pub returns-in-Ok-Some-clause-ok : goal.returns-in-Ok-Some-clause-ok
+returns-in-Ok-Some-clause-ok c =
+    let F : Option Message → Type 0 = λ o. FindsReply c.args.client c.args.seq c.args.world.now.net o in
+    let finds : F (Some c.in-Ok-Some.reply) = subst F c.in-Ok-Some.field-0-is c.in-Ok-Some.ensures in
+    if-ok c.take_owned.result (λ loud plays. reply-taken c.args.client c.args.seq c.in-Ok-Some.reply c.args.world.now c.take_owned.new.world c.args.lines.now.items c.take_owned.new.lines.items loud finds plays) c.take_owned.ensures.ok
+
+pub returns-in-Ok-Some-clause-err : goal.returns-in-Ok-Some-clause-err
+returns-in-Ok-Some-clause-err c =
+    let F : Option Message → Type 0 = λ o. FindsReply c.args.client c.args.seq c.args.world.now.net o in
+    let finds : F (Some c.in-Ok-Some.reply) = subst F c.in-Ok-Some.field-0-is c.in-Ok-Some.ensures in
+    on-err c.take_owned.result (alone-so any_state (StandsIn c.in-Ok-Some.reply) c.args.world.now c.take_owned.new.world (reply-follows c.args.client c.args.seq c.in-Ok-Some.reply c.args.world.now finds)) c.take_owned.ensures.err
+
+pub returns-in-Err-clause-err : goal.returns-in-Err-clause-err
+returns-in-Err-clause-err c = same-breaks-if any_state c.args.world.now

@@ -1,0 +1,49 @@
+-- Words of public clauses: what a cluster line begins.
+use Rattle.std.specs.Prelude.{◌≡◌, ℕ, [], Option, IfSome, Result, Ok, Err}
+use Rattle.ais_values.specs.declared.kind.StreamKind.TheVariants.{Alarm, Notification, System}
+use Rattle.disk_model.specs.Disk.{Files, no_files}
+use Rattle.disk_model.specs.DeviceCalls.{DoesFront, FailsAfter}
+use Rattle.stream_layout.specs.Deeds.{calls_of_all}
+use Rattle.script_lines.specs.declared.line.Line.{Line}
+use Rattle.script_lines.specs.declared.line.Line.TheVariants.{Cluster}
+use Rattle.script_language.specs.Streams.{well_attrs}
+use Rattle.plain_service.specs.Setups.{Setup}
+use Rattle.plain_service.specs.Storing.{opening_of}
+use Rattle.lone_cluster.specs.Lone.{lone_start}
+use Rattle.cluster_core.specs.declared.world.World.{World}
+use Rattle.cluster_core.specs.declared.answer.EventAnswer.{EventAnswer}
+use Rattle.cluster_core.specs.declared.answer.EventAnswer.TheVariants.{Memory, DiskFault}
+use Rattle.cluster_core.specs.Worlds.{Shows, IsGood, LeavesFiles}
+
+-- a cluster line tells this setup, and how many callbacks each agent's queue holds; no other line tells one
+abbrev pub Begins : Line → Setup → ℕ → Type 0
+Begins (Cluster start queue callbacks alarm ntf sys) setup places =
+    (setup
+    ≡ record {
+      start = start;
+      capacity = queue;
+      alarm = well_attrs Alarm alarm;
+      notification = well_attrs Notification ntf;
+      system = well_attrs System sys;
+    })
+    × (places ≡ callbacks)
+Begins _ setup places = ⊥
+
+-- the disk holds no file, where it tells its files
+abbrev pub HoldsNone : Option Files → Type 0
+HoldsNone held = IfSome held (λ files. files ≡ no_files)
+
+-- the cluster of a setup stands at its start: its world is good, and a disk that told its files tells those
+-- of the empty history
+pub record Begun (setup : Setup) (places : ℕ) (held left : Option Files) (world : World) : Type 0 where
+  pub good : IsGood setup (lone_start setup.start places)
+  pub shows : Shows setup (lone_start setup.start places) world
+  pub files : LeavesFiles setup (lone_start setup.start places) held left
+
+-- what the start left of the files where it was not done: for want of memory some calls of its deeds from the front were done;
+-- where a call failed those before it were done, and nothing is printed
+abbrev pub LeavesBroken : {T : Type 0} → Setup → Option Files → Option Files → Result T EventAnswer → Type 0
+LeavesBroken setup held left (Ok begun) = Unit {0}
+LeavesBroken setup held left (Err Memory) = DoesFront (calls_of_all (opening_of setup)) held left
+LeavesBroken setup held left (Err (DiskFault lines)) =
+    (lines ≡ []) × (count : ℕ) × FailsAfter (calls_of_all (opening_of setup)) count held left

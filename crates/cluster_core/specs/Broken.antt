@@ -1,0 +1,70 @@
+-- Words of public clauses: what stands where an event breaks off, for want of memory or by a fault of the disk.
+use Rattle.std.specs.Prelude.{◌≡◌, Option, Some, None, List}
+use Rattle.disk_model.specs.Disk.{Files}
+use Rattle.plain_service.specs.Setups.{Setup}
+use Rattle.service_laws.specs.PlainOf.{plain_of}
+use Rattle.service_laws.specs.Disks.{service_disk}
+use Rattle.service_laws.specs.StorageOf.{storage_of}
+use Rattle.cluster_facts.specs.Types.{Entry}
+use Rattle.cluster_facts.specs.Storage.{Between}
+use Rattle.cluster_facts.specs.History.{Ready, committed}
+use Rattle.cluster_facts.specs.World.{World as WorldOf}
+use Rattle.cluster_events.specs.Lines.{Told}
+use Rattle.cluster_events.specs.Servers.{State}
+use Rattle.cluster_events.specs.Saying.{Says}
+use Rattle.cluster_events.specs.Breaking.{Tells, Holds}
+use Rattle.lone_cluster.specs.Lone.{Alone}
+use Rattle.mirror.specs.Nodes.{down, at_work}
+use Rattle.cluster_core.specs.declared.world.World.{World}
+use Rattle.cluster_core.specs.Spelled.{AreSpelled}
+use Rattle.cluster_core.specs.Clients.{ShowsAgents}
+use Rattle.cluster_core.specs.Worlds.{IsGood, Shows, TellsFiles}
+
+-- a disk that told files tells some between those of the history without its last entry and those of the history: any attempts
+-- of the last entry's deeds. A disk that told nothing tells nothing
+abbrev pub LeavesBetween : Setup → List Entry → Option Files → Option Files → Type 0
+LeavesBetween setup past None left = left ≡ None
+LeavesBetween setup past (Some held) left =
+    (files : Files) × (left ≡ Some files) × Between service_disk (storage_of setup) past files
+
+-- An event broke off for want of memory: from this state some of it happened, with lines that nobody sees. The history is legal
+-- and has each client's calls first, each client was fed the beginning of its items, and the files are between.
+pub record Broken (setup : Setup) (state : State Alone) (held left : Option Files) (world : World) : Type 0 where
+  pub rest : WorldOf
+  pub unseen : List Told
+  pub tells : Tells (plain_of setup) state.world rest unseen
+  pub holds : Holds (plain_of setup) rest
+  pub net : AreSpelled rest.net world.net
+  pub agents : ShowsAgents rest world.agents
+  pub history : world.history.entries ≡ committed rest.core
+  pub now : world.now ≡ rest.now
+  pub files : TellsFiles setup state held → LeavesBetween setup (committed rest.core) held left
+
+-- so it is over each good state that the world stood for and of which P is so
+abbrev pub BreaksIf : (State Alone → Type 0) → World → World → Option Files → Option Files → Type 0
+BreaksIf P old new held left =
+    (setup : Setup) (state : State Alone) → IsGood setup state → Shows setup state old → P state → Broken setup state held left new
+
+abbrev pub BreaksOn : World → World → Option Files → Option Files → Type 0
+BreaksOn old new held left =
+    (setup : Setup) (state : State Alone) → IsGood setup state → Shows setup state old → Broken setup state held left new
+
+-- the same of an event that leaves the disk alone
+abbrev pub BreaksAlone : World → World → Type 0
+BreaksAlone old new = (held : Option Files) → BreaksOn old new held held
+
+abbrev pub BreaksAloneIf : (State Alone → Type 0) → World → World → Type 0
+BreaksAloneIf P old new = (held : Option Files) → BreaksIf P old new held held
+
+-- The disk had a fault as an entry was worked: the event came to this whole state with the entry in hand, and told these lines;
+-- the active server is down now, and the files are between those of the history without the entry and those of the history.
+pub record Faulted (setup : Setup) (state : State Alone) (told : List Told) (held left : Option Files) (world : World) : Type 0 where
+  pub reached : State Alone
+  pub entry : Entry
+  pub says : Says (plain_of setup) state.world reached.world told
+  pub good : IsGood setup reached
+  pub in_hand : reached.world.core.hand ≡ Ready entry
+  pub fell : world.a ≡ down
+  -- with its server as it was before the fault it is the world of that state
+  pub shows : Shows setup reached (record world { a = at_work setup reached.world.core.answered entry })
+  pub files : TellsFiles setup state held → LeavesBetween setup (committed reached.world.core) held left

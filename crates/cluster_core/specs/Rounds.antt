@@ -1,0 +1,184 @@
+-- Words of bodies alone: what the events of a round of `settle` come to. Lines on messages without effect are left out.
+use Rattle.std.specs.Prelude.{◌≡◌, ℕ, nat_lt, Bool, true, false, nat_eq, if◌then◌else◌, Option, Some, None, List, [], ◌∷◌, ◌++◌, length}
+use Rattle.std.specs.List.{AllByRecursion, starts_with}
+use Rattle.wire_code.specs.Spelling.{number_text}
+use Rattle.disk_model.specs.Disk.{Files}
+use Rattle.cluster_facts.specs.Types.{Message, Reply, Answer, Delivery}
+use Rattle.cluster_facts.specs.Lists.{Stands, without}
+use Rattle.cluster_facts.specs.Messages.{answers_to}
+use Rattle.cluster_facts.specs.History.{Empty}
+use Rattle.cluster_events.specs.Events.{reply_at, hear}
+use Rattle.cluster_facts.specs.Service.{Plain, IsPlain}
+use Rattle.cluster_facts.specs.World.{World as WorldOf, number_of}
+use Rattle.cluster_events.specs.Lines.{Told, is_ignored}
+use Rattle.cluster_events.specs.Outcomes.{Outcome, for_each}
+use Rattle.cluster_events.specs.Servers.{State, in_world}
+use Rattle.cluster_events.specs.Settling.{take_answer_by, take_answer, turn, client_turns, take_pushed, push_round, round, is_loud, Rounds}
+use Rattle.client_agent.specs.declared.answers.Taken.{Taken}
+use Rattle.client_agent.specs.declared.answers.Taken.TheVariants.{Answered, Item as TookItem, Missed}
+use Rattle.client_agent.specs.Seen.{Seen}
+use Rattle.event_text.specs.Texts.{printed, reply_line}
+use Rattle.lone_cluster.specs.Lone.{Alone, lone}
+use Rattle.cluster_core.specs.declared.world.World.{World}
+use Rattle.cluster_core.specs.Spelled.{AreSpelled, Posts, PostsOrNot}
+use Rattle.cluster_core.specs.Clients.{ShowsAgents}
+use Rattle.cluster_core.specs.Taken.{taken_as}
+use Rattle.plain_service.specs.Setups.{Setup}
+use Rattle.service_laws.specs.PlainOf.{plain_of}
+use Rattle.cluster_core.specs.Worlds.{IsGood, Shows, TellsFiles, LeavesFiles}
+
+-- what is printed of lines, but for those on messages without effect
+abbrev pub kept_lines : List Told → List (List ℕ)
+kept_lines told = printed (without is_ignored told)
+
+-- an event of states, by the setup
+abbrev pub Event : Type 0
+Event = Setup → State Alone → Outcome (State Alone)
+
+-- what an event of a round came to: the world, its lines, whether it was loud, and the files of the disk, where they are told
+pub record Played (setup : Setup) (state : State Alone) (outcome : Outcome (State Alone)) (new : World) (before after : List (List ℕ)) (loud : Bool) (held left : Option Files) : Type 0 where
+  pub shows : Shows setup outcome.state new
+  pub good : IsGood setup outcome.state
+  pub lines : after ≡ before ++ kept_lines outcome.told
+  pub loudness : loud ≡ is_loud outcome.told
+  pub files : TellsFiles setup state held → LeavesFiles setup outcome.state held left
+
+-- an event of a round was played, over each state that the world stood for and of which P is so
+abbrev pub PlaysOn : (State Alone → Type 0) → Event → World → World → List (List ℕ) → List (List ℕ) → Bool → Option Files → Option Files → Type 0
+PlaysOn P event old new before after loud held left =
+    (setup : Setup) (state : State Alone) → IsGood setup state → Shows setup state old → P state → Played setup state (event setup state) new before after loud held left
+
+-- the same of one that leaves the disk alone
+abbrev pub Plays : (State Alone → Type 0) → Event → World → World → List (List ℕ) → List (List ℕ) → Bool → Type 0
+Plays P event old new before after loud = (held : Option Files) → PlaysOn P event old new before after loud held held
+
+-- the world stands for a good state of which P is so
+pub record HasStateOf (P : State Alone → Type 0) (world : World) : Type 0 where
+  pub setup : Setup
+  pub state : State Alone
+  pub good : IsGood setup state
+  pub shows : Shows setup state world
+  pub so : P state
+
+-- nothing is in hand
+abbrev pub IsIdle : State Alone → Type 0
+IsIdle state = state.world.core.hand ≡ Empty
+
+-- nothing is in hand, and the messages stand in the net
+abbrev pub IsIdleWithAll : List Message → State Alone → Type 0
+IsIdleWithAll messages state = IsIdle state × AllByRecursion (λ message. Stands message state.world.net) messages
+
+-- the message brings an item
+abbrev pub IsItem : Message → Type 0
+IsItem (Delivery client key item) = Unit {0}
+IsItem _ = ⊥
+
+-- the same of items
+abbrev pub IsIdleWithItems : List Message → State Alone → Type 0
+IsIdleWithItems items state = IsIdleWithAll items state × AllByRecursion IsItem items
+
+abbrev pub any_state : State Alone → Type 0
+any_state state = Unit {0}
+
+-- The events of a round.
+
+-- a message is heard under its own number
+abbrev pub heard_so : Message → Event
+heard_so message setup state =
+    hear (plain_of setup) (lone (plain_of setup)) (number_of (plain_of setup) message state.world.net) message state
+
+-- a reply or an item is delivered. Its number is told only where it has no effect
+abbrev pub message_taken : Message → Event
+message_taken message setup state = in_world (taken_as (plain_of setup) 0 message) state
+
+-- the reply to the call of this number is delivered, if the net has one
+abbrev pub reply_taken : ℕ → ℕ → Event
+reply_taken client number setup state =
+    in_world (take_answer_by (plain_of setup) client number (reply_at number (answers_to client state.world.net))) state
+
+abbrev pub answer_taken : Message → Event
+answer_taken message setup state = in_world (take_answer (plain_of setup) message) state
+
+abbrev pub turned : Message → Event
+turned message setup state = turn (plain_of setup) (lone (plain_of setup)) message state
+
+abbrev pub all_turned : List Message → Event
+all_turned messages setup state = for_each (turn (plain_of setup) (lone (plain_of setup))) messages state
+
+abbrev pub client_turned : ℕ → Event
+client_turned client setup state = client_turns (plain_of setup) (lone (plain_of setup)) client state
+
+abbrev pub clients_turned : List ℕ → Event
+clients_turned clients setup state = for_each (client_turns (plain_of setup) (lone (plain_of setup))) clients state
+
+-- all clients of the state
+abbrev pub state_turned : Event
+state_turned setup state = clients_turned state.world.clients setup state
+
+abbrev pub item_taken : Message → Event
+item_taken item setup state = in_world (take_pushed (plain_of setup) item) state
+
+abbrev pub items_taken : List Message → Event
+items_taken items setup state = for_each (λ item. in_world (take_pushed (plain_of setup) item)) items state
+
+abbrev pub round_pushed : Event
+round_pushed setup state = push_round (plain_of setup) (lone (plain_of setup)) state
+
+abbrev pub round_played : Event
+round_played setup state = round (plain_of setup) (lone (plain_of setup)) state
+
+-- Rounds one after another.
+
+-- rounds were played from a start: the state that they came to and their lines, and whether the last of them was loud
+pub record Settling (setup : Setup) (start : State Alone) (now : World) (before after : List (List ℕ)) (loud : Bool) (held left : Option Files) : Type 0 where
+  pub state : State Alone
+  pub told : List Told
+  pub rounds : Rounds (plain_of setup) (lone (plain_of setup)) start state told loud
+  pub shows : Shows setup state now
+  pub good : IsGood setup state
+  pub lines : after ≡ before ++ kept_lines told
+  pub files : TellsFiles setup start held → LeavesFiles setup state held left
+
+abbrev pub SettlesSo : World → World → List (List ℕ) → List (List ℕ) → Bool → Option Files → Option Files → Type 0
+SettlesSo old now before after loud held left =
+    (setup : Setup) (start : State Alone) → IsGood setup start → Shows setup start old → Settling setup start now before after loud held left
+
+-- A reply or an item at its client's agent.
+
+-- what became of a message that an agent took or missed is told; nothing is told of one that it missed
+abbrev pub IsHeeded : ℕ → Taken → List (List ℕ) → List (List ℕ) → List (List ℕ) → List (List ℕ) → Bool → Type 0
+IsHeeded client (Answered number reply) old new before after loud =
+    (new ≡ old) × (after ≡ before ++ reply_line client number reply ∷ []) × (loud ≡ true)
+IsHeeded client (TookItem receipt) old new before after loud =
+    Posts receipt old new before after × (loud ≡ nat_lt (length old) (length new))
+IsHeeded client (Missed why) old new before after loud = (new ≡ old) × (after ≡ before) × (loud ≡ false)
+
+-- of what an agent took or missed, the receipt was posted or not
+abbrev pub MayPost : Taken → List (List ℕ) → List (List ℕ) → Type 0
+MayPost (TookItem receipt) old new = PostsOrNot receipt old new
+MayPost _ old new = new ≡ old
+
+-- a reply or an item was delivered: the net and the agents that there are now, the lines, and whether it was taken
+abbrev pub Heeds : Message → List (List ℕ) → List (List ℕ) → List Seen → List Seen → List (List ℕ) → List (List ℕ) → Bool → Type 0
+Heeds message old_net new_net old new before after loud =
+    (plain : Plain) (world : WorldOf) → IsPlain plain → AreSpelled world.net old_net → ShowsAgents world old → AreSpelled (taken_as plain 0 message world).state.net new_net × ShowsAgents (taken_as plain 0 message world).state new × (after ≡ before ++ kept_lines (taken_as plain 0 message world).told) × (loud ≡ is_loud (taken_as plain 0 message world).told)
+
+-- how the spelling of a reply to a client's call begins
+abbrev pub reply_front : ℕ → ℕ → List ℕ
+reply_front client number = 2 ∷ (number_text 2 client ++ number_text 4 number)
+
+-- the newest byte string that begins so
+abbrev pub first_with : List ℕ → List (List ℕ) → Option (List ℕ)
+first_with front [] = None
+first_with front (bytes ∷ net) = if starts_with nat_eq bytes front then Some bytes else first_with front net
+
+-- what was found, beside the reply that the messages give
+abbrev pub IsReplyFound : ℕ → ℕ → Option Reply → Option Message → Type 0
+IsReplyFound client number value None = value ≡ None
+IsReplyFound client number value (Some message) =
+    (reply : Reply) × (message ≡ Answer client number reply) × (value ≡ Some reply)
+
+-- the newest reply to the call among the messages that the net spells, if there is one
+abbrev pub FindsReply : ℕ → ℕ → List (List ℕ) → Option Message → Type 0
+FindsReply client number net found =
+    (messages : List Message) → AreSpelled messages net → IsReplyFound client number (reply_at number (answers_to client messages)) found

@@ -1,0 +1,156 @@
+//! How a cluster begins.
+ghost use Rattle.std.specs.Prelude.{◌≡◌, ℕ, List, [], IfOk, OnOk, OnErr};
+ghost use Rattle.ais_values.specs.declared.kind.StreamKind.TheVariants.{Alarm, Notification, System};
+ghost use Rattle.plain_service.specs.Setups.{Setup};
+ghost use Rattle.script_language.specs.Lines.{Spells};
+ghost use Rattle.service_core.specs.Beginning.{BeginsAs, CanBeginAs};
+ghost use Rattle.cluster_core.specs.Worlds.{empty_world};
+ghost use Rattle.cluster_core.specs.Answers.{HasFault};
+ghost use Rattle.cluster_core.specs.Beginning.{Begins, HoldsNone, Begun, LeavesBroken};
+ghost use Rattle.cluster_core.specs.Starting.{wells_of, world_of, Starts, StartsWorld, broken_by};
+
+use crate::{EventAnswer, World};
+use ais_values::{Seq, StreamKind};
+use calls::History;
+use disk_model::{DiskAnswer, SharedDisk};
+use message_net::Net;
+use mirror::{Node, Role};
+use script::well_attrs;
+use script_lines::{Line, WellOptions};
+use service_core::Service;
+use std::alloc::{AllocError, Global};
+use std::mem;
+use stream_config::StreamAttrs;
+use stream_files::perform;
+use stream_layout::Deed;
+
+/// The attributes of the well-known streams.
+fn wells_of(
+    alloc: Global,
+    alarm: &WellOptions,
+    ntf: &WellOptions,
+    sys: &WellOptions,
+) -> Result<Seq<StreamAttrs>, AllocError>
+    ensures { IfOk result (λ wells. wells ≡ wells_of alarm.now ntf.now sys.now) }
+{
+    let mut wells = Seq::new(alloc);
+    wells.push(well_attrs(alloc, StreamKind::Alarm, alarm)?)?;
+    wells.push(well_attrs(alloc, StreamKind::Notification, ntf)?)?;
+    wells.push(well_attrs(alloc, StreamKind::System, sys)?)?;
+    Ok(wells)
+}
+
+/// The active server at the start, and the deeds of the start.
+fn start(
+    alloc: Global,
+    start: i64,
+    queue: u32,
+    wells: Seq<StreamAttrs>,
+) -> Result<(Node, Seq<Deed>), AllocError>
+    requires { CanBeginAs start queue wells }
+    ensures { IfOk result (λ made. (setup : Setup) → BeginsAs setup start queue wells →
+        Starts setup made.0 made.1) }
+{
+    match Service::new(alloc, start, queue, wells) {
+        Ok((service, deeds)) => Ok((Node::start(Role::Active, service), deeds)),
+        Err(error) => Err(error),
+    }
+}
+
+/// A world in which nothing was posted, with this active server.
+fn world_of(alloc: Global, active: Node, start: i64, callbacks: u32) -> World
+    ensures { result ≡ world_of active start callbacks }
+{
+    World {
+        a: active,
+        b: Node::down(),
+        link: Seq::new(alloc),
+        back: Seq::new(alloc),
+        net: Net::new(alloc),
+        agents: Seq::new(alloc),
+        history: History::new(alloc),
+        now: start,
+        armed: false,
+        callbacks,
+    }
+}
+
+/// The world at the start that a cluster line tells, and the deeds of the start.
+fn started(alloc: Global, line: &Line) -> Result<(World, Seq<Deed>), AllocError>
+    requires line { (setup : Setup) × (places : ℕ) × Begins line.now setup places }
+    requires spelled { (raw : List ℕ) × Spells line.now raw }
+    ensures { IfOk result (λ made. (setup : Setup) (places : ℕ) → Begins line.now setup places →
+        StartsWorld setup places made.0 made.1) }
+{
+    match line {
+        Line::Cluster {
+            start: time,
+            queue,
+            callbacks,
+            alarm,
+            ntf,
+            sys,
+        } => {
+            let wells = wells_of(alloc, alarm, ntf, sys)?;
+            let (active, deeds) = start(alloc, *time, *queue, wells)?;
+            Ok((world_of(alloc, active, *time, *callbacks), deeds))
+        }
+        _ => Err(AllocError),
+    }
+}
+
+/// Why the start was not done: nothing is printed.
+fn broken(alloc: Global, answer: DiskAnswer) -> EventAnswer
+    ensures { result ≡ broken_by answer }
+{
+    match answer {
+        DiskAnswer::Memory => EventAnswer::Memory,
+        DiskAnswer::Failed => EventAnswer::DiskFault {
+            printed: Seq::new(alloc),
+        },
+    }
+}
+
+impl World {
+    /// Begins the cluster of a script's first line: the active server's service is that of a history without entries, and the
+    /// well-known streams are made on the disk.
+    ///
+    /// The world is an empty one, and the line a cluster line as it can stand in a script. Where the disk tells its files, it
+    /// holds none before, and those of the empty history after.
+    ///
+    /// On an error the world stays empty. `Memory` comes only for want of memory; some device calls of the start may be done.
+    /// `DiskFault` comes only where the disk's count of faults rose: a device call failed, those before it were done, and
+    /// nothing is printed.
+    pub fn begin<D: SharedDisk>(
+        &mut self,
+        alloc: Global,
+        line: &Line,
+        disk: &mut D,
+    ) -> Result<(), EventAnswer>
+        requires line { (setup : Setup) × (places : ℕ) × Begins line.now setup places }
+        requires spelled { (raw : List ℕ) × Spells line.now raw }
+        requires empty { self.old ≡ empty_world }
+        ensures ok { (setup : Setup) (places : ℕ) → Begins line.now setup places →
+            HoldsNone (D.files disk.old) →
+            OnOk result (Begun setup places (D.files disk.old) (D.files disk.new) self.new) }
+        ensures same { OnErr result (self.new ≡ self.old) }
+        ensures broken { (setup : Setup) (places : ℕ) → Begins line.now setup places →
+            LeavesBroken setup (D.files disk.old) (D.files disk.new) result }
+        ensures cause { HasFault (D.faults disk.old) (D.faults disk.new) result }
+    {
+        let (world, deeds) = match started(alloc, line) {
+            Ok(made) => made,
+            Err(_) => return Err(EventAnswer::Memory),
+        };
+        match perform(disk, &deeds) {
+            Ok(()) => {
+                mem::drop(mem::replace(self, world));
+                Ok(())
+            }
+            Err(answer) => {
+                mem::drop(world);
+                Err(broken(alloc, answer))
+            }
+        }
+    }
+}

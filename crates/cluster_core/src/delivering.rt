@@ -1,0 +1,152 @@
+//! Messages of the net that are delivered.
+ghost use Rattle.std.specs.Prelude.{◌≡◌, true, IfOk, OnOk, OnErr};
+ghost use Rattle.cluster_core.specs.Broken.{BreaksAlone, BreaksAloneIf};
+ghost use Rattle.wire.specs.MessageSpelling.{MessageFits};
+ghost use Rattle.wire.specs.Messages.{Spells};
+ghost use Rattle.cluster_core.specs.Worlds.{HasState, DoesIf, StandsIn};
+ghost use Rattle.cluster_core.specs.Delivered.{IsFetched, is_for_agent, is_for_server, delivered_by, Delivers};
+
+use crate::World;
+use crate::deliver::take;
+use crate::hearing::hear;
+use ais_values::Seq;
+use message_net::Net;
+use std::alloc::{AllocError, Global};
+use std::mem;
+use wire::{Message, decode, law_of_spellings};
+
+/// A longer string of the net is not read.
+const BYTES: usize = 4_294_967_294;
+
+/// The message that these bytes spell. Where they spell none, or are more than 4,294,967,294, it answers as if memory ran out.
+fn read_message(alloc: Global, bytes: &[u8]) -> Result<Message, AllocError>
+    ensures { IfOk result (λ message. Spells message bytes.now) }
+{
+    if bytes.len() > BYTES {
+        return Err(AllocError);
+    }
+    match decode(alloc, bytes) {
+        Ok(message) => Ok(message),
+        Err(_) => Err(AllocError),
+    }
+}
+
+/// The message of this number in the net.
+fn fetch(alloc: Global, net: &Net, place: u64) -> Result<Option<Message>, AllocError>
+    ensures { IfOk result (λ found. IsFetched place net.now found) }
+{
+    law_of_spellings();
+    match net.at(place) {
+        None => Ok(None),
+        Some(bytes) => match read_message(alloc, bytes) {
+            Ok(message) => Ok(Some(message)),
+            Err(error) => Err(error),
+        },
+    }
+}
+
+/// Whether the message is a reply or an item, which are for an agent.
+fn is_for_agent(message: &Message) -> bool
+    ensures { result ≡ is_for_agent message.now }
+{
+    matches!(message, Message::Reply { .. } | Message::Item { .. })
+}
+
+/// Whether the message is a request or a receipt, which are for the active server.
+fn is_for_server(message: &Message) -> bool
+    ensures { result ≡ is_for_server message.now }
+{
+    matches!(message, Message::Request { .. } | Message::Receipt { .. })
+}
+
+/// Delivers a reply or an item of this number in the net to its agent.
+fn deliver_to_agent(
+    alloc: Global,
+    world: &mut World,
+    lines: &mut Vec<Seq<u8>>,
+    place: u64,
+    message: &Message,
+) -> Result<(), AllocError>
+    requires fits { MessageFits message.now }
+    requires agent { is_for_agent message.now ≡ true }
+    ensures ok { OnOk result (DoesIf (StandsIn message.now) (delivered_by place message.now)
+        world.old world.new lines.old.items lines.new.items) }
+    ensures err { OnErr result (BreaksAloneIf (StandsIn message.now) world.old world.new) }
+{
+    take(
+        alloc,
+        &mut world.net,
+        &mut world.agents,
+        lines,
+        place,
+        message,
+    )
+}
+
+/// Delivers a message of this number in the net: a reply or an item to its agent, a request or a receipt to the active server.
+fn deliver_message(
+    alloc: Global,
+    world: &mut World,
+    lines: &mut Vec<Seq<u8>>,
+    place: u64,
+    message: &Message,
+) -> Result<(), AllocError>
+    requires state { HasState world.old }
+    requires fits { MessageFits message.now }
+    ensures ok { OnOk result (DoesIf (StandsIn message.now) (delivered_by place message.now)
+        world.old world.new lines.old.items lines.new.items) }
+    ensures err { OnErr result (BreaksAloneIf (StandsIn message.now) world.old world.new) }
+{
+    if is_for_agent(message) {
+        return deliver_to_agent(alloc, world, lines, place, message);
+    }
+    if is_for_server(message) {
+        return hear(alloc, world, lines, place, message);
+    }
+    Ok(())
+}
+
+/// The same of a message that was fetched, if there is one.
+fn deliver_found(
+    alloc: Global,
+    world: &mut World,
+    lines: &mut Vec<Seq<u8>>,
+    place: u64,
+    found: Option<Message>,
+) -> Result<bool, AllocError>
+    requires state { HasState world.old }
+    requires fetched { IsFetched place world.old.net found }
+    ensures ok { IfOk result (λ done. Delivers place done world.old world.new lines.old.items
+        lines.new.items) }
+    ensures err { OnErr result (BreaksAlone world.old world.new) }
+{
+    match found {
+        None => Ok(false),
+        Some(message) => {
+            let done = deliver_message(alloc, world, lines, place, &message);
+            mem::drop(message);
+            match done {
+                Ok(()) => Ok(true),
+                Err(error) => Err(error),
+            }
+        }
+    }
+}
+
+/// Delivers the message of this number in the net, and answers whether there is one.
+pub(crate) fn deliver(
+    alloc: Global,
+    world: &mut World,
+    lines: &mut Vec<Seq<u8>>,
+    place: u64,
+) -> Result<bool, AllocError>
+    requires { HasState world.old }
+    ensures ok { IfOk result (λ done. Delivers place done world.old world.new lines.old.items
+        lines.new.items) }
+    ensures err { OnErr result (BreaksAlone world.old world.new) }
+{
+    match fetch(alloc, &world.net, place) {
+        Ok(found) => deliver_found(alloc, world, lines, place, found),
+        Err(error) => Err(error),
+    }
+}

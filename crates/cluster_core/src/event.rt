@@ -1,0 +1,59 @@
+//! A line of a script happens to the world.
+ghost use Rattle.std.specs.Prelude.{ℕ, List, IfOk, IfErr};
+ghost use Rattle.plain_service.specs.Setups.{Setup};
+ghost use Rattle.script_language.specs.Lines.{Spells};
+ghost use Rattle.cluster_events.specs.Servers.{State};
+ghost use Rattle.lone_cluster.specs.Lone.{Alone};
+
+use crate::playing::play;
+use crate::{EventAnswer, World};
+use ais_values::Seq;
+use disk_model::{DiskAnswer, SharedDisk};
+use script_lines::Line;
+use std::alloc::Global;
+use std::mem;
+
+impl World {
+    ghost use Rattle.cluster_core.specs.Worlds.{HasState, Shows, IsGood, TellsFiles};
+    ghost use Rattle.cluster_core.specs.Playing.{IsLoneLine, EventDone, EventBroken};
+    ghost use Rattle.cluster_core.specs.Answers.{HasFault};
+
+    /// Does what a line of a script asks for while no server fails, and answers with the lines that it prints, each with its line
+    /// feed. A cluster line, the lines on failures of servers and a time below that in force are no part of it.
+    ///
+    /// `DiskFault` comes only where the disk's count of faults rose in the call; it has the lines of what was done before. A line
+    /// that shows files leaves all as it was then; any other line came to an entry whose deeds were not done, and the active
+    /// server is down. `Memory` comes where memory ran out: some of the line was done, without its lines, and the history is
+    /// legal, each client was fed the beginning of its items, and the files are between. The same is answered where the history has 4,000,000,000 entries, where a client's
+    /// agent has numbered 4,294,967,294 calls, and where a string of the net has more than 4,294,967,294 bytes.
+    pub fn event<D: SharedDisk>(
+        &mut self,
+        alloc: Global,
+        line: &Line,
+        disk: &mut D,
+    ) -> Result<Seq<Seq<u8>>, EventAnswer>
+        requires spelled { (raw : List ℕ) × Spells line.now raw }
+        requires lone { IsLoneLine self.old.now line.now }
+        requires state { HasState self.old }
+        ensures ok { IfOk result (λ lines. (setup : Setup) (state : State Alone) →
+            IsGood setup state → Shows setup state self.old →
+            TellsFiles setup state (D.files disk.old) →
+            EventDone setup state line.now lines (D.files disk.old) (D.files disk.new) self.new) }
+        ensures broken { IfErr result (λ answer. EventBroken answer line.now self.old self.new
+            (D.files disk.old) (D.files disk.new)) }
+        ensures cause { HasFault (D.faults disk.old) (D.faults disk.new) result }
+    {
+        let mut lines = Vec::new(alloc);
+        match play(alloc, self, &mut lines, line, disk) {
+            Ok(()) => Ok(Seq::from_vec(lines)),
+            Err(DiskAnswer::Memory) => {
+                mem::drop(lines);
+                Err(EventAnswer::Memory)
+            }
+            Err(DiskAnswer::Failed) => {
+                let printed = Seq::from_vec(lines);
+                Err(EventAnswer::DiskFault { printed })
+            }
+        }
+    }
+}

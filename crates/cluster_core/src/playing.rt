@@ -1,0 +1,209 @@
+//! What each line of a script does to the world.
+ghost use Rattle.std.specs.Prelude.{◌≡◌, OnOk, OnErr, IfErr};
+ghost use Rattle.ais_values.specs.Causes.{HasCauseOf};
+ghost use Rattle.disk_model.specs.declared.answers.DiskAnswer.{DiskAnswer};
+ghost use Rattle.script_lines.specs.declared.line.Line.TheVariants.{Deliver, Push, Work};
+ghost use Rattle.cluster_core.specs.Worlds.{HasState, Does, pushed};
+ghost use Rattle.cluster_core.specs.Playing.{IsLoneLine};
+ghost use Rattle.cluster_core.specs.Steps.{IsCaller, IsInRange, asked_by, dispatched_by, deliver_at, PlaysAlone, Plays, PlayBroken, EndsAs};
+ghost use Rattle.cluster_core.specs.Broken.{BreaksAlone};
+
+use crate::World;
+use crate::agents::dispatch;
+use crate::ask::ask;
+use crate::delivering::deliver;
+use crate::pushing::push;
+use crate::resending::resend;
+use crate::settling::settle;
+use crate::showing::{refused, show_file, show_files, show_servers};
+use crate::working::drain;
+use ais_values::Seq;
+use calls::Ask;
+use client_agent::How;
+use disk_model::{DiskAnswer, SharedDisk};
+use script_lines::Line;
+use std::alloc::{AllocError, Global};
+use std::mem;
+
+/// A client asks for a call.
+fn ask_in(
+    alloc: Global,
+    world: &mut World,
+    lines: &mut Vec<Seq<u8>>,
+    client: u16,
+    asked: &Ask,
+) -> Result<(), AllocError>
+    requires state { HasState world.old }
+    requires caller { IsCaller client }
+    ensures ok { OnOk result (Does (asked_by client asked.now) world.old world.new lines.old.items
+        lines.new.items) }
+    ensures err { OnErr result (BreaksAlone world.old world.new) }
+{
+    ask(
+        alloc,
+        &mut world.net,
+        &mut world.agents,
+        lines,
+        world.callbacks,
+        client,
+        asked,
+    )
+}
+
+/// Callbacks of a client are handed out.
+fn dispatch_in(
+    alloc: Global,
+    world: &mut World,
+    lines: &mut Vec<Seq<u8>>,
+    client: u16,
+    how: How,
+) -> Result<(), AllocError>
+    ensures ok { OnOk result (Does (dispatched_by how client) world.old world.new lines.old.items
+        lines.new.items) }
+    ensures err { OnErr result (BreaksAlone world.old world.new) }
+{
+    dispatch(alloc, &mut world.agents, lines, client, how)
+}
+
+/// The message of a line's number is delivered. The line is refused where the net has none of that number.
+fn deliver_line(
+    alloc: Global,
+    world: &mut World,
+    lines: &mut Vec<Seq<u8>>,
+    line: &Line,
+    place: u64,
+) -> Result<(), AllocError>
+    requires state { HasState world.old }
+    requires line { line.now ≡ Deliver place }
+    ensures ok { OnOk result (Does (deliver_at place) world.old world.new lines.old.items
+        lines.new.items) }
+    ensures err { OnErr result (BreaksAlone world.old world.new) }
+{
+    match deliver(alloc, world, lines, place) {
+        Ok(done) => {
+            if done {
+                return Ok(());
+            }
+            refused(alloc, world, lines, line)
+        }
+        Err(error) => Err(error),
+    }
+}
+
+/// All items without receipt are posted. The line is refused while an entry is in hand.
+fn push_line(
+    alloc: Global,
+    world: &mut World,
+    lines: &mut Vec<Seq<u8>>,
+    line: &Line,
+) -> Result<(), AllocError>
+    requires state { HasState world.old }
+    requires line { line.now ≡ Push }
+    ensures ok { OnOk result (Does pushed world.old world.new lines.old.items lines.new.items) }
+    ensures err { OnErr result (BreaksAlone world.old world.new) }
+{
+    if world.a.ready() {
+        return refused(alloc, world, lines, line);
+    }
+    match push(alloc, world, lines) {
+        Ok(items) => {
+            mem::drop(items);
+            Ok(())
+        }
+        Err(error) => Err(error),
+    }
+}
+
+/// What a line does that leaves the disk alone. Other lines are no part of it, and answer as if memory ran out.
+fn play_alone(
+    alloc: Global,
+    world: &mut World,
+    lines: &mut Vec<Seq<u8>>,
+    line: &Line,
+) -> Result<(), AllocError>
+    requires state { HasState world.old }
+    requires range { IsInRange line.now }
+    requires lone { IsLoneLine world.old.now line.now }
+    ensures ok { OnOk result (PlaysAlone line.now world.old world.new lines.old.items
+        lines.new.items) }
+    ensures err { OnErr result (BreaksAlone world.old world.new) }
+{
+    match line {
+        Line::Time { now } => {
+            world.now = *now;
+            Ok(())
+        }
+        Line::Log { client, ask } => ask_in(alloc, world, lines, *client, ask),
+        Line::Ntf { client, ask } => ask_in(alloc, world, lines, *client, ask),
+        Line::Deliver { place } => deliver_line(alloc, world, lines, line, *place),
+        Line::Resend { client } => resend(alloc, world, lines, *client),
+        Line::Mirror => refused(alloc, world, lines, line),
+        Line::Ack => refused(alloc, world, lines, line),
+        Line::Push => push_line(alloc, world, lines, line),
+        Line::DispatchOne { client } => dispatch_in(alloc, world, lines, *client, How::One),
+        Line::DispatchAll { client, workers } => {
+            let how = How::All { workers: *workers };
+            dispatch_in(alloc, world, lines, *client, how)
+        }
+        Line::Servers => show_servers(alloc, world, lines),
+        _ => Err(AllocError),
+    }
+}
+
+/// The same end, as a disk's answer.
+fn as_answer(done: Result<(), AllocError>) -> Result<(), DiskAnswer>
+    ensures { EndsAs done result }
+{
+    match done {
+        Ok(()) => Ok(()),
+        Err(_) => Err(DiskAnswer::Memory),
+    }
+}
+
+/// The deeds of the entry in hand are done, and its reply is posted. The line is refused where none is in hand.
+fn work_line<D: SharedDisk>(
+    alloc: Global,
+    world: &mut World,
+    lines: &mut Vec<Seq<u8>>,
+    line: &Line,
+    disk: &mut D,
+) -> Result<(), DiskAnswer>
+    requires state { HasState world.old }
+    requires line { line.now ≡ Work }
+    ensures ok { OnOk result (Plays line.now world.old world.new lines.old.items lines.new.items
+        (D.files disk.old) (D.files disk.new)) }
+    ensures broken { IfErr result (λ answer. PlayBroken answer line.now world.old world.new
+        lines.old.items lines.new.items (D.files disk.old) (D.files disk.new)) }
+    ensures cause { HasCauseOf (D.faults disk.old) (D.faults disk.new) result DiskAnswer.Failed }
+{
+    if world.a.ready() {
+        return drain(alloc, world, lines, disk);
+    }
+    as_answer(refused(alloc, world, lines, line))
+}
+
+/// What a line does.
+pub(crate) fn play<D: SharedDisk>(
+    alloc: Global,
+    world: &mut World,
+    lines: &mut Vec<Seq<u8>>,
+    line: &Line,
+    disk: &mut D,
+) -> Result<(), DiskAnswer>
+    requires state { HasState world.old }
+    requires range { IsInRange line.now }
+    requires lone { IsLoneLine world.old.now line.now }
+    ensures ok { OnOk result (Plays line.now world.old world.new lines.old.items lines.new.items
+        (D.files disk.old) (D.files disk.new)) }
+    ensures broken { IfErr result (λ answer. PlayBroken answer line.now world.old world.new
+        lines.old.items lines.new.items (D.files disk.old) (D.files disk.new)) }
+    ensures cause { HasCauseOf (D.faults disk.old) (D.faults disk.new) result DiskAnswer.Failed }
+{
+    match line {
+        Line::Work => work_line(alloc, world, lines, line, disk),
+        Line::Settle => settle(alloc, world, lines, disk),
+        Line::Files => show_files(alloc, world, lines, disk),
+        Line::Cat { name } => show_file(alloc, world, lines, disk, line, name),
+        _ => as_answer(play_alone(alloc, world, lines, line)),
+    }
+}

@@ -1,0 +1,96 @@
+//! The deeds of the entry in hand.
+ghost use Rattle.std.specs.Prelude.{OnOk, OnErr, IfErr, IsSome};
+ghost use Rattle.std.specs.List.{AllByRecursion};
+ghost use Rattle.ais_values.specs.Causes.{HasCauseOf};
+ghost use Rattle.disk_model.specs.declared.answers.DiskAnswer.{DiskAnswer};
+ghost use Rattle.wire.specs.MessageSpelling.{MessageInRange};
+ghost use Rattle.cluster_core.specs.Heard.{PostsAll};
+ghost use Rattle.cluster_core.specs.PartlyDone.{PostsSome, IsFaultTold};
+ghost use Rattle.cluster_core.specs.Errors.{BreaksOff};
+ghost use Rattle.cluster_core.specs.Worlds.{HasState, DoesOn, drained};
+
+use crate::World;
+use crate::posting::post_all;
+use ais_values::Seq;
+use cluster_events::ServerRole;
+use disk_model::{DiskAnswer, SharedDisk};
+use event_text::put_server;
+use message_net::Net;
+use mirror::Heard;
+use script_lines::Server;
+use std::alloc::{AllocError, Global};
+use std::mem;
+
+/// Posts what a server that worked asks for.
+fn tell_worked(
+    alloc: Global,
+    net: &mut Net,
+    lines: &mut Vec<Seq<u8>>,
+    heard: Heard,
+) -> Result<(), AllocError>
+    requires { AllByRecursion MessageInRange heard.to_net }
+    ensures ok { OnOk result (PostsAll heard.to_net net.old net.new lines.old.items
+        lines.new.items) }
+    ensures err { OnErr result (PostsSome heard.to_net net.old net.new) }
+{
+    let posted = post_all(alloc, net, lines, heard.to_net.as_slice());
+    mem::drop(heard);
+    posted
+}
+
+/// Tells that the active server went down at a fault of the disk, and answers with the fault. Where memory runs out for the line
+/// it answers so.
+fn tell_fault(alloc: Global, lines: &mut Vec<Seq<u8>>) -> DiskAnswer
+    ensures { IsFaultTold result lines.old.items lines.new.items }
+{
+    match put_server(alloc, lines, Server::A, ServerRole::Down) {
+        Ok(()) => DiskAnswer::Failed,
+        Err(_) => DiskAnswer::Memory,
+    }
+}
+
+/// Works the entry in hand: its deeds are done, and its reply is posted. At a fault of the disk within the deeds the server is
+/// down; where memory runs out within them they can be done again.
+fn work<D: SharedDisk>(
+    alloc: Global,
+    world: &mut World,
+    lines: &mut Vec<Seq<u8>>,
+    disk: &mut D,
+) -> Result<(), DiskAnswer>
+    requires state { HasState world.old }
+    requires ready { IsSome world.old.a.owed }
+    ensures ok { OnOk result (DoesOn drained world.old world.new lines.old.items lines.new.items
+        (D.files disk.old) (D.files disk.new)) }
+    ensures err { IfErr result (λ answer. BreaksOff answer world.old world.new lines.old.items
+        lines.new.items (D.files disk.old) (D.files disk.new)) }
+    ensures cause { HasCauseOf (D.faults disk.old) (D.faults disk.new) result DiskAnswer.Failed }
+{
+    match world.a.work(alloc, disk) {
+        Ok(heard) => match tell_worked(alloc, &mut world.net, lines, heard) {
+            Ok(()) => Ok(()),
+            Err(_) => Err(DiskAnswer::Memory),
+        },
+        Err(DiskAnswer::Memory) => Err(DiskAnswer::Memory),
+        Err(DiskAnswer::Failed) => Err(tell_fault(alloc, lines)),
+    }
+}
+
+/// The same, if there is an entry in hand.
+pub(crate) fn drain<D: SharedDisk>(
+    alloc: Global,
+    world: &mut World,
+    lines: &mut Vec<Seq<u8>>,
+    disk: &mut D,
+) -> Result<(), DiskAnswer>
+    requires { HasState world.old }
+    ensures ok { OnOk result (DoesOn drained world.old world.new lines.old.items lines.new.items
+        (D.files disk.old) (D.files disk.new)) }
+    ensures err { IfErr result (λ answer. BreaksOff answer world.old world.new lines.old.items
+        lines.new.items (D.files disk.old) (D.files disk.new)) }
+    ensures cause { HasCauseOf (D.faults disk.old) (D.faults disk.new) result DiskAnswer.Failed }
+{
+    if world.a.ready() {
+        return work(alloc, world, lines, disk);
+    }
+    Ok(())
+}

@@ -1,0 +1,49 @@
+//! The world of a cluster.
+ghost use Rattle.std.specs.Prelude.{◌≡◌};
+ghost use Rattle.cluster_core.specs.Worlds.{empty_world};
+
+use ais_values::Seq;
+use calls::History;
+use client_agent::Agent;
+use message_net::Net;
+use mirror::Node;
+use std::alloc::Global;
+use wire::Message;
+
+/// Two servers with the lists of messages between them, the net, the clients' agents by rising client, and what was committed.
+///
+/// `armed` is true exactly where a device call to come will stop the active server. `callbacks` is how many callbacks each
+/// agent's queue holds.
+#[derive(Drop)]
+pub struct World {
+    pub a: Node,
+    pub b: Node,
+    pub link: Seq<Message>,
+    pub back: Seq<Message>,
+    pub net: Net,
+    pub agents: Seq<Agent>,
+    pub history: History,
+    pub now: i64,
+    pub armed: bool,
+    pub callbacks: u32,
+}
+
+impl World {
+    /// A world before its first line: both servers are down, and nothing was posted. It takes no memory.
+    pub fn empty(alloc: Global) -> World
+        ensures { result ≡ empty_world }
+    {
+        World {
+            a: Node::down(),
+            b: Node::down(),
+            link: Seq::new(alloc),
+            back: Seq::new(alloc),
+            net: Net::new(alloc),
+            agents: Seq::new(alloc),
+            history: History::new(alloc),
+            now: 0,
+            armed: false,
+            callbacks: 0,
+        }
+    }
+}
