@@ -1,9 +1,8 @@
-mod ScriptLemmas
-mod FileLemmas
-mod DiskLemmas
-mod PlayLemmas
-mod Progress
-mod SessionLemmas
-mod ListingLemmas
-mod EndingLemmas
-mod CheckLemmas
+mod WritingSteps
+mod ScriptSteps
+mod PlayLaws
+mod PromiseLaws
+mod GoingSteps
+mod EndingSteps
+mod StatusLaws
+mod CompletenessLaws

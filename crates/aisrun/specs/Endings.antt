@@ -1,17 +1,12 @@
--- Words of public clauses: how a run ends, which is its status with what was read, what is printed, and what it leaves of
--- the disk.
-use Rattle.std.specs.Prelude.{◌≡◌, ℕ, ◌+◌, ◌≤◌, List, ◌++◌, length, Option, MatchOption, ◌⊎◌, codes}
+-- Words of public clauses: how a run ends, which is its status with what was read, what is printed, and what it leaves.
+use Rattle.std.specs.Prelude.{◌≡◌, ℕ, ◌+◌, ◌≤◌, List, [], ◌∷◌, ◌++◌, length, true, Option, Some, None, IfSome, ◌⊎◌, codes}
+use Rattle.std.specs.FinMap as files
 use Rattle.std.specs.Io.KnownBytes.{Appends}
-use Rattle.ais_values.specs.Causes.{Rose}
+use Rattle.std.specs.Fmt.{decimal}
+use Rattle.ais_values.specs.declared.kind.StreamKind.{StreamKind}
 use Rattle.disk_model.specs.Disk.{Files}
 use Rattle.io_edge.specs.Reads.{TakesAll, TakesSome}
 use Rattle.io_edge.specs.Writes.{AppendsFront}
-use Rattle.aisrun.specs.declared.status.Status8.{Status8}
-use Rattle.aisrun.specs.declared.status.Status8.TheVariants.{Done, ScriptRefused, Usage, Memory, ReadFault, WriteFault, TooLong}
-use Rattle.aisrun.specs.declared.command.Command.{Command}
-use Rattle.aisrun.specs.declared.command.Command.TheVariants.{Run, Check, Expr}
-use Rattle.aisrun.specs.Commands.{command_of, text_of}
-use Rattle.ais_values.specs.declared.kind.StreamKind.{StreamKind}
 use Rattle.format_expr.specs.declared.piece.Piece.{Piece}
 use Rattle.format_expr.specs.declared.fault.ExprFault.{ExprFault}
 use Rattle.format_expr.specs.Language.{ArePiecesOf}
@@ -20,67 +15,49 @@ use Rattle.script_lines.specs.declared.line.Line.{Line}
 use Rattle.script_lines.specs.declared.answer.ScriptWhy.{ScriptWhy}
 use Rattle.script_lines.specs.Refusals.{why_word}
 use Rattle.script_language.specs.Scripts.{IsScriptOf, IsBadAt}
-use Rattle.std.specs.Fmt.{decimal}
-use Rattle.aisrun.specs.SessionScript.{Spells}
-use Rattle.aisrun.specs.Sessions.{Plays, LacksMemory}
+use Rattle.plain_service.specs.Setups.{Setup}
+use Rattle.plain_service.specs.Storing.{opening_of}
+use Rattle.stream_layout.specs.Deeds.{calls_of_all}
+use Rattle.disk_model.specs.DeviceCalls.{DoesFront, FailsAfter}
+use Rattle.cluster_core.specs.declared.world.World.{World}
+use Rattle.cluster_core.specs.Beginning.{Begins, HoldsNone}
+use Rattle.cluster_core.specs.Broken.{Broken, Faulted as FaultedOf}
+use Rattle.cluster_core.specs.Worlds.{Shows}
+use Rattle.cluster_events.specs.Lines.{Told}
+use Rattle.cluster_events.specs.Servers.{State}
+use Rattle.lone_cluster.specs.Lone.{Alone}
+use Rattle.aisrun.specs.declared.ending.Status8.{Status8}
+use Rattle.aisrun.specs.declared.ending.Status8.TheVariants.{Done, ScriptRefused, Usage, ReadFault, DiskFault, RootNotEmpty, TooLong}
+use Rattle.aisrun.specs.declared.command.Command.{Command}
+use Rattle.aisrun.specs.declared.command.Command.TheVariants.{Run, Check, Expr}
+use Rattle.aisrun.specs.Commands.{command_of, text_of as word_text}
+use Rattle.aisrun.specs.Edges.{Edge, before, after, Faulted, IsUntouched, Stage, Around, LeavesAll}
+use Rattle.aisrun.specs.Playing.{files_told, has_failures, PlaysFront, StandsAt, text_of}
 
 -- the most bytes of an input: 16 MiB
 unfoldable pub input_limit : ℕ
 input_limit = 16777216
 
+-- the source was read to its end, and gave these bytes
+abbrev pub ReadsWhole : {S : Type 0} → Edge S (List ℕ) → List ℕ → Type 0
+ReadsWhole source bytes = TakesAll (before source) (after source) input_limit bytes
+
+-- the source was read to its end, and its bytes are the script of these lines
+pub record ReadsScript {S : Type 0} (source : Edge S (List ℕ)) (lines : List Line) : Type 0 where
+  pub bytes : List ℕ
+  pub read : ReadsWhole source bytes
+  pub script : IsScriptOf lines bytes
+
 -- the source failed before its end was read
-pub record SourceFailed (left left_after : Option (List ℕ)) (faults faults_after : ℕ) (text : List ℕ) : Type 0 where
-  pub taken : TakesSome left left_after (λ count. count ≤ input_limit)
-  pub rose : Rose faults faults_after
+pub record SourceFailed {S : Type 0} (source : Edge S (List ℕ)) (text : List ℕ) : Type 0 where
+  pub taken : TakesSome (before source) (after source) (λ count. count ≤ input_limit)
+  pub rose : Faulted source
   pub printed : text ≡ codes "read fault\n"
 
 -- one byte more than the limit was taken
-pub record InputTooLong (left left_after : Option (List ℕ)) (text : List ℕ) : Type 0 where
-  pub taken : TakesSome left left_after (λ count. count ≡ input_limit + 1)
+pub record InputTooLong {S : Type 0} (source : Edge S (List ℕ)) (text : List ℕ) : Type 0 where
+  pub taken : TakesSome (before source) (after source) (λ count. count ≡ input_limit + 1)
   pub printed : text ≡ codes "script too long\n"
-
--- the input was not read to its end
-pub data InputRefused (left left_after : Option (List ℕ)) (faults faults_after : ℕ) (status : Status8) (text : List ℕ) : Type 0 where
-  Unread : status ≡ ReadFault → SourceFailed left left_after faults faults_after text → InputRefused left left_after faults faults_after status text
-  Overlong : status ≡ TooLong → InputTooLong left left_after text → InputRefused left left_after faults faults_after status text
-
--- what a run was given and what it leaves: its source, its disk, and what is said of them
-pub record Given (S D : Type 0) : Type 0 where
-  pub left : S → Option (List ℕ)
-  pub reads : S → ℕ
-  pub files : D → Option Files
-  pub faults : D → ℕ
-  pub source : S
-  pub source_after : S
-  pub disk : D
-  pub disk_after : D
-
--- the input was read to its end, and is the script of these bodies
-pub record ReadsSession {S D : Type 0} (run : Given S D) (bodies : List (List ℕ)) : Type 0 where
-  pub bytes : List ℕ
-  pub read : TakesAll (run.left run.source) (run.left run.source_after) input_limit bytes
-  pub spells : Spells bodies bytes
-
--- it was read to its end, and is none that is accepted
-pub record ReadsOther {S D : Type 0} (run : Given S D) : Type 0 where
-  pub bytes : List ℕ
-  pub read : TakesAll (run.left run.source) (run.left run.source_after) input_limit bytes
-  pub none : (bodies : List (List ℕ)) → Spells bodies bytes → ⊥
-
--- the disk was not asked for anything
-abbrev pub LeavesDisk : {S D : Type 0} → Given S D → Type 0
-LeavesDisk run = run.disk_after ≡ run.disk
-
--- how the running of a script ends: its session is played, or it is none that is accepted, or it was not read to its end
-pub data SessionEnds {S D : Type 0} (run : Given S D) (status : Status8) (text : List ℕ) : Type 0 where
-  Played :
-      (bodies : List (List ℕ)) → ReadsSession run bodies
-      → Plays bodies (run.files run.disk) (run.files run.disk_after) (run.faults run.disk) (run.faults run.disk_after) status text
-      → SessionEnds run status text
-  NotBuilt : status ≡ ScriptRefused → ReadsOther run → text ≡ codes "script not built\n" → LeavesDisk run → SessionEnds run status text
-  NotRead :
-      InputRefused (run.left run.source) (run.left run.source_after) (run.reads run.source) (run.reads run.source_after) status text
-      → LeavesDisk run → SessionEnds run status text
 
 -- the lines of a script are counted: all but blank lines and comments
 pub record ScriptPasses (bytes text : List ℕ) : Type 0 where
@@ -96,15 +73,13 @@ pub record ScriptFails (bytes text : List ℕ) : Type 0 where
   pub none : (lines : List Line) → IsScriptOf lines bytes → ⊥
   pub printed : text ≡ codes "script line " ++ (decimal number ++ (codes ": " ++ (why_word reason ++ codes "\n")))
 
--- how the bytes of an input are judged
-pub data Judged (bytes : List ℕ) (status : Status8) (text : List ℕ) : Type 0 where
-  IsScript : status ≡ Done → ScriptPasses bytes text → Judged bytes status text
-  IsNoScript : status ≡ ScriptRefused → ScriptFails bytes text → Judged bytes status text
-
--- how the checking of a script ends: the input was read to its end and judged, or it was not read to its end
-pub data CheckEnds (left left_after : Option (List ℕ)) (faults faults_after : ℕ) (status : Status8) (text : List ℕ) : Type 0 where
-  Checked : (bytes : List ℕ) → TakesAll left left_after input_limit bytes → Judged bytes status text → CheckEnds left left_after faults faults_after status text
-  Unchecked : InputRefused left left_after faults faults_after status text → CheckEnds left left_after faults faults_after status text
+-- the bytes are a script, and it has a line on servers that fail
+pub record ScriptNotBuilt (bytes text : List ℕ) : Type 0 where
+  pub lines : List Line
+  pub script : IsScriptOf lines bytes
+  pub one : (others : List Line) → IsScriptOf others bytes → others ≡ lines
+  pub fails : has_failures lines ≡ true
+  pub printed : text ≡ codes "script not built\n"
 
 -- the text is an expression: its pieces are counted, and it has no fault
 pub record TextPasses (kind : StreamKind) (text printed : List ℕ) : Type 0 where
@@ -119,55 +94,176 @@ pub record TextFails (kind : StreamKind) (text printed : List ℕ) : Type 0 wher
   pub found : IsFault kind text fault
   pub shown : printed ≡ codes "bad " ++ (decimal fault.place ++ (codes " " ++ (word_of fault.why ++ codes "\n")))
 
--- how the checking of an expression ends
-pub data ExprEnds (kind : StreamKind) (text : List ℕ) (status : Status8) (printed : List ℕ) : Type 0 where
-  IsExpression : status ≡ Done → TextPasses kind text printed → ExprEnds kind text status printed
-  IsNoExpression : status ≡ ScriptRefused → TextFails kind text printed → ExprEnds kind text status printed
+-- the disk held a file at the start: the least name is printed, and the files and the world stay
+pub record RootHolds {K D : Type 0} (scene : Stage K D) (text : List ℕ) : Type 0 where
+  pub name : List ℕ
+  pub least : IfSome (before scene.disk) (λ f. (others : List (List ℕ)) × (files.keys f ≡ name ∷ others))
+  pub same : after scene.disk ≡ before scene.disk
+  pub world : scene.world_after ≡ scene.world
+  pub printed : text ≡ codes "root not empty: " ++ (name ++ codes "\n")
 
--- the source was not asked for anything
-abbrev pub LeavesSource : {S D : Type 0} → Given S D → Type 0
-LeavesSource run = run.source_after ≡ run.source
+unfoldable pub fault_line : List ℕ
+fault_line = codes "disk fault\n"
+
+-- the first line of a script begins a cluster, on a disk that holds no file
+pub record Opens (script : List Line) (held : Option Files) : Type 0 where
+  pub opening : Line
+  pub events : List Line
+  pub parts : script ≡ opening ∷ events
+  pub empty : HoldsNone held
+  pub setup : Setup
+  pub places : ℕ
+  pub begins : Begins opening setup places
+
+-- what a fault in an event left: an event that shows files left all as it was, any other came to an entry that was to be worked
+pub data FaultLeft (setup : Setup) (state : State Alone) (held left : Option Files) (world : World) (lines : List ℕ) : Type 0 where
+  Showing : Shows setup state world → left ≡ held → lines ≡ [] → FaultLeft setup state held left world lines
+  Working : (told : List Told) → FaultedOf setup state told held left world → lines ≡ text_of told → FaultLeft setup state held left world lines
+
+-- the disk failed: as its names were asked for, in the deeds of the start, or in an event behind those that were done, of which
+-- some lines were printed
+pub data DiskFails {K D : Type 0} (script : List Line) (scene : Stage K D) (text : List ℕ) : Type 0 where
+  AtNames : after scene.disk ≡ before scene.disk → scene.world_after ≡ scene.world → text ≡ fault_line → DiskFails script scene text
+  AtOpening :
+      (opens : Opens script (before scene.disk)) (count : ℕ) → FailsAfter (calls_of_all (opening_of opens.setup)) count (before scene.disk) (after scene.disk)
+      → scene.world_after ≡ scene.world → text ≡ fault_line → DiskFails script scene text
+  AtEvent :
+      (done : List Line) (next : Line) (rest : List Line) (text_before : List ℕ) (front : PlaysFront (before scene.disk) script done (next ∷ rest) text_before)
+      (lines : List ℕ) → FaultLeft front.setup front.goes.state (files_told front.goes.files (before scene.disk)) (after scene.disk) scene.world_after lines
+      → text ≡ text_before ++ (lines ++ fault_line) → DiskFails script scene text
+
+-- these events of a script were done, and world and disk stand where they led
+pub record PlayedTo {K D : Type 0} (scene : Stage K D) (script done rest : List Line) (text : List ℕ) : Type 0 where
+  pub front : PlaysFront (before scene.disk) script done rest text
+  pub now : StandsAt front.setup front.goes.state front.goes.files (before scene.disk) (after scene.disk) scene.world_after
+
+-- how a script that was read and has no line on failures ends on its stage, and its text; or how far it came
+abbrev pub PlayEnds : {K D : Type 0} → List Line → Stage K D → Option Status8 → List ℕ → Type 0
+PlayEnds lines scene None text = (done rest : List Line) × PlayedTo scene lines done rest text
+PlayEnds lines scene (Some Done) text = (done : List Line) × PlayedTo scene lines done [] text
+PlayEnds lines scene (Some RootNotEmpty) text = RootHolds scene text
+PlayEnds lines scene (Some DiskFault) text = Faulted scene.disk × DiskFails lines scene text
+PlayEnds lines scene _ text = ⊥
+
+-- memory was wanting: before the disk had told that it holds no file, in the deeds of the start, or in an event; what is written
+-- is the text of the events that were done
+pub data PlayLacks {K D : Type 0} (script : List Line) (scene : Stage K D) (text : List ℕ) : Type 0 where
+  Unopened : text ≡ [] → after scene.disk ≡ before scene.disk → scene.world_after ≡ scene.world → PlayLacks script scene text
+  Opening :
+      text ≡ [] → (opens : Opens script (before scene.disk)) → DoesFront (calls_of_all (opening_of opens.setup)) (before scene.disk) (after scene.disk)
+      → scene.world_after ≡ scene.world → PlayLacks script scene text
+  InEvent :
+      (done : List Line) (next : Line) (rest : List Line) (front : PlaysFront (before scene.disk) script done (next ∷ rest) text)
+      → Broken front.setup front.goes.state (files_told front.goes.files (before scene.disk)) (after scene.disk) scene.world_after
+      → PlayLacks script scene text
+
+-- what each command comes to where all is well
+pub data Succeeds {S K D : Type 0} (run : Around S K D) (text : List ℕ) : Type 0 where
+  Ran :
+      command_of run.words ≡ Some Run → (lines : List Line) → ReadsScript run.source lines → (done : List Line) → PlayedTo run.stage lines done [] text
+      → Succeeds run text
+  Checked :
+      command_of run.words ≡ Some Check → LeavesAll run.stage → (bytes : List ℕ) → ReadsWhole run.source bytes → ScriptPasses bytes text
+      → Succeeds run text
+  Parsed :
+      (kind : StreamKind) → command_of run.words ≡ Some (Expr kind) → LeavesAll run.stage → IsUntouched run.source → TextPasses kind (word_text run.words) text
+      → Succeeds run text
+
+-- the words are those of a command that reads the source
+abbrev pub Reads : List (List ℕ) → Type 0
+Reads words = (command_of words ≡ Some Run) ⊎ (command_of words ≡ Some Check)
+
+-- the input is no script, or none that is built, or the text no expression
+pub data Refuses {S K D : Type 0} (run : Around S K D) (text : List ℕ) : Type 0 where
+  NoScript :
+      Reads run.words → LeavesAll run.stage → (bytes : List ℕ) → ReadsWhole run.source bytes → ScriptFails bytes text
+      → Refuses run text
+  NotBuilt :
+      command_of run.words ≡ Some Run → LeavesAll run.stage → (bytes : List ℕ) → ReadsWhole run.source bytes → ScriptNotBuilt bytes text
+      → Refuses run text
+  NoExpression :
+      (kind : StreamKind) → command_of run.words ≡ Some (Expr kind) → LeavesAll run.stage → IsUntouched run.source → TextFails kind (word_text run.words) text
+      → Refuses run text
 
 -- the words are none of the program's
-pub record UnknownEnds {S D : Type 0} (run : Given S D) (status : Status8) (text : List ℕ) : Type 0 where
-  pub status_is : status ≡ Usage
+pub record KnowsNoWords {S K D : Type 0} (run : Around S K D) (text : List ℕ) : Type 0 where
+  pub unknown : command_of run.words ≡ None
+  pub all : LeavesAll run.stage
+  pub source : IsUntouched run.source
   pub printed : text ≡ codes "usage: aisrun run, check, expr KIND TEXT or gen COUNT SEED\n"
-  pub source : LeavesSource run
-  pub disk : LeavesDisk run
 
--- how each command ends; `expr` leaves the source unread
-abbrev pub CommandEnds : {S D : Type 0} → Command → List (List ℕ) → Given S D → Status8 → List ℕ → Type 0
-CommandEnds Run words run status text = SessionEnds run status text
-CommandEnds Check words run status text =
-    LeavesDisk run × CheckEnds (run.left run.source) (run.left run.source_after) (run.reads run.source) (run.reads run.source_after) status text
-CommandEnds (Expr kind) words run status text = LeavesDisk run × LeavesSource run × ExprEnds kind (text_of words) status text
+-- the source was not read to its end
+pub record StopsReading {S K D : Type 0} (run : Around S K D) (Why : Edge S (List ℕ) → List ℕ → Type 0) (text : List ℕ) : Type 0 where
+  pub words : Reads run.words
+  pub all : LeavesAll run.stage
+  pub why : Why run.source text
 
--- how a run of these words ends, but for the writing of its text
-abbrev pub Ends : {S D : Type 0} → List (List ℕ) → Given S D → Status8 → List ℕ → Type 0
-Ends words run status text = MatchOption (command_of words) (UnknownEnds run status text) (λ command. CommandEnds command words run status text)
+-- a script was read and can be played
+pub record HasScript {S K D : Type 0} (run : Around S K D) (lines : List Line) : Type 0 where
+  pub words : command_of run.words ≡ Some Run
+  pub script : ReadsScript run.source lines
 
--- what is left where memory ran out while a script was run: the disk was not asked for anything, or the session lacked memory
-pub data SessionLacksMemory {S D : Type 0} (run : Given S D) : Type 0 where
-  Unasked : LeavesDisk run → SessionLacksMemory run
-  Playing :
-      (bodies : List (List ℕ)) → ReadsSession run bodies
-      → LacksMemory bodies (run.files run.disk) (run.files run.disk_after) (run.faults run.disk) (run.faults run.disk_after)
-      → SessionLacksMemory run
+-- how a run ends, and its text; or how far the lines of its script were played
+abbrev pub Ends : {S K D : Type 0} → Around S K D → Option Status8 → List ℕ → Type 0
+Ends run None text = (lines : List Line) × HasScript run lines × PlayEnds lines run.stage None text
+Ends run (Some Done) text = Succeeds run text
+Ends run (Some ScriptRefused) text = Refuses run text
+Ends run (Some Usage) text = KnowsNoWords run text
+Ends run (Some ReadFault) text = StopsReading run SourceFailed text
+Ends run (Some TooLong) text = StopsReading run InputTooLong text
+Ends run (Some RootNotEmpty) text = (lines : List Line) × HasScript run lines × RootHolds run.stage text
+Ends run (Some DiskFault) text = (lines : List Line) × HasScript run lines × Faulted run.stage.disk × DiskFails lines run.stage text
+Ends run _ text = ⊥
 
--- what is left where memory ran out before the text was whole
-abbrev pub CommandLacksMemory : {S D : Type 0} → Command → Given S D → Type 0
-CommandLacksMemory Run run = SessionLacksMemory run
-CommandLacksMemory Check run = LeavesDisk run
-CommandLacksMemory (Expr kind) run = LeavesDisk run × LeavesSource run
+-- a text is printed of which P holds
+abbrev pub Prints : {K : Type 0} → Edge K (List ℕ) → (List ℕ → Type 0) → Type 0
+Prints sink P = (text : List ℕ) × P text × Appends (before sink) (after sink) text
 
-abbrev pub EndLacksMemory : {S D : Type 0} → List (List ℕ) → Given S D → Type 0
-EndLacksMemory words run = MatchOption (command_of words) (LeavesDisk run × LeavesSource run) (λ command. CommandLacksMemory command run)
+-- How a run ends, by its status.
 
--- how a run ends: its text is written; or a front of it and not all, as the sink failed or memory ran out; or memory ran
--- out before, and nothing was written
-pub data RunEnds {S D : Type 0} (words : List (List ℕ)) (run : Given S D) (status : Status8) (before after : Option (List ℕ)) : Type 0 where
-  Written : (text : List ℕ) → Ends words run status text → Appends before after text → RunEnds words run status before after
-  Unwritten :
-      (status ≡ WriteFault) ⊎ (status ≡ Memory) → (end : Status8) (text : List ℕ) → Ends words run end text → AppendsFront before after text
-      → RunEnds words run status before after
-  Unended : status ≡ Memory → EndLacksMemory words run → after ≡ before → RunEnds words run status before after
+abbrev pub EndsDone : {S K D : Type 0} → Around S K D → Type 0
+EndsDone run = Prints run.stage.sink (Succeeds run)
+
+abbrev pub EndsRefused : {S K D : Type 0} → Around S K D → Type 0
+EndsRefused run = Prints run.stage.sink (Refuses run)
+
+abbrev pub EndsUsage : {S K D : Type 0} → Around S K D → Type 0
+EndsUsage run = Prints run.stage.sink (KnowsNoWords run)
+
+abbrev pub EndsUnread : {S K D : Type 0} → Around S K D → Type 0
+EndsUnread run = Prints run.stage.sink (StopsReading run SourceFailed)
+
+abbrev pub EndsOverlong : {S K D : Type 0} → Around S K D → Type 0
+EndsOverlong run = Prints run.stage.sink (StopsReading run InputTooLong)
+
+abbrev pub EndsHeld : {S K D : Type 0} → Around S K D → Type 0
+EndsHeld run = (lines : List Line) × HasScript run lines × Prints run.stage.sink (RootHolds run.stage)
+
+abbrev pub EndsBroken : {S K D : Type 0} → Around S K D → Type 0
+EndsBroken run =
+    (lines : List Line) × HasScript run lines × Faulted run.stage.disk × Prints run.stage.sink (DiskFails lines run.stage)
+
+-- the sink failed: a front was written of the text of an end, or of what was done so far, and not all of it
+pub record EndsUnwritten {S K D : Type 0} (run : Around S K D) : Type 0 where
+  pub rose : Faulted run.stage.sink
+  pub reached : Option Status8
+  pub text : List ℕ
+  pub ends : Ends run reached text
+  pub written : AppendsFront (before run.stage.sink) (after run.stage.sink) text
+
+-- memory ran out as a script was run: before it was read and known, or as it was played
+pub data RunLacks {S K D : Type 0} (run : Around S K D) (text : List ℕ) : Type 0 where
+  Unread : text ≡ [] → LeavesAll run.stage → RunLacks run text
+  Unplayed : (lines : List Line) → HasScript run lines → PlayLacks lines run.stage text → RunLacks run text
+
+-- the same of each command; `expr` and words that are no command leave the source as it is
+abbrev pub LacksBy : {S K D : Type 0} → Option Command → Around S K D → List ℕ → Type 0
+LacksBy None run text = (text ≡ []) × LeavesAll run.stage × IsUntouched run.source
+LacksBy (Some Run) run text = RunLacks run text
+LacksBy (Some Check) run text = (text ≡ []) × LeavesAll run.stage
+LacksBy (Some (Expr kind)) run text = (text ≡ []) × LeavesAll run.stage × IsUntouched run.source
+
+-- memory ran out: a front was written of the text of an end, or of what was done so far; or all text up to where memory was wanting
+pub data EndsLacking {S K D : Type 0} (run : Around S K D) : Type 0 where
+  Unwritten : (reached : Option Status8) (text : List ℕ) → Ends run reached text → AppendsFront (before run.stage.sink) (after run.stage.sink) text → EndsLacking run
+  Lacking : (text : List ℕ) → LacksBy (command_of run.words) run text → Appends (before run.stage.sink) (after run.stage.sink) text → EndsLacking run

@@ -1,7 +1,7 @@
 -- Words of public clauses: the exit status of each end.
 use Rattle.std.specs.Prelude.{ℕ}
-use Rattle.aisrun.specs.declared.status.Status8.{Status8}
-use Rattle.aisrun.specs.declared.status.Status8.TheVariants.{Done, ScriptRefused, Usage, Memory, ReadFault, WriteFault, DiskFault, RootNotEmpty, TooLong}
+use Rattle.aisrun.specs.declared.ending.Status8.{Status8}
+use Rattle.aisrun.specs.declared.ending.Status8.TheVariants.{Done, ScriptRefused, Usage, Memory, ReadFault, WriteFault, DiskFault, RootNotEmpty, TooLong}
 
 abbrev pub exit_status : Status8 → ℕ
 exit_status Done = 0

@@ -1,22 +1,13 @@
 //! The command `check`: whether the source gives a script.
-ghost use Rattle.std.specs.Prelude.{◌≡◌, ◌≤◌, ◌++◌, length, codes, string_bytes, IfOk};
-ghost use Rattle.std.specs.Fmt.{decimal};
-ghost use Rattle.aisrun.specs.Endings.{CheckEnds, Judged};
-ghost use Rattle.aisrun.specs.Refusals.{why_word};
+ghost use Rattle.std.specs.Prelude.{◌≤◌, length, IfOk};
+ghost use Rattle.aisrun.specs.Checking.{CheckEnds, Judged};
+ghost use Rattle.aisrun.specs.Edges.{edge};
 
-use crate::ending::{End, end_with, passed};
+use crate::ending::{End, bad_line, passed};
 use crate::input::{Input, read_input};
-use crate::status::Status8;
 use io_edge::Source;
-use script::{ScriptAnswer, ScriptWhy, count_lines};
+use script::{ScriptAnswer, count_lines};
 use std::alloc::{AllocError, Global};
-
-// The line for a script that is bad at a line.
-fn failed(alloc: Global, line: u32, why: ScriptWhy) -> Result<String, AllocError>
-    ensures { IfOk result (λ printed. string_bytes printed ≡ codes "script line " ++ (decimal line ++ (codes ": " ++ (why_word why ++ codes "\n")))) }
-{
-    format!(in alloc; "script line {line}: {why}\n")
-}
 
 // How the bytes of an input are judged.
 fn judge(alloc: Global, bytes: &[u8]) -> Result<End, AllocError>
@@ -30,8 +21,7 @@ fn judge(alloc: Global, bytes: &[u8]) -> Result<End, AllocError>
         }
         Err(ScriptAnswer::Memory) => Err(AllocError),
         Err(ScriptAnswer::Bad { line, why }) => {
-            let printed = failed(alloc, line, why)?;
-            let end = end_with(alloc, Status8::ScriptRefused, printed.as_bytes())?;
+            let end = bad_line(alloc, line, why)?;
             Ok(end)
         }
     }
@@ -41,7 +31,7 @@ fn judge(alloc: Global, bytes: &[u8]) -> Result<End, AllocError>
 ///
 /// `Err` only where memory ran out.
 pub fn check_script<S: Source>(alloc: Global, source: &mut S) -> Result<End, AllocError>
-    ensures ends { IfOk result (λ end. CheckEnds (S.left source.old) (S.left source.new) (S.faults source.old) (S.faults source.new) end.status end.text.items) }
+    ensures ends { IfOk result (λ end. CheckEnds (edge S.left S.faults source.old source.new) end.status end.text.items) }
 {
     match read_input(alloc, source) {
         Ok(Input::Bytes(bytes)) => {

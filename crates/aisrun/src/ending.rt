@@ -1,10 +1,58 @@
-//! How a run ends: its status, and what is printed.
-ghost use Rattle.std.specs.Prelude.{◌≡◌, ◌++◌, codes, IfOk};
+//! How runs end: the statuses, and the one line that is printed where no script is played.
+ghost use Rattle.std.specs.Prelude.{◌≡◌, ◌++◌, codes, string_bytes, IfOk};
 ghost use Rattle.std.specs.Fmt.{decimal};
-ghost use Rattle.aisrun.specs.declared.status.Status8.{Status8};
+ghost use Rattle.aisrun.specs.ExitStatus.{exit_status};
+ghost use Rattle.format_expr.specs.Faults.{word_of};
+ghost use Rattle.script_lines.specs.Refusals.{why_word};
 
-use crate::status::Status8;
+use format_expr::ExprFault;
+use script::ScriptWhy;
 use std::alloc::{AllocError, Global};
+
+/// The status of a run, which is the process's exit status too.
+#[derive(Clone, Copy, Debug, PartialEq, Eq)]
+pub enum Status8 {
+    /// The input was read to its end and every line was done.
+    Done,
+    /// The input is no script that is accepted, or the text no expression.
+    ScriptRefused,
+    /// The words are none that the program knows.
+    Usage,
+    /// Memory ran out.
+    Memory,
+    /// The source failed.
+    ReadFault,
+    /// The sink failed.
+    WriteFault,
+    /// The disk failed.
+    DiskFault,
+    /// The disk held a file at the start.
+    RootNotEmpty,
+    /// The input has more than 16 MiB.
+    TooLong,
+}
+
+impl Status8 {
+    /// The exit status, 0 to 8.
+    pub fn code(self) -> u8
+        ensures { result ≡ exit_status self }
+    {
+        match self {
+            Status8::Done => 0,
+            Status8::ScriptRefused => 1,
+            Status8::Usage => 2,
+            Status8::Memory => 3,
+            Status8::ReadFault => 4,
+            Status8::WriteFault => 5,
+            Status8::DiskFault => 6,
+            Status8::RootNotEmpty => 7,
+            Status8::TooLong => 8,
+        }
+    }
+}
+
+/// What is printed at a disk fault.
+pub const FAULT_LINE: &[u8] = b"disk fault\n";
 
 /// The status that a run ends with, and what is printed.
 #[derive(Drop)]
@@ -20,6 +68,81 @@ pub fn end_with(alloc: Global, status: Status8, text: &[u8]) -> Result<End, Allo
 {
     let text = text.to_vec(alloc)?;
     Ok(End { status, text })
+}
+
+/// The end where the words are none of the program's.
+pub fn usage(alloc: Global) -> Result<End, AllocError>
+    ensures status { IfOk result (λ end. end.status ≡ Status8.Usage) }
+    ensures text { IfOk result (λ end. end.text.items
+        ≡ codes "usage: aisrun run, check, expr KIND TEXT or gen COUNT SEED\n") }
+{
+    end_with(
+        alloc,
+        Status8::Usage,
+        b"usage: aisrun run, check, expr KIND TEXT or gen COUNT SEED\n",
+    )
+}
+
+/// The end where the source failed.
+pub fn unread(alloc: Global) -> Result<End, AllocError>
+    ensures status { IfOk result (λ end. end.status ≡ Status8.ReadFault) }
+    ensures text { IfOk result (λ end. end.text.items ≡ codes "read fault\n") }
+{
+    end_with(alloc, Status8::ReadFault, b"read fault\n")
+}
+
+/// The end where the input has more than 16 MiB.
+pub fn too_long(alloc: Global) -> Result<End, AllocError>
+    ensures status { IfOk result (λ end. end.status ≡ Status8.TooLong) }
+    ensures text { IfOk result (λ end. end.text.items ≡ codes "script too long\n") }
+{
+    end_with(alloc, Status8::TooLong, b"script too long\n")
+}
+
+/// The end where a script has a line that cannot be played.
+pub fn not_built(alloc: Global) -> Result<End, AllocError>
+    ensures status { IfOk result (λ end. end.status ≡ Status8.ScriptRefused) }
+    ensures text { IfOk result (λ end. end.text.items ≡ codes "script not built\n") }
+{
+    end_with(alloc, Status8::ScriptRefused, b"script not built\n")
+}
+
+/// The end where a line of the input is bad.
+pub fn bad_line(alloc: Global, line: u32, why: ScriptWhy) -> Result<End, AllocError>
+    ensures status { IfOk result (λ end. end.status ≡ Status8.ScriptRefused) }
+    ensures text { IfOk result (λ end. end.text.items ≡ codes "script line "
+        ++ (decimal line ++ (codes ": " ++ (why_word why ++ codes "\n")))) }
+{
+    let printed = format!(in alloc; "script line {line}: {why}\n")?;
+    end_with(alloc, Status8::ScriptRefused, printed.as_bytes())
+}
+
+/// The end where a text has a fault.
+pub fn bad_text(alloc: Global, fault: ExprFault) -> Result<End, AllocError>
+    ensures status { IfOk result (λ end. end.status ≡ Status8.ScriptRefused) }
+    ensures text { IfOk result (λ end. end.text.items ≡ codes "bad "
+        ++ (decimal fault.place ++ (codes " " ++ (word_of fault.why ++ codes "\n")))) }
+{
+    let place = fault.place;
+    let why = fault.why;
+    let printed = format!(in alloc; "bad {place} {why}\n")?;
+    end_with(alloc, Status8::ScriptRefused, printed.as_bytes())
+}
+
+/// The end where the disk held a file of this name.
+pub fn root_holds(alloc: Global, name: &[u8]) -> Result<End, AllocError>
+    ensures status { IfOk result (λ end. end.status ≡ Status8.RootNotEmpty) }
+    ensures text { IfOk result (λ end. end.text.items
+        ≡ codes "root not empty: " ++ (name.now ++ codes "\n")) }
+{
+    let mut text = Vec::new(alloc);
+    text.extend_from_slice(b"root not empty: ")?;
+    text.extend_from_slice(name)?;
+    text.extend_from_slice(b"\n")?;
+    Ok(End {
+        status: Status8::RootNotEmpty,
+        text,
+    })
 }
 
 /// The end of a check that passed, with a count.

@@ -1,9 +1,9 @@
 //! Reading the input of a command.
 ghost use Rattle.std.specs.Prelude.{IfOk};
+ghost use Rattle.aisrun.specs.Edges.{edge};
 ghost use Rattle.aisrun.specs.Inputs.{InputRead};
 
-use crate::ending::{End, end_with};
-use crate::status::Status8;
+use crate::ending::{End, too_long, unread};
 use io_edge::{ReadAnswer, Source, read_all};
 use std::alloc::{AllocError, Global};
 
@@ -23,17 +23,17 @@ pub enum Input {
 ///
 /// `Err` only where memory ran out.
 pub fn read_input<S: Source>(alloc: Global, source: &mut S) -> Result<Input, AllocError>
-    ensures { IfOk result (λ input. InputRead (S.left source.old) (S.left source.new) (S.faults source.old) (S.faults source.new) input) }
+    ensures { IfOk result (λ input. InputRead (edge S.left S.faults source.old source.new) input) }
 {
     match read_all(alloc, source, INPUT_LIMIT) {
         Ok(bytes) => Ok(Input::Bytes(bytes)),
         Err(ReadAnswer::Memory) => Err(AllocError),
         Err(ReadAnswer::ReadFault) => {
-            let end = end_with(alloc, Status8::ReadFault, b"read fault\n")?;
+            let end = unread(alloc)?;
             Ok(Input::Refused(end))
         }
         Err(ReadAnswer::TooLong) => {
-            let end = end_with(alloc, Status8::TooLong, b"script too long\n")?;
+            let end = too_long(alloc)?;
             Ok(Input::Refused(end))
         }
     }

@@ -8,18 +8,17 @@ mod command;
 mod ending;
 mod expr;
 mod input;
+mod playing;
+mod reading;
 mod run;
-mod session;
-mod session_files;
-mod session_script;
-mod session_text;
-mod status;
+mod writing;
 
+use cluster_core::World;
 pub use command::{Command, command_of};
 use disk_model::DirDisk;
+pub use ending::Status8;
 use io_edge::{StdSink, StdSource};
 pub use run::run;
-pub use status::Status8;
 use std::alloc::AllocError;
 use std::env;
 use std::io::ErrorKind;
@@ -47,7 +46,16 @@ fn main(rt: HostRuntime) -> ExitCode {
     let mut source = StdSource::new(rt.stdin());
     let mut out = StdSink::new(rt.stdout());
     let mut disk = DirDisk::new(rt);
-    let status = run(alloc, words.as_slice(), &mut source, &mut out, &mut disk);
+    let mut world = World::empty(alloc);
+    let status = run(
+        alloc,
+        words.as_slice(),
+        &mut source,
+        &mut out,
+        &mut disk,
+        &mut world,
+    );
+    drop(world);
     ExitCode::from(status.code())
 }
 

@@ -1,115 +1,206 @@
-//! The top call: the words, a source, a sink and a disk, and the status that the run ends with.
-ghost use Rattle.std.specs.Prelude.{◌≡◌, ◌⊎◌, ◌≤◌, [], ◌∷◌, length, codes, List, ℕ, Some, map, string_bytes, IfOk};
+//! The top call: the words, a source, a sink, a disk and a world, and the status that the run ends with.
+ghost use Rattle.std.specs.Prelude.{◌≡◌, ◌≢◌, ◌⊎◌, ◌≤◌, [], ◌∷◌, length, codes, false, List, ℕ, Some, map, string_bytes, MatchResult};
 ghost use Rattle.aisrun.specs.Causes.{Rose};
 ghost use Rattle.aisrun.specs.Commands.{command_of, text_of};
-ghost use Rattle.aisrun.specs.Disk.{no_files};
+ghost use Rattle.disk_model.specs.Disk.{no_files};
 ghost use Rattle.aisrun.specs.Faults.{IsFault};
 ghost use Rattle.format_expr.specs.declared.fault.ExprFault.{ExprFault};
 ghost use Rattle.ais_values.specs.declared.kind.StreamKind.{StreamKind};
 ghost use Rattle.aisrun.specs.declared.command.Command.{Command};
-ghost use Rattle.aisrun.specs.Endings.{RunEnds};
-ghost use Rattle.aisrun.specs.RunSteps.{ScriptGives, WordsGive};
+ghost use Rattle.aisrun.specs.declared.ending.Status8.{Status8};
+ghost use Rattle.aisrun.specs.Edges.{around, edge, stage};
+ghost use Rattle.aisrun.specs.Endings.{Ends, EndsBroken, EndsDone, EndsHeld, EndsLacking, EndsOverlong, EndsRefused, EndsUnread, EndsUnwritten, EndsUsage};
+ghost use Rattle.aisrun.specs.Playing.{has_failures};
+ghost use Rattle.aisrun.specs.Promises.{Throughout, CallsBack, KeepsFiles, KeepsOneHistory, KeepsRecords, PrintsPosts, ReadsRightly, RepliesRightly, SettlesAll};
+ghost use Rattle.aisrun.specs.Scripting.{BytesEnd, BytesLack};
+ghost use Rattle.aisrun.specs.RunSteps.{EndWritten, InputEnds, InputLacks, WordsLack};
+ghost use Rattle.aisrun.specs.Steps.{Written};
 ghost use Rattle.aisrun.specs.Scripts.{IsScriptOf};
-ghost use Rattle.aisrun.specs.SessionScript.{Spells};
+ghost use Rattle.cluster_core.specs.Worlds.{empty_world};
 ghost use Rattle.script_lines.specs.declared.line.Line.{Line};
-ghost use Rattle.aisrun.specs.declared.status.Status8.{Status8};
 
 use crate::check::check_script;
 use crate::command::{Command, command_of, text_of};
-use crate::ending::{End, end_with};
+use crate::ending::{End, Status8, usage};
 use crate::expr::check_text;
 use crate::input::{Input, read_input};
-use crate::session::play;
-use crate::session_script::read_bodies;
-use crate::status::Status8;
+use crate::playing::play;
+use crate::reading::{Script, read_script};
+use crate::writing::write_text;
+use cluster_core::World;
 use disk_model::SharedDisk;
-use io_edge::{Sink, SinkAnswer, Source, write_all};
+use io_edge::{Sink, Source};
 use std::alloc::{AllocError, Global};
 
-/// What is printed where the words are none of the program's.
-const USAGE: &[u8] = b"usage: aisrun run, check, expr KIND TEXT or gen COUNT SEED\n";
-
-// Reads a script to its end and plays its session.
-fn run_script<S: Source, D: SharedDisk>(
-    alloc: Global,
-    source: &mut S,
-    disk: &mut D,
-) -> Result<End, AllocError>
-    ensures { ScriptGives (record { left = S.left; reads = S.faults; files = D.files; faults = D.faults; source = source.old; source_after = source.new; disk = disk.old; disk_after = disk.new }) result }
+// Writes an end, and tells its status.
+fn write_end<K: Sink>(out: &mut K, end: Result<End, AllocError>) -> Status8
+    ensures { EndWritten end (edge K.written K.faults out.old out.new) result }
 {
-    match read_input(alloc, source) {
-        Ok(Input::Bytes(bytes)) => match read_bodies(alloc, bytes.as_slice()) {
-            Ok(Some(bodies)) => play(alloc, disk, bodies.as_slice()),
-            Ok(None) => end_with(alloc, Status8::ScriptRefused, b"script not built\n"),
-            Err(_) => Err(AllocError),
-        },
-        Ok(Input::Refused(end)) => Ok(end),
-        Err(_) => Err(AllocError),
+    match end {
+        Ok(end) => write_text(out, end.status, end.text.as_slice()),
+        Err(_) => Status8::Memory,
     }
 }
 
-// What the words ask for is done, and its end is told.
-fn end_of<S: Source, D: SharedDisk>(
+// Plays the script that these bytes are.
+fn run_bytes<K: Sink, D: SharedDisk>(
+    alloc: Global,
+    bytes: &[u8],
+    out: &mut K,
+    disk: &mut D,
+    world: &mut World,
+) -> Status8
+    requires short { length bytes.now ≤ 16777216 }
+    requires empty { world.old ≡ empty_world }
+    ensures { let scene = stage (edge K.written K.faults out.old out.new)
+        (edge D.files D.faults disk.old disk.new) world.old world.new
+        in Written (BytesEnd bytes.now scene) (BytesLack bytes.now scene) scene.sink result }
+{
+    match read_script(alloc, bytes) {
+        Ok(Script::Lines(lines)) => play(alloc, lines.as_slice(), out, disk, world),
+        Ok(Script::Refused(end)) => write_text(out, end.status, end.text.as_slice()),
+        Err(_) => Status8::Memory,
+    }
+}
+
+// Reads a script to its end and plays it.
+fn run_script<S: Source, K: Sink, D: SharedDisk>(
+    alloc: Global,
+    source: &mut S,
+    out: &mut K,
+    disk: &mut D,
+    world: &mut World,
+) -> Status8
+    requires { world.old ≡ empty_world }
+    ensures { let source = edge S.left S.faults source.old source.new in
+        let scene = stage (edge K.written K.faults out.old out.new)
+        (edge D.files D.faults disk.old disk.new) world.old world.new
+        in Written (InputEnds source scene) (InputLacks source scene) scene.sink result }
+{
+    match read_input(alloc, source) {
+        Ok(Input::Bytes(bytes)) => run_bytes(alloc, bytes.as_slice(), out, disk, world),
+        Ok(Input::Refused(end)) => write_text(out, end.status, end.text.as_slice()),
+        Err(_) => Status8::Memory,
+    }
+}
+
+// What the words ask for is done.
+fn run_words<S: Source, K: Sink, D: SharedDisk>(
     alloc: Global,
     words: &[String],
     source: &mut S,
+    out: &mut K,
     disk: &mut D,
-) -> Result<End, AllocError>
-    ensures { WordsGive (map (λ word. string_bytes word) words.now) (record { left = S.left; reads = S.faults; files = D.files; faults = D.faults; source = source.old; source_after = source.new; disk = disk.old; disk_after = disk.new }) result }
+    world: &mut World,
+) -> Status8
+    requires { world.old ≡ empty_world }
+    ensures { let run = around (map (λ word. string_bytes word) words.now)
+        (edge S.left S.faults source.old source.new)
+        (stage (edge K.written K.faults out.old out.new)
+        (edge D.files D.faults disk.old disk.new) world.old world.new)
+        in Written (Ends run) (WordsLack run) run.stage.sink result }
 {
     match command_of(words) {
-        None => end_with(alloc, Status8::Usage, USAGE),
-        Some(Command::Run) => run_script(alloc, source, disk),
-        Some(Command::Check) => check_script(alloc, source),
-        Some(Command::Expr { kind }) => check_text(alloc, kind, text_of(words)),
+        None => write_end(out, usage(alloc)),
+        Some(Command::Run) => run_script(alloc, source, out, disk, world),
+        Some(Command::Check) => write_end(out, check_script(alloc, source)),
+        Some(Command::Expr { kind }) => write_end(out, check_text(alloc, kind, text_of(words))),
     }
 }
 
-/// Does what the words ask for, over a source, a sink and a disk, and tells the status that the run ends with.
+/// Does what the words ask for, over a source, a sink, a disk and an empty world, and tells the status that the run ends with.
 ///
-/// The words `run` read the source to its end as a script and play it over the disk, whose files are then those
-/// of the script's records. The words `check` read it to its end and tell whether it is a script. The words
-/// `expr KIND TEXT` tell whether the text is a format expression; the source stays unread.
+/// The words `run` read the source to its end as a script and play it over the disk: its first line begins a cluster, and
+/// the others are its events, whose lines are written as each event ends. The words `check` read it to its end and tell
+/// whether it is a script. The words `expr KIND TEXT` tell whether the text is a format expression; the source stays unread.
 ///
-/// The clause `ends` says of each status what was read, what is written and what stands on the disk.
-/// `WriteFault` comes only where the sink's count of faults rose; a front of the text was written then. Where
-/// memory ran out, `Memory`, nothing was written or a front of the text; `check` and words that are none of
-/// the program's leave the disk as it is all the same, `expr` the source too, and of what a `run` does to the
-/// disk some calls from the front were done.
+/// The first clauses say of each status what was read, what is written and what stands. `WriteFault` comes only where the
+/// sink's count of faults rose, `DiskFault` only where the disk's rose, `ReadFault` only where the source's rose. Where memory
+/// ran out, `Memory`, nothing was written or a front of the text; `check`, `expr` and words that are none of the program's
+/// leave disk and world as they are all the same, `expr` and such words the source too.
+///
+/// The clauses behind them say of each run what holds at the end of every line that was played, by any status.
 pub fn run<S: Source, K: Sink, D: SharedDisk>(
     alloc: Global,
     words: &[String],
     source: &mut S,
     out: &mut K,
     disk: &mut D,
+    world: &mut World,
 ) -> Status8
-    ensures ends { RunEnds (map (λ word. string_bytes word) words.now) (record { left = S.left; reads = S.faults; files = D.files; faults = D.faults; source = source.old; source_after = source.new; disk = disk.old; disk_after = disk.new }) result (K.written out.old) (K.written out.new) }
-    ensures write_fault { result ≡ Status8.WriteFault → Rose (K.faults out.old) (K.faults out.new) }
+    requires { world.old ≡ empty_world }
 
-    // A script of the form, a disk without files and no fault: only memory may be missing.
-    ensures completes { (bodies : List (List ℕ)) (bytes : List ℕ) → map (λ word. string_bytes word) words.now ≡ codes "run" ∷ []
-        → S.left source.old ≡ Some bytes → Spells bodies bytes → D.files disk.old ≡ Some no_files
-        → ¬ Rose (S.faults source.old) (S.faults source.new) → ¬ Rose (K.faults out.old) (K.faults out.new) → ¬ Rose (D.faults disk.old) (D.faults disk.new)
+    // What each status means.
+    ensures done { result ≡ Status8.Done → EndsDone (around (map (λ word. string_bytes word) words.now)
+        (edge S.left S.faults source.old source.new)
+        (stage (edge K.written K.faults out.old out.new)
+        (edge D.files D.faults disk.old disk.new) world.old world.new)) }
+    ensures refused { result ≡ Status8.ScriptRefused → EndsRefused (around (map (λ word. string_bytes word) words.now)
+        (edge S.left S.faults source.old source.new)
+        (stage (edge K.written K.faults out.old out.new)
+        (edge D.files D.faults disk.old disk.new) world.old world.new)) }
+    ensures usage { result ≡ Status8.Usage → EndsUsage (around (map (λ word. string_bytes word) words.now)
+        (edge S.left S.faults source.old source.new)
+        (stage (edge K.written K.faults out.old out.new)
+        (edge D.files D.faults disk.old disk.new) world.old world.new)) }
+    ensures memory { result ≡ Status8.Memory → EndsLacking (around (map (λ word. string_bytes word) words.now)
+        (edge S.left S.faults source.old source.new)
+        (stage (edge K.written K.faults out.old out.new)
+        (edge D.files D.faults disk.old disk.new) world.old world.new)) }
+    ensures read_fault { result ≡ Status8.ReadFault → EndsUnread (around (map (λ word. string_bytes word) words.now)
+        (edge S.left S.faults source.old source.new)
+        (stage (edge K.written K.faults out.old out.new)
+        (edge D.files D.faults disk.old disk.new) world.old world.new)) }
+    ensures write_fault { result ≡ Status8.WriteFault → EndsUnwritten (around (map (λ word. string_bytes word) words.now)
+        (edge S.left S.faults source.old source.new)
+        (stage (edge K.written K.faults out.old out.new)
+        (edge D.files D.faults disk.old disk.new) world.old world.new)) }
+    ensures disk_fault { result ≡ Status8.DiskFault → EndsBroken (around (map (λ word. string_bytes word) words.now)
+        (edge S.left S.faults source.old source.new)
+        (stage (edge K.written K.faults out.old out.new)
+        (edge D.files D.faults disk.old disk.new) world.old world.new)) }
+    ensures root_not_empty { result ≡ Status8.RootNotEmpty → EndsHeld (around (map (λ word. string_bytes word) words.now)
+        (edge S.left S.faults source.old source.new)
+        (stage (edge K.written K.faults out.old out.new)
+        (edge D.files D.faults disk.old disk.new) world.old world.new)) }
+    ensures too_long { result ≡ Status8.TooLong → EndsOverlong (around (map (λ word. string_bytes word) words.now)
+        (edge S.left S.faults source.old source.new)
+        (stage (edge K.written K.faults out.old out.new)
+        (edge D.files D.faults disk.old disk.new) world.old world.new)) }
+
+    // What holds at the end of every line that was played.
+    ensures one_history { Throughout (D.files disk.old) KeepsOneHistory }
+    ensures replies { Throughout (D.files disk.old) RepliesRightly }
+    ensures readers { Throughout (D.files disk.old) ReadsRightly }
+    ensures callbacks { Throughout (D.files disk.old) CallsBack }
+    ensures posts { Throughout (D.files disk.old) PrintsPosts }
+    ensures files { Throughout (D.files disk.old) KeepsFiles }
+    ensures stays { Throughout (D.files disk.old) KeepsRecords }
+    ensures settles { Throughout (D.files disk.old) SettlesAll }
+
+    // A script without lines on failures, a disk without files and no fault: only memory may be missing.
+    ensures completes { (lines : List Line) (bytes : List ℕ)
+        → map (λ word. string_bytes word) words.now ≡ codes "run" ∷ []
+        → S.left source.old ≡ Some bytes → length bytes ≤ 16777216 → IsScriptOf lines bytes
+        → has_failures lines ≡ false → D.files disk.old ≡ Some no_files
+        → ¬ Rose (S.faults source.old) (S.faults source.new)
+        → ¬ Rose (K.faults out.old) (K.faults out.new) → ¬ Rose (D.faults disk.old) (D.faults disk.new)
         → (result ≡ Status8.Done) ⊎ (result ≡ Status8.Memory) }
 
     // The same of a script that is checked.
-    ensures checks { (lines : List Line) (bytes : List ℕ) → map (λ word. string_bytes word) words.now ≡ codes "check" ∷ []
+    ensures checks { (lines : List Line) (bytes : List ℕ)
+        → map (λ word. string_bytes word) words.now ≡ codes "check" ∷ []
         → S.left source.old ≡ Some bytes → length bytes ≤ 16777216 → IsScriptOf lines bytes
-        → ¬ Rose (S.faults source.old) (S.faults source.new) → ¬ Rose (K.faults out.old) (K.faults out.new)
+        → ¬ Rose (S.faults source.old) (S.faults source.new)
+        → ¬ Rose (K.faults out.old) (K.faults out.new)
         → (result ≡ Status8.Done) ⊎ (result ≡ Status8.Memory) }
 
     // The same of an expression: a text without a fault that begins with no minus sign.
-    ensures exprs { (kind : StreamKind) → command_of (map (λ word. string_bytes word) words.now) ≡ Some (Command.Expr kind)
-        → ((fault : ExprFault) → IsFault kind (text_of (map (λ word. string_bytes word) words.now)) fault → ⊥) → ¬ Rose (K.faults out.old) (K.faults out.new)
+    ensures exprs { (kind : StreamKind)
+        → command_of (map (λ word. string_bytes word) words.now) ≡ Some (Command.Expr kind)
+        → ((fault : ExprFault) → IsFault kind (text_of (map (λ word. string_bytes word) words.now)) fault → ⊥)
+        → ¬ Rose (K.faults out.old) (K.faults out.new)
         → (result ≡ Status8.Done) ⊎ (result ≡ Status8.Memory) }
 {
-    let end = match end_of(alloc, words, source, disk) {
-        Ok(end) => end,
-        Err(_) => return Status8::Memory,
-    };
-    match write_all(out, end.text.as_slice()) {
-        Ok(()) => end.status,
-        Err(SinkAnswer::Memory) => Status8::Memory,
-        Err(SinkAnswer::Failed) => Status8::WriteFault,
-    }
+    run_words(alloc, words, source, out, disk, world)
 }

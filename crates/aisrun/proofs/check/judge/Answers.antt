@@ -1,7 +1,7 @@
 use Rattle.std.proofs.Common.{◌∙◌, ◌++◌, ap}
 use Rattle.std.specs.Prelude.{codes}
 use Rattle.std.specs.Fmt.{decimal}
-use Rattle.aisrun.specs.Endings.{IsScript}
+use Rattle.aisrun.specs.Checking.{IsScript}
 use Rattle.aisrun.proofs.check.judge.Goals as goal
 
 pub returns-in_ok-end-in-Ok : goal.returns-in_ok-end-in-Ok

@@ -1,7 +1,7 @@
 use Rattle.std.specs.Prelude.{◌++◌, length, codes}
 use Rattle.std.specs.Fmt.{decimal}
 use Rattle.std.proofs.Common.{Err, ap, ◌∙◌}
-use Rattle.aisrun.specs.Endings.{IsExpression, IsNoExpression}
+use Rattle.aisrun.specs.Checking.{IsExpression, IsNoExpression}
 use Rattle.aisrun.proofs.expr.check_text.Goals as goal
 
 pub returns-in_ok-end-in-Ok : goal.returns-in_ok-end-in-Ok
@@ -24,6 +24,6 @@ returns-in_ok-end-in-Err-Bad c =
       ends = IsNoExpression end.status (record {
         fault = c.in-Err-Bad.fault;
         found = (c.in-Err-Bad.ensures.bad c.in-Err-Bad.fault).0 (ap Err c.in-Err-Bad.field-0-is);
-        shown = end.text ∙ c.as_bytes.ensures.value ∙ c.in_ok-line-in-Err-Bad.ensures;
+        shown = end.text;
       });
     }

@@ -1,5 +1,6 @@
 use Rattle.std.proofs.Common.{Err, ap}
-use Rattle.aisrun.specs.Endings.{input_limit, Unread, Overlong}
+use Rattle.aisrun.specs.Endings.{input_limit}
+use Rattle.aisrun.specs.Inputs.{Unread, Overlong}
 use Rattle.aisrun.proofs.input.read_input.Goals as goal
 
 pub returns-in-Ok : goal.returns-in-Ok

@@ -1,45 +1,67 @@
-use Rattle.std.proofs.Common.{map, inl, inr, refl, subst}
-use Rattle.std.specs.Prelude.{string_bytes}
-use Rattle.std.specs.Io.KnownBytes.{Appends}
-use Rattle.aisrun.specs.Writes.{AppendsFront}
-use Rattle.aisrun.specs.Endings.{Given, Written, Unwritten}
-use Rattle.aisrun.proofs.EndingLemmas.{completes_run}
-use Rattle.aisrun.proofs.CheckLemmas.{checks_run, exprs_run}
+use Rattle.aisrun.proofs.StatusLaws.{ends-done, ends-refused, ends-usage, ends-lacking, ends-unread, ends-unwritten, ends-broken, ends-held, ends-overlong}
+use Rattle.aisrun.proofs.PromiseLaws.{keeps-one-history, replies-rightly, reads-rightly, calls-back, prints-posts, keeps-files, keeps-records, settles-all}
+use Rattle.aisrun.proofs.CompletenessLaws.{completes, checks, exprs}
 use Rattle.aisrun.proofs.run.run.Goals as goal
 
-pub returns-in-Ok-write_all-clause-completes : goal.returns-in-Ok-write_all-clause-completes
-returns-in-Ok-write_all-clause-completes g c bodies bytes asked left spells empty read_well write_well disk_well =
-    inl (completes_run _ _ bodies bytes asked left spells empty read_well disk_well _ _ c.in-Ok.ensures)
+pub returns-clause-done : goal.returns-clause-done
+returns-clause-done g c is = ends-done _ c.run_words.result c.run_words.ensures is
 
-pub returns-in-Ok-write_all-clause-checks : goal.returns-in-Ok-write_all-clause-checks
-returns-in-Ok-write_all-clause-checks g c lines bytes asked left short script read_well write_well =
-    inl (checks_run _ _ lines bytes asked left short script read_well _ _ c.in-Ok.ensures)
+pub returns-clause-refused : goal.returns-clause-refused
+returns-clause-refused g c is = ends-refused _ c.run_words.result c.run_words.ensures is
 
-pub returns-in-Ok-write_all-clause-exprs : goal.returns-in-Ok-write_all-clause-exprs
-returns-in-Ok-write_all-clause-exprs g c kind asked faultless write_well =
-    let run : Given g.row.S.Denot g.row.D.Denot = record {
-      left = g.S.Source.left;
-      reads = g.S.Source.faults;
-      files = g.D.SharedDisk.files;
-      faults = g.D.SharedDisk.faults;
-      source = c.args.source.now;
-      source_after = c.end_of.new.source;
-      disk = c.args.disk.now;
-      disk_after = c.end_of.new.disk;
-    } in
-    inl (exprs_run run (map (λ word. string_bytes word) c.args.words.now) kind asked faultless c.in-Ok.end.status c.in-Ok.end.text.items c.in-Ok.ensures)
+pub returns-clause-usage : goal.returns-clause-usage
+returns-clause-usage g c is = ends-usage _ c.run_words.result c.run_words.ensures is
 
-pub returns-in-Ok-write_all-clause-ends : goal.returns-in-Ok-write_all-clause-ends
-returns-in-Ok-write_all-clause-ends g c =
-    Written c.in-Ok.end.text.items c.in-Ok.ensures
-    (subst (λ t. Appends (g.K.Sink.written c.args.out.now) (g.K.Sink.written c.write_all.new.sink) t) c.as_slice.ensures.value c.in-Ok-write_all.ensures.bytes)
+pub returns-clause-memory : goal.returns-clause-memory
+returns-clause-memory g c is = ends-lacking _ c.run_words.result c.run_words.ensures is
 
-pub returns-in-Err-Memory-clause-ends : goal.returns-in-Err-Memory-clause-ends
-returns-in-Err-Memory-clause-ends g c =
-    Unwritten (inr refl) c.in-Ok.end.status c.in-Ok.end.text.items c.in-Ok.ensures
-    (subst (λ t. AppendsFront (g.K.Sink.written c.args.out.now) (g.K.Sink.written c.write_all.new.sink) t) c.as_slice.ensures.value c.in-Err-Memory.ensures.bytes)
+pub returns-clause-read_fault : goal.returns-clause-read_fault
+returns-clause-read_fault g c is = ends-unread _ c.run_words.result c.run_words.ensures is
 
-pub returns-clause-ends : goal.returns-clause-ends
-returns-clause-ends g c =
-    Unwritten (inl refl) c.in-Ok.end.status c.in-Ok.end.text.items c.in-Ok.ensures
-    (subst (λ t. AppendsFront (g.K.Sink.written c.args.out.now) (g.K.Sink.written c.write_all.new.sink) t) c.as_slice.ensures.value c.in-Err-Failed.ensures.bytes)
+pub returns-clause-write_fault : goal.returns-clause-write_fault
+returns-clause-write_fault g c is = ends-unwritten _ c.run_words.result c.run_words.ensures is
+
+pub returns-clause-disk_fault : goal.returns-clause-disk_fault
+returns-clause-disk_fault g c is = ends-broken _ c.run_words.result c.run_words.ensures is
+
+pub returns-clause-root_not_empty : goal.returns-clause-root_not_empty
+returns-clause-root_not_empty g c is = ends-held _ c.run_words.result c.run_words.ensures is
+
+pub returns-clause-too_long : goal.returns-clause-too_long
+returns-clause-too_long g c is = ends-overlong _ c.run_words.result c.run_words.ensures is
+
+pub returns-clause-one_history : goal.returns-clause-one_history
+returns-clause-one_history g c = keeps-one-history _
+
+pub returns-clause-replies : goal.returns-clause-replies
+returns-clause-replies g c = replies-rightly _
+
+pub returns-clause-readers : goal.returns-clause-readers
+returns-clause-readers g c = reads-rightly _
+
+pub returns-clause-callbacks : goal.returns-clause-callbacks
+returns-clause-callbacks g c = calls-back _
+
+pub returns-clause-posts : goal.returns-clause-posts
+returns-clause-posts g c = prints-posts _
+
+pub returns-clause-files : goal.returns-clause-files
+returns-clause-files g c = keeps-files _
+
+pub returns-clause-stays : goal.returns-clause-stays
+returns-clause-stays g c = keeps-records _
+
+pub returns-clause-settles : goal.returns-clause-settles
+returns-clause-settles g c = settles-all _
+
+pub returns-clause-completes : goal.returns-clause-completes
+returns-clause-completes g c lines bytes asked left short script well empty reads sink disk =
+    completes _ c.run_words.result c.run_words.ensures lines bytes asked left short script well empty reads sink disk
+
+pub returns-clause-checks : goal.returns-clause-checks
+returns-clause-checks g c lines bytes asked left short script reads sink =
+    checks _ c.run_words.result c.run_words.ensures lines bytes asked left short script reads sink
+
+pub returns-clause-exprs : goal.returns-clause-exprs
+returns-clause-exprs g c kind asked faultless sink =
+    exprs _ c.run_words.result c.run_words.ensures kind asked faultless sink

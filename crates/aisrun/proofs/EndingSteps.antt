@@ -1,0 +1,249 @@
+-- Ends of parts are ends of the whole.
+use Rattle.std.proofs.Common.{◌≡◌, ℕ, ◌≤◌, inl, inr, List, [], ◌∷◌, ◌++◌, Option, Some, None, Result, Ok, Err, refl, ap, sym, ◌∙◌, subst, append-nil, arith}
+use Rattle.std.specs.Prelude.{IfOk, IfSome, codes}
+use Rattle.std.specs.FinMap as files
+use Rattle.std.specs.Io.KnownBytes.{Appends}
+use Rattle.std.proofs.KnownBytes.{Appends-nil}
+use Rattle.ais_values.specs.declared.kind.StreamKind.{StreamKind}
+use Rattle.disk_model.specs.Disk.{Files}
+use Rattle.script_lines.specs.declared.line.Line.{Line}
+use Rattle.script_language.specs.Scripts.{IsScriptOf}
+use Rattle.plain_service.specs.Setups.{Setup}
+use Rattle.cluster_core.specs.declared.world.World.{World}
+use Rattle.plain_service.specs.Storing.{opening_of}
+use Rattle.stream_layout.specs.Deeds.{calls_of_all}
+use Rattle.disk_model.specs.DeviceCalls.{DoesFront, FailsAfter}
+use Rattle.cluster_core.specs.Beginning.{Begins, HoldsNone}
+use Rattle.cluster_core.specs.Broken.{Broken}
+use Rattle.aisrun.specs.declared.ending.End.{End}
+use Rattle.aisrun.specs.declared.ending.Status8.{Status8}
+use Rattle.aisrun.specs.declared.ending.Status8.TheVariants.{Done, ScriptRefused, Usage, Memory, ReadFault, WriteFault, DiskFault, RootNotEmpty, TooLong}
+use Rattle.aisrun.specs.declared.command.Command.{Command}
+use Rattle.aisrun.specs.declared.command.Command.TheVariants.{Run, Check, Expr}
+use Rattle.aisrun.specs.Commands.{command_of, text_of}
+use Rattle.aisrun.specs.Checking.{CheckEnds, Judges, Unjudged, IsScript, IsNoScript, ExprEnds, IsExpression, IsNoExpression}
+use Rattle.aisrun.specs.Edges.{Edge, edge, before, IsUntouched, Stage, stage, Around, LeavesAll}
+use Rattle.aisrun.specs.Endings.{ReadsWhole, PlayEnds, PlayedTo, PlayLacks, Unopened, Opening, InEvent, Opens, FaultLeft, DiskFails, AtNames, AtOpening, AtEvent, LacksBy, RunLacks, Unread as Unknown, Unplayed, Ends, Checked, Parsed, Ran, NoScript, NotBuilt, NoExpression}
+use Rattle.aisrun.specs.Inputs.{InputRefused, Unread, Overlong}
+use Rattle.aisrun.specs.Playing.{files_told, Goes, PlaysFront, StandsAt}
+use Rattle.aisrun.specs.RunSteps.{EndWritten, InputEnds, InputLacks}
+use Rattle.aisrun.specs.Scripting.{BytesEnd, BytesLack}
+use Rattle.aisrun.specs.Steps.{EventsEnd, LacksBehind, IsNever, IsText, Reaching, Written, Lacked}
+use Rattle.aisrun.proofs.WritingSteps.{Rose-whole, written-as}
+
+-- the end of a text
+pub text-ends : (E : Reaching) (status : Status8) (whole : List ℕ) → E (Some status) whole → (reached : Option Status8) (text : List ℕ) → IsText status whole reached text → E reached text
+text-ends E status whole ends reached text is =
+    let T : List ℕ → Type 0 = λ one. E (Some status) one in
+    let R : Option Status8 → Type 0 = λ one. E one text in
+    subst R (sym is.0) (subst T (sym is.1) ends)
+
+pub text-written : {K : Type 0} (E : Reaching) (L : List ℕ → Type 0) (status : Status8) (whole : List ℕ) (sink : Edge K (List ℕ)) (result : Status8) → E (Some status) whole → Written (IsText status whole) IsNever sink result → Written E L sink result
+text-written E L status whole sink result ends written =
+    written-as (IsText status whole) E IsNever L sink result (text-ends E status whole ends) (λ text never. absurd never) written
+
+-- nothing was written, and memory was wanting
+pub lacked : {K : Type 0} (E : Reaching) (L : List ℕ → Type 0) (sink : Edge K (List ℕ)) → L [] → sink.new ≡ sink.old → Written E L sink Memory
+lacked {K} E L sink lacks same =
+    let A : K → Type 0 = λ new. Appends (before sink) (sink.told new) [] in
+    Lacked refl [] lacks (subst A (sym same) (Appends-nil (before sink)))
+
+-- the end that was written, or none for want of memory
+pub end-written : {K X : Type 0} (E : Reaching) (L : List ℕ → Type 0) (end : Result End X) (sink : Edge K (List ℕ)) (status : Status8) → EndWritten end sink status → IfOk end (λ one. E (Some one.status) one.text.items) → L [] → Written E L sink status
+end-written E L (Ok end) sink status written ends lacks = text-written E L end.status end.text.items sink status ends written
+end-written E L (Err e) sink status written ends lacks =
+    let W : Status8 → Type 0 = λ one. Written E L sink one in
+    subst W (sym written.0) (lacked E L sink lacks written.1)
+
+-- Lines behind the opening, and the whole script.
+
+-- the beginning of a script that was played
+abbrev front-of : (held : Option Files) (opening : Line) (events done rest : List Line) (setup : Setup) (places : ℕ) (text : List ℕ) → Begins opening setup places → HoldsNone held → events ≡ done ++ rest → Goes setup places held done text → PlaysFront held (opening ∷ events) done rest text
+front-of held opening events done rest setup places text begins empty parts goes = record {
+  opening = opening;
+  parts = ap (λ (behind : List Line). opening ∷ behind) parts;
+  empty = empty;
+  setup = setup;
+  places = places;
+  begins = begins;
+  goes = goes;
+}
+
+module _ {K D : Type 0} (told : K → Option (List ℕ)) (sink_faults : K → ℕ) (out out_after : K) (held : D → Option Files) (disk_faults : D → ℕ) (world world_after : World) where
+  pub events-play : (old mid new : D) (opening : Line) (events : List Line) (setup : Setup) (places : ℕ) → Begins opening setup places → HoldsNone (held old) → disk_faults old ≤ disk_faults mid → (reached : Option Status8) (text : List ℕ) → EventsEnd setup places (held old) (held new) (disk_faults mid) (disk_faults new) world_after events reached text → PlayEnds (opening ∷ events) (stage (edge told sink_faults out out_after) (edge held disk_faults old new) world world_after) reached text
+  events-play old mid new opening events setup places begins empty risen None text ends = (
+    ends.0,
+    ends.1,
+    record {
+      front = front-of (held old) opening events ends.0 ends.1 setup places text begins empty ends.2 ends.3.goes;
+      now = ends.3.now;
+    },
+  )
+  events-play old mid new opening events setup places begins empty risen (Some Done) text ends = (
+    events,
+    record {
+      front = front-of (held old) opening events events [] setup places text begins empty (sym (append-nil events)) ends.goes;
+      now = ends.now;
+    },
+  )
+  events-play old mid new opening events setup places begins empty risen (Some DiskFault) text ends =
+      let broke = ends.1 in
+      let behind = broke.behind in
+      let rose = Rose-whole (disk_faults old) (disk_faults mid) (disk_faults new) (disk_faults new) risen ends.0 (omega arith) in
+      let front = front-of (held old) opening events behind.done (behind.next ∷ behind.rest) setup places broke.front begins empty behind.parts behind.goes in
+      (rose, AtEvent behind.done behind.next behind.rest broke.front front broke.lines broke.fault broke.written)
+  events-play old mid new opening events setup places begins empty risen (Some ScriptRefused) text ends = absurd ends
+  events-play old mid new opening events setup places begins empty risen (Some Usage) text ends = absurd ends
+  events-play old mid new opening events setup places begins empty risen (Some Memory) text ends = absurd ends
+  events-play old mid new opening events setup places begins empty risen (Some ReadFault) text ends = absurd ends
+  events-play old mid new opening events setup places begins empty risen (Some WriteFault) text ends = absurd ends
+  events-play old mid new opening events setup places begins empty risen (Some RootNotEmpty) text ends = absurd ends
+  events-play old mid new opening events setup places begins empty risen (Some TooLong) text ends = absurd ends
+
+  pub events-lack : (old new : D) (opening : Line) (events : List Line) (setup : Setup) (places : ℕ) → Begins opening setup places → HoldsNone (held old) → (text : List ℕ) → LacksBehind setup places (held old) (held new) world_after events text → PlayLacks (opening ∷ events) (stage (edge told sink_faults out out_after) (edge held disk_faults old new) world world_after) text
+  events-lack old new opening events setup places begins empty text broke =
+      let behind = broke.behind in
+      InEvent behind.done behind.next behind.rest (front-of (held old) opening events behind.done (behind.next ∷ behind.rest) setup places text begins empty behind.parts behind.goes) broke.broken
+
+  -- the disk was asked before, and has the same files
+  played-earlier : (old mid new : D) (script done rest : List Line) (text : List ℕ) → held mid ≡ held old → PlayedTo (stage (edge told sink_faults out out_after) (edge held disk_faults mid new) world world_after) script done rest text → PlayedTo (stage (edge told sink_faults out out_after) (edge held disk_faults old new) world world_after) script done rest text
+  played-earlier old mid new script done rest text same played =
+      let F : Option Files → Type 0 = λ one. (front : PlaysFront one script done rest text) × StandsAt front.setup front.goes.state front.goes.files one (held new) world_after in
+      let moved = subst F same (played.front, played.now) in
+      record { front = moved.0; now = moved.1 }
+
+  fails-earlier : (old mid new : D) (lines : List Line) → held mid ≡ held old → (text : List ℕ) → DiskFails lines (stage (edge told sink_faults out out_after) (edge held disk_faults mid new) world world_after) text → DiskFails lines (stage (edge told sink_faults out out_after) (edge held disk_faults old new) world world_after) text
+  fails-earlier old mid new lines same text (AtNames stays still is) = AtNames (stays ∙ same) still is
+  fails-earlier old mid new lines same text (AtOpening opens count fails still is) =
+      let F : Option Files → Type 0 = λ one. (opened : Opens lines one) × FailsAfter (calls_of_all (opening_of opened.setup)) count one (held new) in
+      let moved = subst F same (opens, fails) in
+      AtOpening moved.0 count moved.1 still is
+  fails-earlier old mid new lines same text (AtEvent done next rest text_before front printed fault is) =
+      let F : Option Files → Type 0 = λ one. (plays : PlaysFront one lines done (next ∷ rest) text_before) × FaultLeft plays.setup plays.goes.state (files_told plays.goes.files one) (held new) world_after printed in
+      let moved = subst F same (front, fault) in
+      AtEvent done next rest text_before moved.0 printed moved.1 is
+
+  pub play-earlier : (old mid new : D) (lines : List Line) → held mid ≡ held old → disk_faults old ≤ disk_faults mid → (reached : Option Status8) (text : List ℕ) → PlayEnds lines (stage (edge told sink_faults out out_after) (edge held disk_faults mid new) world world_after) reached text → PlayEnds lines (stage (edge told sink_faults out out_after) (edge held disk_faults old new) world world_after) reached text
+  play-earlier old mid new lines same risen None text ends = (ends.0, ends.1, played-earlier old mid new lines ends.0 ends.1 text same ends.2)
+  play-earlier old mid new lines same risen (Some Done) text ends = (ends.0, played-earlier old mid new lines ends.0 [] text same ends.1)
+  play-earlier old mid new lines same risen (Some DiskFault) text ends =
+      (Rose-whole (disk_faults old) (disk_faults mid) (disk_faults new) (disk_faults new) risen ends.0 (omega arith), fails-earlier old mid new lines same text ends.1)
+  play-earlier old mid new lines same risen (Some RootNotEmpty) text ends =
+      let L : Option Files → Type 0 = λ one. IfSome one (λ f. (others : List (List ℕ)) × (files.keys f ≡ ends.name ∷ others)) in
+      record { name = ends.name; least = subst L same ends.least; same = ends.same ∙ same; world = ends.world; printed = ends.printed }
+  play-earlier old mid new lines same risen (Some ScriptRefused) text ends = absurd ends
+  play-earlier old mid new lines same risen (Some Usage) text ends = absurd ends
+  play-earlier old mid new lines same risen (Some Memory) text ends = absurd ends
+  play-earlier old mid new lines same risen (Some ReadFault) text ends = absurd ends
+  play-earlier old mid new lines same risen (Some WriteFault) text ends = absurd ends
+  play-earlier old mid new lines same risen (Some TooLong) text ends = absurd ends
+
+  pub lacks-earlier : (old mid new : D) (lines : List Line) → held mid ≡ held old → (text : List ℕ) → PlayLacks lines (stage (edge told sink_faults out out_after) (edge held disk_faults mid new) world world_after) text → PlayLacks lines (stage (edge told sink_faults out out_after) (edge held disk_faults old new) world world_after) text
+  lacks-earlier old mid new lines same text (Unopened none stays still) = Unopened none (stays ∙ same) still
+  lacks-earlier old mid new lines same text (Opening none opens front still) =
+      let F : Option Files → Type 0 = λ one. (opened : Opens lines one) × DoesFront (calls_of_all (opening_of opened.setup)) one (held new) in
+      let moved = subst F same (opens, front) in
+      Opening none moved.0 moved.1 still
+  lacks-earlier old mid new lines same text (InEvent done next rest front broken) =
+      let F : Option Files → Type 0 = λ one. (plays : PlaysFront one lines done (next ∷ rest) text) × Broken plays.setup plays.goes.state (files_told plays.goes.files one) (held new) world_after in
+      let moved = subst F same (front, broken) in
+      InEvent done next rest moved.0 moved.1
+
+-- Bytes, input and words.
+
+pub play-bytes : {K D : Type 0} (scene : Stage K D) (bytes : List ℕ) (lines : List Line) → IsScriptOf lines bytes → (reached : Option Status8) (text : List ℕ) → PlayEnds lines scene reached text → BytesEnd bytes scene reached text
+play-bytes scene bytes lines script None text ends = (lines, script, ends)
+play-bytes scene bytes lines script (Some Done) text ends = (lines, script, ends)
+play-bytes scene bytes lines script (Some DiskFault) text ends = (lines, script, ends)
+play-bytes scene bytes lines script (Some RootNotEmpty) text ends = (lines, script, ends)
+play-bytes scene bytes lines script (Some ScriptRefused) text ends = absurd ends
+play-bytes scene bytes lines script (Some Usage) text ends = absurd ends
+play-bytes scene bytes lines script (Some Memory) text ends = absurd ends
+play-bytes scene bytes lines script (Some ReadFault) text ends = absurd ends
+play-bytes scene bytes lines script (Some WriteFault) text ends = absurd ends
+play-bytes scene bytes lines script (Some TooLong) text ends = absurd ends
+
+pub bytes-input : {S K D : Type 0} (source : Edge S (List ℕ)) (scene : Stage K D) (bytes : List ℕ) → ReadsWhole source bytes → (reached : Option Status8) (text : List ℕ) → BytesEnd bytes scene reached text → InputEnds source scene reached text
+bytes-input source scene bytes read None text ends = (bytes, read, ends)
+bytes-input source scene bytes read (Some Done) text ends = (bytes, read, ends)
+bytes-input source scene bytes read (Some DiskFault) text ends = (bytes, read, ends)
+bytes-input source scene bytes read (Some RootNotEmpty) text ends = (bytes, read, ends)
+bytes-input source scene bytes read (Some ScriptRefused) text ends = (bytes, read, ends)
+bytes-input source scene bytes read (Some Usage) text ends = absurd ends.2
+bytes-input source scene bytes read (Some Memory) text ends = absurd ends.2
+bytes-input source scene bytes read (Some ReadFault) text ends = absurd ends.2
+bytes-input source scene bytes read (Some WriteFault) text ends = absurd ends.2
+bytes-input source scene bytes read (Some TooLong) text ends = absurd ends.2
+
+pub refused-input : {S K D : Type 0} (source : Edge S (List ℕ)) (scene : Stage K D) (status : Status8) (text : List ℕ) → LeavesAll scene → InputRefused source status text → InputEnds source scene (Some status) text
+refused-input source scene status text all (Unread is why) =
+    let I : Status8 → Type 0 = λ one. InputEnds source scene (Some one) text in
+    subst I (sym is) (all, why)
+refused-input source scene status text all (Overlong is why) =
+    let I : Status8 → Type 0 = λ one. InputEnds source scene (Some one) text in
+    subst I (sym is) (all, why)
+
+module _ {S K D : Type 0} (run : Around S K D) where
+  pub input-run : command_of run.words ≡ Some Run → (reached : Option Status8) (text : List ℕ) → InputEnds run.source run.stage reached text → Ends run reached text
+  input-run asked None text ends = (ends.2.0, record { words = asked; script = record { bytes = ends.0; read = ends.1; script = ends.2.1 } }, ends.2.2)
+  input-run asked (Some Done) text ends = Ran asked ends.2.0 (record { bytes = ends.0; read = ends.1; script = ends.2.1 }) ends.2.2.0 ends.2.2.1
+  input-run asked (Some DiskFault) text ends =
+      (ends.2.0, record { words = asked; script = record { bytes = ends.0; read = ends.1; script = ends.2.1 } }, ends.2.2.0, ends.2.2.1)
+  input-run asked (Some RootNotEmpty) text ends = (ends.2.0, record { words = asked; script = record { bytes = ends.0; read = ends.1; script = ends.2.1 } }, ends.2.2)
+  input-run asked (Some ScriptRefused) text ends =
+      elim ends.2.1 [
+        | inl fails ↦ NoScript (inl asked) ends.2.0 ends.0 ends.1 fails
+        | inr built ↦ NotBuilt asked ends.2.0 ends.0 ends.1 built
+      ]
+  input-run asked (Some ReadFault) text ends = record { words = inl asked; all = ends.0; why = ends.1 }
+  input-run asked (Some TooLong) text ends = record { words = inl asked; all = ends.0; why = ends.1 }
+  input-run asked (Some Usage) text ends = absurd ends.2.2
+  input-run asked (Some Memory) text ends = absurd ends.2.2
+  input-run asked (Some WriteFault) text ends = absurd ends.2.2
+
+  bytes-lacks : command_of run.words ≡ Some Run → (text bytes : List ℕ) → ReadsWhole run.source bytes → BytesLack bytes run.stage text → RunLacks run text
+  bytes-lacks asked text bytes read (inl early) = Unknown early.0 early.1
+  bytes-lacks asked text bytes read (inr later) =
+      Unplayed later.0 (record { words = asked; script = record { bytes = bytes; read = read; script = later.1 } }) later.2
+
+  input-lacks : command_of run.words ≡ Some Run → (text : List ℕ) → InputLacks run.source run.stage text → RunLacks run text
+  input-lacks asked text (inl early) = Unknown early.0 early.1
+  input-lacks asked text (inr later) = bytes-lacks asked text later.0 later.1 later.2
+
+  pub input-lack : command_of run.words ≡ Some Run → (text : List ℕ) → InputLacks run.source run.stage text → LacksBy (command_of run.words) run text
+  input-lack asked text lacks =
+      let L : Option Command → Type 0 = λ one. LacksBy one run text in
+      subst L (sym asked) (input-lacks asked text lacks)
+
+  pub check-run : command_of run.words ≡ Some Check → LeavesAll run.stage → (status : Status8) (text : List ℕ) → CheckEnds run.source status text → Ends run (Some status) text
+  check-run asked all status text (Judges bytes read (IsScript is passes)) =
+      let E : Status8 → Type 0 = λ one. Ends run (Some one) text in
+      subst E (sym is) (Checked asked all bytes read passes)
+  check-run asked all status text (Judges bytes read (IsNoScript is fails)) =
+      let E : Status8 → Type 0 = λ one. Ends run (Some one) text in
+      subst E (sym is) (NoScript (inr asked) all bytes read fails)
+  check-run asked all status text (Unjudged (Unread is why)) =
+      let E : Status8 → Type 0 = λ one. Ends run (Some one) text in
+      subst E (sym is) (record { words = inr asked; all = all; why = why })
+  check-run asked all status text (Unjudged (Overlong is why)) =
+      let E : Status8 → Type 0 = λ one. Ends run (Some one) text in
+      subst E (sym is) (record { words = inr asked; all = all; why = why })
+
+  pub expr-run : (kind : StreamKind) → command_of run.words ≡ Some (Expr kind) → LeavesAll run.stage → IsUntouched run.source → (status : Status8) (text : List ℕ) → ExprEnds kind (text_of run.words) status text → Ends run (Some status) text
+  expr-run kind asked all source status text (IsExpression is passes) =
+      let E : Status8 → Type 0 = λ one. Ends run (Some one) text in
+      subst E (sym is) (Parsed kind asked all source passes)
+  expr-run kind asked all source status text (IsNoExpression is fails) =
+      let E : Status8 → Type 0 = λ one. Ends run (Some one) text in
+      subst E (sym is) (NoExpression kind asked all source fails)
+
+  pub usage-run : {X : Type 0} → command_of run.words ≡ None → LeavesAll run.stage → IsUntouched run.source → (end : Result End X) → IfOk end (λ one. one.status ≡ Usage) → IfOk end (λ one. one.text.items ≡ codes "usage: aisrun run, check, expr KIND TEXT or gen COUNT SEED\n") → IfOk end (λ one. Ends run (Some one.status) one.text.items)
+  usage-run unknown all source (Err e) status text = tt
+  usage-run unknown all source (Ok one) status text =
+      let E : Status8 → Type 0 = λ each. Ends run (Some each) one.text.items in
+      subst E (sym status) (record { unknown = unknown; all = all; source = source; printed = text })
+
+-- the end of a part
+pub ok-ends : {X : Type 0} (end : Result End X) (P : Status8 → List ℕ → Type 0) (E : Reaching) → ((status : Status8) (text : List ℕ) → P status text → E (Some status) text) → IfOk end (λ one. P one.status one.text.items) → IfOk end (λ one. E (Some one.status) one.text.items)
+ok-ends (Ok one) P E ends part = ends one.status one.text.items part
+ok-ends (Err e) P E ends part = tt

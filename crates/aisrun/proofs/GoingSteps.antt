@@ -1,0 +1,229 @@
+-- Lines that are played one after another.
+use Rattle.std.proofs.Common.{◌≡◌, ℕ, suc, ◌+◌, ◌<◌, ℤ, List, [], ◌∷◌, ◌++◌, length, drop, get_or, reverse, Option, Some, None, ◌≤◌, refl, ap, sym, ◌∙◌, subst, append_assoc, append-nil, add-one, drop-cons, arith}
+use Rattle.std.specs.Prelude.{IfSome, option_map}
+use Rattle.std.specs.Io.KnownBytes.{Appends}
+use Rattle.std.proofs.KnownBytes.{Appends-nil, Appends-trans}
+use Rattle.std.proofs.lemmas.List.{reverse-append}
+use Rattle.std.proofs.lemmas.Grind.{flat_map-append}
+use Rattle.disk_model.specs.Disk.{Files}
+use Rattle.script_lines.specs.declared.line.Line.{Line}
+use Rattle.script_lines.specs.declared.line.Line.TheVariants as line
+use Rattle.plain_service.specs.Setups.{Setup}
+use Rattle.plain_service.specs.Storing.{files_of}
+use Rattle.cluster_facts.specs.Types.{Entry}
+use Rattle.cluster_facts.specs.History.{Hand, Empty, Waiting, Applied, Ready, accepted_by}
+use Rattle.cluster_facts.specs.Ranges.{AreInRange}
+use Rattle.cluster_events.specs.Lines.{Told}
+use Rattle.cluster_events.specs.OnDisk.{performed}
+use Rattle.cluster_events.specs.Servers.{State}
+use Rattle.lone_cluster.specs.Lone.{Alone, lone_start}
+use Rattle.event_text.specs.Texts.{printed, lines_of}
+use Rattle.service_laws.specs.Disks.{service_disk}
+use Rattle.service_laws.specs.StorageOf.{storage_of}
+use Rattle.cluster_core.specs.declared.world.World.{World}
+use Rattle.cluster_core.specs.Beginning.{Begun}
+use Rattle.cluster_core.specs.Broken.{Broken}
+use Rattle.cluster_core.specs.Playing.{EventDone, FaultLeaves}
+use Rattle.cluster_core.specs.Worlds.{HasState, IsGood, Shows, TellsFiles}
+use Rattle.aisrun.specs.Playing.{files_told, Goes, Played, text_of}
+use Rattle.aisrun.specs.Playing.Played.{Begun as Starts, Went}
+use Rattle.aisrun.specs.declared.ending.Status8.{Status8}
+use Rattle.aisrun.specs.declared.ending.Status8.TheVariants.{Done, ScriptRefused, Usage, Memory, ReadFault, WriteFault, DiskFault, RootNotEmpty, TooLong}
+use Rattle.aisrun.specs.Edges.{edge}
+use Rattle.aisrun.specs.Endings.{FaultLeft, Showing, Working}
+use Rattle.aisrun.specs.Steps.{Behind, CanFollow, EventsEnd, Going, LacksBehind, LineEnds, LineLacks, Plays, Written, Whole, joined_lines, time_behind}
+use Rattle.aisrun.proofs.PlayLaws.{line-kept, line-now, played-files}
+use Rattle.aisrun.proofs.WritingSteps.{Rose-whole, written-behind}
+
+printed-append : (later earlier : List Told) → printed (later ++ earlier) ≡ printed earlier ++ printed later
+printed-append [] earlier = sym (append-nil (printed earlier))
+  where
+    append-nil : (xs : List (List ℕ)) → xs ++ [] ≡ xs
+    append-nil [] = refl
+    append-nil (x ∷ xs) = ap (λ ys. x ∷ ys) (append-nil xs)
+printed-append (line ∷ later) earlier =
+    ap (λ lines. lines ++ lines_of line) (printed-append later earlier) ∙ append_assoc (printed earlier) (printed later) (lines_of line)
+
+text-append : (later earlier : List Told) → text_of (later ++ earlier) ≡ text_of earlier ++ text_of later
+text-append later earlier =
+    ap joined_lines (printed-append later earlier) ∙ flat_map-append (λ (line : List ℕ). line) (printed earlier) (printed later)
+
+reverse-push : (lines : List Line) (next : Line) → reverse (lines ++ next ∷ []) ≡ next ∷ reverse lines
+reverse-push lines next = reverse-append lines (next ∷ [])
+
+-- a disk that told files tells some, and one that told none tells none
+held-still : (P : Type 0) (held left : Option Files) (files : Files) → left ≡ option_map (λ _. files) held → IfSome left (λ _. P) → IfSome held (λ _. P)
+held-still P None left files is some = tt
+held-still P (Some f) left files is some = subst (λ (o : Option Files). IfSome o (λ _. P)) is some
+
+told-same : (held left : Option Files) (files : Files) → left ≡ option_map (λ _. files) held → IfSome left (λ f. f ≡ files)
+told-same None left files is = subst (λ (o : Option Files). IfSome o (λ f. f ≡ files)) (sym is) tt
+told-same (Some f) left files is = subst (λ (o : Option Files). IfSome o (λ g. g ≡ files)) (sym is) refl
+
+told-again : (held mid left : Option Files) (one two : Files) → mid ≡ option_map (λ _. one) held → left ≡ option_map (λ _. two) mid → left ≡ option_map (λ _. two) held
+told-again None mid left one two first second = second ∙ ap (option_map (λ (_ : Files). two)) first
+told-again (Some f) mid left one two first second = second ∙ ap (option_map (λ (_ : Files). two)) first
+
+-- a cluster that was begun
+pub going-start : (setup : Setup) (places : ℕ) (held left : Option Files) (world : World) → Begun setup places held left world → Going setup places held left world [] []
+going-start setup places held left world begun = record {
+  state = lone_start setup.start places;
+  told = [];
+  files = _;
+  run = Starts;
+  good = begun.good;
+  shows = begun.shows;
+  tells = begun.files;
+  written = refl;
+}
+
+-- the world stands for a state whose files the disk tells
+pub going-tells : (setup : Setup) (places : ℕ) (held left : Option Files) (world : World) (lines : List Line) (text : List ℕ) → (going : Going setup places held left world lines text) → TellsFiles setup going.state left
+going-tells setup places held left world lines text going =
+    told-same held left (files_of setup going.state.world.core.answered) going.tells
+
+-- one line more
+pub going-next : (setup : Setup) (places : ℕ) (held mid left : Option Files) (old new : World) (lines : List Line) (text : List ℕ) (next : Line) (printed_lines : List (List ℕ)) → (going : Going setup places held mid old lines text) → EventDone setup going.state next printed_lines mid left new → Going setup places held left new (lines ++ next ∷ []) (text ++ joined_lines printed_lines)
+going-next setup places held mid left old new lines text next printed_lines going done =
+    let state = going.state in
+    let outcome = done.outcome in
+    let more = (line-kept setup done.shelf next state outcome going.good.steady done.happens).1.answers in
+    let R : List Line → Type 0 = λ all. Played setup places held all outcome.state (outcome.told ++ going.told) (performed service_disk (storage_of setup) more.0 state.world.core.answered going.files) in
+    record {
+      state = outcome.state;
+      told = outcome.told ++ going.told;
+      files = performed service_disk (storage_of setup) more.0 state.world.core.answered going.files;
+      run = subst R (sym (reverse-push lines next)) (Went next done.shelf outcome more.0 going.run (held-still _ held mid (files_of setup state.world.core.answered) going.tells done.shelf_is) done.happens more.1);
+      good = done.good;
+      shows = done.shows;
+      tells = told-again held mid left (files_of setup state.world.core.answered) (files_of setup outcome.state.world.core.answered) going.tells done.files;
+      written = ap (λ front. front ++ joined_lines printed_lines) going.written ∙ ap (λ all. text_of going.told ++ joined_lines all) done.text ∙ sym (text-append outcome.told going.told);
+    }
+
+answered-range : (past : List Entry) (hand : Hand) → AreInRange (accepted_by past hand) → AreInRange past
+answered-range past Empty range = range
+answered-range past (Waiting entry) range = range.1
+answered-range past (Applied entry) range = range.1
+answered-range past (Ready entry) range = range.1
+
+abbrev pub going-goes : (setup : Setup) (places : ℕ) (held left : Option Files) (world : World) (lines : List Line) (text : List ℕ) → Going setup places held left world lines text → Goes setup places held lines text
+going-goes setup places held left world lines text going =
+    record { state = going.state; told = going.told; files = going.files; run = going.run; good = going.good; written = going.written }
+
+-- the disk has the files that the deeds of the run make
+pub going-stand : (setup : Setup) (places : ℕ) (held left : Option Files) (world : World) (lines : List Line) (text : List ℕ) → (going : Going setup places held left world lines text) → left ≡ files_told going.files held
+going-stand setup places held left world lines text going =
+    let core = going.state.world.core in
+    let range = answered-range core.answered core.hand going.good.range in
+    going.tells ∙ ap (λ (files : Files). files_told files held) (sym (played-files setup places held going.good.begins going.run range))
+
+pub going-plays : (setup : Setup) (places : ℕ) (held left : Option Files) (world : World) (lines : List Line) (text : List ℕ) → Going setup places held left world lines text → Plays setup places held left world lines text
+going-plays setup places held left world lines text going = record {
+  goes = going-goes setup places held left world lines text going;
+  now = record { shows = going.shows; stand = going-stand setup places held left world lines text going };
+}
+
+pub going-state : (setup : Setup) (places : ℕ) (held left : Option Files) (world : World) (lines : List Line) (text : List ℕ) → Going setup places held left world lines text → HasState world
+going-state setup places held left world lines text going =
+    record { setup = setup; state = going.state; good = going.good; shows = going.shows }
+
+-- the lines behind can still follow
+pub follow-next : (setup : Setup) (state : State Alone) (held left : Option Files) (old new : World) (next : Line) (others : List Line) (printed_lines : List (List ℕ)) → IsGood setup state → Shows setup state old → EventDone setup state next printed_lines held left new → CanFollow (time_behind old.now next) others → CanFollow new.now others
+follow-next setup state held left old new next others printed_lines good shows done follows =
+    let outcome = done.outcome in
+    let same : time_behind old.now next ≡ new.now =
+    ap (λ (now : ℤ). time_behind now next) shows.now ∙ sym (line-now setup done.shelf next state outcome good.steady done.happens) ∙ sym done.shows.now in
+    subst (λ (now : ℤ). CanFollow now others) same follows
+
+-- what one line comes to is what all lines come to
+pub line-events : (setup : Setup) (places : ℕ) (held mid left : Option Files) (before between later : ℕ) (old new : World) (done : List Line) (next : Line) (others : List Line) (front : List ℕ) → (going : Going setup places held mid old done front) → before ≤ between → (reached : Option Status8) (text : List ℕ) → LineEnds setup going.state next mid left between later new reached text → EventsEnd setup places held left before later new (done ++ next ∷ others) reached (front ++ text)
+line-events setup places held mid left before between later old new done next others front going risen None text ends =
+    let further = going-next setup places held mid left old new done front next ends.0 going ends.2 in
+    let P : List ℕ → Type 0 = λ one. Plays setup places held left new (done ++ next ∷ []) one in
+    (done ++ next ∷ [], others, sym (append_assoc done (next ∷ []) others), subst P (ap (λ (behind : List ℕ). front ++ behind) (sym ends.1)) (going-plays setup places held left new (done ++ next ∷ []) (front ++ joined_lines ends.0) further))
+line-events setup places held mid left before between later old new done next others front going risen (Some DiskFault) text ends =
+    let stand = going-stand setup places held mid old done front going in
+    let F : Option Files → Type 0 = λ one. FaultLeft setup going.state one left new ends.1.0 in (
+      Rose-whole before between later later risen ends.0 (omega arith),
+      record {
+        front = front;
+        behind = record { done = done; next = next; rest = others; parts = refl; goes = going-goes setup places held mid old done front going };
+        lines = ends.1.0;
+        fault = subst F stand ends.1.1;
+        written = ap (λ (behind : List ℕ). front ++ behind) ends.1.2;
+      },
+    )
+line-events setup places held mid left before between later old new done next others front going risen (Some Done) text ends = absurd ends
+line-events setup places held mid left before between later old new done next others front going risen (Some ScriptRefused) text ends = absurd ends
+line-events setup places held mid left before between later old new done next others front going risen (Some Usage) text ends = absurd ends
+line-events setup places held mid left before between later old new done next others front going risen (Some Memory) text ends = absurd ends
+line-events setup places held mid left before between later old new done next others front going risen (Some ReadFault) text ends = absurd ends
+line-events setup places held mid left before between later old new done next others front going risen (Some WriteFault) text ends = absurd ends
+line-events setup places held mid left before between later old new done next others front going risen (Some RootNotEmpty) text ends = absurd ends
+line-events setup places held mid left before between later old new done next others front going risen (Some TooLong) text ends = absurd ends
+
+-- one line more is behind
+pub behind-next : {K : Type 0} (told : K → Option (List ℕ)) (faults : K → ℕ) (first mid last : K) (setup : Setup) (places : ℕ) (held disk left : Option Files) (old new : World) (events : List Line) (next : Line) (others : List Line) (text : List ℕ) (printed_lines : List (List ℕ)) → (so_far : Behind setup places held disk old (edge told faults first mid) events (next ∷ others)) → text ≡ joined_lines printed_lines → EventDone setup so_far.going.state next printed_lines disk left new → Appends (told mid) (told last) text → Behind setup places held left new (edge told faults first last) events others
+behind-next told faults first mid last setup places held disk left old new events next others text printed_lines so_far is event appended = record {
+  done = so_far.done ++ next ∷ [];
+  parts = so_far.parts ∙ sym (append_assoc so_far.done (next ∷ []) others);
+  text = so_far.text ++ joined_lines printed_lines;
+  going = going-next setup places held disk left old new so_far.done so_far.text next printed_lines so_far.going event;
+  appended = Appends-trans (told first) (told mid) (told last) so_far.text (joined_lines printed_lines) so_far.appended (subst (Appends (told mid) (told last)) is appended);
+}
+
+-- the lines from a place on
+pub from-place : (lines : List Line) (place : ℕ) (next : Line) → place < length lines → next ≡ get_or lines place next → drop place lines ≡ next ∷ drop (place + 1) lines
+from-place lines place next inside is = rw add-one (drop-cons lines place next inside ∙ ap (λ (one : Line). one ∷ drop (suc place) lines) (sym is))
+
+-- before the first line
+pub behind-start : {K : Type 0} (told : K → Option (List ℕ)) (faults : K → ℕ) (sink : K) (setup : Setup) (places : ℕ) (held left : Option Files) (world : World) (events : List Line) → Begun setup places held left world → Behind setup places held left world (edge told faults sink sink) events events
+behind-start told faults sink setup places held left world events begun = record {
+  done = [];
+  parts = refl;
+  text = [];
+  going = going-start setup places held left world begun;
+  appended = Appends-nil (told sink);
+}
+
+-- behind the last line
+pub behind-last : {K : Type 0} (told : K → Option (List ℕ)) (faults : K → ℕ) (first last : K) (setup : Setup) (places : ℕ) (held left : Option Files) (world : World) (before later : ℕ) (events rest : List Line) → rest ≡ [] → Behind setup places held left world (edge told faults first last) events rest → Written (EventsEnd setup places held left before later world events) (LacksBehind setup places held left world events) (edge told faults first last) Done
+behind-last told faults first last setup places held left world before later events rest none behind =
+    let all : events ≡ behind.done = behind.parts ∙ ap (λ (others : List Line). behind.done ++ others) none ∙ append-nil behind.done in
+    let P : List Line → Type 0 = λ lines. Plays setup places held left world lines behind.text in
+    Whole behind.text (subst P (sym all) (going-plays setup places held left world behind.done behind.text behind.going)) behind.appended
+
+-- memory that was wanting in a line was wanting behind those before it
+line-lacks : (setup : Setup) (places : ℕ) (held mid left : Option Files) (old new : World) (done : List Line) (next : Line) (others : List Line) (front : List ℕ) → (going : Going setup places held mid old done front) → (text : List ℕ) → LineLacks setup going.state mid left new text → LacksBehind setup places held left new (done ++ next ∷ others) (front ++ text)
+line-lacks setup places held mid left old new done next others front going text lacks =
+    let stand = going-stand setup places held mid old done front going in
+    let B : Option Files → Type 0 = λ one. Broken setup going.state one left new in
+    let L : List ℕ → Type 0 = λ one. LacksBehind setup places held left new (done ++ next ∷ others) one in
+    let whole : L front =
+    record {
+      behind = record { done = done; next = next; rest = others; parts = refl; goes = going-goes setup places held mid old done front going };
+      broken = subst B stand lacks.1;
+    } in
+    subst L (sym (ap (λ (more : List ℕ). front ++ more) lacks.0 ∙ append-nil front)) whole
+
+-- a line that ended the run
+pub behind-ends : {K : Type 0} (told : K → Option (List ℕ)) (faults : K → ℕ) (first mid last : K) (setup : Setup) (places : ℕ) (held disk left : Option Files) (before between later : ℕ) (old new : World) (events : List Line) (next : Line) (others : List Line) (status : Status8) → (behind : Behind setup places held disk old (edge told faults first mid) events (next ∷ others)) → faults first ≤ faults mid → before ≤ between → Written (LineEnds setup behind.going.state next disk left between later new) (LineLacks setup behind.going.state disk left new) (edge told faults mid last) status → Written (EventsEnd setup places held left before later new events) (LacksBehind setup places held left new events) (edge told faults first last) status
+behind-ends told faults first mid last setup places held disk left before between later old new events next others status behind sink risen written =
+    let all = behind.done ++ next ∷ others in
+    let front = behind.text in
+    let E = LineEnds setup behind.going.state next disk left between later new in
+    let F = EventsEnd setup places held left before later new all in
+    let L = LineLacks setup behind.going.state disk left new in
+    let M = LacksBehind setup places held left new all in
+    let W : List Line → Type 0 = λ lines. Written (EventsEnd setup places held left before later new lines) (LacksBehind setup places held left new lines) (edge told faults first last) status in
+    subst W (sym behind.parts) (written-behind told faults first mid last E F L M front status behind.appended sink (line-events setup places held disk left before between later old new behind.done next others front behind.going risen) (line-lacks setup places held disk left old new behind.done next others front behind.going) written)
+
+-- what a disk fault in a line left
+pub fault-left : (setup : Setup) (state : State Alone) (next : Line) (held left : Option Files) (old new : World) (lines : List (List ℕ)) → IsGood setup state → Shows setup state old → FaultLeaves next old new [] lines held left → FaultLeft setup state held left new (joined_lines lines)
+fault-left setup state line.Files held left old new lines good shows leaves =
+    Showing (subst (λ (world : World). Shows setup state world) (sym leaves.0) shows) leaves.2 (ap joined_lines leaves.1)
+fault-left setup state (line.Cat name) held left old new lines good shows leaves =
+    Showing (subst (λ (world : World). Shows setup state world) (sym leaves.0) shows) leaves.2 (ap joined_lines leaves.1)
+fault-left setup state _ held left old new lines good shows leaves =
+    let fault = leaves setup state good shows tt in
+    Working fault.0 fault.1 (ap joined_lines fault.2)

@@ -1,0 +1,193 @@
+-- What lines that are played lead to: facts, promises, files and times.
+use Rattle.std.proofs.Common.{◌≡◌, ℕ, ℤ, List, [], ◌∷◌, ◌++◌, Option, Some, None, refl, ap, sym, ◌∙◌, subst, append-nil}
+use Rattle.disk_model.specs.Disk.{Files}
+use Rattle.script_lines.specs.declared.line.Line.{Line}
+use Rattle.script_lines.specs.declared.line.Line.TheVariants as line
+use Rattle.plain_service.specs.Setups.{Setup, CanBegin}
+use Rattle.cluster_facts.specs.Types.{Call, Reply, ReaderRead, Status, Entry, Message}
+use Rattle.cluster_facts.specs.Lists.{Stands}
+use Rattle.cluster_facts.specs.Messages.{sent_by, receipts_of}
+use Rattle.cluster_facts.specs.Service.{Plain}
+use Rattle.cluster_facts.specs.Storage.{all_applied, dealt_in}
+use Rattle.cluster_facts.specs.Agents.{fed_of, call_of, refusal, dispatch_refusal}
+use Rattle.cluster_facts.specs.History.{Hand, Empty, Waiting, Applied, Ready, IsLegal}
+use Rattle.cluster_facts.specs.Ranges.{AreInRange}
+use Rattle.cluster_facts.specs.World.{World, empty_world, message_at}
+use Rattle.cluster_facts.specs.Facts.{IsSound}
+use Rattle.cluster_facts.proofs.Words.{All-at}
+use Rattle.cluster_facts.proofs.Growing.{IsLegal-before}
+use Rattle.cluster_facts.proofs.Keeping.{IsSound-start}
+use Rattle.cluster_facts.proofs.Posting.{message_at-stands}
+use Rattle.cluster_events.specs.Lines.{Told}
+use Rattle.cluster_events.specs.Outcomes.{Outcome}
+use Rattle.cluster_events.specs.Servers.{State}
+use Rattle.cluster_events.specs.ClientEvents.{ask_by, dispatch_one_by, dispatch_all_by}
+use Rattle.cluster_events.specs.Events.{deliver_by, step_or_refuse, push_by}
+use Rattle.cluster_events.specs.Running.{Shelf, show_by, Happens}
+use Rattle.cluster_events.specs.Saying.{deals_told, writes_told, Says}
+use Rattle.cluster_events.specs.Serving.{IsSteady, IsServing}
+use Rattle.cluster_events.specs.Promises.{AtEnd}
+use Rattle.cluster_events.specs.OnDisk.{performed}
+use Rattle.cluster_events.specs.Filing.{RecordsStay}
+use Rattle.cluster_events.proofs.Telling.{Says-same, Says-both}
+use Rattle.cluster_events.proofs.Promised.{committed-legal, committed-order, happens-kept}
+use Rattle.cluster_events.proofs.Carrying.{delivered-goes, resend-goes, post_all-goes, held-made, rounds-carry}
+use Rattle.cluster_events.proofs.Items.{taken-begins}
+use Rattle.cluster_events.proofs.Dealing.{dealt-answered, deals-answered}
+use Rattle.cluster_events.proofs.Filed.{answered-legal, records-stay}
+use Rattle.lone_cluster.specs.Lone.{Alone, lone, lone_start, work_by, IsGoodAlone}
+use Rattle.lone_cluster.proofs.Serving.{lone-serves, lone-says, lone-works, never-steps}
+use Rattle.service_laws.specs.Disks.{service_disk}
+use Rattle.service_laws.specs.PlainOf.{plain_of}
+use Rattle.service_laws.specs.StorageOf.{storage_of}
+use Rattle.service_laws.proofs.ServiceLaws.{is_plain}
+use Rattle.service_laws.proofs.StorageLaws.{is_storage}
+use Rattle.aisrun.specs.Playing.{Played, Begun, Went}
+use Rattle.aisrun.specs.Steps.{time_behind}
+
+abbrev Steady : Setup → State Alone → Type 0
+Steady setup state = IsSteady (plain_of setup) IsGoodAlone state
+
+serves : (setup : Setup) → IsServing (plain_of setup) (lone (plain_of setup)) IsGoodAlone
+serves setup = lone-serves (plain_of setup) (is_plain setup)
+
+-- each line keeps the facts, and says what it must
+pub line-kept : (setup : Setup) (shelf : Shelf) (next : Line) (state : State Alone) (outcome : Outcome (State Alone)) → IsSteady (plain_of setup) IsGoodAlone state → Happens (plain_of setup) shelf (lone (plain_of setup)) next state outcome → IsSteady (plain_of setup) IsGoodAlone outcome.state × Says (plain_of setup) state.world outcome.state.world outcome.told
+line-kept setup shelf next state outcome steady happens =
+    happens-kept (plain_of setup) (is_plain setup) shelf (lone (plain_of setup)) IsGoodAlone (serves setup) (lone-says (plain_of setup)) (never-steps (plain_of setup)) (never-steps (plain_of setup)) (lone-works (plain_of setup) (is_plain setup)) next state outcome steady happens
+
+start-steady : (setup : Setup) (places : ℕ) → IsSteady (plain_of setup) IsGoodAlone (lone_start setup.start places)
+start-steady setup places = record { sound = IsSound-start (plain_of setup) setup.start places; good = tt }
+
+-- lines lead from the start to a state of which the facts hold, and say what lies between
+pub played-says : (setup : Setup) (places : ℕ) (held : Option Files) {lines : List Line} {state : State Alone} {told : List Told} {files : Files} → Played setup places held lines state told files → IsSteady (plain_of setup) IsGoodAlone state × Says (plain_of setup) (empty_world setup.start places) state.world told
+played-says setup places held Begun = (start-steady setup places, Says-same (plain_of setup) (empty_world setup.start places))
+played-says setup places held (Went {state = state} {told = told} next shelf outcome more run shelf_is happens grown) =
+    let before = played-says setup places held run in
+    let kept = line-kept setup shelf next state outcome before.0 happens in
+    (kept.0, Says-both (plain_of setup) (empty_world setup.start places) state.world outcome.state.world told outcome.told before.1 kept.1)
+
+-- so all promises hold
+at-end : (plain : Plain) (world : World) (told : List Told) (now : ℤ) (places : ℕ) → IsSound plain world → Says plain (empty_world now places) world told → AtEnd plain world told
+at-end plain world told now places sound says = record {
+  history = record {
+    legal = committed-legal plain world.now world.core.answered world.core.hand sound.facts.legal;
+    printed = says.entries;
+  };
+  order = λ client. committed-order client (sent_by client world.net) world.core.answered world.core.hand (sound.facts.clients client).sends.first;
+  posts = says.posts;
+  replies = record {
+    once = λ client. (says.replies client).once;
+    right = λ client. deals-answered plain client world.core.answered (deals_told client told) (says.deals client);
+  };
+  readers = λ client number direction reply stands. dealt-answered plain client world.core.answered (number, ReaderRead direction, reply) (All-at (λ (deal : ℕ × Call × Reply). Stands deal (dealt_in plain client world.core.answered)) (number, ReaderRead direction, reply) (deals_told client told) (says.deals client) stands);
+  callbacks = says.callbacks;
+  items = λ client key. taken-begins plain world.core.answered (sent_by client world.net) client key (receipts_of client world.net) (fed_of (world.agents client)) (sound.facts.clients client).sends.numbered (sound.facts.clients client).follows.counted (sound.facts.told client);
+  writes = λ client. says.writes client ∙ append-nil (writes_told client told);
+}
+
+pub played-keeps : (setup : Setup) (places : ℕ) (held : Option Files) {lines : List Line} {state : State Alone} {told : List Told} {files : Files} → Played setup places held lines state told files → AtEnd (plain_of setup) state.world told
+played-keeps setup places held {state = state} {told = told} run =
+    let after = played-says setup places held run in
+    at-end (plain_of setup) state.world told setup.start places after.0.sound after.1
+
+-- Files.
+
+-- entries in range before further ones
+pub range-before : (more past : List Entry) → AreInRange (more ++ past) → AreInRange past
+range-before [] past range = range
+range-before (entry ∷ more) past range = range-before more past range.1
+
+-- the deeds of further entries lead from the files of a history to those with these entries
+performed-files : (setup : Setup) → CanBegin setup → (now : ℤ) (more past : List Entry) → IsLegal (plain_of setup) now (more ++ past) → AreInRange (more ++ past) → performed service_disk (storage_of setup) more past ((storage_of setup).files past) ≡ (storage_of setup).files (more ++ past)
+performed-files setup can now [] past legal range = refl
+performed-files setup can now (entry ∷ more) past legal range =
+    let storage = storage_of setup in
+    ap (λ (files : Files). all_applied service_disk (storage.deeds (more ++ past) entry) files) (performed-files setup can now more past (IsLegal-before (plain_of setup) now entry (more ++ past) legal) range.1)
+    ∙ (is_storage setup can).works now entry (more ++ past) legal range
+
+-- the files are those of the history without the entry in hand
+pub played-files : (setup : Setup) (places : ℕ) (held : Option Files) → CanBegin setup → {lines : List Line} {state : State Alone} {told : List Told} {files : Files} → Played setup places held lines state told files → AreInRange state.world.core.answered → files ≡ (storage_of setup).files state.world.core.answered
+played-files setup places held can Begun range = (is_storage setup can).opens
+played-files setup places held can (Went {state = state} {files = files} next shelf outcome more run shelf_is happens grown) range =
+    let past = state.world.core.answered in
+    let new = outcome.state.world in
+    let R : List Entry → Type 0 = λ entries. AreInRange entries in
+    let whole = subst R grown range in
+    let before = played-files setup places held can run (range-before more past whole) in
+    let after = (line-kept setup shelf next state outcome (played-says setup places held run).0 happens).0 in
+    let legal = answered-legal (plain_of setup) new.now new.core.answered new.core.hand after.sound.facts.legal in
+    let L : List Entry → Type 0 = λ entries. IsLegal (plain_of setup) new.now entries in
+    ap (λ (f : Files). performed service_disk (storage_of setup) more past f) before
+    ∙ performed-files setup can new.now more past (subst L grown legal) whole
+    ∙ ap (λ entries. (storage_of setup).files entries) (sym grown)
+
+-- what was answered as stored stands at its place
+pub played-stays : (setup : Setup) (places : ℕ) (held : Option Files) → CanBegin setup → {lines : List Line} {state : State Alone} {told : List Told} {files : Files} → Played setup places held lines state told files → AreInRange state.world.core.answered → RecordsStay (plain_of setup) service_disk (storage_of setup) state.world files
+played-stays setup places held can {state = state} {files = files} run range =
+    records-stay (plain_of setup) service_disk (storage_of setup) (is_storage setup can) state.world files (played-says setup places held run).0.sound range (played-files setup places held can run range)
+
+-- Times.
+
+ask-now : (plain : Plain) (client : ℕ) (call : Call) (status : Option Status) (world : World) → (ask_by plain client call status world).state.now ≡ world.now
+ask-now plain client call (Some status) world = refl
+ask-now plain client call None world = refl
+
+one-now : (client : ℕ) (status : Option Status) (world : World) → (dispatch_one_by client status world).state.now ≡ world.now
+one-now client (Some status) world = refl
+one-now client None world = refl
+
+all-now : (client : ℕ) (status : Option Status) (world : World) → (dispatch_all_by client status world).state.now ≡ world.now
+all-now client (Some status) world = refl
+all-now client None world = refl
+
+work-now : (plain : Plain) (hand : Hand) (state : State Alone) → (step_or_refuse (lone plain) line.Work (work_by plain hand state) state).state.world.now ≡ state.world.now
+work-now plain Empty state = refl
+work-now plain (Waiting entry) state = refl
+work-now plain (Applied entry) state = refl
+work-now plain (Ready entry) state = refl
+
+show-now : (plain : Plain) (name : List ℕ) (texts : Option (List (List ℕ))) (state : State Alone) → (show_by (lone plain) name texts state).state.world.now ≡ state.world.now
+show-now plain name None state = refl
+show-now plain name (Some texts) state = refl
+
+deliver-now : (setup : Setup) (place : ℕ) (found : Option Message) (state : State Alone) → message_at place state.world.net ≡ found → Steady setup state → (deliver_by (plain_of setup) (lone (plain_of setup)) place found state).state.world.now ≡ state.world.now
+deliver-now setup place None state is steady = refl
+deliver-now setup place (Some message) state is steady =
+    (delivered-goes (plain_of setup) (is_plain setup) (lone (plain_of setup)) IsGoodAlone (serves setup) (Says (plain_of setup)) (lone-says (plain_of setup)) place message state (message_at-stands place state.world.net message is) steady).stays.now
+
+push-now : (setup : Setup) (hand : Hand) (state : State Alone) → state.world.core.hand ≡ hand → Steady setup state → (push_by (plain_of setup) (lone (plain_of setup)) hand state).state.world.now ≡ state.world.now
+push-now setup Empty state is steady =
+    (post_all-goes (plain_of setup) (is_plain setup) (lone (plain_of setup)) IsGoodAlone (serves setup) (Says (plain_of setup)) (lone-says (plain_of setup)) ((plain_of setup).held state.world.core.answered) state (record { steady = steady; empty = is }) (held-made (plain_of setup) (is_plain setup) state.world.core.answered)).stays.now
+push-now setup (Waiting entry) state is steady = refl
+push-now setup (Applied entry) state is steady = refl
+push-now setup (Ready entry) state is steady = refl
+
+-- the time in force behind a line
+pub line-now : (setup : Setup) (shelf : Shelf) (next : Line) (state : State Alone) (outcome : Outcome (State Alone)) → IsSteady (plain_of setup) IsGoodAlone state → Happens (plain_of setup) shelf (lone (plain_of setup)) next state outcome → outcome.state.world.now ≡ time_behind state.world.now next
+line-now setup shelf (line.Time now) state outcome steady happens = ap (λ (o : Outcome (State Alone)). o.state.world.now) happens.1
+line-now setup shelf (line.Log client asked) state outcome steady happens =
+    ap (λ (o : Outcome (State Alone)). o.state.world.now) happens ∙ ask-now (plain_of setup) client (call_of asked) (refusal asked (state.world.agents client)) state.world
+line-now setup shelf (line.Ntf client asked) state outcome steady happens =
+    ap (λ (o : Outcome (State Alone)). o.state.world.now) happens ∙ ask-now (plain_of setup) client (call_of asked) (refusal asked (state.world.agents client)) state.world
+line-now setup shelf (line.Deliver place) state outcome steady happens =
+    ap (λ (o : Outcome (State Alone)). o.state.world.now) happens ∙ deliver-now setup place (message_at place state.world.net) state refl steady
+line-now setup shelf (line.Resend client) state outcome steady happens =
+    ap (λ (o : Outcome (State Alone)). o.state.world.now) happens ∙ (resend-goes (plain_of setup) (is_plain setup) (lone (plain_of setup)) IsGoodAlone (serves setup) (Says (plain_of setup)) (lone-says (plain_of setup)) client state steady).stays.now
+line-now setup shelf line.Mirror state outcome steady happens = ap (λ (o : Outcome (State Alone)). o.state.world.now) happens
+line-now setup shelf line.Ack state outcome steady happens = ap (λ (o : Outcome (State Alone)). o.state.world.now) happens
+line-now setup shelf line.Work state outcome steady happens =
+    ap (λ (o : Outcome (State Alone)). o.state.world.now) happens ∙ work-now (plain_of setup) state.world.core.hand state
+line-now setup shelf line.Push state outcome steady happens =
+    ap (λ (o : Outcome (State Alone)). o.state.world.now) happens ∙ push-now setup state.world.core.hand state refl steady
+line-now setup shelf line.Settle state outcome steady happens =
+    (rounds-carry (plain_of setup) (is_plain setup) (lone (plain_of setup)) IsGoodAlone (serves setup) (Says (plain_of setup)) (lone-says (plain_of setup)) state steady happens.rounds).stays.now
+line-now setup shelf (line.DispatchOne client) state outcome steady happens =
+    ap (λ (o : Outcome (State Alone)). o.state.world.now) happens ∙ one-now client (dispatch_refusal (state.world.agents client)) state.world
+line-now setup shelf (line.DispatchAll client workers) state outcome steady happens =
+    ap (λ (o : Outcome (State Alone)). o.state.world.now) happens ∙ all-now client (dispatch_refusal (state.world.agents client)) state.world
+line-now setup shelf line.Servers state outcome steady happens = ap (λ (o : Outcome (State Alone)). o.state.world.now) happens
+line-now setup shelf line.Files state outcome steady happens = ap (λ (o : Outcome (State Alone)). o.state.world.now) happens
+line-now setup shelf (line.Cat name) state outcome steady happens =
+    ap (λ (o : Outcome (State Alone)). o.state.world.now) happens ∙ show-now (plain_of setup) name (shelf.text name state.world.core.answered) state
+line-now setup shelf _ state outcome steady happens = elim happens [ ]

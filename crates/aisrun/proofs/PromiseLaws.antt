@@ -1,0 +1,71 @@
+-- What is promised at the end of each line holds throughout.
+use Rattle.std.proofs.Common.{ℕ, List, Option, subst}
+use Rattle.disk_model.specs.Disk.{Files}
+use Rattle.script_lines.specs.declared.line.Line.{Line}
+use Rattle.script_lines.specs.declared.line.Line.TheVariants as line
+use Rattle.plain_service.specs.Setups.{Setup, CanBegin}
+use Rattle.cluster_facts.specs.Types.{Entry}
+use Rattle.cluster_facts.specs.History.{Hand, Empty, Waiting, Applied, Ready, accepted_by}
+use Rattle.cluster_facts.specs.Ranges.{AreInRange}
+use Rattle.cluster_events.specs.Lines.{Told}
+use Rattle.cluster_events.specs.Servers.{State}
+use Rattle.cluster_events.proofs.Ending.{settle-settles}
+use Rattle.lone_cluster.specs.Lone.{Alone, lone, IsGoodAlone}
+use Rattle.lone_cluster.proofs.Serving.{lone-serves, lone-spends}
+use Rattle.service_laws.specs.PlainOf.{plain_of}
+use Rattle.service_laws.proofs.ServiceLaws.{is_plain}
+use Rattle.aisrun.specs.Playing.{Played, Begun, Went}
+use Rattle.aisrun.specs.Promises.{Sentence, AtEachEnd, Throughout, KeepsOneHistory, RepliesRightly, ReadsRightly, CallsBack, PrintsPosts, KeepsFiles, KeepsRecords, SettlesAll}
+use Rattle.aisrun.proofs.PlayLaws.{played-says, played-keeps, played-files, played-stays, range-before}
+
+-- a sentence that holds of all lines that were played holds at the end of each of them
+pub each-end : (setup : Setup) (places : ℕ) (held : Option Files) (P : Sentence) → ((lines : List Line) (state : State Alone) (told : List Told) (files : Files) → Played setup places held lines state told files → AreInRange state.world.core.answered → P lines state told files) → {lines : List Line} {state : State Alone} {told : List Told} {files : Files} → (run : Played setup places held lines state told files) → AreInRange state.world.core.answered → AtEachEnd setup places held P run
+each-end setup places held P always Begun range = always _ _ _ _ Begun range
+each-end setup places held P always (Went {state = state} next shelf outcome more run shelf_is happens grown) range =
+    let R : List Entry → Type 0 = λ entries. AreInRange entries in
+    (always _ _ _ _ (Went next shelf outcome more run shelf_is happens grown) range, each-end setup places held P always run (range-before more state.world.core.answered (subst R grown range)))
+
+answered-range : (past : List Entry) (hand : Hand) → AreInRange (accepted_by past hand) → AreInRange past
+answered-range past Empty range = range
+answered-range past (Waiting entry) range = range.1
+answered-range past (Applied entry) range = range.1
+answered-range past (Ready entry) range = range.1
+
+throughout : (held : Option Files) (P : Setup → Sentence) → ((setup : Setup) (places : ℕ) (held : Option Files) → CanBegin setup → (lines : List Line) (state : State Alone) (told : List Told) (files : Files) → Played setup places held lines state told files → AreInRange state.world.core.answered → P setup lines state told files) → Throughout held P
+throughout held P always script done rest text front =
+    let plays = front.goes in
+    let core = plays.state.world.core in
+    each-end front.setup front.places held (P front.setup) (λ lines state told files. always front.setup front.places held plays.good.begins lines state told files) plays.run (answered-range core.answered core.hand plays.good.range)
+
+pub keeps-one-history : (held : Option Files) → Throughout held KeepsOneHistory
+keeps-one-history held =
+    throughout held KeepsOneHistory (λ setup places told_first can lines state told files run range. let keeps = played-keeps setup places told_first run in (keeps.history, keeps.order))
+
+pub replies-rightly : (held : Option Files) → Throughout held RepliesRightly
+replies-rightly held = throughout held RepliesRightly (λ setup places told_first can lines state told files run range. (played-keeps setup places told_first run).replies)
+
+pub reads-rightly : (held : Option Files) → Throughout held ReadsRightly
+reads-rightly held = throughout held ReadsRightly (λ setup places told_first can lines state told files run range. (played-keeps setup places told_first run).readers)
+
+pub calls-back : (held : Option Files) → Throughout held CallsBack
+calls-back held =
+    throughout held CallsBack (λ setup places told_first can lines state told files run range. let keeps = played-keeps setup places told_first run in (keeps.items, keeps.writes, keeps.callbacks))
+
+pub prints-posts : (held : Option Files) → Throughout held PrintsPosts
+prints-posts held = throughout held PrintsPosts (λ setup places told_first can lines state told files run range. (played-keeps setup places told_first run).posts)
+
+pub keeps-files : (held : Option Files) → Throughout held KeepsFiles
+keeps-files held = throughout held KeepsFiles (λ setup places told_first can lines state told files run range. played-files setup places told_first can run range)
+
+pub keeps-records : (held : Option Files) → Throughout held KeepsRecords
+keeps-records held = throughout held KeepsRecords (λ setup places told_first can lines state told files run range. played-stays setup places told_first can run range)
+
+settled : (setup : Setup) (places : ℕ) (held : Option Files) {lines : List Line} {state : State Alone} {told : List Told} {files : Files} → Played setup places held lines state told files → SettlesAll setup lines state told files
+settled setup places held Begun = tt
+settled setup places held (Went {state = state} line.Settle shelf outcome more run shelf_is happens grown) =
+    let plain = plain_of setup in
+    settle-settles plain (is_plain setup) (lone plain) IsGoodAlone (lone-serves plain (is_plain setup)) (lone-spends plain (is_plain setup)) state outcome.state happens.lines (played-says setup places held run).0 happens.rounds
+settled setup places held (Went _ shelf outcome more run shelf_is happens grown) = tt
+
+pub settles-all : (held : Option Files) → Throughout held SettlesAll
+settles-all held = throughout held SettlesAll (λ setup places told_first can lines state told files run range. settled setup places told_first run)

@@ -1,0 +1,93 @@
+-- What is written piece by piece.
+use Rattle.std.proofs.Common.{◌≡◌, ℕ, suc, ◌+◌, ◌<◌, ◌≤◌, List, [], ◌∷◌, ◌++◌, length, take, drop, get_or, Option, Some, Err, refl, ap, sym, ◌∙◌, subst, arith, append_assoc, add-one, drop-cons, take-append-drop}
+use Rattle.std.specs.Io.KnownBytes.{Appends}
+use Rattle.std.proofs.KnownBytes.{Appends-trans}
+use Rattle.std.proofs.lemmas.List.{take-append-le, length-append}
+use Rattle.std.proofs.lemmas.Grind.{flat_map-append}
+use Rattle.std.proofs.Math.Seq.{take-append-add}
+use Rattle.ais_values.specs.Causes.{Rose, HasCauseOf}
+use Rattle.io_edge.specs.declared.answers.SinkAnswer.{SinkAnswer}
+use Rattle.io_edge.specs.declared.answers.SinkAnswer.TheVariants as sink_answer
+use Rattle.io_edge.specs.Writes.{AppendsFront}
+use Rattle.aisrun.specs.declared.ending.Status8.{Status8}
+use Rattle.aisrun.specs.declared.ending.Status8.TheVariants.{Memory}
+use Rattle.aisrun.specs.Edges.{Edge, edge, before, after}
+use Rattle.aisrun.specs.Steps.{Reaching, Written, Whole, SinkFailed, SinkLacked, Lacked, sink_status, joined_lines}
+
+-- a count that rose in a part rose in the whole
+pub Rose-whole : (old mid new later : ℕ) → old ≤ mid → Rose mid new → new ≤ later → Rose old later
+Rose-whole old mid new later first rose last = omega arith
+
+-- a front of a text is one of a longer text
+pub front-more : (old new : Option (List ℕ)) (one two : List ℕ) → AppendsFront old new one → AppendsFront old new (one ++ two)
+front-more old new one two front =
+    let bound : front.count < length one = front.bound in
+    let low : front.count ≤ length one = omega arith in
+    record {
+      count = front.count;
+      bound = omega (arith, length-append one two);
+      appended = subst (Appends old new) (sym (take-append-le front.count one two low)) front.appended;
+    }
+
+-- all of one text and a front of the next
+pub front-behind : (old mid new : Option (List ℕ)) (one two : List ℕ) → Appends old mid one → AppendsFront mid new two → AppendsFront old new (one ++ two)
+front-behind old mid new one two first front =
+    let bound : front.count < length two = front.bound in
+    record {
+      count = length one + front.count;
+      bound = omega (arith, length-append one two);
+      appended = subst (Appends old new) (sym (take-append-add one two front.count)) (Appends-trans old mid new one (take front.count two) first front.appended);
+    }
+
+-- the lines up to one of them, and this one
+pub lines-more : (front : List (List ℕ)) (line : List ℕ) → joined_lines (front ++ line ∷ []) ≡ joined_lines front ++ line
+lines-more front line =
+    flat_map-append (λ (one : List ℕ). one) front (line ∷ []) ∙ ap (λ tail. joined_lines front ++ tail) (append-nil line)
+  where
+    append-nil : (xs : List ℕ) → xs ++ [] ≡ xs
+    append-nil [] = refl
+    append-nil (x ∷ xs) = ap (λ ys. x ∷ ys) (append-nil xs)
+
+-- what a sink that did not take all leaves of a text
+pub unwritten : {K : Type 0} (E : Reaching) (L : List ℕ → Type 0) (sink : Edge K (List ℕ)) (answer : SinkAnswer) (reached : Option Status8) (text : List ℕ) → E reached text → HasCauseOf {T = Unit} (sink.faults sink.old) (sink.faults sink.new) (Err answer) sink_answer.Failed → AppendsFront (before sink) (after sink) text → Written E L sink (sink_status answer)
+unwritten E L sink sink_answer.Memory reached text ends cause front = SinkLacked refl reached text ends front
+unwritten E L sink sink_answer.Failed reached text ends cause front = SinkFailed refl (cause.rose refl) reached text ends front
+
+-- the same written by other words
+pub written-as : {K : Type 0} (E F : Reaching) (L M : List ℕ → Type 0) (sink : Edge K (List ℕ)) (status : Status8) → ((reached : Option Status8) (text : List ℕ) → E reached text → F reached text) → ((text : List ℕ) → L text → M text) → Written E L sink status → Written F M sink status
+written-as E F L M sink status ends lacks (Whole text e appends) = Whole text (ends (Some status) text e) appends
+written-as E F L M sink status ends lacks (SinkFailed is rose reached text e front) = SinkFailed is rose reached text (ends reached text e) front
+written-as E F L M sink status ends lacks (SinkLacked is reached text e front) = SinkLacked is reached text (ends reached text e) front
+written-as E F L M sink status ends lacks (Lacked is text l appends) = Lacked is text (lacks text l) appends
+
+-- what is written behind a text
+pub written-behind : {K : Type 0} (told : K → Option (List ℕ)) (faults : K → ℕ) (old mid new : K) (E F : Reaching) (L M : List ℕ → Type 0) (front : List ℕ) (status : Status8) → Appends (told old) (told mid) front → faults old ≤ faults mid → ((reached : Option Status8) (text : List ℕ) → E reached text → F reached (front ++ text)) → ((text : List ℕ) → L text → M (front ++ text)) → Written E L (edge told faults mid new) status → Written F M (edge told faults old new) status
+written-behind told faults old mid new E F L M front status first risen ends lacks (Whole text e appends) =
+    Whole (front ++ text) (ends (Some status) text e) (Appends-trans (told old) (told mid) (told new) front text first appends)
+written-behind told faults old mid new E F L M front status first risen ends lacks (SinkFailed is rose reached text e part) =
+    SinkFailed is (Rose-whole (faults old) (faults mid) (faults new) (faults new) risen rose (omega arith)) reached (front ++ text) (ends reached text e) (front-behind (told old) (told mid) (told new) front text first part)
+written-behind told faults old mid new E F L M front status first risen ends lacks (SinkLacked is reached text e part) =
+    SinkLacked is reached (front ++ text) (ends reached text e) (front-behind (told old) (told mid) (told new) front text first part)
+written-behind told faults old mid new E F L M front status first risen ends lacks (Lacked is text l appends) =
+    Lacked is (front ++ text) (lacks text l) (Appends-trans (told old) (told mid) (told new) front text first appends)
+
+-- a line among others: those before it, itself, and those behind it
+pub lines-at : (lines : List (List ℕ)) (place : ℕ) (line : List ℕ) → place < length lines → line ≡ get_or lines place line → joined_lines lines ≡ (joined_lines (take place lines) ++ line) ++ joined_lines (drop (place + 1) lines)
+lines-at lines place line inside is =
+    let front = take place lines in
+    let split : drop place lines ≡ line ∷ drop (place + 1) lines = rw add-one (drop-cons lines place line inside ∙ ap (λ (one : List ℕ). one ∷ drop (suc place) lines) (sym is)) in
+    ap joined_lines (sym (take-append-drop place lines) ∙ ap (λ (behind : List (List ℕ)). front ++ behind) split)
+    ∙ flat_map-append (λ (one : List ℕ). one) front (line ∷ drop (place + 1) lines)
+    ∙ sym (append_assoc (joined_lines front) line (joined_lines (drop (place + 1) lines)))
+
+-- the sink did not take all of a line among others
+pub lines-front : (old mid new : Option (List ℕ)) (lines : List (List ℕ)) (place : ℕ) (line : List ℕ) → place < length lines → line ≡ get_or lines place line → Appends old mid (joined_lines (take place lines)) → AppendsFront mid new line → AppendsFront old new (joined_lines lines)
+lines-front old mid new lines place line inside is before front =
+    let F : List ℕ → Type 0 = λ text. AppendsFront old new text in
+    subst F (sym (lines-at lines place line inside is)) (front-more old new (joined_lines (take place lines) ++ line) (joined_lines (drop (place + 1) lines)) (front-behind old mid new (joined_lines (take place lines)) line before front))
+
+-- a count that did not fall, and then rose where an answer says so
+pub cause-behind : (old mid new : ℕ) (answer : SinkAnswer) → old ≤ mid → HasCauseOf {T = Unit} mid new (Err answer) sink_answer.Failed → HasCauseOf {T = Unit} old new (Err answer) sink_answer.Failed
+cause-behind old mid new answer risen cause =
+    let later : mid ≤ new = cause.later in
+    record { later = omega arith; rose = λ is. Rose-whole old mid new new risen (cause.rose is) (omega arith) }

@@ -1,0 +1,74 @@
+use Rattle.std.proofs.Common.{◌+◌, List, drop, subst, arith}
+use Rattle.std.proofs.Math.ListN.{drop_of_length-le}
+use Rattle.script_lines.specs.declared.line.Line.{Line}
+use Rattle.aisrun.specs.Edges.{edge}
+use Rattle.aisrun.specs.Steps.{Behind, CanFollow}
+use Rattle.aisrun.proofs.GoingSteps.{behind-start, behind-next, behind-last, behind-ends, follow-next, from-place, going-state, going-tells}
+use Rattle.aisrun.proofs.playing.play_events.Goals as goal
+
+pub loop-line-init : goal.loop-line-init
+loop-line-init g c = record {
+  follows = c.requires.follows;
+  behind = λ setup places held begun. behind-start g.K.Sink.written g.K.Sink.faults c.args.out.now setup places held (g.D.SharedDisk.files c.args.disk.now) c.args.world.now c.args.events.now begun;
+  sink = omega arith;
+  disk = omega arith;
+}
+
+pub returns-in-Err : goal.returns-in-Err
+returns-in-Err g c setup places held begun =
+    let written = g.K.Sink.written in
+    let sink = g.K.Sink.faults in
+    let files = g.D.SharedDisk.files in
+    let faults = g.D.SharedDisk.faults in
+    let events = c.args.events.now in
+    let line = c.line-item.result in
+    let others = drop (c.loop-line.line-index + 1) events in
+    let at = from-place events c.loop-line.line-index line c.loop-line-test.true c.line-item.is in
+    let behind = subst (λ (rest : List Line). Behind setup places held (files c.loop-line.disk) c.loop-line.world (edge written sink c.args.out.now c.loop-line.out) events rest) at (c.loop-line.invariant.behind setup places held begun) in
+    behind-ends written sink c.args.out.now c.loop-line.out c.play_line.new.out setup places held (files c.loop-line.disk) (files c.play_line.new.disk) (faults c.args.disk.now) (faults c.loop-line.disk) (faults c.play_line.new.disk) c.loop-line.world c.play_line.new.world events line others c.in-Err.status behind c.loop-line.invariant.sink c.loop-line.invariant.disk
+    (c.in-Err.ensures.ends setup behind.going.state behind.going.good behind.going.shows (going-tells setup places held (files c.loop-line.disk) c.loop-line.world behind.done behind.text behind.going))
+
+pub loop-line-preserved : goal.loop-line-preserved
+loop-line-preserved g c =
+    let written = g.K.Sink.written in
+    let sink = g.K.Sink.faults in
+    let files = g.D.SharedDisk.files in
+    let events = c.args.events.now in
+    let line = c.line-item.result in
+    let others = drop (c.loop-line.line-index + 1) events in
+    let old = c.loop-line.world in
+    let new = c.play_line.new.world in
+    let at = from-place events c.loop-line.line-index line c.loop-line-test.true c.line-item.is in
+    let follows = subst (λ (rest : List Line). CanFollow old.now rest) at c.loop-line.invariant.follows in
+    let begun = c.requires.begun in
+    let first = c.loop-line.invariant.behind begun.0 begun.1 begun.2 begun.3 in
+    let first_done = c.in-Ok.ensures.ends begun.0 first.going.state first.going.good first.going.shows (going-tells begun.0 begun.1 begun.2 (files c.loop-line.disk) old first.done first.text first.going) in
+    record {
+      follows = follow-next begun.0 first.going.state (files c.loop-line.disk) (files c.play_line.new.disk) old new line others first_done.1.0 first.going.good first.going.shows first_done.1.2 follows.2;
+      behind = λ setup places held starts.
+          let behind = subst (λ (rest : List Line). Behind setup places held (files c.loop-line.disk) old (edge written sink c.args.out.now c.loop-line.out) events rest) at (c.loop-line.invariant.behind setup places held starts) in
+          let done = c.in-Ok.ensures.ends setup behind.going.state behind.going.good behind.going.shows (going-tells setup places held (files c.loop-line.disk) old behind.done behind.text behind.going) in
+          behind-next written sink c.args.out.now c.loop-line.out c.play_line.new.out setup places held (files c.loop-line.disk) (files c.play_line.new.disk) old new events line others done.0 done.1.0 behind done.1.1 done.1.2 done.2;
+      sink = omega (arith, c.loop-line.invariant.sink, c.in-Ok.ensures.sink);
+      disk = omega (arith, c.loop-line.invariant.disk, c.in-Ok.ensures.disk);
+    }
+
+pub returns : goal.returns
+returns g c setup places held begun =
+    behind-last g.K.Sink.written g.K.Sink.faults c.args.out.now c.loop-line.out setup places held (g.D.SharedDisk.files c.loop-line.disk) c.loop-line.world (g.D.SharedDisk.faults c.args.disk.now) (g.D.SharedDisk.faults c.loop-line.disk) c.args.events.now (drop c.loop-line.line-index c.args.events.now) (drop_of_length-le c.args.events.now (omega arith)) (c.loop-line.invariant.behind setup places held begun)
+
+pub play_line-requires-clause-state : goal.play_line-requires-clause-state
+play_line-requires-clause-state g c =
+    let begun = c.requires.begun in
+    let first = c.loop-line.invariant.behind begun.0 begun.1 begun.2 begun.3 in
+    going-state begun.0 begun.1 begun.2 (g.D.SharedDisk.files c.loop-line.disk) c.loop-line.world first.done first.text first.going
+
+pub play_line-requires-clause-spelled : goal.play_line-requires-clause-spelled
+play_line-requires-clause-spelled g c =
+    let at = from-place c.args.events.now c.loop-line.line-index c.line-item.result c.loop-line-test.true c.line-item.is in
+    (subst (λ (rest : List Line). CanFollow c.loop-line.world.now rest) at c.loop-line.invariant.follows).0
+
+pub play_line-requires-clause-lone : goal.play_line-requires-clause-lone
+play_line-requires-clause-lone g c =
+    let at = from-place c.args.events.now c.loop-line.line-index c.line-item.result c.loop-line-test.true c.line-item.is in
+    (subst (λ (rest : List Line). CanFollow c.loop-line.world.now rest) at c.loop-line.invariant.follows).1

@@ -1,0 +1,53 @@
+use Rattle.std.proofs.Common.{ℕ, List, [], ◌≡◌, map, Option, Some, None, refl, ap, sym, ◌∙◌, subst}
+use Rattle.std.specs.Prelude.{IfOk, string_bytes}
+use Rattle.aisrun.specs.declared.command.Command.{Command}
+use Rattle.aisrun.specs.declared.command.Command.TheVariants.{Run, Check, Expr}
+use Rattle.aisrun.specs.Checking.{ExprEnds}
+use Rattle.aisrun.specs.Commands.{command_of, text_of}
+use Rattle.aisrun.specs.Edges.{around, edge, stage}
+use Rattle.aisrun.specs.Endings.{Ends, LacksBy}
+use Rattle.aisrun.specs.RunSteps.{InputEnds, InputLacks, WordsLack}
+use Rattle.aisrun.proofs.EndingSteps.{check-run, end-written, expr-run, input-lack, input-run, usage-run, ok-ends}
+use Rattle.aisrun.proofs.WritingSteps.{written-as}
+use Rattle.aisrun.proofs.run.run_words.Goals as goal
+
+pub returns-in-None : goal.returns-in-None
+returns-in-None g c =
+    let words : List (List ℕ) = map (λ word. string_bytes word) c.args.words.now in
+    let asked : command_of words ≡ None = sym c.command_of.ensures ∙ c.in-None.is in
+    let source = edge g.S.Source.left g.S.Source.faults c.args.source.now c.args.source.now in
+    let sink = edge g.K.Sink.written g.K.Sink.faults c.args.out.now c.write_end.new.out in
+    let scene = stage sink (edge g.D.SharedDisk.files g.D.SharedDisk.faults c.args.disk.now c.args.disk.now) c.args.world.now c.args.world.now in
+    let run = around words source scene in
+    end-written (Ends run) (WordsLack run) c.usage.result sink c.write_end.result c.write_end.ensures (usage-run run asked (record { disk = refl; world = refl }) refl c.usage.result c.usage.ensures.status c.usage.ensures.text) (subst (λ (o : Option Command). LacksBy o run []) (sym asked) (refl, record { disk = refl; world = refl }, refl))
+
+pub returns-in-Some-Run : goal.returns-in-Some-Run
+returns-in-Some-Run g c =
+    let words : List (List ℕ) = map (λ word. string_bytes word) c.args.words.now in
+    let asked : command_of words ≡ Some Run = sym c.command_of.ensures ∙ c.in-Some-Run.is ∙ ap Some c.in-Some-Run.field-0-is in
+    let source = edge g.S.Source.left g.S.Source.faults c.args.source.now c.run_script.new.source in
+    let sink = edge g.K.Sink.written g.K.Sink.faults c.args.out.now c.run_script.new.out in
+    let scene = stage sink (edge g.D.SharedDisk.files g.D.SharedDisk.faults c.args.disk.now c.run_script.new.disk) c.args.world.now c.run_script.new.world in
+    let run = around words source scene in
+    written-as (InputEnds source scene) (Ends run) (InputLacks source scene) (WordsLack run) sink c.run_script.result (input-run run asked) (input-lack run asked) c.run_script.ensures
+
+pub returns-in-Some-Check : goal.returns-in-Some-Check
+returns-in-Some-Check g c =
+    let words : List (List ℕ) = map (λ word. string_bytes word) c.args.words.now in
+    let asked : command_of words ≡ Some Check = sym c.command_of.ensures ∙ c.in-Some-Check.is ∙ ap Some c.in-Some-Check.field-0-is in
+    let source = edge g.S.Source.left g.S.Source.faults c.args.source.now c.check_script.new.source in
+    let sink = edge g.K.Sink.written g.K.Sink.faults c.args.out.now c.write_end-in-Some-Check.new.out in
+    let scene = stage sink (edge g.D.SharedDisk.files g.D.SharedDisk.faults c.args.disk.now c.args.disk.now) c.args.world.now c.args.world.now in
+    let run = around words source scene in
+    end-written (Ends run) (WordsLack run) c.check_script.result sink c.write_end-in-Some-Check.result c.write_end-in-Some-Check.ensures (ok-ends c.check_script.result _ (Ends run) (check-run run asked (record { disk = refl; world = refl })) c.check_script.ensures.ends) (subst (λ (o : Option Command). LacksBy o run []) (sym asked) (refl, record { disk = refl; world = refl }))
+
+pub returns-in-Some-Expr : goal.returns-in-Some-Expr
+returns-in-Some-Expr g c =
+    let words : List (List ℕ) = map (λ word. string_bytes word) c.args.words.now in
+    let kind = c.in-Some-Expr.kind in
+    let asked : command_of words ≡ Some (Expr kind) = sym c.command_of.ensures ∙ c.in-Some-Expr.is ∙ ap Some c.in-Some-Expr.field-0-is in
+    let source = edge g.S.Source.left g.S.Source.faults c.args.source.now c.args.source.now in
+    let sink = edge g.K.Sink.written g.K.Sink.faults c.args.out.now c.write_end-in-Some-Expr.new.out in
+    let scene = stage sink (edge g.D.SharedDisk.files g.D.SharedDisk.faults c.args.disk.now c.args.disk.now) c.args.world.now c.args.world.now in
+    let run = around words source scene in
+    end-written (Ends run) (WordsLack run) c.check_text.result sink c.write_end-in-Some-Expr.result c.write_end-in-Some-Expr.ensures (ok-ends c.check_text.result (ExprEnds kind (text_of words)) (Ends run) (expr-run run kind asked (record { disk = refl; world = refl }) refl) (subst (λ (said : List ℕ). IfOk c.check_text.result (λ one. ExprEnds kind said one.status one.text.items)) c.text_of.ensures c.check_text.ensures.ends)) (subst (λ (o : Option Command). LacksBy o run []) (sym asked) (refl, record { disk = refl; world = refl }, refl))

@@ -1,5 +1,0 @@
-use Rattle.aisrun.proofs.Progress.{Listing}
-use Rattle.aisrun.proofs.session.lines_of_files.Given as goal
-
-abbrev pub invariant-loop-name : goal.invariant-loop-name
-invariant-loop-name g l = Listing l.name-items l.name-index (g.D.SharedDisk.files l.fn.disk) (g.D.SharedDisk.files l.disk) (g.D.SharedDisk.faults l.fn.disk) (g.D.SharedDisk.faults l.disk) l.lines.items

@@ -1,0 +1,54 @@
+-- Words of public clauses: what a run was given of each thing outside, and what it leaves of it.
+use Rattle.std.specs.Prelude.{◌≡◌, ℕ, List, Option}
+use Rattle.ais_values.specs.Causes.{Rose}
+use Rattle.disk_model.specs.Disk.{Files}
+use Rattle.cluster_core.specs.declared.world.World.{World}
+
+-- a source, a sink or a disk before and after: what it tells of its content, and how often it has failed
+pub record Edge (S T : Type 0) : Type 0 where
+  pub told : S → Option T
+  pub faults : S → ℕ
+  pub old : S
+  pub new : S
+
+abbrev pub edge : {S T : Type 0} → (S → Option T) → (S → ℕ) → S → S → Edge S T
+edge told faults old new = record { told = told; faults = faults; old = old; new = new }
+
+-- what it told before, and what it tells after
+abbrev pub before : {S T : Type 0} → Edge S T → Option T
+before one = one.told one.old
+
+abbrev pub after : {S T : Type 0} → Edge S T → Option T
+after one = one.told one.new
+
+-- its count of faults rose
+abbrev pub Faulted : {S T : Type 0} → Edge S T → Type 0
+Faulted one = Rose (one.faults one.old) (one.faults one.new)
+
+-- it was not asked for anything
+abbrev pub IsUntouched : {S T : Type 0} → Edge S T → Type 0
+IsUntouched one = one.new ≡ one.old
+
+-- where a script is played: the sink, the disk, and the world of servers and clients before and after
+pub record Stage (K D : Type 0) : Type 0 where
+  pub sink : Edge K (List ℕ)
+  pub disk : Edge D Files
+  pub world : World
+  pub world_after : World
+
+abbrev pub stage : {K D : Type 0} → Edge K (List ℕ) → Edge D Files → World → World → Stage K D
+stage sink disk world world_after = record { sink = sink; disk = disk; world = world; world_after = world_after }
+
+-- a whole run: its words, its source and its stage
+pub record Around (S K D : Type 0) : Type 0 where
+  pub words : List (List ℕ)
+  pub source : Edge S (List ℕ)
+  pub stage : Stage K D
+
+abbrev pub around : {S K D : Type 0} → List (List ℕ) → Edge S (List ℕ) → Stage K D → Around S K D
+around words source stage = record { words = words; source = source; stage = stage }
+
+-- disk and world are as they were
+pub record LeavesAll {K D : Type 0} (scene : Stage K D) : Type 0 where
+  pub disk : IsUntouched scene.disk
+  pub world : scene.world_after ≡ scene.world

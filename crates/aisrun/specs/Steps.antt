@@ -1,0 +1,150 @@
+-- Words of bodies alone: what is written of the ends that bodies come to, and what each line that is played leads to.
+use Rattle.std.specs.Prelude.{◌≡◌, ℕ, ℤ, List, [], ◌∷◌, ◌++◌, reverse, Option, Some, None, Result, Ok, Err, IfSome}
+use Rattle.std.specs.List.{flat_map}
+use Rattle.std.specs.FinMap as files
+use Rattle.std.specs.Io.KnownBytes.{Appends}
+use Rattle.ais_values.specs.Causes.{Rose}
+use Rattle.disk_model.specs.Disk.{Files}
+use Rattle.io_edge.specs.Writes.{AppendsFront}
+use Rattle.io_edge.specs.declared.answers.SinkAnswer.{SinkAnswer}
+use Rattle.io_edge.specs.declared.answers.SinkAnswer.TheVariants as answer
+use Rattle.script_lines.specs.declared.line.Line.{Line}
+use Rattle.script_lines.specs.declared.line.Line.TheVariants as line
+use Rattle.script_language.specs.Lines.{Spells}
+use Rattle.plain_service.specs.Setups.{Setup}
+use Rattle.cluster_events.specs.Lines.{Told}
+use Rattle.cluster_events.specs.Servers.{State}
+use Rattle.lone_cluster.specs.Lone.{Alone}
+use Rattle.cluster_core.specs.declared.world.World.{World}
+use Rattle.cluster_core.specs.Beginning.{Begun, HoldsNone}
+use Rattle.cluster_core.specs.Broken.{Broken}
+use Rattle.cluster_core.specs.Playing.{EventDone, IsLoneLine}
+use Rattle.cluster_core.specs.Worlds.{IsGood, LeavesFiles, Shows}
+use Rattle.aisrun.specs.declared.ending.Status8.{Status8}
+use Rattle.aisrun.specs.declared.ending.Status8.TheVariants.{Done, Memory, WriteFault, DiskFault}
+use Rattle.aisrun.specs.Edges.{Edge, before, after, Faulted}
+use Rattle.aisrun.specs.Endings.{FaultLeft, fault_line}
+use Rattle.aisrun.specs.Playing.{files_told, Goes, Played, StandsAt, text_of}
+
+-- an end, or a point before any end, with the text up to there
+abbrev pub Reaching : Type 1
+Reaching = Option Status8 → List ℕ → Type 0
+
+-- what was written: the text of an end that E allows; or, as the sink failed or lacked memory, a front of the text of an end, or
+-- of what was done up to some point; or all text up to a point at which memory was wanting
+pub data Written {K : Type 0} (E : Reaching) (L : List ℕ → Type 0) (sink : Edge K (List ℕ)) (status : Status8) : Type 0 where
+  Whole : (text : List ℕ) → E (Some status) text → Appends (before sink) (after sink) text → Written E L sink status
+  SinkFailed : status ≡ WriteFault → Faulted sink → (reached : Option Status8) (text : List ℕ) → E reached text → AppendsFront (before sink) (after sink) text → Written E L sink status
+  SinkLacked : status ≡ Memory → (reached : Option Status8) (text : List ℕ) → E reached text → AppendsFront (before sink) (after sink) text → Written E L sink status
+  Lacked : status ≡ Memory → (text : List ℕ) → L text → Appends (before sink) (after sink) text → Written E L sink status
+
+-- a text is written, behind which the run ends with a status
+abbrev pub IsText : Status8 → List ℕ → Reaching
+IsText status text reached written = (reached ≡ Some status) × (written ≡ text)
+
+-- the status where the sink did not take all
+abbrev pub sink_status : SinkAnswer → Status8
+sink_status answer.Memory = Memory
+sink_status answer.Failed = WriteFault
+
+-- memory was wanting nowhere, or where nothing was written
+abbrev pub IsNever : List ℕ → Type 0
+IsNever text = ⊥
+
+abbrev pub IsNone : List ℕ → Type 0
+IsNone text = text ≡ []
+
+-- the disk holds no file, or this is the least name
+abbrev pub FindsNames : Option Files → Option (List ℕ) → Type 0
+FindsNames held None = HoldsNone held
+FindsNames held (Some name) = IfSome held (λ f. (others : List (List ℕ)) × (files.keys f ≡ name ∷ others))
+
+-- bytes of lines
+abbrev pub joined_lines : List (List ℕ) → List ℕ
+joined_lines lines = flat_map (λ line. line) lines
+
+-- the time in force behind a line
+abbrev pub time_behind : ℤ → Line → ℤ
+time_behind now (line.Time later) = later
+time_behind now _ = now
+
+-- these lines can be played one after another from a time on
+abbrev pub CanFollow : ℤ → List Line → Type 0
+CanFollow now [] = Unit {0}
+CanFollow now (next ∷ lines) =
+    ((raw : List ℕ) × Spells next raw) × IsLoneLine now next × CanFollow (time_behind now next) lines
+
+-- some lines were played
+pub record Going (setup : Setup) (places : ℕ) (held left : Option Files) (world : World) (lines : List Line) (text : List ℕ) : Type 0 where
+  pub state : State Alone
+  pub told : List Told
+  pub files : Files
+  pub run : Played setup places held (reverse lines) state told files
+  pub good : IsGood setup state
+  pub shows : Shows setup state world
+  pub tells : LeavesFiles setup state held left
+  pub written : text ≡ text_of told
+
+-- where one line that is played ends: its event is done, or the disk failed behind some lines
+abbrev pub LineEnds : Setup → State Alone → Line → Option Files → Option Files → ℕ → ℕ → World → Reaching
+LineEnds setup state next held left before later world None text =
+    (lines : List (List ℕ)) × (text ≡ joined_lines lines) × EventDone setup state next lines held left world
+LineEnds setup state next held left before later world (Some DiskFault) text =
+    Rose before later × ((lines : List ℕ) × FaultLeft setup state held left world lines × (text ≡ lines ++ fault_line))
+LineEnds setup state next held left before later world _ text = ⊥
+
+-- what the playing of a line gives
+abbrev pub LineGives : {K : Type 0} → Reaching → (List ℕ → Type 0) → Edge K (List ℕ) → Result Unit Status8 → Type 0
+LineGives E L sink (Ok done) = (text : List ℕ) × E None text × Appends (before sink) (after sink) text
+LineGives E L sink (Err status) = Written E L sink status
+
+-- memory was wanting as a line was played, before anything of it was written
+abbrev pub LineLacks : Setup → State Alone → Option Files → Option Files → World → List ℕ → Type 0
+LineLacks setup state held left world text = (text ≡ []) × Broken setup state held left world
+
+-- lines were played, and world and disk stand where they led
+pub record Plays (setup : Setup) (places : ℕ) (held left : Option Files) (world : World) (lines : List Line) (text : List ℕ) : Type 0 where
+  pub goes : Goes setup places held lines text
+  pub now : StandsAt setup goes.state goes.files held left world
+
+-- an event broke off behind those that were done
+pub record BreaksBehind (setup : Setup) (places : ℕ) (held : Option Files) (events : List Line) (front : List ℕ) : Type 0 where
+  pub done : List Line
+  pub next : Line
+  pub rest : List Line
+  pub parts : events ≡ done ++ next ∷ rest
+  pub goes : Goes setup places held done front
+
+-- for want of memory
+pub record LacksBehind (setup : Setup) (places : ℕ) (held left : Option Files) (world : World) (events : List Line) (front : List ℕ) : Type 0 where
+  pub behind : BreaksBehind setup places held events front
+  pub broken : Broken setup behind.goes.state (files_told behind.goes.files held) left world
+
+-- by a fault of the disk
+pub record FaultsBehind (setup : Setup) (places : ℕ) (held left : Option Files) (world : World) (events : List Line) (text : List ℕ) : Type 0 where
+  pub front : List ℕ
+  pub behind : BreaksBehind setup places held events front
+  pub lines : List ℕ
+  pub fault : FaultLeft setup behind.goes.state (files_told behind.goes.files held) left world lines
+  pub written : text ≡ front ++ (lines ++ fault_line)
+
+-- where the lines behind the opening end
+abbrev pub EventsEnd : Setup → ℕ → Option Files → Option Files → ℕ → ℕ → World → List Line → Reaching
+EventsEnd setup places held left before later world events None text =
+    (done : List Line) × (rest : List Line) × (events ≡ done ++ rest) × Plays setup places held left world done text
+EventsEnd setup places held left before later world events (Some Done) text = Plays setup places held left world events text
+EventsEnd setup places held left before later world events (Some DiskFault) text =
+    Rose before later × FaultsBehind setup places held left world events text
+EventsEnd setup places held left before later world events _ text = ⊥
+
+-- behind some of the lines, of which these are left: the text so far is written, and no fault was lost
+pub record Behind {K : Type 0} (setup : Setup) (places : ℕ) (held left : Option Files) (world : World) (sink : Edge K (List ℕ)) (events rest : List Line) : Type 0 where
+  pub done : List Line
+  pub parts : events ≡ done ++ rest
+  pub text : List ℕ
+  pub going : Going setup places held left world done text
+  pub appended : Appends (before sink) (after sink) text
+
+-- a cluster was begun, and the disk has its first files
+abbrev pub HasBegun : Option Files → World → Type 0
+HasBegun left world = (setup : Setup) × (places : ℕ) × (held : Option Files) × Begun setup places held left world

@@ -1,0 +1,161 @@
+//! Playing a script: the cluster begins on a disk without files, and then line follows line.
+ghost use Rattle.std.specs.Prelude.{◌≡◌, ◌≤◌, ◌∷◌, ◌++◌, ℕ, codes, List, Option, IfOk, OnOk};
+ghost use Rattle.ais_values.specs.Causes.{HasCauseOf};
+ghost use Rattle.disk_model.specs.Disk.{Files};
+ghost use Rattle.plain_service.specs.Setups.{Setup};
+ghost use Rattle.cluster_events.specs.Servers.{State};
+ghost use Rattle.lone_cluster.specs.Lone.{Alone};
+ghost use Rattle.script_language.specs.Lines.{Spells};
+ghost use Rattle.cluster_core.specs.Beginning.{Begun, HoldsNone};
+ghost use Rattle.cluster_core.specs.Playing.{IsLoneLine};
+ghost use Rattle.cluster_core.specs.Worlds.{empty_world, HasState, IsGood, Shows, TellsFiles};
+ghost use Rattle.aisrun.specs.Edges.{edge, stage};
+ghost use Rattle.aisrun.specs.Endings.{PlayEnds, PlayLacks};
+ghost use Rattle.aisrun.specs.Scripting.{CanPlay, IsPlayable};
+ghost use Rattle.aisrun.specs.Steps.{CanFollow, EventsEnd, FindsNames, HasBegun, IsNone, IsText, LacksBehind, LineEnds, LineGives, LineLacks, Written};
+
+use crate::ending::{Status8, root_holds};
+use crate::writing::{unwritten, write_broken, write_lines, write_text};
+use ais_values::{Duplicate, Text};
+use cluster_core::{EventAnswer, World};
+use disk_model::{DiskAnswer, SharedDisk};
+use io_edge::Sink;
+use script_lines::Line;
+use std::alloc::Global;
+
+// Plays a line: its event, and the writing of its lines. `Err` has the status that the run ends with.
+fn play_line<K: Sink, D: SharedDisk>(
+    alloc: Global,
+    line: &Line,
+    out: &mut K,
+    disk: &mut D,
+    world: &mut World,
+) -> Result<(), Status8>
+    requires spelled { (raw : List ℕ) × Spells line.now raw }
+    requires lone { IsLoneLine world.old.now line.now }
+    requires state { HasState world.old }
+    ensures ends { (setup : Setup) (state : State Alone) → IsGood setup state → Shows setup state world.old
+        → TellsFiles setup state (D.files disk.old)
+        → LineGives (LineEnds setup state line.now (D.files disk.old) (D.files disk.new) (D.faults disk.old) (D.faults disk.new) world.new)
+        (LineLacks setup state (D.files disk.old) (D.files disk.new) world.new)
+        (edge K.written K.faults out.old out.new) result }
+    ensures sink { OnOk result (K.faults out.old ≤ K.faults out.new) }
+    ensures disk { OnOk result (D.faults disk.old ≤ D.faults disk.new) }
+{
+    match world.event(alloc, line, disk) {
+        Ok(lines) => match write_lines(out, lines.as_slice()) {
+            Ok(()) => Ok(()),
+            Err(answer) => Err(unwritten(answer)),
+        },
+        Err(EventAnswer::Memory) => Err(Status8::Memory),
+        Err(EventAnswer::DiskFault { printed }) => Err(write_broken(out, printed.as_slice())),
+    }
+}
+
+// Plays the lines behind the opening.
+fn play_events<K: Sink, D: SharedDisk>(
+    alloc: Global,
+    events: &[Line],
+    out: &mut K,
+    disk: &mut D,
+    world: &mut World,
+) -> Status8
+    requires begun { HasBegun (D.files disk.old) world.old }
+    requires follows { CanFollow world.old.now events.now }
+    ensures { (setup : Setup) (places : ℕ) (held : Option Files) → Begun setup places held (D.files disk.old) world.old
+        → Written (EventsEnd setup places held (D.files disk.new) (D.faults disk.old) (D.faults disk.new) world.new events.now)
+        (LacksBehind setup places held (D.files disk.new) world.new events.now) (edge K.written K.faults out.old out.new) result }
+{
+    for line in events {
+        match play_line(alloc, line, out, disk, world) {
+            Ok(()) => {}
+            Err(status) => return status,
+        }
+    }
+    Status8::Done
+}
+
+// Begins the cluster, and plays the lines behind its line.
+fn open<K: Sink, D: SharedDisk>(
+    alloc: Global,
+    opening: &Line,
+    events: &[Line],
+    out: &mut K,
+    disk: &mut D,
+    world: &mut World,
+) -> Status8
+    requires script { CanPlay opening.now events.now }
+    requires empty { world.old ≡ empty_world }
+    requires bare { HoldsNone (D.files disk.old) }
+    ensures { Written (PlayEnds (opening.now ∷ events.now)
+        (stage (edge K.written K.faults out.old out.new) (edge D.files D.faults disk.old disk.new) world.old world.new))
+        (PlayLacks (opening.now ∷ events.now) (stage (edge K.written K.faults out.old out.new) (edge D.files D.faults disk.old disk.new) world.old world.new))
+        (edge K.written K.faults out.old out.new) result }
+{
+    match world.begin(alloc, opening, disk) {
+        Ok(()) => play_events(alloc, events, out, disk, world),
+        Err(EventAnswer::Memory) => Status8::Memory,
+        Err(EventAnswer::DiskFault { printed }) => write_broken(out, printed.as_slice()),
+    }
+}
+
+// The least name of the disk's files, if it holds one.
+fn first_name<D: SharedDisk>(alloc: Global, disk: &mut D) -> Result<Option<Text>, DiskAnswer>
+    ensures found { IfOk result (λ found. FindsNames (D.files disk.old) found) }
+    ensures same { D.files disk.new ≡ D.files disk.old }
+    ensures cause { HasCauseOf (D.faults disk.old) (D.faults disk.new) result DiskAnswer.Failed }
+{
+    let names = match disk.names(alloc) {
+        Ok(names) => names,
+        Err(answer) => return Err(answer),
+    };
+    match names.as_slice() {
+        [] => Ok(None),
+        [first, ..] => match first.copy(alloc) {
+            Ok(name) => Ok(Some(name)),
+            Err(_) => Err(DiskAnswer::Memory),
+        },
+    }
+}
+
+// Writes the end where the disk held a file of this name.
+fn write_held<K: Sink>(alloc: Global, out: &mut K, name: &[u8]) -> Status8
+    ensures { Written (IsText Status8.RootNotEmpty (codes "root not empty: " ++ (name.now ++ codes "\n")))
+        IsNone (edge K.written K.faults out.old out.new) result }
+{
+    match root_holds(alloc, name) {
+        Ok(end) => write_text(out, end.status, end.text.as_slice()),
+        Err(_) => Status8::Memory,
+    }
+}
+
+/// Plays the lines of a script over a disk: the first begins a cluster where the disk holds no file, and the
+/// others are its events, whose lines are written as each event ends.
+///
+/// `RootNotEmpty` comes where the disk holds a file; its least name is written, and disk and world stay.
+/// `DiskFault` comes only where the disk's faults rose.
+pub fn play<K: Sink, D: SharedDisk>(
+    alloc: Global,
+    lines: &[Line],
+    out: &mut K,
+    disk: &mut D,
+    world: &mut World,
+) -> Status8
+    requires script { IsPlayable lines.now }
+    requires empty { world.old ≡ empty_world }
+    ensures { Written (PlayEnds lines.now (stage (edge K.written K.faults out.old out.new)
+        (edge D.files D.faults disk.old disk.new) world.old world.new))
+        (PlayLacks lines.now (stage (edge K.written K.faults out.old out.new)
+        (edge D.files D.faults disk.old disk.new) world.old world.new))
+        (edge K.written K.faults out.old out.new) result }
+{
+    match first_name(alloc, disk) {
+        Ok(None) => match lines.split_first() {
+            None => Status8::Memory,
+            Some((opening, events)) => open(alloc, opening, events, out, disk, world),
+        },
+        Ok(Some(name)) => write_held(alloc, out, name.as_slice()),
+        Err(DiskAnswer::Memory) => Status8::Memory,
+        Err(DiskAnswer::Failed) => write_broken(out, &[]),
+    }
+}
