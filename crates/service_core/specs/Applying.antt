@@ -3,7 +3,6 @@ use Rattle.std.specs.Prelude.{◌≡◌, ℕ, ◌<◌, ℤ, ◌==◌, ◌&&◌, 
 use Rattle.std.specs.Option.{option_map_or}
 use Rattle.calls.specs.declared.entry.Entry.{Entry}
 use Rattle.calls.specs.declared.entry.Entry.TheVariants.{Called, Receipted}
-use Rattle.calls.specs.declared.reply.Reply.{Reply}
 use Rattle.calls.specs.declared.saved.Saved.{Saved}
 use Rattle.calls.specs.declared.saved.SavedWindow.{SavedWindow}
 use Rattle.calls.specs.declared.saved.SavedSub.{SavedSub}
@@ -35,10 +34,3 @@ pub record CanAcceptIn (saved : Saved) (client : ℕ) (now : ℤ) : Type 0 where
 abbrev pub CanApply : Entry → Saved → Type 0
 CanApply (Called client seq now call) saved = CanAcceptIn saved client now × (seq ≡ next_in saved client)
 CanApply (Receipted client key through now) saved = CanAcceptIn saved client now × (is_new_in saved client key through ≡ true)
-
--- the reply to an entry: a receipt has none
-abbrev pub ReplyTo : (Entry → Reply → Type 0) → Entry → Option Reply → Type 0
-ReplyTo P (Called client seq now call) None = ⊥
-ReplyTo P (Called client seq now call) (Some reply) = P (Called client seq now call) reply
-ReplyTo P (Receipted client key through now) None = Unit {0}
-ReplyTo P (Receipted client key through now) (Some reply) = ⊥

@@ -1,8 +1,7 @@
 -- Words of bodies alone: what the calls of the parts ask of what is kept.
-use Rattle.std.specs.Prelude.{ℕ, ◌<◌, ℤ, List}
+use Rattle.std.specs.Prelude.{ℕ, ◌<◌, ℤ}
 use Rattle.std.specs.List.{AllByRecursion}
 use Rattle.ntf_service.specs.State.{CanSendMore, IsKeyAbove}
-use Rattle.calls.specs.declared.saved.SavedReader.{SavedReader}
 use Rattle.log_history.specs.Table.{LogTable}
 use Rattle.plain_service.specs.Setups.{IsMoment}
 use Rattle.service_table.specs.Tables.{ServiceTable}
@@ -31,15 +30,5 @@ with_log kept log = record {
   ntf = kept.ntf;
   alarms = kept.alarms;
   readers = kept.readers;
-  windows = kept.windows;
-}
-
-abbrev pub with_readers : ServiceTable → List SavedReader → ServiceTable
-with_readers kept readers = record {
-  number = kept.number;
-  log = kept.log;
-  ntf = kept.ntf;
-  alarms = kept.alarms;
-  readers = readers;
   windows = kept.windows;
 }
