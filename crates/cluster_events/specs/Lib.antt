@@ -4,6 +4,7 @@ pub mod Servers
 pub mod ClientEvents
 pub mod Events
 pub mod Settling
+pub mod Stopping
 pub mod Saying
 pub mod Serving
 pub mod Measure
