@@ -1,10 +1,10 @@
--- Words of bodies alone: the text of a piece of a line.
-use Rattle.std.specs.Prelude.{ℕ, zero, suc, ◌==◌, Bool, false, List, slice_index, codes}
+-- Words of bodies alone: the text of a piece of a line, and the line that a byte of a file ends.
+use Rattle.std.specs.Prelude.{ℕ, zero, suc, ◌==◌, Bool, false, List, [], ◌∷◌, slice_index, codes, if◌then◌else◌}
 use Rattle.std.specs.Fmt.{decimal, signed_decimal}
 use Rattle.std.specs.List.{join_by}
 use Rattle.ais_values.specs.Statuses.{status_word}
 use Rattle.script_language.specs.Printing.{server_text, shown_note_text, line_text}
-use Rattle.event_text.specs.Texts.{why_text, role_text, hand_text}
+use Rattle.event_text.specs.Texts.{why_text, role_text, hand_text, trimmed, text_line}
 use Rattle.event_text.specs.declared.pieces.Piece.{Piece}
 use Rattle.event_text.specs.declared.pieces.Piece.TheVariants.{Word, Number, Signed, Answer, Note, Script, Ids, Reason, Role, Hand, Node}
 
@@ -25,3 +25,7 @@ piece_text (Node server) = server_text server
 abbrev pub ends_blank : List ℕ → ℕ → Bool
 ends_blank line zero = false
 ends_blank line (suc last) = slice_index line last == 32
+
+-- the line that a byte of a file ends, behind the front of that line
+abbrev pub ended_lines : List ℕ → ℕ → List (List ℕ)
+ended_lines front byte = if byte == 10 then text_line (trimmed front) ∷ [] else []

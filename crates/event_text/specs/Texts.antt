@@ -1,5 +1,5 @@
 -- Words of public clauses: the text of the lines that events print. Each line of text ends with a line feed.
-use Rattle.std.specs.Prelude.{ℕ, ◌==◌, Option, Some, None, List, [], ◌∷◌, ◌++◌, length, map, codes, if◌then◌else◌}
+use Rattle.std.specs.Prelude.{◌≡◌, ℕ, ◌==◌, Option, Some, None, List, [], ◌∷◌, ◌++◌, length, map, codes, if◌then◌else◌}
 use Rattle.std.specs.Fmt.{decimal, signed_decimal}
 use Rattle.std.specs.List.{filter, flat_map, join_by}
 use Rattle.ais_values.specs.Statuses.{status_word}
@@ -185,3 +185,12 @@ file_text_lines bytes = lines_behind [] bytes
 -- and what is printed of them
 abbrev pub shown_lines : List (List ℕ) → List (List ℕ)
 shown_lines lines = map text_line lines
+
+-- Where memory runs out.
+
+-- some of the lines to be added, from the first on, stand behind those before
+pub record AddedInPart (before added after : List (List ℕ)) : Type 0 where
+  pub front : List (List ℕ)
+  pub rest : List (List ℕ)
+  pub whole : added ≡ front ++ rest
+  pub stands : after ≡ before ++ front

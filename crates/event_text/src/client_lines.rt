@@ -1,6 +1,6 @@
 //! Lines on clients: replies and callbacks.
 ghost use Rattle.std.specs.Prelude.{◌≡◌, ◌++◌, ◌∷◌, [], OnOk, OnErr, IfOk};
-ghost use Rattle.event_text.specs.Texts.{reply_line, declined_line, ids_of, lost_lines_of, lost_lines, callback_lines, dispatched_line};
+ghost use Rattle.event_text.specs.Texts.{reply_line, declined_line, ids_of, lost_lines_of, lost_lines, callback_lines, dispatched_line, AddedInPart};
 
 use crate::pieces::{Piece, put_line};
 use ais_values::{Seq, Status};
@@ -144,7 +144,7 @@ struct Place {
     id: u32,
 }
 
-/// Adds the line on the lost notifications of one type, if there are any.
+/// Adds the line on the lost notifications of one type, if there are any. Where memory runs out nothing is added.
 #[tactic(auto, unfolding(crate::specs::Texts::lost_lines_of))]
 fn put_ids_of<'a>(
     alloc: Global,
@@ -153,8 +153,9 @@ fn put_ids_of<'a>(
     word: &'a [u8],
     ids: &'a [u64],
 ) -> Result<(), AllocError>
-    ensures { OnOk result (lines.new.items ≡ lines.old.items
+    ensures ok { OnOk result (lines.new.items ≡ lines.old.items
         ++ lost_lines_of place.client place.number place.id word.now ids.now) }
+    ensures err { OnErr result (lines.new.items ≡ lines.old.items) }
 {
     if ids.is_empty() {
         return Ok(());
@@ -180,7 +181,7 @@ fn put_ids_of<'a>(
     )
 }
 
-/// Adds the line on the lost notifications of the type of this code, if there are any.
+/// Adds the line on the lost notifications of the type of this code, if there are any. Where memory runs out nothing is added.
 fn put_lost_of(
     alloc: Global,
     lines: &mut Vec<Seq<u8>>,
@@ -189,14 +190,16 @@ fn put_lost_of(
     lost: &[Lost],
     kind: u16,
 ) -> Result<(), AllocError>
-    ensures { OnOk result (lines.new.items ≡ lines.old.items
+    ensures ok { OnOk result (lines.new.items ≡ lines.old.items
         ++ lost_lines_of place.client place.number place.id word.now (ids_of kind lost.now)) }
+    ensures err { OnErr result (lines.new.items ≡ lines.old.items) }
 {
     let ids = ids_of_kind(alloc, lost, kind)?;
     put_ids_of(alloc, lines, place, word, ids.as_slice())
 }
 
-/// Adds a line for each type of which notifications are lost, by rising codes.
+/// Adds a line for each type of which notifications are lost, by rising codes. Where memory runs out, some of them, from the
+/// first on, may have been added.
 #[tactic(auto, unfolding(crate::specs::Texts::lost_lines), using(crate::proofs::Chain::chained))]
 fn put_lost(
     alloc: Global,
@@ -204,8 +207,10 @@ fn put_lost(
     place: Place,
     lost: &[Lost],
 ) -> Result<(), AllocError>
-    ensures { OnOk result (lines.new.items ≡ lines.old.items
+    ensures ok { OnOk result (lines.new.items ≡ lines.old.items
         ++ lost_lines place.client place.number place.id lost.now) }
+    ensures err { OnErr result (AddedInPart lines.old.items
+        (lost_lines place.client place.number place.id lost.now) lines.new.items) }
 {
     put_lost_of(alloc, lines, place, b"objects", lost, 0x1000)?;
     put_lost_of(alloc, lines, place, b"attributes", lost, 0x2000)?;
@@ -217,8 +222,8 @@ fn put_lost(
 
 /// Adds the lines of a client's callback of this number that is handed out: one, but for losses, which have one for each type.
 ///
-/// Where memory runs out, some of the lines may have been added.
-#[tactic(auto, unfolding(crate::specs::Texts::callback_lines))]
+/// Where memory runs out, some of the lines, from the first on, may have been added.
+#[tactic(auto, unfolding(crate::specs::Texts::callback_lines), using(crate::proofs::Chain::none_added))]
 pub fn put_callback(
     alloc: Global,
     lines: &mut Vec<Seq<u8>>,
@@ -226,8 +231,10 @@ pub fn put_callback(
     number: u64,
     callback: &Callback,
 ) -> Result<(), AllocError>
-    ensures { OnOk result (lines.new.items ≡ lines.old.items
+    ensures ok { OnOk result (lines.new.items ≡ lines.old.items
         ++ callback_lines client number callback.now) }
+    ensures err { OnErr result (AddedInPart lines.old.items
+        (callback_lines client number callback.now) lines.new.items) }
 {
     match callback {
         Callback::Written { invocation, status } => put_line(

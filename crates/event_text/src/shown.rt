@@ -1,7 +1,7 @@
 //! What is shown of a file: its lines.
-ghost use Rattle.std.specs.Prelude.{◌≡◌, ◌≤◌, ◌++◌, ◌∷◌, [], List, ℕ, length, OnOk};
-ghost use Rattle.event_text.specs.Pieces.{ends_blank};
-ghost use Rattle.event_text.specs.Texts.{trimmed, lines_behind, file_text_lines, shown_lines};
+ghost use Rattle.std.specs.Prelude.{◌≡◌, ◌≤◌, ◌++◌, ◌∷◌, [], List, ℕ, length, OnOk, OnErr};
+ghost use Rattle.event_text.specs.Pieces.{ends_blank, ended_lines};
+ghost use Rattle.event_text.specs.Texts.{trimmed, lines_behind, file_text_lines, shown_lines, AddedInPart};
 
 use crate::cluster_lines::put_text;
 use ais_values::Seq;
@@ -29,16 +29,19 @@ fn without_blanks(line: &[u8]) -> &[u8]
     &line[..end]
 }
 
-/// One byte more of a file: it ends the line, or joins its front.
+/// One byte more of a file: it ends the line, or joins its front. Where memory runs out no line is added.
 fn put_byte(
     alloc: Global,
     lines: &mut Vec<Seq<u8>>,
     front: &mut Vec<u8>,
     byte: u8,
 ) -> Result<(), AllocError>
-    ensures { OnOk result ((rest : List ℕ) →
+    ensures ok { OnOk result ((rest : List ℕ) →
         lines.new.items ++ shown_lines (lines_behind front.new.items rest)
         ≡ lines.old.items ++ shown_lines (lines_behind front.old.items (byte ∷ rest))) }
+    ensures front { OnOk result (lines.new.items ≡ lines.old.items
+        ++ ended_lines front.old.items byte) }
+    ensures err { OnErr result (lines.new.items ≡ lines.old.items) }
 {
     if byte == b'\n' {
         put_text(alloc, lines, without_blanks(front.as_slice()))?;
@@ -49,10 +52,12 @@ fn put_byte(
     Ok(())
 }
 
-/// Adds the lines that show these bytes of a file. Where memory runs out, some of them may have been added.
+/// Adds the lines that show these bytes of a file. Where memory runs out, some of them, from the first on, may have been added.
 pub fn put_shown(alloc: Global, lines: &mut Vec<Seq<u8>>, bytes: &[u8]) -> Result<(), AllocError>
-    ensures { OnOk result (lines.new.items ≡ lines.old.items
+    ensures ok { OnOk result (lines.new.items ≡ lines.old.items
         ++ shown_lines (file_text_lines bytes.now)) }
+    ensures err { OnErr result (AddedInPart lines.old.items
+        (shown_lines (file_text_lines bytes.now)) lines.new.items) }
 {
     let mut front = Vec::new(alloc);
     for byte in bytes {
