@@ -46,6 +46,7 @@ use Rattle.cluster_core.specs.Heard.{posted_all, lines_all}
 use Rattle.cluster_core.specs.Worlds.{Shows, IsGood, TellsFiles, heard_by, drained}
 use Rattle.cluster_core.specs.Broken.{LeavesBetween, Broken, Faulted}
 use Rattle.cluster_core.specs.Errors.{BreaksOff}
+use Rattle.cluster_core.specs.Rounds.{StopsInDrain}
 use Rattle.cluster_core.specs.PartlyDone.{PostsSome, IsPartlyTold, IsFaultTold}
 use Rattle.cluster_core.proofs.ServerSteps.{state_with, answered-history, IsHeardBy}
 use Rattle.cluster_core.proofs.WorkSteps.{IsWorked, drain-steady}
@@ -257,7 +258,7 @@ Says-stood plain world =
       writes = says.writes;
     }
 
-work-fails-by : (setup : Setup) (state : State Alone) (hand : Hand) (old : Kept) (a : Server) (count : ℕ) (held left : Option Files) → IsGood setup (state_with state hand) → Shows setup (state_with state hand) old → IsSome old.a.owed → a ≡ down → FailsAfter (calls_of_all (deeds_in old.a.owed)) count held left → Faulted setup (state_with state hand) (Stood ServerA Down ∷ []) held left (record old { a = a })
+work-fails-by : (setup : Setup) (state : State Alone) (hand : Hand) (old : Kept) (a : Server) (count : ℕ) (held left : Option Files) → IsGood setup (state_with state hand) → Shows setup (state_with state hand) old → IsSome old.a.owed → a ≡ down → FailsAfter (calls_of_all (deeds_in old.a.owed)) count held left → Faulted setup (StopsInDrain setup) (state_with state hand) (Stood ServerA Down ∷ []) held left (record old { a = a })
 work-fails-by setup state Empty old a count held left good shows some fell fails = absurd (rest-owes setup state.world.core.answered old.a shows.active some)
 work-fails-by setup state (Ready entry) old a count held left good shows some fell fails =
     let now = state_with state (Ready entry) in
@@ -265,6 +266,9 @@ work-fails-by setup state (Ready entry) old a count held left good shows some fe
     record {
       reached = now;
       entry = entry;
+      lines = [];
+      stops = refl;
+      printed = refl;
       says = Says-stood (plain_of setup) now.world;
       good = good;
       in_hand = refl;
@@ -287,7 +291,7 @@ work-fails-by setup state (Waiting entry) old a count held left good shows some 
 work-fails-by setup state (Applied entry) old a count held left good shows some fell fails = elim good.steady.good [ ]
 
 -- **what work is left as in whose deeds the disk had a fault**
-pub work-fails : (setup : Setup) (state : State Alone) (old : Kept) (a : Server) (count : ℕ) (held left : Option Files) → IsGood setup state → Shows setup state old → IsSome old.a.owed → a ≡ down → FailsAfter (calls_of_all (deeds_in old.a.owed)) count held left → Faulted setup state (Stood ServerA Down ∷ []) held left (record old { a = a })
+pub work-fails : (setup : Setup) (state : State Alone) (old : Kept) (a : Server) (count : ℕ) (held left : Option Files) → IsGood setup state → Shows setup state old → IsSome old.a.owed → a ≡ down → FailsAfter (calls_of_all (deeds_in old.a.owed)) count held left → Faulted setup (StopsInDrain setup) state (Stood ServerA Down ∷ []) held left (record old { a = a })
 work-fails setup state old a count held left good shows some fell fails =
     work-fails-by setup state state.world.core.hand old a count held left good shows some fell fails
 
@@ -302,7 +306,7 @@ work-unsaid-by setup state (Waiting entry) old a count held left good shows some
 work-unsaid-by setup state (Applied entry) old a count held left good shows some fails = elim good.steady.good [ ]
 
 -- **what work is left as after a fault, by whether it was told**
-pub work-faults : (answer : DiskAnswer) (old : Kept) (a : Server) (before after : List (List ℕ)) (count : ℕ) (held left : Option Files) → IsFaultTold answer before after → IsSome old.a.owed → a ≡ down → FailsAfter (calls_of_all (deeds_in old.a.owed)) count held left → BreaksOff answer old (record old { a = a }) before after held left
+pub work-faults : (answer : DiskAnswer) (old : Kept) (a : Server) (before after : List (List ℕ)) (count : ℕ) (held left : Option Files) → IsFaultTold answer before after → IsSome old.a.owed → a ≡ down → FailsAfter (calls_of_all (deeds_in old.a.owed)) count held left → BreaksOff StopsInDrain answer old (record old { a = a }) before after held left
 work-faults Memory old a before after count held left told some fell fails = λ setup state good shows so.
     work-unsaid-by setup state state.world.core.hand old a count held left good shows some fails
 work-faults Failed old a before after count held left told some fell fails = λ setup state good shows so.

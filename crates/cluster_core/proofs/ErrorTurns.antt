@@ -1,5 +1,5 @@
 -- What a round of `settle` leaves where one of its events breaks off.
-use Rattle.std.proofs.Common.{◌≡◌, ℕ, ◌<◌, Bool, false, List, [], ◌++◌, length, get_or, take, if◌then◌else◌, ◌||◌, nat_lt, refl, sym, subst}
+use Rattle.std.proofs.Common.{◌≡◌, ℕ, ◌<◌, Bool, false, List, [], ◌++◌, length, get_or, take, if◌then◌else◌, ◌||◌, nat_lt, refl, sym, ap, subst}
 use Rattle.std.specs.List.{AllByRecursion}
 use Rattle.std.specs.Prelude.{Option, Some}
 use Rattle.disk_model.specs.Disk.{Files}
@@ -11,17 +11,20 @@ use Rattle.cluster_facts.specs.Lists.{Stands}
 use Rattle.cluster_facts.specs.Messages.{answers_to}
 use Rattle.cluster_facts.specs.Agents.{resent}
 use Rattle.cluster_facts.proofs.Posting.{answers_to-posted}
+use Rattle.cluster_events.specs.Outcomes.{Outcome}
 use Rattle.cluster_events.specs.Servers.{State}
+use Rattle.cluster_events.specs.Settling.{turn, client_turns}
+use Rattle.cluster_events.specs.Stopping.{behind, TurnStops, ClientStops, AtStart, InTurns}
 use Rattle.cluster_events.proofs.Carrying.{resent-posted, reply_at-stands}
-use Rattle.lone_cluster.specs.Lone.{Alone}
+use Rattle.lone_cluster.specs.Lone.{Alone, lone}
 use Rattle.cluster_core.specs.declared.world.World.{World}
 use Rattle.cluster_core.specs.Worlds.{Shows, DoesIf, DoesOn, Pushes, StandsIn, heard_by, drained, pushed}
 use Rattle.cluster_core.specs.Broken.{BreaksIf, BreaksAloneIf}
 use Rattle.cluster_core.specs.Errors.{BreaksOffIf, BreaksOff}
-use Rattle.cluster_core.specs.Rounds.{PlaysOn, Plays, any_state, IsIdle, IsIdleWithAll, IsIdleWithItems, heard_so, all_turned, clients_turned, state_turned, items_taken, FindsReply}
+use Rattle.cluster_core.specs.Rounds.{PlaysOn, Plays, any_state, IsIdle, IsIdleWithAll, IsIdleWithItems, heard_so, all_turned, clients_turned, state_turned, items_taken, FindsReply, StopsInDrain, StopsInTurn, StopsInTurns, StopsInClient, StopsInClients, StopsInEach, StopsInRound}
 use Rattle.cluster_core.proofs.BrokenSteps.{happened-broken}
 use Rattle.cluster_core.proofs.RoundSteps.{hear-plays, drain-plays, pushed-plays, pushed-items, All-take, All-at, at-rest, turns-go, clients-go, items-go, drain-go, hear-go, push-go}
-use Rattle.cluster_core.proofs.ErrorSteps.{Leads, Follows, lacks-after, lacks-whole, off-after}
+use Rattle.cluster_core.proofs.ErrorSteps.{Leads, Follows, StopsBehind, StopsAs, each-stops, lacks-after, lacks-whole, off-after, off-so}
 
 -- What the events of a round lead to.
 
@@ -52,6 +55,24 @@ items-lead items index item below is setup state good so =
     let goes = items-go setup (take index items) state (at-rest setup state good so.0.0) (All-take (λ m. Stands m state.world.net) index items so.0.1) in
     (goes.stays.net item (All-at (λ m. Stands m state.world.net) index items item so.0.1 below is), goes.carried)
 
+-- Where they stop.
+
+turn-stops : (message : Message) → StopsBehind (heard_so message) StopsInDrain (StopsInTurn message)
+turn-stops message setup state stop is = ap (behind (heard_so message setup state)) is
+
+pub turns-stop : (messages : List Message) (index : ℕ) (message : Message) → index < length messages → message ≡ get_or messages index message → StopsBehind (all_turned (take index messages)) (StopsInTurn message) (StopsInTurns messages)
+turns-stop messages index message below is setup state stop stops =
+    let plain = plain_of setup in
+    each-stops (turn plain (lone plain)) (TurnStops plain (lone plain)) messages index message state stop below is stops
+
+pub clients-stop : (clients : List ℕ) (index client : ℕ) → index < length clients → client ≡ get_or clients index client → StopsBehind (clients_turned (take index clients)) (StopsInClient client) (StopsInClients clients)
+clients-stop clients index client below is setup state stop stops =
+    let plain = plain_of setup in
+    each-stops (client_turns plain (lone plain)) (ClientStops plain (lone plain)) clients index client state stop below is stops
+
+round-stops : StopsBehind drained StopsInEach StopsInRound
+round-stops setup state stop stops = InTurns stops
+
 -- A turn.
 
 -- memory ran out for the lines of a message that was heard
@@ -61,9 +82,9 @@ hear-untold message old new part does held =
     let after : List (List ℕ) = if b then [] ++ part else [] in
     lacks-whole (StandsIn message) (heard_so message) old new [] after (nat_lt (length old.history.entries) (length new.history.entries)) held held (hear-leads message) (hear-plays message old new [] part after does refl held)
 
-pub turn-drain-off : (message : Message) (answer : DiskAnswer) (old one new : World) (before first after : List (List ℕ)) (loud : Bool) (held left : Option Files) → Plays (StandsIn message) (heard_so message) old one before first loud → BreaksOff answer one new first after held left → BreaksOffIf (StandsIn message) answer old new before after held left
+pub turn-drain-off : (message : Message) (answer : DiskAnswer) (old one new : World) (before first after : List (List ℕ)) (loud : Bool) (held left : Option Files) → Plays (StandsIn message) (heard_so message) old one before first loud → BreaksOff StopsInDrain answer one new first after held left → BreaksOffIf (StandsIn message) (StopsInTurn message) answer old new before after held left
 turn-drain-off message answer old one new before first after loud held left hears breaks =
-    off-after (StandsIn message) any_state (heard_so message) answer old one new before first after loud held held left (hear-leads message) (hears held) breaks
+    off-after (StandsIn message) any_state StopsInDrain (StopsInTurn message) (heard_so message) answer old one new before first after loud held held left (turn-stops message) (hear-leads message) (hears held) breaks
 
 pub turn-take-lacks : (message : Message) (old one two new : World) (before first second : List (List ℕ)) (loud : Bool) (held left : Option Files) → Plays (StandsIn message) (heard_so message) old one before first loud → DoesOn drained one two first second held left → BreaksAloneIf any_state two new → BreaksIf (StandsIn message) old new held left
 turn-take-lacks message old one two new before first second loud held left hears drains takes =
@@ -75,6 +96,10 @@ turn-take-lacks message old one two new before first second loud held left hears
 pub client-follows : (client : ℕ) (messages : List Message) (world : World) → ((setup : Setup) (state : State Alone) → Shows setup state world → messages ≡ resent client (state.world.agents client)) → Follows IsIdle (IsIdleWithAll messages) world
 client-follows client messages world are setup state good shows idle =
     (idle, subst (λ (l : List Message). AllByRecursion (λ m. Stands m state.world.net) l) (sym (are setup state shows)) (resent-posted (plain_of setup) client state.world good.steady.sound))
+
+pub client-stops : (client : ℕ) (messages : List Message) (world : World) → ((setup : Setup) (state : State Alone) → Shows setup state world → messages ≡ resent client (state.world.agents client)) → StopsAs (StopsInTurns messages) (StopsInClient client) world
+client-stops client messages world are setup state shows stop stops =
+    subst (λ (l : List Message). StopsInTurns l setup state stop) (are setup state shows) stops
 
 pub reply-follows : (client number : ℕ) (found : Message) (world : World) → FindsReply client number world.net (Some found) → Follows any_state (StandsIn found) world
 reply-follows client number found world finds setup state good shows so =
@@ -94,9 +119,22 @@ push-lacks items old middle new before between pushes breaks held setup state go
 
 -- A round.
 
-pub round-turn-off : (answer : DiskAnswer) (old one new : World) (before first after : List (List ℕ)) (held left last : Option Files) → DoesOn drained old one before first held left → BreaksOffIf IsIdle answer one new first after left last → BreaksOffIf any_state answer old new before after held last
+-- the clients of the world are those of each state that it stands for
+pub clients-off : (clients : List ℕ) (answer : DiskAnswer) (old new : World) (before after : List (List ℕ)) (held left : Option Files) → ((setup : Setup) (state : State Alone) → Shows setup state old → clients ≡ state.world.clients) → BreaksOffIf IsIdle (StopsInClients clients) answer old new before after held left → BreaksOffIf IsIdle StopsInEach answer old new before after held left
+clients-off clients answer old new before after held left are breaks =
+    off-so IsIdle IsIdle (StopsInClients clients) StopsInEach answer old new before after held left
+    (λ setup state shows stop stops. subst (λ (l : List ℕ). StopsInClients l setup state stop) (are setup state shows) stops)
+    (λ setup state good shows idle. idle) breaks
+
+pub round-start-off : (answer : DiskAnswer) (old new : World) (before after : List (List ℕ)) (held left : Option Files) → BreaksOff StopsInDrain answer old new before after held left → BreaksOffIf any_state StopsInRound answer old new before after held left
+round-start-off answer old new before after held left breaks =
+    off-so any_state any_state StopsInDrain StopsInRound answer old new before after held left
+    (λ setup state shows stop is. subst (λ (o : Outcome (State Alone)). StopsInRound setup state o) (sym is) AtStart)
+    (λ setup state good shows so. so) breaks
+
+pub round-turn-off : (answer : DiskAnswer) (old one new : World) (before first after : List (List ℕ)) (held left last : Option Files) → DoesOn drained old one before first held left → BreaksOffIf IsIdle StopsInEach answer one new first after left last → BreaksOffIf any_state StopsInRound answer old new before after held last
 round-turn-off answer old one new before first after held left last drains breaks =
-    off-after any_state IsIdle drained answer old one new before first after false held left last drain-leads (drain-plays old one before first held left drains) breaks
+    off-after any_state IsIdle StopsInEach StopsInRound drained answer old one new before first after false held left last round-stops drain-leads (drain-plays old one before first held left drains) breaks
 
 pub round-push-lacks : (old one two new : World) (before first second : List (List ℕ)) (loud : Bool) (held left last : Option Files) → DoesOn drained old one before first held left → PlaysOn IsIdle state_turned one two first second loud left last → BreaksAloneIf IsIdle two new → BreaksIf any_state old new held last
 round-push-lacks old one two new before first second loud held left last drains turns pushes =

@@ -9,6 +9,7 @@ use Rattle.script_lines.specs.declared.line.Line.TheVariants as line
 use Rattle.cluster_core.specs.declared.world.World.{World as Kept}
 use Rattle.cluster_core.specs.Broken.{BreaksOn, BreaksAlone}
 use Rattle.cluster_core.specs.Errors.{BreaksOff}
+use Rattle.cluster_core.specs.Rounds.{StopsInDrain, StopsInSettle}
 use Rattle.cluster_core.specs.Steps.{PlayBroken, EndsAs}
 use Rattle.cluster_core.proofs.BrokenSteps.{shown-broken}
 
@@ -28,20 +29,20 @@ ends-broken (Err e) (Err f) next old new before after held same breaks =
     subst (λ answer. PlayBroken answer next old new before after held held) (sym same) (breaks held)
 
 -- the entry in hand was to be worked
-work-off : (answer : DiskAnswer) (old new : Kept) (before after : List (List ℕ)) (held left : Option Files) → BreaksOff answer old new before after held left → PlayBroken answer line.Work old new before after held left
+work-off : (answer : DiskAnswer) (old new : Kept) (before after : List (List ℕ)) (held left : Option Files) → BreaksOff StopsInDrain answer old new before after held left → PlayBroken answer line.Work old new before after held left
 work-off Memory old new before after held left breaks = λ setup state good shows. breaks setup state good shows tt
 work-off Failed old new before after held left breaks = breaks
 
-settle-off : (answer : DiskAnswer) (old new : Kept) (before after : List (List ℕ)) (held left : Option Files) → BreaksOff answer old new before after held left → PlayBroken answer line.Settle old new before after held left
+settle-off : (answer : DiskAnswer) (old new : Kept) (before after : List (List ℕ)) (held left : Option Files) → BreaksOff StopsInSettle answer old new before after held left → PlayBroken answer line.Settle old new before after held left
 settle-off Memory old new before after held left breaks = λ setup state good shows. breaks setup state good shows tt
 settle-off Failed old new before after held left breaks = breaks
 
-pub work-broken : {T : Type 0} (r : Result T DiskAnswer) (next : Line) (old new : Kept) (before after : List (List ℕ)) (held left : Option Files) → next ≡ line.Work → IfErr r (λ answer. BreaksOff answer old new before after held left) → IfErr r (λ answer. PlayBroken answer next old new before after held left)
+pub work-broken : {T : Type 0} (r : Result T DiskAnswer) (next : Line) (old new : Kept) (before after : List (List ℕ)) (held left : Option Files) → next ≡ line.Work → IfErr r (λ answer. BreaksOff StopsInDrain answer old new before after held left) → IfErr r (λ answer. PlayBroken answer next old new before after held left)
 work-broken (Ok x) next old new before after held left is breaks = tt
 work-broken (Err answer) next old new before after held left is breaks =
     subst (λ n. PlayBroken answer n old new before after held left) (sym is) (work-off answer old new before after held left breaks)
 
-pub settle-broken : {T : Type 0} (r : Result T DiskAnswer) (next : Line) (old new : Kept) (before after : List (List ℕ)) (held left : Option Files) → next ≡ line.Settle → IfErr r (λ answer. BreaksOff answer old new before after held left) → IfErr r (λ answer. PlayBroken answer next old new before after held left)
+pub settle-broken : {T : Type 0} (r : Result T DiskAnswer) (next : Line) (old new : Kept) (before after : List (List ℕ)) (held left : Option Files) → next ≡ line.Settle → IfErr r (λ answer. BreaksOff StopsInSettle answer old new before after held left) → IfErr r (λ answer. PlayBroken answer next old new before after held left)
 settle-broken (Ok x) next old new before after held left is breaks = tt
 settle-broken (Err answer) next old new before after held left is breaks =
     subst (λ n. PlayBroken answer n old new before after held left) (sym is) (settle-off answer old new before after held left breaks)

@@ -26,7 +26,7 @@ printed-append [] first = sym (append-nil (printed first))
 printed-append (line ∷ second) first =
     ap (λ front. front ++ lines_of line) (printed-append second first) ∙ append_assoc (printed first) (printed second) (lines_of line)
 
-without-append : (second first : List Told) → without is_ignored (second ++ first) ≡ without is_ignored second ++ without is_ignored first
+pub without-append : (second first : List Told) → without is_ignored (second ++ first) ≡ without is_ignored second ++ without is_ignored first
 without-append [] first = refl
 without-append (line ∷ second) first =
     let deeper = without-append second first in

@@ -8,6 +8,7 @@ use Rattle.service_laws.specs.PlainOf.{plain_of}
 use Rattle.cluster_events.specs.Outcomes.{Outcome}
 use Rattle.cluster_events.specs.Servers.{State}
 use Rattle.cluster_events.specs.Running.{Shelf, Happens}
+use Rattle.cluster_events.specs.Stopping.{EventStops}
 use Rattle.event_text.specs.Texts.{printed}
 use Rattle.lone_cluster.specs.Lone.{Alone, lone}
 use Rattle.cluster_core.specs.declared.world.World.{World}
@@ -40,11 +41,13 @@ pub record EventDone (setup : Setup) (state : State Alone) (next : Line) (lines 
   pub text : lines ≡ printed outcome.told
   pub files : LeavesFiles setup outcome.state held left
 
--- a line that shows files leaves all as it was where the disk has a fault; any other line came to an entry that was to be worked
+-- A line that shows files leaves all as it was where the disk has a fault. Any other line stops at an entry that was to be worked:
+-- that is `work` or `settle`, since no other line works one, and so a fault comes in no other.
 abbrev pub FaultLeaves : Line → World → World → List (List ℕ) → List (List ℕ) → Option Files → Option Files → Type 0
 FaultLeaves line.Files old new before after held left = (new ≡ old) × (after ≡ before) × (left ≡ held)
 FaultLeaves (line.Cat name) old new before after held left = (new ≡ old) × (after ≡ before) × (left ≡ held)
-FaultLeaves _ old new before after held left = FaultsIf (λ state. Unit {0}) old new before after held left
+FaultLeaves next old new before after held left =
+    FaultsIf (λ state. Unit {0}) (λ setup. EventStops (plain_of setup) (lone (plain_of setup)) next) old new before after held left
 
 -- what a line left that was not done, by the answer
 abbrev pub EventBroken : EventAnswer → Line → World → World → Option Files → Option Files → Type 0

@@ -11,9 +11,10 @@ use Rattle.cluster_events.specs.Events.{reply_at, hear}
 use Rattle.cluster_facts.specs.Service.{Plain, IsPlain}
 use Rattle.cluster_facts.specs.World.{World as WorldOf, number_of}
 use Rattle.cluster_events.specs.Lines.{Told, is_ignored}
-use Rattle.cluster_events.specs.Outcomes.{Outcome, for_each}
+use Rattle.cluster_events.specs.Outcomes.{Outcome, quietly, for_each}
 use Rattle.cluster_events.specs.Servers.{State, in_world}
 use Rattle.cluster_events.specs.Settling.{take_answer_by, take_answer, turn, client_turns, take_pushed, push_round, round, is_loud, Rounds}
+use Rattle.cluster_events.specs.Stopping.{EachStops, TurnStops, ClientStops, RoundStops, SettleStops}
 use Rattle.client_agent.specs.declared.answers.Taken.{Taken}
 use Rattle.client_agent.specs.declared.answers.Taken.TheVariants.{Answered, Item as TookItem, Missed}
 use Rattle.client_agent.specs.Seen.{Seen}
@@ -26,6 +27,7 @@ use Rattle.cluster_core.specs.Taken.{taken_as}
 use Rattle.plain_service.specs.Setups.{Setup}
 use Rattle.service_laws.specs.PlainOf.{plain_of}
 use Rattle.cluster_core.specs.Worlds.{IsGood, Shows, TellsFiles, LeavesFiles}
+use Rattle.cluster_core.specs.Errors.{Stopping}
 
 -- what is printed of lines, but for those on messages without effect
 abbrev pub kept_lines : List Told → List (List ℕ)
@@ -126,6 +128,35 @@ round_pushed setup state = push_round (plain_of setup) (lone (plain_of setup)) s
 
 abbrev pub round_played : Event
 round_played setup state = round (plain_of setup) (lone (plain_of setup)) state
+
+-- Where the events of a round stop short, as an entry is about to be worked.
+
+abbrev pub StopsInDrain : Stopping
+StopsInDrain setup state stop = stop ≡ quietly state
+
+abbrev pub StopsInTurn : Message → Stopping
+StopsInTurn message setup state stop = TurnStops (plain_of setup) (lone (plain_of setup)) message state stop
+
+abbrev pub StopsInTurns : List Message → Stopping
+StopsInTurns messages setup state stop =
+    EachStops (turn (plain_of setup) (lone (plain_of setup))) (TurnStops (plain_of setup) (lone (plain_of setup))) messages state stop
+
+abbrev pub StopsInClient : ℕ → Stopping
+StopsInClient client setup state stop = ClientStops (plain_of setup) (lone (plain_of setup)) client state stop
+
+abbrev pub StopsInClients : List ℕ → Stopping
+StopsInClients clients setup state stop =
+    EachStops (client_turns (plain_of setup) (lone (plain_of setup))) (ClientStops (plain_of setup) (lone (plain_of setup))) clients state stop
+
+-- in the turns of a client of the state
+abbrev pub StopsInEach : Stopping
+StopsInEach setup state stop = StopsInClients state.world.clients setup state stop
+
+abbrev pub StopsInRound : Stopping
+StopsInRound setup state stop = RoundStops (plain_of setup) (lone (plain_of setup)) state stop
+
+abbrev pub StopsInSettle : Stopping
+StopsInSettle setup state stop = SettleStops (plain_of setup) (lone (plain_of setup)) state stop
 
 -- Rounds one after another.
 

@@ -21,11 +21,14 @@ impl World {
     /// Does what a line of a script asks for while no server fails, and answers with the lines that it prints, each with its line
     /// feed. A cluster line, the lines on failures of servers and a time below that in force are no part of it.
     ///
-    /// `DiskFault` comes only where the disk's count of faults rose in the call; it has the lines of what was done before. A line
-    /// that shows files leaves all as it was then; any other line came to an entry whose deeds were not done, and the active
-    /// server is down. `Memory` comes where memory ran out: some of the line was done, without its lines, and the history is
-    /// legal, each client was fed the beginning of its items, and the files are between. The same is answered where the history has 4,000,000,000 entries, where a client's
-    /// agent has numbered 4,294,967,294 calls, and where a string of the net has more than 4,294,967,294 bytes.
+    /// `DiskFault` comes only where the disk's count of faults rose in the call. A line that shows files leaves all as it was
+    /// then, and has no lines. Otherwise the line is `work` or `settle`: it came to an entry whose deeds were not done, the active
+    /// server is down, and the lines are those of all that was done before, the last one telling that the server is down.
+    ///
+    /// `Memory` comes where memory ran out: some of the line was done, without its lines, and the history is legal, each client
+    /// was fed the beginning of its items, and the files are between. The same is answered where the history has 4,000,000,000
+    /// entries, where a client's agent has numbered 4,294,967,294 calls, and where a string of the net has more than
+    /// 4,294,967,294 bytes.
     pub fn event<D: SharedDisk>(
         &mut self,
         alloc: Global,

@@ -9,7 +9,7 @@ ghost use Rattle.client_agent.specs.Seen.{Seen, seen_of};
 ghost use Rattle.cluster_core.specs.Worlds.{HasState, StandsIn};
 ghost use Rattle.cluster_core.specs.Broken.{BreaksAloneIf};
 ghost use Rattle.cluster_core.specs.Errors.{BreaksOffIf};
-ghost use Rattle.cluster_core.specs.Rounds.{PlaysOn, Plays, HasStateOf, IsIdle, IsIdleWithAll, IsIdleWithItems, any_state, heard_so, answer_taken, reply_taken, message_taken, turned, all_turned, client_turned, clients_turned, state_turned, items_taken, round_pushed, round_played};
+ghost use Rattle.cluster_core.specs.Rounds.{PlaysOn, Plays, HasStateOf, IsIdle, IsIdleWithAll, IsIdleWithItems, any_state, heard_so, answer_taken, reply_taken, message_taken, turned, all_turned, client_turned, clients_turned, state_turned, items_taken, round_pushed, round_played, StopsInTurn, StopsInTurns, StopsInClient, StopsInClients, StopsInEach, StopsInRound};
 
 use crate::World;
 use crate::agents::place_of;
@@ -151,8 +151,9 @@ fn turn<D: SharedDisk>(
     requires { HasStateOf (StandsIn message.now) world.old }
     ensures ok { IfOk result (λ loud. PlaysOn (StandsIn message.now) (turned message.now) world.old
         world.new lines.old.items lines.new.items loud (D.files disk.old) (D.files disk.new)) }
-    ensures err { IfErr result (λ answer. BreaksOffIf (StandsIn message.now) answer world.old
-        world.new lines.old.items lines.new.items (D.files disk.old) (D.files disk.new)) }
+    ensures err { IfErr result (λ answer. BreaksOffIf (StandsIn message.now)
+        (StopsInTurn message.now) answer world.old world.new lines.old.items lines.new.items
+        (D.files disk.old) (D.files disk.new)) }
     ensures cause { HasCauseOf (D.faults disk.old) (D.faults disk.new) result DiskAnswer.Failed }
 {
     let heard = match hear_so(alloc, world, lines, message) {
@@ -181,8 +182,9 @@ fn turn_all<D: SharedDisk>(
     ensures ok { IfOk result (λ loud. PlaysOn (IsIdleWithAll messages.now) (all_turned messages.now)
         world.old world.new lines.old.items lines.new.items loud (D.files disk.old)
         (D.files disk.new)) }
-    ensures err { IfErr result (λ answer. BreaksOffIf (IsIdleWithAll messages.now) answer world.old
-        world.new lines.old.items lines.new.items (D.files disk.old) (D.files disk.new)) }
+    ensures err { IfErr result (λ answer. BreaksOffIf (IsIdleWithAll messages.now)
+        (StopsInTurns messages.now) answer world.old world.new lines.old.items lines.new.items
+        (D.files disk.old) (D.files disk.new)) }
     ensures cause { HasCauseOf (D.faults disk.old) (D.faults disk.new) result DiskAnswer.Failed }
 {
     let mut loud = false;
@@ -216,8 +218,8 @@ fn turn_client<D: SharedDisk>(
     requires { HasStateOf IsIdle world.old }
     ensures ok { IfOk result (λ loud. PlaysOn IsIdle (client_turned client) world.old world.new
         lines.old.items lines.new.items loud (D.files disk.old) (D.files disk.new)) }
-    ensures err { IfErr result (λ answer. BreaksOffIf IsIdle answer world.old world.new
-        lines.old.items lines.new.items (D.files disk.old) (D.files disk.new)) }
+    ensures err { IfErr result (λ answer. BreaksOffIf IsIdle (StopsInClient client) answer world.old
+        world.new lines.old.items lines.new.items (D.files disk.old) (D.files disk.new)) }
     ensures cause { HasCauseOf (D.faults disk.old) (D.faults disk.new) result DiskAnswer.Failed }
 {
     let at = match place_of(world.agents.as_slice(), client) {
@@ -245,8 +247,8 @@ fn turn_clients<D: SharedDisk>(
     requires { HasStateOf IsIdle world.old }
     ensures ok { IfOk result (λ loud. PlaysOn IsIdle (clients_turned clients.now) world.old
         world.new lines.old.items lines.new.items loud (D.files disk.old) (D.files disk.new)) }
-    ensures err { IfErr result (λ answer. BreaksOffIf IsIdle answer world.old world.new
-        lines.old.items lines.new.items (D.files disk.old) (D.files disk.new)) }
+    ensures err { IfErr result (λ answer. BreaksOffIf IsIdle (StopsInClients clients.now) answer
+        world.old world.new lines.old.items lines.new.items (D.files disk.old) (D.files disk.new)) }
     ensures cause { HasCauseOf (D.faults disk.old) (D.faults disk.new) result DiskAnswer.Failed }
 {
     let mut loud = false;
@@ -280,7 +282,7 @@ fn turn_each<D: SharedDisk>(
     requires { HasStateOf IsIdle world.old }
     ensures ok { IfOk result (λ loud. PlaysOn IsIdle state_turned world.old world.new
         lines.old.items lines.new.items loud (D.files disk.old) (D.files disk.new)) }
-    ensures err { IfErr result (λ answer. BreaksOffIf IsIdle answer world.old world.new
+    ensures err { IfErr result (λ answer. BreaksOffIf IsIdle StopsInEach answer world.old world.new
         lines.old.items lines.new.items (D.files disk.old) (D.files disk.new)) }
     ensures cause { HasCauseOf (D.faults disk.old) (D.faults disk.new) result DiskAnswer.Failed }
 {
@@ -345,8 +347,8 @@ pub(crate) fn round<D: SharedDisk>(
     requires { HasState world.old }
     ensures ok { IfOk result (λ loud. PlaysOn any_state round_played world.old world.new
         lines.old.items lines.new.items loud (D.files disk.old) (D.files disk.new)) }
-    ensures err { IfErr result (λ answer. BreaksOffIf any_state answer world.old world.new
-        lines.old.items lines.new.items (D.files disk.old) (D.files disk.new)) }
+    ensures err { IfErr result (λ answer. BreaksOffIf any_state StopsInRound answer world.old
+        world.new lines.old.items lines.new.items (D.files disk.old) (D.files disk.new)) }
     ensures cause { HasCauseOf (D.faults disk.old) (D.faults disk.new) result DiskAnswer.Failed }
 {
     match drain(alloc, world, lines, disk) {

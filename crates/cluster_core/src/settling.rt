@@ -4,6 +4,7 @@ ghost use Rattle.ais_values.specs.Causes.{HasCauseOf};
 ghost use Rattle.disk_model.specs.declared.answers.DiskAnswer.{DiskAnswer};
 ghost use Rattle.cluster_core.specs.Worlds.{HasState};
 ghost use Rattle.cluster_core.specs.Errors.{BreaksOff};
+ghost use Rattle.cluster_core.specs.Rounds.{StopsInSettle};
 ghost use Rattle.cluster_core.specs.Settling.{DoesSettle};
 
 use crate::World;
@@ -24,7 +25,7 @@ pub(crate) fn settle<D: SharedDisk>(
     requires { HasState world.old }
     ensures ok { OnOk result (DoesSettle world.old world.new lines.old.items lines.new.items
         (D.files disk.old) (D.files disk.new)) }
-    ensures err { IfErr result (λ answer. BreaksOff answer world.old world.new
+    ensures err { IfErr result (λ answer. BreaksOff StopsInSettle answer world.old world.new
         lines.old.items lines.new.items (D.files disk.old) (D.files disk.new)) }
     ensures cause { HasCauseOf (D.faults disk.old) (D.faults disk.new) result DiskAnswer.Failed }
 {

@@ -7,6 +7,7 @@ ghost use Rattle.wire.specs.MessageSpelling.{MessageInRange};
 ghost use Rattle.cluster_core.specs.Heard.{PostsAll};
 ghost use Rattle.cluster_core.specs.PartlyDone.{PostsSome, IsFaultTold};
 ghost use Rattle.cluster_core.specs.Errors.{BreaksOff};
+ghost use Rattle.cluster_core.specs.Rounds.{StopsInDrain};
 ghost use Rattle.cluster_core.specs.Worlds.{HasState, DoesOn, drained};
 
 use crate::World;
@@ -61,8 +62,8 @@ fn work<D: SharedDisk>(
     requires ready { IsSome world.old.a.owed }
     ensures ok { OnOk result (DoesOn drained world.old world.new lines.old.items lines.new.items
         (D.files disk.old) (D.files disk.new)) }
-    ensures err { IfErr result (λ answer. BreaksOff answer world.old world.new lines.old.items
-        lines.new.items (D.files disk.old) (D.files disk.new)) }
+    ensures err { IfErr result (λ answer. BreaksOff StopsInDrain answer world.old world.new
+        lines.old.items lines.new.items (D.files disk.old) (D.files disk.new)) }
     ensures cause { HasCauseOf (D.faults disk.old) (D.faults disk.new) result DiskAnswer.Failed }
 {
     match world.a.work(alloc, disk) {
@@ -85,8 +86,8 @@ pub(crate) fn drain<D: SharedDisk>(
     requires { HasState world.old }
     ensures ok { OnOk result (DoesOn drained world.old world.new lines.old.items lines.new.items
         (D.files disk.old) (D.files disk.new)) }
-    ensures err { IfErr result (λ answer. BreaksOff answer world.old world.new lines.old.items
-        lines.new.items (D.files disk.old) (D.files disk.new)) }
+    ensures err { IfErr result (λ answer. BreaksOff StopsInDrain answer world.old world.new
+        lines.old.items lines.new.items (D.files disk.old) (D.files disk.new)) }
     ensures cause { HasCauseOf (D.faults disk.old) (D.faults disk.new) result DiskAnswer.Failed }
 {
     if world.a.ready() {

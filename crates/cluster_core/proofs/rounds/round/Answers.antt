@@ -1,7 +1,7 @@
 use Rattle.std.proofs.Common.{Bool, sym, ◌∙◌, subst}
 use Rattle.cluster_core.specs.Rounds.{PlaysOn, any_state, round_played}
 use Rattle.cluster_core.proofs.RoundSteps.{drained-ready, turned-ready, round-plays, flag-on, flag-off}
-use Rattle.cluster_core.proofs.ErrorTurns.{round-turn-off, round-push-lacks}
+use Rattle.cluster_core.proofs.ErrorTurns.{round-start-off, round-turn-off, round-push-lacks}
 use Rattle.cluster_core.proofs.rounds.round.Goals as goal
 
 pub turn_each-requires : goal.turn_each-requires
@@ -36,6 +36,10 @@ returns-else-turned-clause-ok g c =
     let last = g.D.SharedDisk.files c.turn_each.new.disk in
     let plays = round-plays old c.drain.new.world c.turn_each.new.world new before c.drain.new.lines.items c.turn_each.new.lines.items after c.in-Ok-turn_each.turned c.in-Ok-push_round.taken held left last c.in-Ok.ensures.ok c.in-Ok-turn_each.ensures.ok c.in-Ok-push_round.ensures.ok in
     subst (λ (b : Bool). PlaysOn any_state round_played old new before after b held last) (flag-off c.in-Ok-turn_each.turned c.in-Ok-push_round.taken c.if-turned.false) plays
+
+pub returns-in-Err-clause-err : goal.returns-in-Err-clause-err
+returns-in-Err-clause-err g c =
+    round-start-off c.in-Err.answer c.args.world.now c.drain.new.world c.args.lines.now.items c.drain.new.lines.items (g.D.SharedDisk.files c.args.disk.now) (g.D.SharedDisk.files c.drain.new.disk) c.in-Err.ensures.err
 
 pub returns-in-Err-turn_each-clause-err : goal.returns-in-Err-turn_each-clause-err
 returns-in-Err-turn_each-clause-err g c =

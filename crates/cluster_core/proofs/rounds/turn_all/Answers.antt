@@ -1,9 +1,9 @@
 use Rattle.std.proofs.Common.{◌≡◌, ◌+◌, Bool, ◌||◌, take, subst, arith}
 use Rattle.cluster_core.specs.Worlds.{StandsIn}
-use Rattle.cluster_core.specs.Rounds.{PlaysOn, IsIdleWithAll, turned, all_turned}
+use Rattle.cluster_core.specs.Rounds.{PlaysOn, IsIdleWithAll, turned, all_turned, StopsInTurn, StopsInTurns}
 use Rattle.cluster_core.proofs.RoundSteps.{state-so, loop-plays, turns-reach, flag-on, flag-off}
 use Rattle.cluster_core.proofs.ErrorSteps.{off-after}
-use Rattle.cluster_core.proofs.ErrorTurns.{turns-lead}
+use Rattle.cluster_core.proofs.ErrorTurns.{turns-lead, turns-stop}
 use Rattle.cluster_core.proofs.rounds.turn_all.Goals as goal
 use Rattle.cluster_core.proofs.rounds.turn_all.Goals.{then-loud, else-loud}
 
@@ -47,4 +47,4 @@ returns-in-Err-clause-err g c =
     let messages = c.args.messages.now in
     let index = c.loop-message.message-index in
     let one = c.message-item.result in
-    off-after (IsIdleWithAll messages) (StandsIn one) (all_turned (take index messages)) c.in-Err.answer c.args.world.now c.loop-message.world c.turn.new.world c.args.lines.now.items c.loop-message.lines.items c.turn.new.lines.items c.loop-message.loud (g.D.SharedDisk.files c.args.disk.now) (g.D.SharedDisk.files c.loop-message.disk) (g.D.SharedDisk.files c.turn.new.disk) (turns-lead messages index one c.loop-message-test.true c.message-item.is) c.loop-message.invariant.plays c.in-Err.ensures.err
+    off-after (IsIdleWithAll messages) (StandsIn one) (StopsInTurn one) (StopsInTurns messages) (all_turned (take index messages)) c.in-Err.answer c.args.world.now c.loop-message.world c.turn.new.world c.args.lines.now.items c.loop-message.lines.items c.turn.new.lines.items c.loop-message.loud (g.D.SharedDisk.files c.args.disk.now) (g.D.SharedDisk.files c.loop-message.disk) (g.D.SharedDisk.files c.turn.new.disk) (turns-stop messages index one c.loop-message-test.true c.message-item.is) (turns-lead messages index one c.loop-message-test.true c.message-item.is) c.loop-message.invariant.plays c.in-Err.ensures.err

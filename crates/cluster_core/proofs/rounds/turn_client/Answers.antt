@@ -4,12 +4,12 @@ use Rattle.cluster_facts.specs.Agents.{Agent, resent}
 use Rattle.client_agent.specs.Seen.{Seen, seen_of}
 use Rattle.cluster_core.specs.Clients.{place_of}
 use Rattle.cluster_core.specs.Errors.{BreaksOffIf}
-use Rattle.cluster_core.specs.Rounds.{HasStateOf, PlaysOn, IsIdle, IsIdleWithAll, all_turned}
+use Rattle.cluster_core.specs.Rounds.{HasStateOf, PlaysOn, IsIdle, IsIdleWithAll, all_turned, StopsInTurns, StopsInClient}
 use Rattle.cluster_core.proofs.ResultSteps.{if-ok, if-err}
 use Rattle.cluster_core.proofs.RoundSteps.{client-absent, sent-are, client-ready, client-plays}
 use Rattle.cluster_core.proofs.BrokenClients.{same-breaks-if}
 use Rattle.cluster_core.proofs.ErrorSteps.{off-so}
-use Rattle.cluster_core.proofs.ErrorTurns.{client-follows}
+use Rattle.cluster_core.proofs.ErrorTurns.{client-follows, client-stops}
 use Rattle.cluster_core.proofs.rounds.turn_client.Goals as goal
 
 pub returns-in-None-clause-ok : goal.returns-in-None-clause-ok
@@ -54,8 +54,10 @@ returns-in-Ok-clause-err g c =
     let after = c.turn_all-turned.new.lines.items in
     let held = g.D.SharedDisk.files c.args.disk.now in
     let left = g.D.SharedDisk.files c.turn_all-turned.new.disk in
-    let follows = client-follows c.args.client messages old (sent-are c.args.client c.in-Some.at messages old found sent) in
-    if-err c.turn_all-turned.result (λ answer breaks. off-so IsIdle (IsIdleWithAll messages) answer old new before after held left follows (subst (λ (l : List Message). BreaksOffIf (IsIdleWithAll l) answer old new before after held left) c.as_slice-in-Ok.ensures breaks)) c.turn_all-turned.ensures.err
+    let are = sent-are c.args.client c.in-Some.at messages old found sent in
+    let stops = client-stops c.args.client messages old are in
+    let follows = client-follows c.args.client messages old are in
+    if-err c.turn_all-turned.result (λ answer breaks. off-so IsIdle (IsIdleWithAll messages) (StopsInTurns messages) (StopsInClient c.args.client) answer old new before after held left stops follows (subst (λ (l : List Message). BreaksOffIf (IsIdleWithAll l) (StopsInTurns l) answer old new before after held left) c.as_slice-in-Ok.ensures breaks)) c.turn_all-turned.ensures.err
 
 pub returns-in-Err-clause-err : goal.returns-in-Err-clause-err
 returns-in-Err-clause-err g c = same-breaks-if IsIdle c.args.world.now (g.D.SharedDisk.files c.args.disk.now)

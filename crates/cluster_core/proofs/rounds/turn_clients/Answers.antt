@@ -1,8 +1,8 @@
 use Rattle.std.proofs.Common.{◌≡◌, ◌+◌, Bool, ◌||◌, take, get_or, subst, arith}
-use Rattle.cluster_core.specs.Rounds.{PlaysOn, IsIdle, client_turned, clients_turned}
+use Rattle.cluster_core.specs.Rounds.{PlaysOn, IsIdle, client_turned, clients_turned, StopsInClient, StopsInClients}
 use Rattle.cluster_core.proofs.RoundSteps.{state-so, loop-plays, clients-reach, read-any, flag-on, flag-off}
 use Rattle.cluster_core.proofs.ErrorSteps.{off-after}
-use Rattle.cluster_core.proofs.ErrorTurns.{clients-lead}
+use Rattle.cluster_core.proofs.ErrorTurns.{clients-lead, clients-stop}
 use Rattle.cluster_core.proofs.rounds.turn_clients.Goals as goal
 use Rattle.cluster_core.proofs.rounds.turn_clients.Goals.{then-loud, else-loud}
 
@@ -43,5 +43,8 @@ loop-client-preserved g c =
 
 pub returns-in-Err-clause-err : goal.returns-in-Err-clause-err
 returns-in-Err-clause-err g c =
-    let front = take c.loop-client.client-index c.args.clients.now in
-    off-after IsIdle IsIdle (clients_turned front) c.in-Err.answer c.args.world.now c.loop-client.world c.turn_client.new.world c.args.lines.now.items c.loop-client.lines.items c.turn_client.new.lines.items c.loop-client.loud (g.D.SharedDisk.files c.args.disk.now) (g.D.SharedDisk.files c.loop-client.disk) (g.D.SharedDisk.files c.turn_client.new.disk) (clients-lead front) c.loop-client.invariant.plays c.in-Err.ensures.err
+    let clients = c.args.clients.now in
+    let index = c.loop-client.client-index in
+    let one = get_or clients index 0 in
+    let front = take index clients in
+    off-after IsIdle IsIdle (StopsInClient one) (StopsInClients clients) (clients_turned front) c.in-Err.answer c.args.world.now c.loop-client.world c.turn_client.new.world c.args.lines.now.items c.loop-client.lines.items c.turn_client.new.lines.items c.loop-client.loud (g.D.SharedDisk.files c.args.disk.now) (g.D.SharedDisk.files c.loop-client.disk) (g.D.SharedDisk.files c.turn_client.new.disk) (clients-stop clients index one c.loop-client-test.true (read-any clients index 0 one c.loop-client-test.true)) (clients-lead front) c.loop-client.invariant.plays c.in-Err.ensures.err

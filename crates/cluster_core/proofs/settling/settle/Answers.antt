@@ -45,4 +45,11 @@ returns-clause-ok g c =
 
 pub returns-in-Err-clause-err : goal.returns-in-Err-clause-err
 returns-in-Err-clause-err g c =
-    settling-off c.in-Err.answer c.args.world.now c.loop-loud.world c.round.new.world c.args.lines.now.items c.loop-loud.lines.items c.round.new.lines.items c.loop-loud.loud (g.D.SharedDisk.files c.args.disk.now) (g.D.SharedDisk.files c.loop-loud.disk) (g.D.SharedDisk.files c.round.new.disk) c.loop-loud.invariant.settles c.in-Err.ensures.err
+    let old = c.args.world.now in
+    let now = c.loop-loud.world in
+    let before = c.args.lines.now.items in
+    let between = c.loop-loud.lines.items in
+    let held = g.D.SharedDisk.files c.args.disk.now in
+    let told = g.D.SharedDisk.files c.loop-loud.disk in
+    let settles : SettlesSo old now before between true held told = subst (λ (b : Bool). SettlesSo old now before between b held told) c.loop-loud-test.true c.loop-loud.invariant.settles in
+    settling-off c.in-Err.answer old now c.round.new.world before between c.round.new.lines.items held told (g.D.SharedDisk.files c.round.new.disk) settles c.in-Err.ensures.err
