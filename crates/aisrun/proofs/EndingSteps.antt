@@ -119,7 +119,7 @@ module _ {K D : Type 0} (told : K → Option (List ℕ)) (sink_faults : K → �
       let moved = subst F same (opens, fails) in
       AtOpening moved.0 count moved.1 still is
   fails-earlier old mid new lines same text (AtEvent done next rest text_before front printed fault is) =
-      let F : Option Files → Type 0 = λ one. (plays : PlaysFront one lines done (next ∷ rest) text_before) × FaultLeft plays.setup plays.goes.state (files_told plays.goes.files one) (held new) world_after printed in
+      let F : Option Files → Type 0 = λ one. (plays : PlaysFront one lines done (next ∷ rest) text_before) × FaultLeft plays.setup plays.goes.state next (files_told plays.goes.files one) (held new) world_after printed in
       let moved = subst F same (front, fault) in
       AtEvent done next rest text_before moved.0 printed moved.1 is
 

@@ -56,7 +56,7 @@ held-still : (P : Type 0) (held left : Option Files) (files : Files) → left �
 held-still P None left files is some = tt
 held-still P (Some f) left files is some = subst (λ (o : Option Files). IfSome o (λ _. P)) is some
 
-told-same : (held left : Option Files) (files : Files) → left ≡ option_map (λ _. files) held → IfSome left (λ f. f ≡ files)
+pub told-same : (held left : Option Files) (files : Files) → left ≡ option_map (λ _. files) held → IfSome left (λ f. f ≡ files)
 told-same None left files is = subst (λ (o : Option Files). IfSome o (λ f. f ≡ files)) (sym is) tt
 told-same (Some f) left files is = subst (λ (o : Option Files). IfSome o (λ g. g ≡ files)) (sym is) refl
 
@@ -100,7 +100,7 @@ going-next setup places held mid left old new lines text next printed_lines goin
       written = ap (λ front. front ++ joined_lines printed_lines) going.written ∙ ap (λ all. text_of going.told ++ joined_lines all) done.text ∙ sym (text-append outcome.told going.told);
     }
 
-answered-range : (past : List Entry) (hand : Hand) → AreInRange (accepted_by past hand) → AreInRange past
+pub answered-range : (past : List Entry) (hand : Hand) → AreInRange (accepted_by past hand) → AreInRange past
 answered-range past Empty range = range
 answered-range past (Waiting entry) range = range.1
 answered-range past (Applied entry) range = range.1
@@ -143,7 +143,7 @@ line-events setup places held mid left before between later old new done next ot
     (done ++ next ∷ [], others, sym (append_assoc done (next ∷ []) others), subst P (ap (λ (behind : List ℕ). front ++ behind) (sym ends.1)) (going-plays setup places held left new (done ++ next ∷ []) (front ++ joined_lines ends.0) further))
 line-events setup places held mid left before between later old new done next others front going risen (Some DiskFault) text ends =
     let stand = going-stand setup places held mid old done front going in
-    let F : Option Files → Type 0 = λ one. FaultLeft setup going.state one left new ends.1.0 in (
+    let F : Option Files → Type 0 = λ one. FaultLeft setup going.state next one left new ends.1.0 in (
       Rose-whole before between later later risen ends.0 (omega arith),
       record {
         front = front;
@@ -219,11 +219,11 @@ behind-ends told faults first mid last setup places held disk left before betwee
     subst W (sym behind.parts) (written-behind told faults first mid last E F L M front status behind.appended sink (line-events setup places held disk left before between later old new behind.done next others front behind.going risen) (line-lacks setup places held disk left old new behind.done next others front behind.going) written)
 
 -- what a disk fault in a line left
-pub fault-left : (setup : Setup) (state : State Alone) (next : Line) (held left : Option Files) (old new : World) (lines : List (List ℕ)) → IsGood setup state → Shows setup state old → FaultLeaves next old new [] lines held left → FaultLeft setup state held left new (joined_lines lines)
+pub fault-left : (setup : Setup) (state : State Alone) (next : Line) (held left : Option Files) (old new : World) (lines : List (List ℕ)) → IsGood setup state → Shows setup state old → FaultLeaves next old new [] lines held left → FaultLeft setup state next held left new (joined_lines lines)
 fault-left setup state line.Files held left old new lines good shows leaves =
-    Showing (subst (λ (world : World). Shows setup state world) (sym leaves.0) shows) leaves.2 (ap joined_lines leaves.1)
+    Showing refl (subst (λ (world : World). Shows setup state world) (sym leaves.0) shows) leaves.2 (ap joined_lines leaves.1)
 fault-left setup state (line.Cat name) held left old new lines good shows leaves =
-    Showing (subst (λ (world : World). Shows setup state world) (sym leaves.0) shows) leaves.2 (ap joined_lines leaves.1)
+    Showing refl (subst (λ (world : World). Shows setup state world) (sym leaves.0) shows) leaves.2 (ap joined_lines leaves.1)
 fault-left setup state _ held left old new lines good shows leaves =
     let fault = leaves setup state good shows tt in
     Working fault.0 fault.1 (ap joined_lines fault.2)

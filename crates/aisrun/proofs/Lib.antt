@@ -3,6 +3,7 @@ mod ScriptSteps
 mod PlayLaws
 mod PromiseLaws
 mod GoingSteps
+mod FaultLaws
 mod EndingSteps
 mod StatusLaws
 mod CompletenessLaws

@@ -68,7 +68,7 @@ played-says setup places held (Went {state = state} {told = told} next shelf out
     (kept.0, Says-both (plain_of setup) (empty_world setup.start places) state.world outcome.state.world told outcome.told before.1 kept.1)
 
 -- so all promises hold
-at-end : (plain : Plain) (world : World) (told : List Told) (now : ℤ) (places : ℕ) → IsSound plain world → Says plain (empty_world now places) world told → AtEnd plain world told
+pub at-end : (plain : Plain) (world : World) (told : List Told) (now : ℤ) (places : ℕ) → IsSound plain world → Says plain (empty_world now places) world told → AtEnd plain world told
 at-end plain world told now places sound says = record {
   history = record {
     legal = committed-legal plain world.now world.core.answered world.core.hand sound.facts.legal;

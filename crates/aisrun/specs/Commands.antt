@@ -1,10 +1,15 @@
 -- Words of public clauses: the words of the command line that the program knows.
-use Rattle.std.specs.Prelude.{ℕ, Bool, false, not, ◌&&◌, ◌==◌, List, [], ◌∷◌, Option, Some, None, option_map, if◌then◌else◌, nat_eq, codes}
+use Rattle.std.specs.Prelude.{ℕ, Bool, false, not, ◌&&◌, ◌==◌, List, [], ◌∷◌, Option, Some, None, option_map, if◌then◌else◌, nat_eq, codes, map, string_bytes}
 use Rattle.std.specs.Cmp.Lexicographic.{pointwise}
+use Rattle.std.specs.declared.string.String.{String}
 use Rattle.ais_values.specs.declared.kind.StreamKind.{StreamKind}
 use Rattle.ais_values.specs.declared.kind.StreamKind.TheVariants as kind
 use Rattle.aisrun.specs.declared.command.Command.{Command}
 use Rattle.aisrun.specs.declared.command.Command.TheVariants.{Run, Check, Expr}
+
+-- the bytes of each word
+abbrev pub word_bytes : {Z : Type 0} → List (String Z) → List (List ℕ)
+word_bytes words = map (λ word. string_bytes word) words
 
 -- whether a word is this one
 abbrev pub is_word : List ℕ → List ℕ → Bool

@@ -1,5 +1,5 @@
 -- Words of public clauses: how a run ends, which is its status with what was read, what is printed, and what it leaves.
-use Rattle.std.specs.Prelude.{◌≡◌, ℕ, ◌+◌, ◌≤◌, List, [], ◌∷◌, ◌++◌, length, true, Option, Some, None, IfSome, ◌⊎◌, codes}
+use Rattle.std.specs.Prelude.{◌≡◌, ℕ, ◌+◌, ◌≤◌, List, [], ◌∷◌, ◌++◌, length, Bool, true, false, Option, Some, None, IfSome, ◌⊎◌, codes}
 use Rattle.std.specs.FinMap as files
 use Rattle.std.specs.Io.KnownBytes.{Appends}
 use Rattle.std.specs.Fmt.{decimal}
@@ -12,6 +12,7 @@ use Rattle.format_expr.specs.declared.fault.ExprFault.{ExprFault}
 use Rattle.format_expr.specs.Language.{ArePiecesOf}
 use Rattle.format_expr.specs.Faults.{IsFault, word_of}
 use Rattle.script_lines.specs.declared.line.Line.{Line}
+use Rattle.script_lines.specs.declared.line.Line.TheVariants as line
 use Rattle.script_lines.specs.declared.answer.ScriptWhy.{ScriptWhy}
 use Rattle.script_lines.specs.Refusals.{why_word}
 use Rattle.script_language.specs.Scripts.{IsScriptOf, IsBadAt}
@@ -21,7 +22,7 @@ use Rattle.stream_layout.specs.Deeds.{calls_of_all}
 use Rattle.disk_model.specs.DeviceCalls.{DoesFront, FailsAfter}
 use Rattle.cluster_core.specs.declared.world.World.{World}
 use Rattle.cluster_core.specs.Beginning.{Begins, HoldsNone}
-use Rattle.cluster_core.specs.Broken.{Broken, Faulted as FaultedOf}
+use Rattle.cluster_core.specs.Broken.{Broken, FaultedIn}
 use Rattle.cluster_core.specs.Worlds.{Shows}
 use Rattle.cluster_events.specs.Lines.{Told}
 use Rattle.cluster_events.specs.Servers.{State}
@@ -115,10 +116,17 @@ pub record Opens (script : List Line) (held : Option Files) : Type 0 where
   pub places : ℕ
   pub begins : Begins opening setup places
 
--- what a fault in an event left: an event that shows files left all as it was, any other came to an entry that was to be worked
-pub data FaultLeft (setup : Setup) (state : State Alone) (held left : Option Files) (world : World) (lines : List ℕ) : Type 0 where
-  Showing : Shows setup state world → left ≡ held → lines ≡ [] → FaultLeft setup state held left world lines
-  Working : (told : List Told) → FaultedOf setup state told held left world → lines ≡ text_of told → FaultLeft setup state held left world lines
+-- lines that show files
+abbrev pub shows_files : Line → Bool
+shows_files line.Files = true
+shows_files (line.Cat name) = true
+shows_files _ = false
+
+-- what a fault in the event of a line left: a line that shows files left all as it was, any other, which is `work` or `settle`, came
+-- to an entry that was to be worked
+pub data FaultLeft (setup : Setup) (state : State Alone) (next : Line) (held left : Option Files) (world : World) (lines : List ℕ) : Type 0 where
+  Showing : shows_files next ≡ true → Shows setup state world → left ≡ held → lines ≡ [] → FaultLeft setup state next held left world lines
+  Working : (told : List Told) → FaultedIn setup next state told held left world → lines ≡ text_of told → FaultLeft setup state next held left world lines
 
 -- the disk failed: as its names were asked for, in the deeds of the start, or in an event behind those that were done, of which
 -- some lines were printed
@@ -129,7 +137,7 @@ pub data DiskFails {K D : Type 0} (script : List Line) (scene : Stage K D) (text
       → scene.world_after ≡ scene.world → text ≡ fault_line → DiskFails script scene text
   AtEvent :
       (done : List Line) (next : Line) (rest : List Line) (text_before : List ℕ) (front : PlaysFront (before scene.disk) script done (next ∷ rest) text_before)
-      (lines : List ℕ) → FaultLeft front.setup front.goes.state (files_told front.goes.files (before scene.disk)) (after scene.disk) scene.world_after lines
+      (lines : List ℕ) → FaultLeft front.setup front.goes.state next (files_told front.goes.files (before scene.disk)) (after scene.disk) scene.world_after lines
       → text ≡ text_before ++ (lines ++ fault_line) → DiskFails script scene text
 
 -- these events of a script were done, and world and disk stand where they led

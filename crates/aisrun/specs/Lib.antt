@@ -1,3 +1,4 @@
+pub mod AfterFault
 pub mod Checking
 pub mod Commands
 pub mod Edges

@@ -90,7 +90,7 @@ abbrev pub LineEnds : Setup → State Alone → Line → Option Files → Option
 LineEnds setup state next held left before later world None text =
     (lines : List (List ℕ)) × (text ≡ joined_lines lines) × EventDone setup state next lines held left world
 LineEnds setup state next held left before later world (Some DiskFault) text =
-    Rose before later × ((lines : List ℕ) × FaultLeft setup state held left world lines × (text ≡ lines ++ fault_line))
+    Rose before later × ((lines : List ℕ) × FaultLeft setup state next held left world lines × (text ≡ lines ++ fault_line))
 LineEnds setup state next held left before later world _ text = ⊥
 
 -- what the playing of a line gives
@@ -125,7 +125,7 @@ pub record FaultsBehind (setup : Setup) (places : ℕ) (held left : Option Files
   pub front : List ℕ
   pub behind : BreaksBehind setup places held events front
   pub lines : List ℕ
-  pub fault : FaultLeft setup behind.goes.state (files_told behind.goes.files held) left world lines
+  pub fault : FaultLeft setup behind.goes.state behind.next (files_told behind.goes.files held) left world lines
   pub written : text ≡ front ++ (lines ++ fault_line)
 
 -- where the lines behind the opening end

@@ -31,7 +31,8 @@ fn judge(alloc: Global, bytes: &[u8]) -> Result<End, AllocError>
 ///
 /// `Err` only where memory ran out.
 pub fn check_script<S: Source>(alloc: Global, source: &mut S) -> Result<End, AllocError>
-    ensures ends { IfOk result (λ end. CheckEnds (edge S.left S.faults source.old source.new) end.status end.text.items) }
+    ensures ends { IfOk result (λ end. CheckEnds (edge S.left S.faults source.old source.new)
+        end.status end.text.items) }
 {
     match read_input(alloc, source) {
         Ok(Input::Bytes(bytes)) => {

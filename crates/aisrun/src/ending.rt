@@ -148,7 +148,8 @@ pub fn root_holds(alloc: Global, name: &[u8]) -> Result<End, AllocError>
 /// The end of a check that passed, with a count.
 pub fn passed(alloc: Global, count: usize) -> Result<End, AllocError>
     ensures status { IfOk result (λ end. end.status ≡ Status8.Done) }
-    ensures text { IfOk result (λ end. end.text.items ≡ codes "ok " ++ (decimal count ++ codes "\n")) }
+    ensures text { IfOk result (λ end. end.text.items
+        ≡ codes "ok " ++ (decimal count ++ codes "\n")) }
 {
     let line = format!(in alloc; "ok {count}\n")?;
     end_with(alloc, Status8::Done, line.as_bytes())

@@ -34,9 +34,10 @@ fn play_line<K: Sink, D: SharedDisk>(
     requires spelled { (raw : List ℕ) × Spells line.now raw }
     requires lone { IsLoneLine world.old.now line.now }
     requires state { HasState world.old }
-    ensures ends { (setup : Setup) (state : State Alone) → IsGood setup state → Shows setup state world.old
-        → TellsFiles setup state (D.files disk.old)
-        → LineGives (LineEnds setup state line.now (D.files disk.old) (D.files disk.new) (D.faults disk.old) (D.faults disk.new) world.new)
+    ensures ends { (setup : Setup) (state : State Alone) → IsGood setup state
+        → Shows setup state world.old → TellsFiles setup state (D.files disk.old)
+        → LineGives (LineEnds setup state line.now (D.files disk.old) (D.files disk.new)
+        (D.faults disk.old) (D.faults disk.new) world.new)
         (LineLacks setup state (D.files disk.old) (D.files disk.new) world.new)
         (edge K.written K.faults out.old out.new) result }
     ensures sink { OnOk result (K.faults out.old ≤ K.faults out.new) }
@@ -62,9 +63,12 @@ fn play_events<K: Sink, D: SharedDisk>(
 ) -> Status8
     requires begun { HasBegun (D.files disk.old) world.old }
     requires follows { CanFollow world.old.now events.now }
-    ensures { (setup : Setup) (places : ℕ) (held : Option Files) → Begun setup places held (D.files disk.old) world.old
-        → Written (EventsEnd setup places held (D.files disk.new) (D.faults disk.old) (D.faults disk.new) world.new events.now)
-        (LacksBehind setup places held (D.files disk.new) world.new events.now) (edge K.written K.faults out.old out.new) result }
+    ensures { (setup : Setup) (places : ℕ) (held : Option Files)
+        → Begun setup places held (D.files disk.old) world.old
+        → Written (EventsEnd setup places held (D.files disk.new) (D.faults disk.old)
+        (D.faults disk.new) world.new events.now)
+        (LacksBehind setup places held (D.files disk.new) world.new events.now)
+        (edge K.written K.faults out.old out.new) result }
 {
     for line in events {
         match play_line(alloc, line, out, disk, world) {
@@ -87,10 +91,10 @@ fn open<K: Sink, D: SharedDisk>(
     requires script { CanPlay opening.now events.now }
     requires empty { world.old ≡ empty_world }
     requires bare { HoldsNone (D.files disk.old) }
-    ensures { Written (PlayEnds (opening.now ∷ events.now)
-        (stage (edge K.written K.faults out.old out.new) (edge D.files D.faults disk.old disk.new) world.old world.new))
-        (PlayLacks (opening.now ∷ events.now) (stage (edge K.written K.faults out.old out.new) (edge D.files D.faults disk.old disk.new) world.old world.new))
-        (edge K.written K.faults out.old out.new) result }
+    ensures { let scene = stage (edge K.written K.faults out.old out.new)
+        (edge D.files D.faults disk.old disk.new) world.old world.new
+        in let script = opening.now ∷ events.now
+        in Written (PlayEnds script scene) (PlayLacks script scene) scene.sink result }
 {
     match world.begin(alloc, opening, disk) {
         Ok(()) => play_events(alloc, events, out, disk, world),
@@ -120,7 +124,8 @@ fn first_name<D: SharedDisk>(alloc: Global, disk: &mut D) -> Result<Option<Text>
 
 // Writes the end where the disk held a file of this name.
 fn write_held<K: Sink>(alloc: Global, out: &mut K, name: &[u8]) -> Status8
-    ensures { Written (IsText Status8.RootNotEmpty (codes "root not empty: " ++ (name.now ++ codes "\n")))
+    ensures { Written (IsText Status8.RootNotEmpty
+        (codes "root not empty: " ++ (name.now ++ codes "\n")))
         IsNone (edge K.written K.faults out.old out.new) result }
 {
     match root_holds(alloc, name) {
@@ -143,11 +148,9 @@ pub fn play<K: Sink, D: SharedDisk>(
 ) -> Status8
     requires script { IsPlayable lines.now }
     requires empty { world.old ≡ empty_world }
-    ensures { Written (PlayEnds lines.now (stage (edge K.written K.faults out.old out.new)
-        (edge D.files D.faults disk.old disk.new) world.old world.new))
-        (PlayLacks lines.now (stage (edge K.written K.faults out.old out.new)
-        (edge D.files D.faults disk.old disk.new) world.old world.new))
-        (edge K.written K.faults out.old out.new) result }
+    ensures { let scene = stage (edge K.written K.faults out.old out.new)
+        (edge D.files D.faults disk.old disk.new) world.old world.new
+        in Written (PlayEnds lines.now scene) (PlayLacks lines.now scene) scene.sink result }
 {
     match first_name(alloc, disk) {
         Ok(None) => match lines.split_first() {

@@ -1,7 +1,8 @@
 //! The top call: the words, a source, a sink, a disk and a world, and the status that the run ends with.
-ghost use Rattle.std.specs.Prelude.{◌≡◌, ◌≢◌, ◌⊎◌, ◌≤◌, [], ◌∷◌, length, codes, false, List, ℕ, Some, map, string_bytes, MatchResult};
+ghost use Rattle.std.specs.Prelude.{◌≡◌, ◌≢◌, ◌⊎◌, ◌≤◌, [], ◌∷◌, length, codes, false, List, ℕ, Some, MatchResult};
 ghost use Rattle.aisrun.specs.Causes.{Rose};
-ghost use Rattle.aisrun.specs.Commands.{command_of, text_of};
+ghost use Rattle.aisrun.specs.AfterFault.{KeepsAtFault};
+ghost use Rattle.aisrun.specs.Commands.{command_of, text_of, word_bytes};
 ghost use Rattle.disk_model.specs.Disk.{no_files};
 ghost use Rattle.aisrun.specs.Faults.{IsFault};
 ghost use Rattle.format_expr.specs.declared.fault.ExprFault.{ExprFault};
@@ -94,7 +95,7 @@ fn run_words<S: Source, K: Sink, D: SharedDisk>(
     world: &mut World,
 ) -> Status8
     requires { world.old ≡ empty_world }
-    ensures { let run = around (map (λ word. string_bytes word) words.now)
+    ensures { let run = around (word_bytes words.now)
         (edge S.left S.faults source.old source.new)
         (stage (edge K.written K.faults out.old out.new)
         (edge D.files D.faults disk.old disk.new) world.old world.new)
@@ -119,7 +120,10 @@ fn run_words<S: Source, K: Sink, D: SharedDisk>(
 /// ran out, `Memory`, nothing was written or a front of the text; `check`, `expr` and words that are none of the program's
 /// leave disk and world as they are all the same, `expr` and such words the source too.
 ///
-/// The clauses behind them say of each run what holds at the end of every line that was played, by any status.
+/// The clauses behind them say of each run what holds at the end of every line that was played, by any status. Where a fault of
+/// the disk ended it in an entry's work, the same holds of history, replies, callbacks and posts up to the fault, the entry is
+/// committed and has no reply, and what was answered as stored before it stands, unless the entry gives its place away; where
+/// the fault came in a line that shows files, all stands as at the end of the line before.
 pub fn run<S: Source, K: Sink, D: SharedDisk>(
     alloc: Global,
     words: &[String],
@@ -131,39 +135,39 @@ pub fn run<S: Source, K: Sink, D: SharedDisk>(
     requires { world.old ≡ empty_world }
 
     // What each status means.
-    ensures done { result ≡ Status8.Done → EndsDone (around (map (λ word. string_bytes word) words.now)
+    ensures done { result ≡ Status8.Done → EndsDone (around (word_bytes words.now)
         (edge S.left S.faults source.old source.new)
         (stage (edge K.written K.faults out.old out.new)
         (edge D.files D.faults disk.old disk.new) world.old world.new)) }
-    ensures refused { result ≡ Status8.ScriptRefused → EndsRefused (around (map (λ word. string_bytes word) words.now)
+    ensures refused { result ≡ Status8.ScriptRefused → EndsRefused (around (word_bytes words.now)
         (edge S.left S.faults source.old source.new)
         (stage (edge K.written K.faults out.old out.new)
         (edge D.files D.faults disk.old disk.new) world.old world.new)) }
-    ensures usage { result ≡ Status8.Usage → EndsUsage (around (map (λ word. string_bytes word) words.now)
+    ensures usage { result ≡ Status8.Usage → EndsUsage (around (word_bytes words.now)
         (edge S.left S.faults source.old source.new)
         (stage (edge K.written K.faults out.old out.new)
         (edge D.files D.faults disk.old disk.new) world.old world.new)) }
-    ensures memory { result ≡ Status8.Memory → EndsLacking (around (map (λ word. string_bytes word) words.now)
+    ensures memory { result ≡ Status8.Memory → EndsLacking (around (word_bytes words.now)
         (edge S.left S.faults source.old source.new)
         (stage (edge K.written K.faults out.old out.new)
         (edge D.files D.faults disk.old disk.new) world.old world.new)) }
-    ensures read_fault { result ≡ Status8.ReadFault → EndsUnread (around (map (λ word. string_bytes word) words.now)
+    ensures read_fault { result ≡ Status8.ReadFault → EndsUnread (around (word_bytes words.now)
         (edge S.left S.faults source.old source.new)
         (stage (edge K.written K.faults out.old out.new)
         (edge D.files D.faults disk.old disk.new) world.old world.new)) }
-    ensures write_fault { result ≡ Status8.WriteFault → EndsUnwritten (around (map (λ word. string_bytes word) words.now)
+    ensures write_fault { result ≡ Status8.WriteFault → EndsUnwritten (around (word_bytes words.now)
         (edge S.left S.faults source.old source.new)
         (stage (edge K.written K.faults out.old out.new)
         (edge D.files D.faults disk.old disk.new) world.old world.new)) }
-    ensures disk_fault { result ≡ Status8.DiskFault → EndsBroken (around (map (λ word. string_bytes word) words.now)
+    ensures disk_fault { result ≡ Status8.DiskFault → EndsBroken (around (word_bytes words.now)
         (edge S.left S.faults source.old source.new)
         (stage (edge K.written K.faults out.old out.new)
         (edge D.files D.faults disk.old disk.new) world.old world.new)) }
-    ensures root_not_empty { result ≡ Status8.RootNotEmpty → EndsHeld (around (map (λ word. string_bytes word) words.now)
+    ensures root_not_empty { result ≡ Status8.RootNotEmpty → EndsHeld (around (word_bytes words.now)
         (edge S.left S.faults source.old source.new)
         (stage (edge K.written K.faults out.old out.new)
         (edge D.files D.faults disk.old disk.new) world.old world.new)) }
-    ensures too_long { result ≡ Status8.TooLong → EndsOverlong (around (map (λ word. string_bytes word) words.now)
+    ensures too_long { result ≡ Status8.TooLong → EndsOverlong (around (word_bytes words.now)
         (edge S.left S.faults source.old source.new)
         (stage (edge K.written K.faults out.old out.new)
         (edge D.files D.faults disk.old disk.new) world.old world.new)) }
@@ -178,18 +182,22 @@ pub fn run<S: Source, K: Sink, D: SharedDisk>(
     ensures stays { Throughout (D.files disk.old) KeepsRecords }
     ensures settles { Throughout (D.files disk.old) SettlesAll }
 
+    // What holds where a fault of the disk ended the run in an event.
+    ensures fault_keeps { KeepsAtFault (D.files disk.old) (D.files disk.new) world.new }
+
     // A script without lines on failures, a disk without files and no fault: only memory may be missing.
     ensures completes { (lines : List Line) (bytes : List ℕ)
-        → map (λ word. string_bytes word) words.now ≡ codes "run" ∷ []
+        → word_bytes words.now ≡ codes "run" ∷ []
         → S.left source.old ≡ Some bytes → length bytes ≤ 16777216 → IsScriptOf lines bytes
         → has_failures lines ≡ false → D.files disk.old ≡ Some no_files
         → ¬ Rose (S.faults source.old) (S.faults source.new)
-        → ¬ Rose (K.faults out.old) (K.faults out.new) → ¬ Rose (D.faults disk.old) (D.faults disk.new)
+        → ¬ Rose (K.faults out.old) (K.faults out.new)
+        → ¬ Rose (D.faults disk.old) (D.faults disk.new)
         → (result ≡ Status8.Done) ⊎ (result ≡ Status8.Memory) }
 
     // The same of a script that is checked.
     ensures checks { (lines : List Line) (bytes : List ℕ)
-        → map (λ word. string_bytes word) words.now ≡ codes "check" ∷ []
+        → word_bytes words.now ≡ codes "check" ∷ []
         → S.left source.old ≡ Some bytes → length bytes ≤ 16777216 → IsScriptOf lines bytes
         → ¬ Rose (S.faults source.old) (S.faults source.new)
         → ¬ Rose (K.faults out.old) (K.faults out.new)
@@ -197,8 +205,8 @@ pub fn run<S: Source, K: Sink, D: SharedDisk>(
 
     // The same of an expression: a text without a fault that begins with no minus sign.
     ensures exprs { (kind : StreamKind)
-        → command_of (map (λ word. string_bytes word) words.now) ≡ Some (Command.Expr kind)
-        → ((fault : ExprFault) → IsFault kind (text_of (map (λ word. string_bytes word) words.now)) fault → ⊥)
+        → command_of (word_bytes words.now) ≡ Some (Command.Expr kind)
+        → ((fault : ExprFault) → IsFault kind (text_of (word_bytes words.now)) fault → ⊥)
         → ¬ Rose (K.faults out.old) (K.faults out.new)
         → (result ≡ Status8.Done) ⊎ (result ≡ Status8.Memory) }
 {

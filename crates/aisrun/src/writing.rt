@@ -22,7 +22,8 @@ pub fn unwritten(answer: SinkAnswer) -> Status8
 
 /// Writes lines, one after another.
 pub fn write_lines<K: Sink>(out: &mut K, lines: &[Seq<u8>]) -> Result<(), SinkAnswer>
-    ensures bytes { WritesAll (K.written out.old) (K.written out.new) (joined_lines lines.now) result }
+    ensures bytes { WritesAll (K.written out.old) (K.written out.new) (joined_lines lines.now)
+        result }
     ensures cause { HasCauseOf (K.faults out.old) (K.faults out.new) result SinkAnswer.Failed }
 {
     for line in lines {
@@ -47,7 +48,8 @@ pub fn write_broken<K: Sink>(out: &mut K, lines: &[Seq<u8>]) -> Status8
 
 /// Writes a text, behind which the run ends with a status.
 pub fn write_text<K: Sink>(out: &mut K, status: Status8, text: &[u8]) -> Status8
-    ensures { Written (IsText status text.now) IsNever (edge K.written K.faults out.old out.new) result }
+    ensures { Written (IsText status text.now) IsNever
+        (edge K.written K.faults out.old out.new) result }
 {
     match write_all(out, text) {
         Ok(()) => status,

@@ -42,5 +42,5 @@ returns-clause-ends g c setup state good shows tells =
     let lines = c.as_slice-in-Err-DiskFault.result.now in
     let left = fault-left setup state c.args.line.now (files c.args.disk.now) (files c.event.new.disk) c.args.world.now c.event.new.self c.in-Err-DiskFault.printed good shows broken in
     let same = c.as_slice-in-Err-DiskFault.ensures ∙ c.in-Err-DiskFault.printed-is in
-    let printed = subst (λ (one : List (List ℕ)). FaultLeft setup state (files c.args.disk.now) (files c.event.new.disk) c.event.new.self (joined_lines one)) (sym same) left in
+    let printed = subst (λ (one : List (List ℕ)). FaultLeft setup state c.args.line.now (files c.args.disk.now) (files c.event.new.disk) c.event.new.self (joined_lines one)) (sym same) left in
     text-written E L DiskFault (joined_lines lines ++ fault_line) sink c.write_broken.result (cause.rose, (joined_lines lines, printed, refl)) c.write_broken.ensures

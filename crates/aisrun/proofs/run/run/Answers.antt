@@ -1,5 +1,6 @@
 use Rattle.aisrun.proofs.StatusLaws.{ends-done, ends-refused, ends-usage, ends-lacking, ends-unread, ends-unwritten, ends-broken, ends-held, ends-overlong}
 use Rattle.aisrun.proofs.PromiseLaws.{keeps-one-history, replies-rightly, reads-rightly, calls-back, prints-posts, keeps-files, keeps-records, settles-all}
+use Rattle.aisrun.proofs.FaultLaws.{keeps-at-fault}
 use Rattle.aisrun.proofs.CompletenessLaws.{completes, checks, exprs}
 use Rattle.aisrun.proofs.run.run.Goals as goal
 
@@ -53,6 +54,9 @@ returns-clause-stays g c = keeps-records _
 
 pub returns-clause-settles : goal.returns-clause-settles
 returns-clause-settles g c = settles-all _
+
+pub returns-clause-fault_keeps : goal.returns-clause-fault_keeps
+returns-clause-fault_keeps g c = keeps-at-fault _ _ _
 
 pub returns-clause-completes : goal.returns-clause-completes
 returns-clause-completes g c lines bytes asked left short script well empty reads sink disk =
