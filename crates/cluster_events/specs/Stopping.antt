@@ -1,6 +1,6 @@
 -- Words of public clauses: where an event stops short, as an entry is about to be worked: the state that it came to, and what it
 -- told until then.
-use Rattle.std.specs.Prelude.{ℕ, true, ◌≡◌, List, [], ◌∷◌, ◌++◌}
+use Rattle.std.specs.Prelude.{ℕ, true, ◌≡◌, List, ◌∷◌, ◌++◌}
 use Rattle.script_lines.specs.declared.line.Line.{Line}
 use Rattle.script_lines.specs.declared.line.Line.TheVariants.{Work, Settle}
 use Rattle.cluster_facts.specs.Types.{Message}

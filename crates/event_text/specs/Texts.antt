@@ -1,7 +1,7 @@
 -- Words of public clauses: the text of the lines that events print. Each line of text ends with a line feed.
 use Rattle.std.specs.Prelude.{◌≡◌, ℕ, ◌==◌, Option, Some, None, List, [], ◌∷◌, ◌++◌, length, map, codes, if◌then◌else◌}
 use Rattle.std.specs.Fmt.{decimal, signed_decimal}
-use Rattle.std.specs.List.{filter, flat_map, join_by}
+use Rattle.std.specs.List.{filter, join_by}
 use Rattle.ais_values.specs.Statuses.{status_word}
 use Rattle.script_grammar.specs.Writing.{joined}
 use Rattle.script_language.specs.Printing.{server_text, shown_note_text, line_text}

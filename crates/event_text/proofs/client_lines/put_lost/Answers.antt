@@ -1,4 +1,4 @@
-use Rattle.event_text.specs.Texts.{ids_of, lost_lines_of, lost_lines}
+use Rattle.event_text.specs.Texts.{lost_lines}
 use Rattle.event_text.proofs.Chain.{on-err, none_added, first-added}
 use Rattle.event_text.proofs.client_lines.put_lost.Goals as goal
 

@@ -1,4 +1,4 @@
-use Rattle.std.proofs.Common.{sym, ◌∙◌, ap, ◌++◌, drop}
+use Rattle.std.proofs.Common.{◌∙◌, ap, ◌++◌, drop}
 use Rattle.event_text.specs.Texts.{lines_behind, shown_lines}
 use Rattle.event_text.proofs.Chain.{on-err, part-added}
 use Rattle.event_text.proofs.shown.put_shown.Goals as goal
