@@ -32,7 +32,7 @@ use Rattle.cluster_events.specs.Serving.{IsSteady}
 use Rattle.cluster_events.proofs.Telling.{Says-same}
 use Rattle.cluster_events.proofs.Carrying.{Goes, hear-goes, drain-goes, IsMadeItem, held-made, post_all-goes}
 use Rattle.lone_cluster.specs.Lone.{Alone, lone, IsGoodAlone, accept_alone, net_answering}
-use Rattle.lone_cluster.proofs.Serving.{lone-serves, lone-says}
+use Rattle.lone_cluster.proofs.Serving.{lone-serves}
 use Rattle.mirror.specs.declared.heard.Heard.{Heard}
 use Rattle.mirror.specs.declared.heard.Why.{Why as Reason}
 use Rattle.mirror.specs.declared.heard.Why.TheVariants.{Old as OldMessage, Ahead as AheadMessage, Busy as BusyWith, Done, NotForRole}
@@ -47,9 +47,10 @@ use Rattle.cluster_core.specs.Worlds.{Shows, IsGood, TellsFiles, heard_by, drain
 use Rattle.cluster_core.specs.Broken.{LeavesBetween, Broken, Faulted}
 use Rattle.cluster_core.specs.Errors.{BreaksOff}
 use Rattle.cluster_core.specs.Rounds.{StopsInDrain}
-use Rattle.cluster_core.specs.PartlyDone.{PostsSome, IsPartlyTold, IsFaultTold}
+use Rattle.cluster_core.specs.PartlyDone.{PostsSome, IsPartlyTold, SaysUnasked, IsFaultTold}
 use Rattle.cluster_core.proofs.ServerSteps.{state_with, answered-history, IsHeardBy}
 use Rattle.cluster_core.proofs.WorkSteps.{IsWorked, drain-steady}
+use Rattle.cluster_core.proofs.UnaskedSteps.{lone-unasked, unasked-same}
 use Rattle.cluster_core.proofs.BrokenSteps.{left-between, same-between, unworked-between, lacking-between, failing-between, whole-broken, nothing-broken}
 
 -- Messages that were posted in part.
@@ -78,7 +79,7 @@ posts-one setup message net old new posts spelled =
 -- A message that is heard.
 
 abbrev GoesSo : Setup → State Alone → Outcome (State Alone) → Type 0
-GoesSo setup state outcome = Goes (Says (plain_of setup)) (IsSteady (plain_of setup) IsGoodAlone) state outcome
+GoesSo setup state outcome = Goes (SaysUnasked (plain_of setup)) (IsSteady (plain_of setup) IsGoodAlone) state outcome
 
 -- what the code is left as
 abbrev left_as : Kept → Server → List (List ℕ) → Pushed → Kept
@@ -149,7 +150,7 @@ rest-breaks setup state old a net history heard place _ held good shows is partl
 pub heard-goes : (setup : Setup) (place : ℕ) (message : Message) (state : State Alone) → IsGood setup state → Stands message state.world.net → GoesSo setup state (heard_by place message setup state)
 heard-goes setup place message state good stands =
     let plain = plain_of setup in
-    hear-goes plain (is_plain setup) (lone plain) IsGoodAlone (lone-serves plain (is_plain setup)) (Says plain) (lone-says plain) place message state stands good.steady
+    hear-goes plain (is_plain setup) (lone plain) IsGoodAlone (lone-serves plain (is_plain setup)) (SaysUnasked plain) (lone-unasked plain) place message state stands good.steady
 
 hears-break-by : (setup : Setup) (state : State Alone) (hand : Hand) (old : Kept) (a : Server) (net : List (List ℕ)) (history : Pushed) (heard : Heard) (place : ℕ) (message : Message) (held : Option Files) → IsGood setup (state_with state hand) → Shows setup (state_with state hand) old → Stands message state.world.net → IsHeardBy old.a old.now message heard a → IsPartlyTold heard old.net net old.history.entries history.entries → Broken setup (state_with state hand) held held (left_as old a net history)
 hears-break-by setup state Empty old a net history heard place message held good shows stands hears partly =
@@ -171,10 +172,10 @@ hears-break setup state old a net history heard place message held good shows st
 
 -- Work.
 
-pub drained-goes : (setup : Setup) (state : State Alone) → IsGood setup state → Says (plain_of setup) state.world (drained setup state).state.world (drained setup state).told
+pub drained-goes : (setup : Setup) (state : State Alone) → IsGood setup state → SaysUnasked (plain_of setup) state.world (drained setup state).state.world (drained setup state).told
 drained-goes setup state good =
     let plain = plain_of setup in
-    (drain-goes plain (is_plain setup) (lone plain) IsGoodAlone (lone-serves plain (is_plain setup)) (Says plain) (lone-says plain) state good.steady).carried
+    (drain-goes plain (is_plain setup) (lone plain) IsGoodAlone (lone-serves plain (is_plain setup)) (SaysUnasked plain) (lone-unasked plain) state good.steady).carried
 
 -- with nothing in hand nothing is owed
 rest-owes : (setup : Setup) (past : List Entry) (a : Server) → a ≡ at_rest setup past → IsSome a.owed → ⊥
@@ -190,7 +191,7 @@ work-lacks-by setup state Empty old a count held left good shows some lacks = ab
 work-lacks-by setup state (Ready entry) old a count held left good shows some lacks =
     let now = state_with state (Ready entry) in
     let L : Server → Type 0 = λ server. LacksMemoryAfter (calls_of_all (deeds_in server.owed)) count held left in
-    whole-broken setup now now [] held left (record old { a = a }) good.steady.sound (Says-same (plain_of setup) now.world) shows.net shows.agents shows.history shows.now (lacking-between setup now entry count held left (subst L shows.active lacks))
+    whole-broken setup now now [] held left (record old { a = a }) good.steady.sound (unasked-same (plain_of setup) now.world) shows.net shows.agents shows.history shows.now (lacking-between setup now entry count held left (subst L shows.active lacks))
 work-lacks-by setup state (Waiting entry) old a count held left good shows some lacks = elim good.steady.good [ ]
 work-lacks-by setup state (Applied entry) old a count held left good shows some lacks = elim good.steady.good [ ]
 
@@ -229,7 +230,7 @@ work-untold-by setup state (Ready entry) old a net heard held left good shows so
     let owed : PostsSome (replies_owed setup past entry) old.net net = subst O shows.active (subst P is.heard_is posts) in
     let between = done-between setup state entry held left good (subst F shows.active files) in
     elim (answer-breaks setup state entry state.world.net old.net net owed shows.net) [
-      | inl spelled ↦ whole-broken setup before before [] held left (record old { a = a; net = net }) good.steady.sound (Says-same (plain_of setup) before.world) spelled shows.agents shows.history shows.now between
+      | inl spelled ↦ whole-broken setup before before [] held left (record old { a = a; net = net }) good.steady.sound (unasked-same (plain_of setup) before.world) spelled shows.agents shows.history shows.now between
       | inr spelled ↦ whole-broken setup before after.state after.told held left (record old { a = a; net = net }) (drain-steady setup before good.steady).sound (drained-goes setup before good) spelled
           (Rattle.cluster_core.proofs.ServerSteps.agents-as before.world after.state.world old.agents refl refl refl shows.agents)
           shows.history shows.now between
@@ -301,7 +302,7 @@ work-unsaid-by setup state Empty old a count held left good shows some fails = a
 work-unsaid-by setup state (Ready entry) old a count held left good shows some fails =
     let now = state_with state (Ready entry) in
     let L : Server → Type 0 = λ server. FailsAfter (calls_of_all (deeds_in server.owed)) count held left in
-    whole-broken setup now now [] held left (record old { a = a }) good.steady.sound (Says-same (plain_of setup) now.world) shows.net shows.agents shows.history shows.now (failing-between setup now entry count held left (subst L shows.active fails))
+    whole-broken setup now now [] held left (record old { a = a }) good.steady.sound (unasked-same (plain_of setup) now.world) shows.net shows.agents shows.history shows.now (failing-between setup now entry count held left (subst L shows.active fails))
 work-unsaid-by setup state (Waiting entry) old a count held left good shows some fails = elim good.steady.good [ ]
 work-unsaid-by setup state (Applied entry) old a count held left good shows some fails = elim good.steady.good [ ]
 
@@ -335,10 +336,10 @@ push-breaks-by setup state Empty old net items held good shows idle are posts =
     let done = subst P (are past (answered-history setup state Empty good) shows.active) posts plain state.world.net (is_plain setup) shows.net in
     let front = take done.0 (plain.held past) in
     let made = all-taken (IsMadeItem plain past) done.0 (plain.held past) (held-made plain (is_plain setup) past) in
-    let goes = post_all-goes plain (is_plain setup) (lone plain) IsGoodAlone (lone-serves plain (is_plain setup)) (Says plain) (lone-says plain) front rest (record { steady = good.steady; empty = refl }) made in
+    let goes = post_all-goes plain (is_plain setup) (lone plain) IsGoodAlone (lone-serves plain (is_plain setup)) (SaysUnasked plain) (lone-unasked plain) front rest (record { steady = good.steady; empty = refl }) made in
     let same = each-posted plain front rest in
     let S : Outcome (State Alone) → Type 0 = λ outcome. IsSteady plain IsGoodAlone outcome.state in
-    let T : Outcome (State Alone) → Type 0 = λ outcome. Says plain rest.world outcome.state.world outcome.told in
+    let T : Outcome (State Alone) → Type 0 = λ outcome. SaysUnasked plain rest.world outcome.state.world outcome.told in
     let other = record rest.world { net = posted_all plain front rest.world.net } in
     whole-broken setup rest (record { world = other; peers = rest.peers }) (lines_all plain front rest.world.net) held held (record old { net = net }) (subst S same goes.holds.steady).sound (subst T same goes.carried) done.1
     (Rattle.cluster_core.proofs.ServerSteps.agents-as rest.world other old.agents refl refl refl shows.agents)

@@ -1,6 +1,7 @@
 -- Events that break off: what the world of the code is left as.
-use Rattle.std.proofs.Common.{◌≡◌, ℕ, ◌⊎◌, inl, inr, Option, Some, None, List, [], ◌∷◌, ◌++◌, refl, ap, sym, ◌∙◌, subst}
-use Rattle.disk_model.specs.Disk.{Files, no_files}
+use Rattle.std.proofs.Common.{◌≡◌, ℕ, inl, inr, Option, Some, None, List, [], ◌∷◌, ◌++◌, refl, ap, sym, ◌∙◌, subst}
+use Rattle.std.specs.List.{AllByRecursion}
+use Rattle.disk_model.specs.Disk.{Files}
 use Rattle.disk_model.specs.DeviceCalls.{DeviceCall, all_applied, FailsAfter, LacksMemoryAfter}
 use Rattle.stream_layout.specs.Deeds.{calls_of_all}
 use Rattle.plain_service.specs.Setups.{Setup}
@@ -9,20 +10,23 @@ use Rattle.service_laws.specs.PlainOf.{plain_of}
 use Rattle.service_laws.specs.Disks.{service_disk}
 use Rattle.service_laws.specs.StorageOf.{storage_of}
 use Rattle.service_laws.proofs.StorageLaws.{is_storage}
-use Rattle.cluster_facts.specs.Types.{Entry}
-use Rattle.cluster_facts.specs.Storage.{Attempt, Between}
+use Rattle.cluster_facts.specs.Types.{Call, Reply, Entry}
+use Rattle.cluster_facts.specs.Lists.{Stands, EndsIn}
+use Rattle.cluster_facts.specs.Messages.{sent_by, calls_in}
+use Rattle.cluster_facts.specs.Storage.{Attempt, Between, dealt_in}
 use Rattle.cluster_facts.specs.Storage.Attempts.{none as no_attempt, more as one_more}
-use Rattle.cluster_facts.specs.History.{committed}
+use Rattle.cluster_facts.specs.Agents.{fed_of}
+use Rattle.cluster_facts.specs.History.{Core, committed, time_of}
 use Rattle.cluster_facts.specs.World.{World}
 use Rattle.cluster_facts.specs.Facts.{IsSound}
 use Rattle.cluster_events.specs.Lines.{Told}
-use Rattle.cluster_events.specs.Outcomes.{Outcome}
+use Rattle.cluster_events.specs.Outcomes.{Outcome, quietly}
 use Rattle.cluster_events.specs.Servers.{State}
-use Rattle.cluster_events.specs.Saying.{Says}
-use Rattle.cluster_events.specs.Breaking.{IsStep, Partly}
+use Rattle.cluster_events.specs.Saying.{entries_told, deals_told, Says}
+use Rattle.cluster_events.specs.Breaking.{Tells, IsFed, Holds}
 use Rattle.cluster_events.proofs.Telling.{Says-same}
 use Rattle.cluster_events.proofs.Filed.{stand-between}
-use Rattle.cluster_events.proofs.Broken.{step-breaks, core-step, Says-tells, Sound-holds, Tells-both}
+use Rattle.cluster_events.proofs.Broken.{Says-tells, Sound-holds, Tells-both}
 use Rattle.client_agent.specs.Seen.{Seen}
 use Rattle.lone_cluster.specs.Lone.{Alone}
 use Rattle.cluster_core.specs.declared.world.World.{World as Kept}
@@ -30,17 +34,13 @@ use Rattle.cluster_core.specs.Spelled.{AreSpelled}
 use Rattle.cluster_core.specs.Clients.{ShowsAgents}
 use Rattle.cluster_core.specs.Worlds.{Shows, IsGood, TellsFiles, LeavesFiles}
 use Rattle.cluster_core.specs.Broken.{LeavesBetween, Broken}
-use Rattle.cluster_core.specs.PartlyDone.{PartlyShows}
+use Rattle.cluster_core.specs.PartlyDone.{PartlyShows, SaysUnasked}
 use Rattle.cluster_core.proofs.FilesSteps.{left-same, left-told}
 use Rattle.cluster_core.proofs.ServerSteps.{agents-as}
-use Rattle.cluster_core.proofs.TakenSteps.{IsMoved, moved}
+use Rattle.cluster_core.proofs.TakenSteps.{IsMoved}
+use Rattle.cluster_core.proofs.UnaskedSteps.{unasked-same, times-both, deals-both, grown-none}
 
 -- Files between.
-
--- a history has some files between
-some-between : (setup : Setup) (past : List Entry) → (files : Files) × Between service_disk (storage_of setup) past files
-some-between setup [] = (no_files, no_attempt)
-some-between setup (entry ∷ past) = (files_of setup past, no_attempt)
 
 -- those of a whole state are
 pub left-between : (setup : Setup) (state : State Alone) (held left : Option Files) → IsGood setup state → LeavesFiles setup state held left → LeavesBetween setup (committed state.world.core) held left
@@ -94,30 +94,17 @@ failing-between setup state entry count (Some held) (Some left) fails tells =
 
 -- Events that broke off.
 
--- a step broke off
-pub step-broken : (setup : Setup) (old new : State Alone) (told : List Told) (rest : World) (held left : Option Files) (world : Kept) → IsSound (plain_of setup) old.world → IsSound (plain_of setup) new.world → Says (plain_of setup) old.world new.world told → IsStep old.world new.world → Partly old.world new.world rest → AreSpelled rest.net world.net → ShowsAgents rest world.agents → world.history.entries ≡ committed rest.core → world.now ≡ rest.now → (TellsFiles setup old held → LeavesBetween setup (committed rest.core) held left) → Broken setup old held left world
-step-broken setup old new told rest held left world old_sound new_sound says step partly net agents history now files =
-    let some = some-between setup (committed rest.core) in
-    let broke = step-breaks (plain_of setup) service_disk (storage_of setup) old.world new.world rest told some.0 old_sound new_sound says step partly some.1 in
-    record {
-      rest = rest;
-      unseen = broke.unseen;
-      tells = broke.breaks.tells;
-      holds = broke.breaks.holds;
-      net = net;
-      agents = agents;
-      history = history;
-      now = now;
-      files = files;
-    }
-
 -- some whole events happened, and what was to come did not
-pub whole-broken : (setup : Setup) (old new : State Alone) (told : List Told) (held left : Option Files) (world : Kept) → IsSound (plain_of setup) new.world → Says (plain_of setup) old.world new.world told → AreSpelled new.world.net world.net → ShowsAgents new.world world.agents → world.history.entries ≡ committed new.world.core → world.now ≡ new.world.now → (TellsFiles setup old held → LeavesBetween setup (committed new.world.core) held left) → Broken setup old held left world
+pub whole-broken : (setup : Setup) (old new : State Alone) (told : List Told) (held left : Option Files) (world : Kept) → IsSound (plain_of setup) new.world → SaysUnasked (plain_of setup) old.world new.world told → AreSpelled new.world.net world.net → ShowsAgents new.world world.agents → world.history.entries ≡ committed new.world.core → world.now ≡ new.world.now → (TellsFiles setup old held → LeavesBetween setup (committed new.world.core) held left) → Broken setup old held left world
 whole-broken setup old new told held left world sound says net agents history now files = record {
   rest = new.world;
   unseen = told;
-  tells = Says-tells (plain_of setup) old.world new.world told says;
+  tells = Says-tells (plain_of setup) old.world new.world told says.says;
   holds = Sound-holds (plain_of setup) new.world sound;
+  deals = says.says.deals;
+  asked = λ client. subst (λ (sent : List (ℕ × Call)). EndsIn sent (calls_in client (committed new.world.core))) (says.asks.sent client) ((Sound-holds (plain_of setup) new.world sound).calls client);
+  times = says.asks.times;
+  stays = says.asks.now;
   net = net;
   agents = agents;
   history = history;
@@ -128,7 +115,7 @@ whole-broken setup old new told held left world sound says net agents history no
 -- nothing happened yet
 pub nothing-broken : (setup : Setup) (state : State Alone) (held : Option Files) (world : Kept) → IsGood setup state → AreSpelled state.world.net world.net → ShowsAgents state.world world.agents → world.history.entries ≡ committed state.world.core → world.now ≡ state.world.now → Broken setup state held held world
 nothing-broken setup state held world good net agents history now =
-    whole-broken setup state state [] held held world good.steady.sound (Says-same (plain_of setup) state.world) net agents history now (same-between setup state held good)
+    whole-broken setup state state [] held held world good.steady.sound (unasked-same (plain_of setup) state.world) net agents history now (same-between setup state held good)
 
 pub shown-broken : (setup : Setup) (state : State Alone) (held : Option Files) (world : Kept) → IsGood setup state → Shows setup state world → Broken setup state held held world
 shown-broken setup state held world good shows = nothing-broken setup state held world good shows.net shows.agents shows.history shows.now
@@ -141,12 +128,16 @@ files-after setup state middle past (Some held) None left first next tells = let
 files-after setup state middle past (Some held) (Some between) left first next tells =
     next (left-told setup middle (Some held) (Some between) (first tells))
 
-pub happened-broken : (setup : Setup) (state middle : State Alone) (told : List Told) (held between left : Option Files) (world : Kept) → Says (plain_of setup) state.world middle.world told → (TellsFiles setup state held → LeavesFiles setup middle held between) → Broken setup middle between left world → Broken setup state held left world
+pub happened-broken : (setup : Setup) (state middle : State Alone) (told : List Told) (held between left : Option Files) (world : Kept) → SaysUnasked (plain_of setup) state.world middle.world told → (TellsFiles setup state held → LeavesFiles setup middle held between) → Broken setup middle between left world → Broken setup state held left world
 happened-broken setup state middle told held between left world says files broken = record {
   rest = broken.rest;
   unseen = broken.unseen ++ told;
-  tells = Tells-both (plain_of setup) state.world middle.world broken.rest told broken.unseen (Says-tells (plain_of setup) state.world middle.world told says) broken.tells;
+  tells = Tells-both (plain_of setup) state.world middle.world broken.rest told broken.unseen (Says-tells (plain_of setup) state.world middle.world told says.says) broken.tells;
   holds = broken.holds;
+  deals = λ client. deals-both (plain_of setup) client middle.world.core.answered broken.rest.core.answered told broken.unseen broken.tells.answers (says.says.deals client) (broken.deals client);
+  asked = λ client. subst (λ (sent : List (ℕ × Call)). EndsIn sent (calls_in client (committed broken.rest.core))) (says.asks.sent client) (broken.asked client);
+  times = times-both state.world middle.world told broken.unseen says.asks broken.times;
+  stays = broken.stays ∙ says.asks.now;
   net = broken.net;
   agents = broken.agents;
   history = broken.history;
@@ -166,33 +157,62 @@ pub record IsOfWorld (setup : Setup) (old : World) (outcome : Outcome World) : T
 abbrev pub mixed : World → World → World → World
 mixed old of_net of_agents = record old { net = of_net.net; agents = of_agents.agents; clients = of_agents.clients }
 
-event-by : (setup : Setup) (state : State Alone) (outcome : Outcome World) (of_net of_agents : World) (old : Kept) (net : List (List ℕ)) (agents : List Seen) (held : Option Files) → IsGood setup state → Shows setup state old → IsOfWorld setup state.world outcome → (of_net ≡ state.world) ⊎ (of_net ≡ outcome.state) → (of_agents ≡ state.world) ⊎ (of_agents ≡ outcome.state) → AreSpelled of_net.net net → ShowsAgents of_agents agents → Broken setup state held held (record old { net = net; agents = agents })
-event-by setup state outcome of_net of_agents old net agents held good shows event which who spelled seen =
-    let rest = mixed state.world of_net of_agents in
-    let places : rest.places ≡ of_agents.places = elim who [
-      | inl is ↦ ap (λ (world : World). world.places) (sym is)
-      | inr is ↦ sym event.same.places ∙ ap (λ (world : World). world.places) (sym is)
-    ] in
-    let new = moved state outcome.state in
-    step-broken setup state new outcome.told rest held held (record old { net = net; agents = agents }) good.steady.sound event.sound event.says (core-step state.world outcome.state event.same.core event.same.now)
-    (record {
-      core = inl refl;
-      net = elim which [ inl is ↦ inl (ap (λ (world : World). world.net) is) | inr is ↦ inr (ap (λ (world : World). world.net) is) ];
-      agents = elim who [ inl is ↦ inl (ap (λ (world : World). world.agents) is) | inr is ↦ inr (ap (λ (world : World). world.agents) is) ];
-      now = refl;
-    })
-    spelled (agents-as of_agents rest agents places refl refl seen) shows.history shows.now (same-between setup state held good)
+nothing-is : (setup : Setup) (world : World) → IsSound (plain_of setup) world → IsOfWorld setup world (quietly world)
+nothing-is setup world sound = record { sound = sound; says = Says-same (plain_of setup) world; same = record { core = refl; now = refl; places = refl } }
+
+-- what the lines of such an event tell of history and agents, whatever the net is
+mixed-tells : (setup : Setup) (old of_net : World) (of_agents : Outcome World) → IsOfWorld setup old of_agents → Tells (plain_of setup) old (mixed old of_net of_agents.state) of_agents.told
+mixed-tells setup old of_net of_agents is =
+    let rest = mixed old of_net of_agents.state in
+    let T : Core → Type 0 = λ core. Tells (plain_of setup) old (record rest { core = core }) of_agents.told in
+    let says = is.says in
+    subst T is.same.core (record { entries = says.entries; answers = says.answers; replies = says.replies; callbacks = says.callbacks; writes = says.writes })
+
+mixed-holds : (setup : Setup) (old : World) (of_net of_agents : Outcome World) → IsSound (plain_of setup) old → IsOfWorld setup old of_net → IsOfWorld setup old of_agents → Holds (plain_of setup) (mixed old of_net.state of_agents.state)
+mixed-holds setup old of_net of_agents sound net_is agents_are =
+    let plain = plain_of setup in
+    let C : ℕ → Core → Type 0 = λ client core. EndsIn (sent_by client of_net.state.net) (calls_in client (committed core)) in
+    let F : ℕ → Core → Type 0 = λ client core. IsFed plain core.answered client (fed_of (of_agents.state.agents client)) in
+    record {
+      legal = (Sound-holds plain old sound).legal;
+      calls = λ client. subst (C client) net_is.same.core ((Sound-holds plain of_net.state net_is.sound).calls client);
+      fed = λ client. subst (F client) agents_are.same.core ((Sound-holds plain of_agents.state agents_are.sound).fed client);
+    }
+
+event-by : (setup : Setup) (state : State Alone) (of_net of_agents : Outcome World) (old : Kept) (net : List (List ℕ)) (agents : List Seen) (held : Option Files) → IsGood setup state → Shows setup state old → IsOfWorld setup state.world of_net → IsOfWorld setup state.world of_agents → AreSpelled of_net.state.net net → ShowsAgents of_agents.state agents → Broken setup state held held (record old { net = net; agents = agents })
+event-by setup state of_net of_agents old net agents held good shows net_is agents_are spelled seen =
+    let plain = plain_of setup in
+    let world = state.world in
+    let rest = mixed world of_net.state of_agents.state in
+    let D : ℕ → Core → Type 0 = λ client core. AllByRecursion (λ (deal : ℕ × Call × Reply). Stands deal (dealt_in plain client core.answered)) (deals_told client of_agents.told) in
+    let none : entries_told of_agents.told ≡ [] = grown-none (committed world.core) (entries_told of_agents.told) (sym (ap committed agents_are.same.core) ∙ agents_are.says.entries.grown) in
+    record {
+      rest = rest;
+      unseen = of_agents.told;
+      tells = mixed-tells setup world of_net.state of_agents agents_are;
+      holds = mixed-holds setup world of_net of_agents good.steady.sound net_is agents_are;
+      deals = λ client. subst (D client) agents_are.same.core (agents_are.says.deals client);
+      asked = (Sound-holds plain world good.steady.sound).calls;
+      times = subst (λ (lines : List (ℕ × Entry)). AllByRecursion (λ (line : ℕ × Entry). time_of line.1 ≡ world.now) lines) (sym none) tt;
+      stays = refl;
+      net = spelled;
+      agents = agents-as of_agents.state rest agents (sym agents_are.same.places) refl refl seen;
+      history = shows.history;
+      now = shows.now;
+      files = same-between setup state held good;
+    }
 
 pub event-broken : (setup : Setup) (state : State Alone) (outcome : Outcome World) (old : Kept) (net : List (List ℕ)) (agents : List Seen) (held : Option Files) → IsGood setup state → Shows setup state old → IsOfWorld setup state.world outcome → PartlyShows state.world outcome.state net agents → Broken setup state held held (record old { net = net; agents = agents })
 event-broken setup state outcome old net agents held good shows event partly =
-    let end = event-by setup state outcome in
+    let before = quietly state.world in
+    let nothing = nothing-is setup state.world good.steady.sound in
     elim partly.net_is [
       | inl net_old ↦ elim partly.agents_are [
-        | inl agents_old ↦ end state.world state.world old net agents held good shows event (inl refl) (inl refl) net_old agents_old
-        | inr agents_new ↦ end state.world outcome.state old net agents held good shows event (inl refl) (inr refl) net_old agents_new
+        | inl agents_old ↦ event-by setup state before before old net agents held good shows nothing nothing net_old agents_old
+        | inr agents_new ↦ event-by setup state before outcome old net agents held good shows nothing event net_old agents_new
       ]
       | inr net_new ↦ elim partly.agents_are [
-        | inl agents_old ↦ end outcome.state state.world old net agents held good shows event (inr refl) (inl refl) net_new agents_old
-        | inr agents_new ↦ end outcome.state outcome.state old net agents held good shows event (inr refl) (inr refl) net_new agents_new
+        | inl agents_old ↦ event-by setup state outcome before old net agents held good shows event nothing net_new agents_old
+        | inr agents_new ↦ event-by setup state outcome outcome old net agents held good shows event event net_new agents_new
       ]
     ]

@@ -15,21 +15,22 @@ use Rattle.cluster_facts.specs.Facts.{IsOfRun}
 use Rattle.cluster_facts.proofs.Words.{All-map, All-at}
 use Rattle.cluster_events.specs.Outcomes.{Outcome, and_then, for_each}
 use Rattle.cluster_events.specs.Servers.{State}
-use Rattle.cluster_events.specs.Saying.{Says}
 use Rattle.cluster_events.specs.Serving.{IsSteady}
 use Rattle.cluster_events.proofs.Carrying.{Goes, for_each-goes, hear-goes, resent-posted}
 use Rattle.cluster_events.proofs.Looping.{for_each-append}
 use Rattle.event_text.specs.Texts.{printed}
 use Rattle.lone_cluster.specs.Lone.{Alone, lone, IsGoodAlone}
-use Rattle.lone_cluster.proofs.Serving.{lone-serves, lone-says}
+use Rattle.lone_cluster.proofs.Serving.{lone-serves}
 use Rattle.cluster_core.specs.declared.world.World.{World as Kept}
 use Rattle.client_agent.specs.Seen.{Seen, seen_of}
 use Rattle.cluster_core.specs.Spelled.{AreSpelled, IsNumberIn}
 use Rattle.cluster_core.specs.Clients.{place_of}
 use Rattle.cluster_core.specs.Worlds.{Shows, IsGood, HasState, Happened, Does, DoesIf, StandsIn, heard_by}
 use Rattle.cluster_core.specs.Delivered.{again, resent_by, HearsAll, StandAll}
+use Rattle.cluster_core.specs.PartlyDone.{SaysUnasked}
 use Rattle.cluster_core.proofs.DispatchSteps.{absent, seen-at}
 use Rattle.cluster_core.proofs.PostAllSteps.{printed-append}
+use Rattle.cluster_core.proofs.UnaskedSteps.{lone-unasked}
 
 -- one event after another
 pub happened-then : (setup : Setup) (first : Outcome (State Alone)) (event : State Alone → Outcome (State Alone)) (middle new : Kept) (before between after : List (List ℕ)) → Happened setup first middle before between → Happened setup (event first.state) new between after → Happened setup (and_then first event) new before after
@@ -44,11 +45,11 @@ happened-then setup first event middle new before between after one two =
 
 -- What an agent sends again is heard.
 
-pub again-goes : (setup : Setup) (messages : List Message) (state : State Alone) → IsSteady (plain_of setup) IsGoodAlone state → AllByRecursion (λ message. Stands message state.world.net) messages → Goes (Says (plain_of setup)) (IsSteady (plain_of setup) IsGoodAlone) state (for_each (again setup) messages state)
+pub again-goes : (setup : Setup) (messages : List Message) (state : State Alone) → IsSteady (plain_of setup) IsGoodAlone state → AllByRecursion (λ message. Stands message state.world.net) messages → Goes (SaysUnasked (plain_of setup)) (IsSteady (plain_of setup) IsGoodAlone) state (for_each (again setup) messages state)
 again-goes setup messages state steady stands =
     let plain = plain_of setup in
     let plainly = is_plain setup in
-    for_each-goes plain plainly (lone plain) IsGoodAlone (lone-serves plain plainly) (Says plain) (lone-says plain) (IsSteady plain IsGoodAlone) (λ message world. Stands message world.net) (again setup) (λ message now held there. hear-goes plain plainly (lone plain) IsGoodAlone (lone-serves plain plainly) (Says plain) (lone-says plain) (number_of plain message now.world.net) message now there held) (λ message old new stays there. stays.net message there) messages state steady stands
+    for_each-goes plain plainly (lone plain) IsGoodAlone (lone-serves plain plainly) (SaysUnasked plain) (lone-unasked plain) (IsSteady plain IsGoodAlone) (λ message world. Stands message world.net) (again setup) (λ message now held there. hear-goes plain plainly (lone plain) IsGoodAlone (lone-serves plain plainly) (SaysUnasked plain) (lone-unasked plain) (number_of plain message now.world.net) message now there held) (λ message old new stays there. stays.net message there) messages state steady stands
 
 all-front : {X : Type 0} (P : X → Type 0) (front : List X) (x : X) → AllByRecursion P (front ++ x ∷ []) → AllByRecursion P front
 all-front P [] x all = tt

@@ -27,13 +27,15 @@ use Rattle.cluster_events.proofs.Telling.{Says-both}
 use Rattle.cluster_events.proofs.Carrying.{rounds-carry}
 use Rattle.event_text.specs.Texts.{printed}
 use Rattle.lone_cluster.specs.Lone.{Alone, lone, IsGoodAlone}
-use Rattle.lone_cluster.proofs.Serving.{lone-serves, lone-says}
+use Rattle.lone_cluster.proofs.Serving.{lone-serves}
 use Rattle.cluster_core.specs.declared.world.World.{World}
 use Rattle.cluster_core.specs.Worlds.{Shows, IsGood, TellsFiles, LeavesFiles}
 use Rattle.cluster_core.specs.Broken.{BreaksIf, BreaksAloneIf, Faulted}
 use Rattle.cluster_core.specs.Errors.{Stopping, FaultsIf, BreaksOffIf, BreaksOff}
+use Rattle.cluster_core.specs.PartlyDone.{SaysUnasked}
 use Rattle.cluster_core.specs.Rounds.{kept_lines, Event, PlaysOn, SettlesSo, any_state, StopsInRound, StopsInSettle}
 use Rattle.cluster_core.proofs.SettlingLines.{printed-append, without-append}
+use Rattle.cluster_core.proofs.UnaskedSteps.{lone-unasked}
 use Rattle.cluster_core.proofs.BrokenSteps.{files-after, left-between, whole-broken, happened-broken}
 
 -- Lines on messages without effect may be left out.
@@ -58,7 +60,7 @@ says-kept plain old new told says = record {
 -- what an event leads to from a state of which P is so: Q is so there, and its lines say what happened
 abbrev pub Leads : (P Q : State Alone → Type 0) → Event → Type 0
 Leads P Q event =
-    (setup : Setup) (state : State Alone) → IsGood setup state → P state → Q (event setup state).state × Says (plain_of setup) state.world (event setup state).state.world (event setup state).told
+    (setup : Setup) (state : State Alone) → IsGood setup state → P state → Q (event setup state).state × SaysUnasked (plain_of setup) state.world (event setup state).state.world (event setup state).told
 
 -- memory ran out after the event
 pub lacks-after : (P Q : State Alone → Type 0) (event : Event) (old middle new : World) (before between : List (List ℕ)) (loud : Bool) (held told left : Option Files) → Leads P Q event → PlaysOn P event old middle before between loud held told → BreaksIf Q middle new told left → BreaksIf P old new held left
@@ -123,7 +125,7 @@ fails-after P Q Inner Outer event old middle new before between after loud held 
     let played = plays setup state good shows so in
     let next = leads setup state good so in
     let fault = faults setup outcome.state played.good played.shows next.0 in
-    (fault.0 ++ without is_ignored outcome.told, fault-after setup (Inner setup) (Outer setup) state outcome.state outcome.told fault.0 held told left new (stops setup state) next.1 played.files fault.1, lines-after outcome.told fault.0 before between after played.lines fault.2)
+    (fault.0 ++ without is_ignored outcome.told, fault-after setup (Inner setup) (Outer setup) state outcome.state outcome.told fault.0 held told left new (stops setup state) next.1.says played.files fault.1, lines-after outcome.told fault.0 before between after played.lines fault.2)
 
 -- an event broke off after one that was played
 pub off-after : (P Q : State Alone → Type 0) (Inner Outer : Stopping) (event : Event) (answer : DiskAnswer) (old middle new : World) (before between after : List (List ℕ)) (loud : Bool) (held told left : Option Files) → StopsBehind event Inner Outer → Leads P Q event → PlaysOn P event old middle before between loud held told → BreaksOffIf Q Inner answer middle new between after told left → BreaksOffIf P Outer answer old new before after held left
@@ -167,10 +169,10 @@ alone-so P Q old new follows breaks held setup state good shows so = breaks held
 
 -- Rounds.
 
-rounds-say : (setup : Setup) (start state : State Alone) (told : List Told) (loud : Bool) → IsGood setup start → Rattle.cluster_events.specs.Settling.Rounds (plain_of setup) (lone (plain_of setup)) start state told loud → Says (plain_of setup) start.world state.world told
+rounds-say : (setup : Setup) (start state : State Alone) (told : List Told) (loud : Bool) → IsGood setup start → Rattle.cluster_events.specs.Settling.Rounds (plain_of setup) (lone (plain_of setup)) start state told loud → SaysUnasked (plain_of setup) start.world state.world told
 rounds-say setup start state told loud good rounds =
     let plain = plain_of setup in
-    (rounds-carry plain (is_plain setup) (lone plain) IsGoodAlone (lone-serves plain (is_plain setup)) (Says plain) (lone-says plain) start good.steady rounds).carried
+    (rounds-carry plain (is_plain setup) (lone plain) IsGoodAlone (lone-serves plain (is_plain setup)) (SaysUnasked plain) (lone-unasked plain) start good.steady rounds).carried
 
 -- a round stops after rounds that were loud
 pub settling-off : (answer : DiskAnswer) (old now new : World) (before between after : List (List ℕ)) (held told left : Option Files) → SettlesSo old now before between true held told → BreaksOffIf any_state StopsInRound answer now new between after told left → BreaksOff StopsInSettle answer old new before after held left
@@ -189,4 +191,4 @@ settling-off Failed old now new before between after held told left settles faul
       state = refl;
       told = refl;
     } in
-    (fault.0 ++ without is_ignored done.told, fault-after setup (StopsInRound setup) (StopsInSettle setup) state done.state done.told fault.0 held told left new stops (rounds-say setup state done.state done.told true good done.rounds) done.files fault.1, lines-after done.told fault.0 before between after done.lines fault.2)
+    (fault.0 ++ without is_ignored done.told, fault-after setup (StopsInRound setup) (StopsInSettle setup) state done.state done.told fault.0 held told left new stops (rounds-say setup state done.state done.told true good done.rounds).says done.files fault.1, lines-after done.told fault.0 before between after done.lines fault.2)

@@ -16,6 +16,7 @@ mod ReplySteps
 mod RoundSteps
 mod MeasureSteps
 mod FetchSteps
+mod UnaskedSteps
 mod ChainSteps
 mod BrokenSteps
 mod LineSteps

@@ -36,11 +36,13 @@ use Rattle.client_agent.specs.Seen.{Seen, seen_of}
 use Rattle.cluster_core.specs.Clients.{seen_all, place_of}
 use Rattle.cluster_core.specs.Taken.{taken_as}
 use Rattle.cluster_core.specs.Worlds.{IsActive, IsGood, Shows, HasState, TellsFiles, LeavesFiles, Happened, DoesIf, DoesOn, Pushes, heard_by, StandsIn, drained, pushed}
+use Rattle.cluster_core.specs.PartlyDone.{SaysUnasked}
 use Rattle.cluster_core.specs.Rounds.{kept_lines, Event, Played, PlaysOn, Plays, HasStateOf, IsIdle, IsItem, IsIdleWithAll, IsIdleWithItems, any_state, turned, all_turned, client_turned, clients_turned, state_turned, item_taken, items_taken, round_pushed, round_played, heard_so, message_taken, reply_taken, answer_taken, FindsReply, Heeds}
 use Rattle.cluster_core.proofs.PostingSteps.{spelled-length}
 use Rattle.cluster_core.proofs.DispatchSteps.{absent, seen-at}
 use Rattle.cluster_core.proofs.HeedingSteps.{taken-places}
 use Rattle.cluster_core.proofs.TakenSteps.{taken-goes}
+use Rattle.cluster_core.proofs.UnaskedSteps.{lone-unasked}
 use Rattle.cluster_core.proofs.FilesSteps.{left-told, left-same, left-both}
 use Rattle.cluster_core.proofs.SettlingLines.{kept-append, loud-append, SameButPlace, hear-places, hear-measured, IsQuiet, drain-quiet, push-quiet}
 
@@ -254,40 +256,40 @@ at-rest setup state good idle = record { steady = good.steady; empty = idle }
 
 -- Carrying's steps for the lone server of a setup
 module _ (setup : Setup) where
-  pub turns-go : (messages : List Message) (state : State Alone) → AtRest setup state → AllByRecursion (λ message. Stands message state.world.net) messages → Goes (Says (plain_of setup)) (AtRest setup) state (all_turned messages setup state)
+  pub turns-go : (messages : List Message) (state : State Alone) → AtRest setup state → AllByRecursion (λ message. Stands message state.world.net) messages → Goes (SaysUnasked (plain_of setup)) (AtRest setup) state (all_turned messages setup state)
   turns-go messages state rest stands =
       let plain = plain_of setup in
-      for_each-goes plain (is_plain setup) (lone plain) IsGoodAlone (lone-serves plain (is_plain setup)) (Says plain) (lone-says plain) (IsAtRest plain IsGoodAlone) (λ message world. Stands message world.net) (turn plain (lone plain)) (turn-goes plain (is_plain setup) (lone plain) IsGoodAlone (lone-serves plain (is_plain setup)) (Says plain) (lone-says plain)) (λ message old new stays here. stays.net message here) messages state rest stands
+      for_each-goes plain (is_plain setup) (lone plain) IsGoodAlone (lone-serves plain (is_plain setup)) (SaysUnasked plain) (lone-unasked plain) (IsAtRest plain IsGoodAlone) (λ message world. Stands message world.net) (turn plain (lone plain)) (turn-goes plain (is_plain setup) (lone plain) IsGoodAlone (lone-serves plain (is_plain setup)) (SaysUnasked plain) (lone-unasked plain)) (λ message old new stays here. stays.net message here) messages state rest stands
 
-  pub clients-go : (clients : List ℕ) (state : State Alone) → AtRest setup state → Goes (Says (plain_of setup)) (AtRest setup) state (clients_turned clients setup state)
+  pub clients-go : (clients : List ℕ) (state : State Alone) → AtRest setup state → Goes (SaysUnasked (plain_of setup)) (AtRest setup) state (clients_turned clients setup state)
   clients-go clients state rest =
       let plain = plain_of setup in
-      all_turns-goes plain (is_plain setup) (lone plain) IsGoodAlone (lone-serves plain (is_plain setup)) (Says plain) (lone-says plain) clients state rest
+      all_turns-goes plain (is_plain setup) (lone plain) IsGoodAlone (lone-serves plain (is_plain setup)) (SaysUnasked plain) (lone-unasked plain) clients state rest
 
-  pub items-go : (items : List Message) (state : State Alone) → AtRest setup state → AllByRecursion (λ message. Stands message state.world.net) items → Goes (Says (plain_of setup)) (AtRest setup) state (items_taken items setup state)
+  pub items-go : (items : List Message) (state : State Alone) → AtRest setup state → AllByRecursion (λ message. Stands message state.world.net) items → Goes (SaysUnasked (plain_of setup)) (AtRest setup) state (items_taken items setup state)
   items-go items state rest stands =
       let plain = plain_of setup in
-      for_each-goes plain (is_plain setup) (lone plain) IsGoodAlone (lone-serves plain (is_plain setup)) (Says plain) (lone-says plain) (IsAtRest plain IsGoodAlone) (λ message world. Stands message world.net) (λ item. in_world (take_pushed plain item)) (take_pushed-rests plain (is_plain setup) (lone plain) IsGoodAlone (lone-serves plain (is_plain setup)) (Says plain) (lone-says plain)) (λ message old new stays here. stays.net message here) items state rest stands
+      for_each-goes plain (is_plain setup) (lone plain) IsGoodAlone (lone-serves plain (is_plain setup)) (SaysUnasked plain) (lone-unasked plain) (IsAtRest plain IsGoodAlone) (λ message world. Stands message world.net) (λ item. in_world (take_pushed plain item)) (take_pushed-rests plain (is_plain setup) (lone plain) IsGoodAlone (lone-serves plain (is_plain setup)) (SaysUnasked plain) (lone-unasked plain)) (λ message old new stays here. stays.net message here) items state rest stands
 
-  pub drain-go : (state : State Alone) → IsGood setup state → Goes (Says (plain_of setup)) (AtRest setup) state (drained setup state)
+  pub drain-go : (state : State Alone) → IsGood setup state → Goes (SaysUnasked (plain_of setup)) (AtRest setup) state (drained setup state)
   drain-go state good =
       let plain = plain_of setup in
-      drain-goes plain (is_plain setup) (lone plain) IsGoodAlone (lone-serves plain (is_plain setup)) (Says plain) (lone-says plain) state good.steady
+      drain-goes plain (is_plain setup) (lone plain) IsGoodAlone (lone-serves plain (is_plain setup)) (SaysUnasked plain) (lone-unasked plain) state good.steady
 
-  pub hear-go : (message : Message) (state : State Alone) → IsGood setup state → StandsIn message state → Goes (Says (plain_of setup)) (IsSteady (plain_of setup) IsGoodAlone) state (heard_so message setup state)
+  pub hear-go : (message : Message) (state : State Alone) → IsGood setup state → StandsIn message state → Goes (SaysUnasked (plain_of setup)) (IsSteady (plain_of setup) IsGoodAlone) state (heard_so message setup state)
   hear-go message state good stands =
       let plain = plain_of setup in
-      hear-goes plain (is_plain setup) (lone plain) IsGoodAlone (lone-serves plain (is_plain setup)) (Says plain) (lone-says plain) (number_of plain message state.world.net) message state stands good.steady
+      hear-goes plain (is_plain setup) (lone plain) IsGoodAlone (lone-serves plain (is_plain setup)) (SaysUnasked plain) (lone-unasked plain) (number_of plain message state.world.net) message state stands good.steady
 
-  pub push-go : (state : State Alone) → AtRest setup state → Goes (Says (plain_of setup)) (AtRest setup) state (pushed setup state)
+  pub push-go : (state : State Alone) → AtRest setup state → Goes (SaysUnasked (plain_of setup)) (AtRest setup) state (pushed setup state)
   push-go state rest =
       let plain = plain_of setup in
-      push-goes plain (is_plain setup) (lone plain) IsGoodAlone (lone-serves plain (is_plain setup)) (Says plain) (lone-says plain) state rest
+      push-goes plain (is_plain setup) (lone plain) IsGoodAlone (lone-serves plain (is_plain setup)) (SaysUnasked plain) (lone-unasked plain) state rest
 
   pushed-stand : (state : State Alone) → AtRest setup state → AllByRecursion (λ message. Stands message (pushed setup state).state.world.net) ((plain_of setup).held state.world.core.answered)
   pushed-stand state rest =
       let plain = plain_of setup in
-      push-stands plain (is_plain setup) (lone plain) IsGoodAlone (lone-serves plain (is_plain setup)) (Says plain) (lone-says plain) state rest
+      push-stands plain (is_plain setup) (lone plain) IsGoodAlone (lone-serves plain (is_plain setup)) (SaysUnasked plain) (lone-unasked plain) state rest
 
 -- a message that is heard stands in the net afterwards, and after a drain
 pub heard-ready : (message : Message) (old new : World) (before after : List (List ℕ)) (loud : Bool) → HasStateOf (StandsIn message) old → Plays (StandsIn message) (heard_so message) old new before after loud → HasStateOf (StandsIn message) new

@@ -1,5 +1,6 @@
 -- Words of public clauses: what stands where an event breaks off, for want of memory or by a fault of the disk.
-use Rattle.std.specs.Prelude.{◌≡◌, Option, Some, None, List, ◌∷◌}
+use Rattle.std.specs.Prelude.{◌≡◌, ℕ, Option, Some, None, List, ◌∷◌}
+use Rattle.std.specs.List.{AllByRecursion}
 use Rattle.disk_model.specs.Disk.{Files}
 use Rattle.plain_service.specs.Setups.{Setup}
 use Rattle.service_laws.specs.PlainOf.{plain_of}
@@ -7,16 +8,17 @@ use Rattle.service_laws.specs.Disks.{service_disk}
 use Rattle.service_laws.specs.StorageOf.{storage_of}
 use Rattle.script_lines.specs.declared.line.Line.{Line}
 use Rattle.script_lines.specs.declared.line.Server.TheVariants.{A as ServerA}
-use Rattle.cluster_facts.specs.Types.{Entry}
-use Rattle.cluster_facts.specs.Lists.{without}
-use Rattle.cluster_facts.specs.Storage.{Between}
-use Rattle.cluster_facts.specs.History.{Ready, committed}
+use Rattle.cluster_facts.specs.Types.{Call, Reply, Entry}
+use Rattle.cluster_facts.specs.Lists.{Stands, EndsIn, without}
+use Rattle.cluster_facts.specs.Messages.{sent_by, calls_in}
+use Rattle.cluster_facts.specs.Storage.{Between, dealt_in}
+use Rattle.cluster_facts.specs.History.{Ready, committed, time_of}
 use Rattle.cluster_facts.specs.World.{World as WorldOf}
 use Rattle.cluster_events.specs.declared.lines.ServerRole.TheVariants.{Down}
 use Rattle.cluster_events.specs.Lines.{Told, Stood, is_ignored}
 use Rattle.cluster_events.specs.Outcomes.{Outcome}
 use Rattle.cluster_events.specs.Servers.{State}
-use Rattle.cluster_events.specs.Saying.{Says}
+use Rattle.cluster_events.specs.Saying.{entries_told, deals_told, Says}
 use Rattle.cluster_events.specs.Stopping.{EventStops}
 use Rattle.cluster_events.specs.Breaking.{Tells, Holds}
 use Rattle.lone_cluster.specs.Lone.{Alone, lone}
@@ -33,13 +35,18 @@ LeavesBetween setup past None left = left ≡ None
 LeavesBetween setup past (Some held) left =
     (files : Files) × (left ≡ Some files) × Between service_disk (storage_of setup) past files
 
--- An event broke off for want of memory: from this state some of it happened, with lines that nobody sees. The history is legal
--- and has each client's calls first, each client was fed the beginning of its items, and the files are between.
+-- An event broke off for want of memory: from this state some of it happened, with lines that nobody sees. The history is legal;
+-- each client's calls in it are the first of those that it had sent before the event, and what came to it is of the time in force,
+-- which stays. Each client was fed the beginning of its items, each reply that it took is the history's, and the files are between.
 pub record Broken (setup : Setup) (state : State Alone) (held left : Option Files) (world : World) : Type 0 where
   pub rest : WorldOf
   pub unseen : List Told
   pub tells : Tells (plain_of setup) state.world rest unseen
   pub holds : Holds (plain_of setup) rest
+  pub deals : (client : ℕ) → AllByRecursion (λ (deal : ℕ × Call × Reply). Stands deal (dealt_in (plain_of setup) client rest.core.answered)) (deals_told client unseen)
+  pub asked : (client : ℕ) → EndsIn (sent_by client state.world.net) (calls_in client (committed rest.core))
+  pub times : AllByRecursion (λ (line : ℕ × Entry). time_of line.1 ≡ state.world.now) (entries_told unseen)
+  pub stays : rest.now ≡ state.world.now
   pub net : AreSpelled rest.net world.net
   pub agents : ShowsAgents rest world.agents
   pub history : world.history.entries ≡ committed rest.core

@@ -8,11 +8,15 @@ use Rattle.event_text.specs.Texts.{server_line}
 use Rattle.std.specs.List.{AllByRecursion}
 use Rattle.cluster_facts.specs.Types.{Ask, Entry, Message}
 use Rattle.cluster_facts.specs.Lists.{Stands}
+use Rattle.cluster_facts.specs.Messages.{sent_by}
+use Rattle.cluster_facts.specs.History.{time_of}
 use Rattle.cluster_events.specs.Servers.{State}
 use Rattle.lone_cluster.specs.Lone.{Alone}
 use Rattle.cluster_facts.specs.Service.{Plain, IsPlain}
 use Rattle.cluster_facts.specs.World.{World}
 use Rattle.cluster_events.specs.ClientEvents.{ask}
+use Rattle.cluster_events.specs.Lines.{Told}
+use Rattle.cluster_events.specs.Saying.{entries_told, Says}
 use Rattle.client_agent.specs.declared.answers.How.{How}
 use Rattle.client_agent.specs.Seen.{Seen}
 use Rattle.mirror.specs.declared.heard.Heard.{Heard}
@@ -59,6 +63,17 @@ MayDispatch how client old new =
 -- all these messages stand in the net
 abbrev pub AllStandIn : List Message → State Alone → Type 0
 AllStandIn messages state = AllByRecursion (λ message. Stands message state.world.net) messages
+
+-- no client asked anything, the time in force stayed, and the entries that lines tell are of that time
+pub record AsksNone (old new : World) (told : List Told) : Type 0 where
+  pub sent : (client : ℕ) → sent_by client new.net ≡ sent_by client old.net
+  pub now : new.now ≡ old.now
+  pub times : AllByRecursion (λ (line : ℕ × Entry). time_of line.1 ≡ old.now) (entries_told told)
+
+-- and the lines say what happened
+pub record SaysUnasked (plain : Plain) (old new : World) (told : List Told) : Type 0 where
+  pub says : Says plain old new told
+  pub asks : AsksNone old new told
 
 -- a fault of the disk was told: the active server is down
 abbrev pub IsFaultTold : DiskAnswer → List (List ℕ) → List (List ℕ) → Type 0

@@ -25,10 +25,11 @@ impl World {
     /// then, and has no lines. Otherwise the line is `work` or `settle`: it came to an entry whose deeds were not done, the active
     /// server is down, and the lines are those of all that was done before, the last one telling that the server is down.
     ///
-    /// `Memory` comes where memory ran out: some of the line was done, without its lines, and the history is legal, each client
-    /// was fed the beginning of its items, and the files are between. The same is answered where the history has 4,000,000,000
-    /// entries, where a client's agent has numbered 4,294,967,294 calls, and where a string of the net has more than
-    /// 4,294,967,294 bytes.
+    /// `Memory` comes where memory ran out: some of the line was done, without its lines. The history is legal; each client's
+    /// calls in it are the first of those that it had sent before, and what came to it is of the time in force, which stays. Each
+    /// client was fed the beginning of its items, each reply that it took is the history's, and the files are between. The same is
+    /// answered where the history has 4,000,000,000 entries, where a client's agent has numbered 4,294,967,294 calls, and where a
+    /// string of the net has more than 4,294,967,294 bytes.
     pub fn event<D: SharedDisk>(
         &mut self,
         alloc: Global,
