@@ -1,5 +1,5 @@
 -- Ends of parts are ends of the whole.
-use Rattle.std.proofs.Common.{◌≡◌, ℕ, ◌≤◌, inl, inr, List, [], ◌∷◌, ◌++◌, Option, Some, None, Result, Ok, Err, refl, ap, sym, ◌∙◌, subst, append-nil, arith}
+use Rattle.std.proofs.Common.{◌≡◌, ℕ, ◌≤◌, inl, inr, List, [], ◌∷◌, ◌++◌, false, Option, Some, None, Result, Ok, Err, refl, ap, sym, ◌∙◌, subst, append-nil, arith}
 use Rattle.std.specs.Prelude.{IfOk, IfSome, codes}
 use Rattle.std.specs.FinMap as files
 use Rattle.std.specs.Io.KnownBytes.{Appends}
@@ -22,10 +22,10 @@ use Rattle.aisrun.specs.declared.command.Command.{Command}
 use Rattle.aisrun.specs.declared.command.Command.TheVariants.{Run, Check, Expr}
 use Rattle.aisrun.specs.Commands.{command_of, text_of}
 use Rattle.aisrun.specs.Checking.{CheckEnds, Judges, Unjudged, IsScript, IsNoScript, ExprEnds, IsExpression, IsNoExpression}
-use Rattle.aisrun.specs.Edges.{Edge, edge, before, IsUntouched, Stage, stage, Around, LeavesAll}
-use Rattle.aisrun.specs.Endings.{ReadsWhole, PlayEnds, PlayedTo, PlayLacks, Unopened, Opening, InEvent, Opens, FaultLeft, DiskFails, AtNames, AtOpening, AtEvent, LacksBy, RunLacks, Unread as Unknown, Unplayed, Ends, Checked, Parsed, Ran, NoScript, NotBuilt, NoExpression}
+use Rattle.aisrun.specs.Edges.{Edge, edge, before, Faulted, IsUntouched, Stage, stage, Around, LeavesAll}
+use Rattle.aisrun.specs.Endings.{ReadsWhole, PlayEnds, PlayedTo, PlayLacks, Unopened, Opening, InEvent, Opens, FaultLeft, FaultedSince, HasScript, DiskFails, AtNames, AtOpening, AtEvent, LacksBy, RunLacks, Unread as Unknown, Unplayed, Ends, Checked, Parsed, Ran, NoScript, NotBuilt, NoExpression}
 use Rattle.aisrun.specs.Inputs.{InputRefused, Unread, Overlong}
-use Rattle.aisrun.specs.Playing.{files_told, Goes, PlaysFront, StandsAt}
+use Rattle.aisrun.specs.Playing.{files_told, has_failures, Goes, PlaysFront, StandsAt}
 use Rattle.aisrun.specs.RunSteps.{EndWritten, InputEnds, InputLacks}
 use Rattle.aisrun.specs.Scripting.{BytesEnd, BytesLack}
 use Rattle.aisrun.specs.Steps.{EventsEnd, LacksBehind, IsNever, IsText, Reaching, Written, Lacked}
@@ -70,7 +70,17 @@ front-of held opening events done rest setup places text begins empty parts goes
 }
 
 module _ {K D : Type 0} (told : K → Option (List ℕ)) (sink_faults : K → ℕ) (out out_after : K) (held : D → Option Files) (disk_faults : D → ℕ) (world world_after : World) where
-  pub events-play : (old mid new : D) (opening : Line) (events : List Line) (setup : Setup) (places : ℕ) → Begins opening setup places → HoldsNone (held old) → disk_faults old ≤ disk_faults mid → (reached : Option Status8) (text : List ℕ) → EventsEnd setup places (held old) (held new) (disk_faults mid) (disk_faults new) world_after events reached text → PlayEnds (opening ∷ events) (stage (edge told sink_faults out out_after) (edge held disk_faults old new) world world_after) reached text
+  -- the count rose in a longer time too
+  since-earlier : (old mid new : D) (files : Option Files) → disk_faults old ≤ disk_faults mid → FaultedSince (edge held disk_faults mid new) files → FaultedSince (edge held disk_faults old new) files
+  since-earlier old mid new files risen since =
+      let later : disk_faults mid ≤ disk_faults since.mid = since.later in
+      record { mid = since.mid; stands = since.stands; later = omega arith; rose = since.rose }
+
+  since-faulted : (old new : D) (files : Option Files) → FaultedSince (edge held disk_faults old new) files → Faulted (edge held disk_faults old new)
+  since-faulted old new files since =
+      Rose-whole (disk_faults old) (disk_faults since.mid) (disk_faults new) (disk_faults new) since.later since.rose (omega arith)
+
+  pub events-play : (old mid new : D) (opening : Line) (events : List Line) (setup : Setup) (places : ℕ) → Begins opening setup places → HoldsNone (held old) → disk_faults old ≤ disk_faults mid → (reached : Option Status8) (text : List ℕ) → EventsEnd setup places (held old) (held new) (FaultedSince (edge held disk_faults mid new)) world_after events reached text → PlayEnds (opening ∷ events) (stage (edge told sink_faults out out_after) (edge held disk_faults old new) world world_after) reached text
   events-play old mid new opening events setup places begins empty risen None text ends = (
     ends.0,
     ends.1,
@@ -87,11 +97,11 @@ module _ {K D : Type 0} (told : K → Option (List ℕ)) (sink_faults : K → �
     },
   )
   events-play old mid new opening events setup places begins empty risen (Some DiskFault) text ends =
-      let broke = ends.1 in
+      let broke = ends in
       let behind = broke.behind in
-      let rose = Rose-whole (disk_faults old) (disk_faults mid) (disk_faults new) (disk_faults new) risen ends.0 (omega arith) in
+      let since = since-earlier old mid new (files_told behind.goes.files (held old)) risen broke.since in
       let front = front-of (held old) opening events behind.done (behind.next ∷ behind.rest) setup places broke.front begins empty behind.parts behind.goes in
-      (rose, AtEvent behind.done behind.next behind.rest broke.front front broke.lines broke.fault broke.written)
+      (since-faulted old new (files_told behind.goes.files (held old)) since, AtEvent behind.done behind.next behind.rest broke.front front broke.lines broke.fault since broke.written)
   events-play old mid new opening events setup places begins empty risen (Some ScriptRefused) text ends = absurd ends
   events-play old mid new opening events setup places begins empty risen (Some Usage) text ends = absurd ends
   events-play old mid new opening events setup places begins empty risen (Some Memory) text ends = absurd ends
@@ -112,22 +122,24 @@ module _ {K D : Type 0} (told : K → Option (List ℕ)) (sink_faults : K → �
       let moved = subst F same (played.front, played.now) in
       record { front = moved.0; now = moved.1 }
 
-  fails-earlier : (old mid new : D) (lines : List Line) → held mid ≡ held old → (text : List ℕ) → DiskFails lines (stage (edge told sink_faults out out_after) (edge held disk_faults mid new) world world_after) text → DiskFails lines (stage (edge told sink_faults out out_after) (edge held disk_faults old new) world world_after) text
-  fails-earlier old mid new lines same text (AtNames stays still is) = AtNames (stays ∙ same) still is
-  fails-earlier old mid new lines same text (AtOpening opens count fails still is) =
-      let F : Option Files → Type 0 = λ one. (opened : Opens lines one) × FailsAfter (calls_of_all (opening_of opened.setup)) count one (held new) in
-      let moved = subst F same (opens, fails) in
-      AtOpening moved.0 count moved.1 still is
-  fails-earlier old mid new lines same text (AtEvent done next rest text_before front printed fault is) =
-      let F : Option Files → Type 0 = λ one. (plays : PlaysFront one lines done (next ∷ rest) text_before) × FaultLeft plays.setup plays.goes.state next (files_told plays.goes.files one) (held new) world_after printed in
-      let moved = subst F same (front, fault) in
-      AtEvent done next rest text_before moved.0 printed moved.1 is
+  fails-earlier : (old mid new : D) (lines : List Line) → held mid ≡ held old → disk_faults old ≤ disk_faults mid → (text : List ℕ) → DiskFails lines (stage (edge told sink_faults out out_after) (edge held disk_faults mid new) world world_after) text → DiskFails lines (stage (edge told sink_faults out out_after) (edge held disk_faults old new) world world_after) text
+  fails-earlier old mid new lines same risen text (AtNames stays still is) = AtNames (stays ∙ same) still is
+  fails-earlier old mid new lines same risen text (AtOpening opens count fails since still is) =
+      let since_old = since-earlier old mid new (held mid) risen since in
+      let F : Option Files → Type 0 = λ one. (opened : Opens lines one) × FailsAfter (calls_of_all (opening_of opened.setup)) count one (held new) × FaultedSince (edge held disk_faults old new) one in
+      let moved = subst F same (opens, fails, since_old) in
+      AtOpening moved.0 count moved.1 moved.2 still is
+  fails-earlier old mid new lines same risen text (AtEvent done next rest text_before front printed fault since is) =
+      let since_old = since-earlier old mid new (files_told front.goes.files (held mid)) risen since in
+      let F : Option Files → Type 0 = λ one. (plays : PlaysFront one lines done (next ∷ rest) text_before) × FaultLeft plays.setup plays.goes.state next (files_told plays.goes.files one) (held new) world_after printed × FaultedSince (edge held disk_faults old new) (files_told plays.goes.files one) in
+      let moved = subst F same (front, fault, since_old) in
+      AtEvent done next rest text_before moved.0 printed moved.1 moved.2 is
 
   pub play-earlier : (old mid new : D) (lines : List Line) → held mid ≡ held old → disk_faults old ≤ disk_faults mid → (reached : Option Status8) (text : List ℕ) → PlayEnds lines (stage (edge told sink_faults out out_after) (edge held disk_faults mid new) world world_after) reached text → PlayEnds lines (stage (edge told sink_faults out out_after) (edge held disk_faults old new) world world_after) reached text
   play-earlier old mid new lines same risen None text ends = (ends.0, ends.1, played-earlier old mid new lines ends.0 ends.1 text same ends.2)
   play-earlier old mid new lines same risen (Some Done) text ends = (ends.0, played-earlier old mid new lines ends.0 [] text same ends.1)
   play-earlier old mid new lines same risen (Some DiskFault) text ends =
-      (Rose-whole (disk_faults old) (disk_faults mid) (disk_faults new) (disk_faults new) risen ends.0 (omega arith), fails-earlier old mid new lines same text ends.1)
+      (Rose-whole (disk_faults old) (disk_faults mid) (disk_faults new) (disk_faults new) risen ends.0 (omega arith), fails-earlier old mid new lines same risen text ends.1)
   play-earlier old mid new lines same risen (Some RootNotEmpty) text ends =
       let L : Option Files → Type 0 = λ one. IfSome one (λ f. (others : List (List ℕ)) × (files.keys f ≡ ends.name ∷ others)) in
       record { name = ends.name; least = subst L same ends.least; same = ends.same ∙ same; world = ends.world; printed = ends.printed }
@@ -151,17 +163,17 @@ module _ {K D : Type 0} (told : K → Option (List ℕ)) (sink_faults : K → �
 
 -- Bytes, input and words.
 
-pub play-bytes : {K D : Type 0} (scene : Stage K D) (bytes : List ℕ) (lines : List Line) → IsScriptOf lines bytes → (reached : Option Status8) (text : List ℕ) → PlayEnds lines scene reached text → BytesEnd bytes scene reached text
-play-bytes scene bytes lines script None text ends = (lines, script, ends)
-play-bytes scene bytes lines script (Some Done) text ends = (lines, script, ends)
-play-bytes scene bytes lines script (Some DiskFault) text ends = (lines, script, ends)
-play-bytes scene bytes lines script (Some RootNotEmpty) text ends = (lines, script, ends)
-play-bytes scene bytes lines script (Some ScriptRefused) text ends = absurd ends
-play-bytes scene bytes lines script (Some Usage) text ends = absurd ends
-play-bytes scene bytes lines script (Some Memory) text ends = absurd ends
-play-bytes scene bytes lines script (Some ReadFault) text ends = absurd ends
-play-bytes scene bytes lines script (Some WriteFault) text ends = absurd ends
-play-bytes scene bytes lines script (Some TooLong) text ends = absurd ends
+pub play-bytes : {K D : Type 0} (scene : Stage K D) (bytes : List ℕ) (lines : List Line) → IsScriptOf lines bytes → has_failures lines ≡ false → (reached : Option Status8) (text : List ℕ) → PlayEnds lines scene reached text → BytesEnd bytes scene reached text
+play-bytes scene bytes lines script built None text ends = (lines, script, built, ends)
+play-bytes scene bytes lines script built (Some Done) text ends = (lines, script, built, ends)
+play-bytes scene bytes lines script built (Some DiskFault) text ends = (lines, script, built, ends)
+play-bytes scene bytes lines script built (Some RootNotEmpty) text ends = (lines, script, built, ends)
+play-bytes scene bytes lines script built (Some ScriptRefused) text ends = absurd ends
+play-bytes scene bytes lines script built (Some Usage) text ends = absurd ends
+play-bytes scene bytes lines script built (Some Memory) text ends = absurd ends
+play-bytes scene bytes lines script built (Some ReadFault) text ends = absurd ends
+play-bytes scene bytes lines script built (Some WriteFault) text ends = absurd ends
+play-bytes scene bytes lines script built (Some TooLong) text ends = absurd ends
 
 pub bytes-input : {S K D : Type 0} (source : Edge S (List ℕ)) (scene : Stage K D) (bytes : List ℕ) → ReadsWhole source bytes → (reached : Option Status8) (text : List ℕ) → BytesEnd bytes scene reached text → InputEnds source scene reached text
 bytes-input source scene bytes read None text ends = (bytes, read, ends)
@@ -169,11 +181,11 @@ bytes-input source scene bytes read (Some Done) text ends = (bytes, read, ends)
 bytes-input source scene bytes read (Some DiskFault) text ends = (bytes, read, ends)
 bytes-input source scene bytes read (Some RootNotEmpty) text ends = (bytes, read, ends)
 bytes-input source scene bytes read (Some ScriptRefused) text ends = (bytes, read, ends)
-bytes-input source scene bytes read (Some Usage) text ends = absurd ends.2
-bytes-input source scene bytes read (Some Memory) text ends = absurd ends.2
-bytes-input source scene bytes read (Some ReadFault) text ends = absurd ends.2
-bytes-input source scene bytes read (Some WriteFault) text ends = absurd ends.2
-bytes-input source scene bytes read (Some TooLong) text ends = absurd ends.2
+bytes-input source scene bytes read (Some Usage) text ends = absurd ends.3
+bytes-input source scene bytes read (Some Memory) text ends = absurd ends.3
+bytes-input source scene bytes read (Some ReadFault) text ends = absurd ends.3
+bytes-input source scene bytes read (Some WriteFault) text ends = absurd ends.3
+bytes-input source scene bytes read (Some TooLong) text ends = absurd ends.3
 
 pub refused-input : {S K D : Type 0} (source : Edge S (List ℕ)) (scene : Stage K D) (status : Status8) (text : List ℕ) → LeavesAll scene → InputRefused source status text → InputEnds source scene (Some status) text
 refused-input source scene status text all (Unread is why) =
@@ -184,12 +196,18 @@ refused-input source scene status text all (Overlong is why) =
     subst I (sym is) (all, why)
 
 module _ {S K D : Type 0} (run : Around S K D) where
+  -- a script that was read and is built
+  has-script : command_of run.words ≡ Some Run → (bytes : List ℕ) → ReadsWhole run.source bytes → (lines : List Line) → IsScriptOf lines bytes → has_failures lines ≡ false → HasScript run lines
+  has-script asked bytes read lines script built =
+      record { words = asked; script = record { bytes = bytes; read = read; script = script }; built = built }
+
   pub input-run : command_of run.words ≡ Some Run → (reached : Option Status8) (text : List ℕ) → InputEnds run.source run.stage reached text → Ends run reached text
-  input-run asked None text ends = (ends.2.0, record { words = asked; script = record { bytes = ends.0; read = ends.1; script = ends.2.1 } }, ends.2.2)
-  input-run asked (Some Done) text ends = Ran asked ends.2.0 (record { bytes = ends.0; read = ends.1; script = ends.2.1 }) ends.2.2.0 ends.2.2.1
+  input-run asked None text ends = (ends.2.0, has-script asked ends.0 ends.1 ends.2.0 ends.2.1 ends.2.2, ends.2.3)
+  input-run asked (Some Done) text ends =
+      Ran ends.2.0 (has-script asked ends.0 ends.1 ends.2.0 ends.2.1 ends.2.2) ends.2.3.0 ends.2.3.1
   input-run asked (Some DiskFault) text ends =
-      (ends.2.0, record { words = asked; script = record { bytes = ends.0; read = ends.1; script = ends.2.1 } }, ends.2.2.0, ends.2.2.1)
-  input-run asked (Some RootNotEmpty) text ends = (ends.2.0, record { words = asked; script = record { bytes = ends.0; read = ends.1; script = ends.2.1 } }, ends.2.2)
+      (ends.2.0, has-script asked ends.0 ends.1 ends.2.0 ends.2.1 ends.2.2, ends.2.3.0, ends.2.3.1)
+  input-run asked (Some RootNotEmpty) text ends = (ends.2.0, has-script asked ends.0 ends.1 ends.2.0 ends.2.1 ends.2.2, ends.2.3)
   input-run asked (Some ScriptRefused) text ends =
       elim ends.2.1 [
         | inl fails ↦ NoScript (inl asked) ends.2.0 ends.0 ends.1 fails
@@ -197,14 +215,14 @@ module _ {S K D : Type 0} (run : Around S K D) where
       ]
   input-run asked (Some ReadFault) text ends = record { words = inl asked; all = ends.0; why = ends.1 }
   input-run asked (Some TooLong) text ends = record { words = inl asked; all = ends.0; why = ends.1 }
-  input-run asked (Some Usage) text ends = absurd ends.2.2
-  input-run asked (Some Memory) text ends = absurd ends.2.2
-  input-run asked (Some WriteFault) text ends = absurd ends.2.2
+  input-run asked (Some Usage) text ends = absurd ends.2.3
+  input-run asked (Some Memory) text ends = absurd ends.2.3
+  input-run asked (Some WriteFault) text ends = absurd ends.2.3
 
   bytes-lacks : command_of run.words ≡ Some Run → (text bytes : List ℕ) → ReadsWhole run.source bytes → BytesLack bytes run.stage text → RunLacks run text
   bytes-lacks asked text bytes read (inl early) = Unknown early.0 early.1
   bytes-lacks asked text bytes read (inr later) =
-      Unplayed later.0 (record { words = asked; script = record { bytes = bytes; read = read; script = later.1 } }) later.2
+      Unplayed later.0 (has-script asked bytes read later.0 later.1 later.2) later.3
 
   input-lacks : command_of run.words ≡ Some Run → (text : List ℕ) → InputLacks run.source run.stage text → RunLacks run text
   input-lacks asked text (inl early) = Unknown early.0 early.1

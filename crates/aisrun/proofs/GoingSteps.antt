@@ -1,10 +1,11 @@
 -- Lines that are played one after another.
-use Rattle.std.proofs.Common.{◌≡◌, ℕ, suc, ◌+◌, ◌<◌, ℤ, List, [], ◌∷◌, ◌++◌, length, drop, get_or, reverse, Option, Some, None, ◌≤◌, refl, ap, sym, ◌∙◌, subst, append_assoc, append-nil, add-one, drop-cons, arith}
+use Rattle.std.proofs.Common.{◌≡◌, ℕ, suc, ◌+◌, ◌<◌, ℤ, List, [], ◌∷◌, ◌++◌, length, drop, get_or, reverse, Option, Some, None, ◌≤◌, refl, ap, sym, ◌∙◌, subst, append_assoc, append-nil, add-one, drop-cons}
 use Rattle.std.specs.Prelude.{IfSome, option_map}
 use Rattle.std.specs.Io.KnownBytes.{Appends}
 use Rattle.std.proofs.KnownBytes.{Appends-nil, Appends-trans}
 use Rattle.std.proofs.lemmas.List.{reverse-append}
 use Rattle.std.proofs.lemmas.Grind.{flat_map-append}
+use Rattle.ais_values.specs.Causes.{Rose}
 use Rattle.disk_model.specs.Disk.{Files}
 use Rattle.script_lines.specs.declared.line.Line.{Line}
 use Rattle.script_lines.specs.declared.line.Line.TheVariants as line
@@ -33,7 +34,7 @@ use Rattle.aisrun.specs.Edges.{edge}
 use Rattle.aisrun.specs.Endings.{FaultLeft, Showing, Working}
 use Rattle.aisrun.specs.Steps.{Behind, CanFollow, EventsEnd, Going, LacksBehind, LineEnds, LineLacks, Plays, Written, Whole, joined_lines, time_behind}
 use Rattle.aisrun.proofs.PlayLaws.{line-kept, line-now, played-files}
-use Rattle.aisrun.proofs.WritingSteps.{Rose-whole, written-behind}
+use Rattle.aisrun.proofs.WritingSteps.{written-behind}
 
 printed-append : (later earlier : List Told) → printed (later ++ earlier) ≡ printed earlier ++ printed later
 printed-append [] earlier = sym (append-nil (printed earlier))
@@ -136,31 +137,30 @@ follow-next setup state held left old new next others printed_lines good shows d
     subst (λ (now : ℤ). CanFollow now others) same follows
 
 -- what one line comes to is what all lines come to
-pub line-events : (setup : Setup) (places : ℕ) (held mid left : Option Files) (before between later : ℕ) (old new : World) (done : List Line) (next : Line) (others : List Line) (front : List ℕ) → (going : Going setup places held mid old done front) → before ≤ between → (reached : Option Status8) (text : List ℕ) → LineEnds setup going.state next mid left between later new reached text → EventsEnd setup places held left before later new (done ++ next ∷ others) reached (front ++ text)
-line-events setup places held mid left before between later old new done next others front going risen None text ends =
+pub line-events : (setup : Setup) (places : ℕ) (held mid left : Option Files) (between later : ℕ) (Since : Option Files → Type 0) (old new : World) (done : List Line) (next : Line) (others : List Line) (front : List ℕ) → (going : Going setup places held mid old done front) → (Rose between later → Since mid) → (reached : Option Status8) (text : List ℕ) → LineEnds setup going.state next mid left between later new reached text → EventsEnd setup places held left Since new (done ++ next ∷ others) reached (front ++ text)
+line-events setup places held mid left between later Since old new done next others front going rises None text ends =
     let further = going-next setup places held mid left old new done front next ends.0 going ends.2 in
     let P : List ℕ → Type 0 = λ one. Plays setup places held left new (done ++ next ∷ []) one in
     (done ++ next ∷ [], others, sym (append_assoc done (next ∷ []) others), subst P (ap (λ (behind : List ℕ). front ++ behind) (sym ends.1)) (going-plays setup places held left new (done ++ next ∷ []) (front ++ joined_lines ends.0) further))
-line-events setup places held mid left before between later old new done next others front going risen (Some DiskFault) text ends =
+line-events setup places held mid left between later Since old new done next others front going rises (Some DiskFault) text ends =
     let stand = going-stand setup places held mid old done front going in
-    let F : Option Files → Type 0 = λ one. FaultLeft setup going.state next one left new ends.1.0 in (
-      Rose-whole before between later later risen ends.0 (omega arith),
-      record {
-        front = front;
-        behind = record { done = done; next = next; rest = others; parts = refl; goes = going-goes setup places held mid old done front going };
-        lines = ends.1.0;
-        fault = subst F stand ends.1.1;
-        written = ap (λ (behind : List ℕ). front ++ behind) ends.1.2;
-      },
-    )
-line-events setup places held mid left before between later old new done next others front going risen (Some Done) text ends = absurd ends
-line-events setup places held mid left before between later old new done next others front going risen (Some ScriptRefused) text ends = absurd ends
-line-events setup places held mid left before between later old new done next others front going risen (Some Usage) text ends = absurd ends
-line-events setup places held mid left before between later old new done next others front going risen (Some Memory) text ends = absurd ends
-line-events setup places held mid left before between later old new done next others front going risen (Some ReadFault) text ends = absurd ends
-line-events setup places held mid left before between later old new done next others front going risen (Some WriteFault) text ends = absurd ends
-line-events setup places held mid left before between later old new done next others front going risen (Some RootNotEmpty) text ends = absurd ends
-line-events setup places held mid left before between later old new done next others front going risen (Some TooLong) text ends = absurd ends
+    let F : Option Files → Type 0 = λ one. FaultLeft setup going.state next one left new ends.1.0 in
+    record {
+      front = front;
+      behind = record { done = done; next = next; rest = others; parts = refl; goes = going-goes setup places held mid old done front going };
+      lines = ends.1.0;
+      fault = subst F stand ends.1.1;
+      since = subst Since stand (rises ends.0);
+      written = ap (λ (behind : List ℕ). front ++ behind) ends.1.2;
+    }
+line-events setup places held mid left between later Since old new done next others front going rises (Some Done) text ends = absurd ends
+line-events setup places held mid left between later Since old new done next others front going rises (Some ScriptRefused) text ends = absurd ends
+line-events setup places held mid left between later Since old new done next others front going rises (Some Usage) text ends = absurd ends
+line-events setup places held mid left between later Since old new done next others front going rises (Some Memory) text ends = absurd ends
+line-events setup places held mid left between later Since old new done next others front going rises (Some ReadFault) text ends = absurd ends
+line-events setup places held mid left between later Since old new done next others front going rises (Some WriteFault) text ends = absurd ends
+line-events setup places held mid left between later Since old new done next others front going rises (Some RootNotEmpty) text ends = absurd ends
+line-events setup places held mid left between later Since old new done next others front going rises (Some TooLong) text ends = absurd ends
 
 -- one line more is behind
 pub behind-next : {K : Type 0} (told : K → Option (List ℕ)) (faults : K → ℕ) (first mid last : K) (setup : Setup) (places : ℕ) (held disk left : Option Files) (old new : World) (events : List Line) (next : Line) (others : List Line) (text : List ℕ) (printed_lines : List (List ℕ)) → (so_far : Behind setup places held disk old (edge told faults first mid) events (next ∷ others)) → text ≡ joined_lines printed_lines → EventDone setup so_far.going.state next printed_lines disk left new → Appends (told mid) (told last) text → Behind setup places held left new (edge told faults first last) events others
@@ -187,8 +187,8 @@ behind-start told faults sink setup places held left world events begun = record
 }
 
 -- behind the last line
-pub behind-last : {K : Type 0} (told : K → Option (List ℕ)) (faults : K → ℕ) (first last : K) (setup : Setup) (places : ℕ) (held left : Option Files) (world : World) (before later : ℕ) (events rest : List Line) → rest ≡ [] → Behind setup places held left world (edge told faults first last) events rest → Written (EventsEnd setup places held left before later world events) (LacksBehind setup places held left world events) (edge told faults first last) Done
-behind-last told faults first last setup places held left world before later events rest none behind =
+pub behind-last : {K : Type 0} (told : K → Option (List ℕ)) (faults : K → ℕ) (first last : K) (setup : Setup) (places : ℕ) (held left : Option Files) (Since : Option Files → Type 0) (world : World) (events rest : List Line) → rest ≡ [] → Behind setup places held left world (edge told faults first last) events rest → Written (EventsEnd setup places held left Since world events) (LacksBehind setup places held left world events) (edge told faults first last) Done
+behind-last told faults first last setup places held left Since world events rest none behind =
     let all : events ≡ behind.done = behind.parts ∙ ap (λ (others : List Line). behind.done ++ others) none ∙ append-nil behind.done in
     let P : List Line → Type 0 = λ lines. Plays setup places held left world lines behind.text in
     Whole behind.text (subst P (sym all) (going-plays setup places held left world behind.done behind.text behind.going)) behind.appended
@@ -207,16 +207,16 @@ line-lacks setup places held mid left old new done next others front going text 
     subst L (sym (ap (λ (more : List ℕ). front ++ more) lacks.0 ∙ append-nil front)) whole
 
 -- a line that ended the run
-pub behind-ends : {K : Type 0} (told : K → Option (List ℕ)) (faults : K → ℕ) (first mid last : K) (setup : Setup) (places : ℕ) (held disk left : Option Files) (before between later : ℕ) (old new : World) (events : List Line) (next : Line) (others : List Line) (status : Status8) → (behind : Behind setup places held disk old (edge told faults first mid) events (next ∷ others)) → faults first ≤ faults mid → before ≤ between → Written (LineEnds setup behind.going.state next disk left between later new) (LineLacks setup behind.going.state disk left new) (edge told faults mid last) status → Written (EventsEnd setup places held left before later new events) (LacksBehind setup places held left new events) (edge told faults first last) status
-behind-ends told faults first mid last setup places held disk left before between later old new events next others status behind sink risen written =
+pub behind-ends : {K : Type 0} (told : K → Option (List ℕ)) (faults : K → ℕ) (first mid last : K) (setup : Setup) (places : ℕ) (held disk left : Option Files) (between later : ℕ) (Since : Option Files → Type 0) (old new : World) (events : List Line) (next : Line) (others : List Line) (status : Status8) → (behind : Behind setup places held disk old (edge told faults first mid) events (next ∷ others)) → faults first ≤ faults mid → (Rose between later → Since disk) → Written (LineEnds setup behind.going.state next disk left between later new) (LineLacks setup behind.going.state disk left new) (edge told faults mid last) status → Written (EventsEnd setup places held left Since new events) (LacksBehind setup places held left new events) (edge told faults first last) status
+behind-ends told faults first mid last setup places held disk left between later Since old new events next others status behind sink rises written =
     let all = behind.done ++ next ∷ others in
     let front = behind.text in
     let E = LineEnds setup behind.going.state next disk left between later new in
-    let F = EventsEnd setup places held left before later new all in
+    let F = EventsEnd setup places held left Since new all in
     let L = LineLacks setup behind.going.state disk left new in
     let M = LacksBehind setup places held left new all in
-    let W : List Line → Type 0 = λ lines. Written (EventsEnd setup places held left before later new lines) (LacksBehind setup places held left new lines) (edge told faults first last) status in
-    subst W (sym behind.parts) (written-behind told faults first mid last E F L M front status behind.appended sink (line-events setup places held disk left before between later old new behind.done next others front behind.going risen) (line-lacks setup places held disk left old new behind.done next others front behind.going) written)
+    let W : List Line → Type 0 = λ lines. Written (EventsEnd setup places held left Since new lines) (LacksBehind setup places held left new lines) (edge told faults first last) status in
+    subst W (sym behind.parts) (written-behind told faults first mid last E F L M front status behind.appended sink (line-events setup places held disk left between later Since old new behind.done next others front behind.going rises) (line-lacks setup places held disk left old new behind.done next others front behind.going) written)
 
 -- what a disk fault in a line left
 pub fault-left : (setup : Setup) (state : State Alone) (next : Line) (held left : Option Files) (old new : World) (lines : List (List ℕ)) → IsGood setup state → Shows setup state old → FaultLeaves next old new [] lines held left → FaultLeft setup state next held left new (joined_lines lines)

@@ -10,7 +10,6 @@ use Rattle.io_edge.specs.declared.answers.SinkAnswer.{SinkAnswer}
 use Rattle.io_edge.specs.declared.answers.SinkAnswer.TheVariants as sink_answer
 use Rattle.io_edge.specs.Writes.{AppendsFront}
 use Rattle.aisrun.specs.declared.ending.Status8.{Status8}
-use Rattle.aisrun.specs.declared.ending.Status8.TheVariants.{Memory}
 use Rattle.aisrun.specs.Edges.{Edge, edge, before, after}
 use Rattle.aisrun.specs.Steps.{Reaching, Written, Whole, SinkFailed, SinkLacked, Lacked, sink_status, joined_lines}
 

@@ -3,6 +3,7 @@ use Rattle.std.specs.Prelude.{◌≡◌, ℕ, ◌+◌, ◌≤◌, List, [], ◌�
 use Rattle.std.specs.FinMap as files
 use Rattle.std.specs.Io.KnownBytes.{Appends}
 use Rattle.std.specs.Fmt.{decimal}
+use Rattle.ais_values.specs.Causes.{Rose}
 use Rattle.ais_values.specs.declared.kind.StreamKind.{StreamKind}
 use Rattle.disk_model.specs.Disk.{Files}
 use Rattle.io_edge.specs.Reads.{TakesAll, TakesSome}
@@ -128,17 +129,24 @@ pub data FaultLeft (setup : Setup) (state : State Alone) (next : Line) (held lef
   Showing : shows_files next ≡ true → Shows setup state world → left ≡ held → lines ≡ [] → FaultLeft setup state next held left world lines
   Working : (told : List Told) → FaultedIn setup next state told held left world → lines ≡ text_of told → FaultLeft setup state next held left world lines
 
+-- the disk's count of faults rose since it told these files
+pub record FaultedSince {D : Type 0} (disk : Edge D Files) (held : Option Files) : Type 0 where
+  pub mid : D
+  pub stands : disk.told mid ≡ held
+  pub later : disk.faults disk.old ≤ disk.faults mid
+  pub rose : Rose (disk.faults mid) (disk.faults disk.new)
+
 -- the disk failed: as its names were asked for, in the deeds of the start, or in an event behind those that were done, of which
--- some lines were printed
+-- some lines were printed; its count rose there
 pub data DiskFails {K D : Type 0} (script : List Line) (scene : Stage K D) (text : List ℕ) : Type 0 where
   AtNames : after scene.disk ≡ before scene.disk → scene.world_after ≡ scene.world → text ≡ fault_line → DiskFails script scene text
   AtOpening :
       (opens : Opens script (before scene.disk)) (count : ℕ) → FailsAfter (calls_of_all (opening_of opens.setup)) count (before scene.disk) (after scene.disk)
-      → scene.world_after ≡ scene.world → text ≡ fault_line → DiskFails script scene text
+      → FaultedSince scene.disk (before scene.disk) → scene.world_after ≡ scene.world → text ≡ fault_line → DiskFails script scene text
   AtEvent :
       (done : List Line) (next : Line) (rest : List Line) (text_before : List ℕ) (front : PlaysFront (before scene.disk) script done (next ∷ rest) text_before)
       (lines : List ℕ) → FaultLeft front.setup front.goes.state next (files_told front.goes.files (before scene.disk)) (after scene.disk) scene.world_after lines
-      → text ≡ text_before ++ (lines ++ fault_line) → DiskFails script scene text
+      → FaultedSince scene.disk (files_told front.goes.files (before scene.disk)) → text ≡ text_before ++ (lines ++ fault_line) → DiskFails script scene text
 
 -- these events of a script were done, and world and disk stand where they led
 pub record PlayedTo {K D : Type 0} (scene : Stage K D) (script done rest : List Line) (text : List ℕ) : Type 0 where
@@ -165,11 +173,15 @@ pub data PlayLacks {K D : Type 0} (script : List Line) (scene : Stage K D) (text
       → Broken front.setup front.goes.state (files_told front.goes.files (before scene.disk)) (after scene.disk) scene.world_after
       → PlayLacks script scene text
 
+-- a script was read that has no line on servers that fail and come back
+pub record HasScript {S K D : Type 0} (run : Around S K D) (lines : List Line) : Type 0 where
+  pub words : command_of run.words ≡ Some Run
+  pub script : ReadsScript run.source lines
+  pub built : has_failures lines ≡ false
+
 -- what each command comes to where all is well
 pub data Succeeds {S K D : Type 0} (run : Around S K D) (text : List ℕ) : Type 0 where
-  Ran :
-      command_of run.words ≡ Some Run → (lines : List Line) → ReadsScript run.source lines → (done : List Line) → PlayedTo run.stage lines done [] text
-      → Succeeds run text
+  Ran : (lines : List Line) → HasScript run lines → (done : List Line) → PlayedTo run.stage lines done [] text → Succeeds run text
   Checked :
       command_of run.words ≡ Some Check → LeavesAll run.stage → (bytes : List ℕ) → ReadsWhole run.source bytes → ScriptPasses bytes text
       → Succeeds run text
@@ -205,11 +217,6 @@ pub record StopsReading {S K D : Type 0} (run : Around S K D) (Why : Edge S (Lis
   pub words : Reads run.words
   pub all : LeavesAll run.stage
   pub why : Why run.source text
-
--- a script was read and can be played
-pub record HasScript {S K D : Type 0} (run : Around S K D) (lines : List Line) : Type 0 where
-  pub words : command_of run.words ≡ Some Run
-  pub script : ReadsScript run.source lines
 
 -- how a run ends, and its text; or how far the lines of its script were played
 abbrev pub Ends : {S K D : Type 0} → Around S K D → Option Status8 → List ℕ → Type 0

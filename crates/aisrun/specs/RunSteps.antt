@@ -4,7 +4,7 @@ use Rattle.aisrun.specs.declared.ending.End.{End}
 use Rattle.aisrun.specs.declared.ending.Status8.{Status8}
 use Rattle.aisrun.specs.declared.ending.Status8.TheVariants.{Memory, ReadFault, TooLong}
 use Rattle.aisrun.specs.Commands.{command_of}
-use Rattle.aisrun.specs.Edges.{Edge, before, Stage, Around, LeavesAll}
+use Rattle.aisrun.specs.Edges.{Edge, Stage, Around, LeavesAll}
 use Rattle.aisrun.specs.Endings.{LacksBy, ReadsWhole, SourceFailed, InputTooLong}
 use Rattle.aisrun.specs.Scripting.{BytesEnd, BytesLack}
 use Rattle.aisrun.specs.Steps.{IsNever, IsText, Reaching, Written}

@@ -36,9 +36,9 @@ IsPlayable (opening ∷ events) = CanPlay opening events
 -- how the bytes of an input end on a stage
 abbrev pub BytesEnd : {K D : Type 0} → List ℕ → Stage K D → Reaching
 BytesEnd bytes scene (Some ScriptRefused) text = LeavesAll scene × BytesRefused bytes text
-BytesEnd bytes scene reached text = (lines : List Line) × IsScriptOf lines bytes × PlayEnds lines scene reached text
+BytesEnd bytes scene reached text = (lines : List Line) × IsScriptOf lines bytes × (has_failures lines ≡ false) × PlayEnds lines scene reached text
 
 -- memory was wanting before the lines were known, or as they were played
 abbrev pub BytesLack : {K D : Type 0} → List ℕ → Stage K D → List ℕ → Type 0
 BytesLack bytes scene text =
-    ((text ≡ []) × LeavesAll scene) ⊎ ((lines : List Line) × IsScriptOf lines bytes × PlayLacks lines scene text)
+    ((text ≡ []) × LeavesAll scene) ⊎ ((lines : List Line) × IsScriptOf lines bytes × (has_failures lines ≡ false) × PlayLacks lines scene text)

@@ -120,22 +120,23 @@ pub record LacksBehind (setup : Setup) (places : ℕ) (held left : Option Files)
   pub behind : BreaksBehind setup places held events front
   pub broken : Broken setup behind.goes.state (files_told behind.goes.files held) left world
 
--- by a fault of the disk
-pub record FaultsBehind (setup : Setup) (places : ℕ) (held left : Option Files) (world : World) (events : List Line) (text : List ℕ) : Type 0 where
+-- by a fault of the disk, whose count of faults rose since it told the files of the events before
+pub record FaultsBehind (setup : Setup) (places : ℕ) (held left : Option Files) (Since : Option Files → Type 0) (world : World) (events : List Line) (text : List ℕ) : Type 0 where
   pub front : List ℕ
   pub behind : BreaksBehind setup places held events front
   pub lines : List ℕ
   pub fault : FaultLeft setup behind.goes.state behind.next (files_told behind.goes.files held) left world lines
+  pub since : Since (files_told behind.goes.files held)
   pub written : text ≡ front ++ (lines ++ fault_line)
 
 -- where the lines behind the opening end
-abbrev pub EventsEnd : Setup → ℕ → Option Files → Option Files → ℕ → ℕ → World → List Line → Reaching
-EventsEnd setup places held left before later world events None text =
+abbrev pub EventsEnd : Setup → ℕ → Option Files → Option Files → (Option Files → Type 0) → World → List Line → Reaching
+EventsEnd setup places held left Since world events None text =
     (done : List Line) × (rest : List Line) × (events ≡ done ++ rest) × Plays setup places held left world done text
-EventsEnd setup places held left before later world events (Some Done) text = Plays setup places held left world events text
-EventsEnd setup places held left before later world events (Some DiskFault) text =
-    Rose before later × FaultsBehind setup places held left world events text
-EventsEnd setup places held left before later world events _ text = ⊥
+EventsEnd setup places held left Since world events (Some Done) text = Plays setup places held left world events text
+EventsEnd setup places held left Since world events (Some DiskFault) text =
+    FaultsBehind setup places held left Since world events text
+EventsEnd setup places held left Since world events _ text = ⊥
 
 -- behind some of the lines, of which these are left: the text so far is written, and no fault was lost
 pub record Behind {K : Type 0} (setup : Setup) (places : ℕ) (held left : Option Files) (world : World) (sink : Edge K (List ℕ)) (events rest : List Line) : Type 0 where

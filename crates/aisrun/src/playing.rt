@@ -10,7 +10,7 @@ ghost use Rattle.cluster_core.specs.Beginning.{Begun, HoldsNone};
 ghost use Rattle.cluster_core.specs.Playing.{IsLoneLine};
 ghost use Rattle.cluster_core.specs.Worlds.{empty_world, HasState, IsGood, Shows, TellsFiles};
 ghost use Rattle.aisrun.specs.Edges.{edge, stage};
-ghost use Rattle.aisrun.specs.Endings.{PlayEnds, PlayLacks};
+ghost use Rattle.aisrun.specs.Endings.{FaultedSince, PlayEnds, PlayLacks};
 ghost use Rattle.aisrun.specs.Scripting.{CanPlay, IsPlayable};
 ghost use Rattle.aisrun.specs.Steps.{CanFollow, EventsEnd, FindsNames, HasBegun, IsNone, IsText, LacksBehind, LineEnds, LineGives, LineLacks, Written};
 
@@ -65,8 +65,8 @@ fn play_events<K: Sink, D: SharedDisk>(
     requires follows { CanFollow world.old.now events.now }
     ensures { (setup : Setup) (places : ℕ) (held : Option Files)
         → Begun setup places held (D.files disk.old) world.old
-        → Written (EventsEnd setup places held (D.files disk.new) (D.faults disk.old)
-        (D.faults disk.new) world.new events.now)
+        → Written (EventsEnd setup places held (D.files disk.new)
+        (FaultedSince (edge D.files D.faults disk.old disk.new)) world.new events.now)
         (LacksBehind setup places held (D.files disk.new) world.new events.now)
         (edge K.written K.faults out.old out.new) result }
 {
@@ -138,7 +138,8 @@ fn write_held<K: Sink>(alloc: Global, out: &mut K, name: &[u8]) -> Status8
 /// others are its events, whose lines are written as each event ends.
 ///
 /// `RootNotEmpty` comes where the disk holds a file; its least name is written, and disk and world stay.
-/// `DiskFault` comes only where the disk's faults rose.
+/// `DiskFault` comes only where the disk's faults rose as its names were asked for, in the deeds of the start, or, of a
+/// disk that tells its files, since it told those of the events before the one that ended the run.
 pub fn play<K: Sink, D: SharedDisk>(
     alloc: Global,
     lines: &[Line],

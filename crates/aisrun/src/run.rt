@@ -116,9 +116,11 @@ fn run_words<S: Source, K: Sink, D: SharedDisk>(
 /// whether it is a script. The words `expr KIND TEXT` tell whether the text is a format expression; the source stays unread.
 ///
 /// The first clauses say of each status what was read, what is written and what stands. `WriteFault` comes only where the
-/// sink's count of faults rose, `DiskFault` only where the disk's rose, `ReadFault` only where the source's rose. Where memory
-/// ran out, `Memory`, nothing was written or a front of the text; `check`, `expr` and words that are none of the program's
-/// leave disk and world as they are all the same, `expr` and such words the source too.
+/// sink's count of faults rose, `ReadFault` only where the source's rose, `DiskFault` only where the disk's rose as its names
+/// were asked for, in the deeds of the start, or, of a disk that tells its files, since it told those of the events before the
+/// one that ended the run. The disk is asked for nothing, and no line is played, of a script with a line on servers that fail
+/// and come back. Where memory ran out, `Memory`, nothing was written or a front of the text; `check`, `expr` and words that
+/// are none of the program's leave disk and world as they are all the same, `expr` and such words the source too.
 ///
 /// The clauses behind them say of each run what holds at the end of every line that was played, by any status. Where a fault of
 /// the disk ended it in an entry's work, the same holds of history, replies, callbacks and posts up to the fault, the entry is

@@ -1,7 +1,7 @@
-use Rattle.std.proofs.Common.{ℕ, List, ◌∷◌, ◌++◌, ◌∙◌, ap, refl}
+use Rattle.std.proofs.Common.{ℕ, List, ◌∷◌, ◌++◌, ◌∙◌, ap, refl, arith}
 use Rattle.aisrun.specs.declared.ending.Status8.TheVariants.{DiskFault}
 use Rattle.aisrun.specs.Edges.{edge, stage}
-use Rattle.aisrun.specs.Endings.{PlayEnds, PlayLacks, Opens, Opening, AtOpening, fault_line}
+use Rattle.aisrun.specs.Endings.{PlayEnds, PlayLacks, Opens, Opening, FaultedSince, AtOpening, fault_line}
 use Rattle.aisrun.specs.Steps.{EventsEnd, LacksBehind, joined_lines}
 use Rattle.aisrun.proofs.EndingSteps.{events-lack, events-play, lacked, text-written}
 use Rattle.aisrun.proofs.WritingSteps.{written-as}
@@ -17,7 +17,7 @@ returns-in-Ok g c =
     let begun = c.in-Ok.ensures.ok begins.0 begins.1 begins.2 c.requires.bare in
     let sink = edge written sink_faults c.args.out.now c.play_events.new.out in
     let scene = stage sink (edge files faults c.args.disk.now c.play_events.new.disk) c.args.world.now c.play_events.new.world in
-    let E = EventsEnd begins.0 begins.1 (files c.args.disk.now) (files c.play_events.new.disk) (faults c.begin.new.disk) (faults c.play_events.new.disk) c.play_events.new.world c.args.events.now in
+    let E = EventsEnd begins.0 begins.1 (files c.args.disk.now) (files c.play_events.new.disk) (FaultedSince (edge files faults c.begin.new.disk c.play_events.new.disk)) c.play_events.new.world c.args.events.now in
     written-as E (PlayEnds (c.args.opening.now ∷ c.args.events.now) scene) (LacksBehind begins.0 begins.1 (files c.args.disk.now) (files c.play_events.new.disk) c.play_events.new.world c.args.events.now) (PlayLacks (c.args.opening.now ∷ c.args.events.now) scene) sink c.play_events.result
     (events-play written sink_faults c.args.out.now c.play_events.new.out files faults c.args.world.now c.play_events.new.world c.args.disk.now c.begin.new.disk c.play_events.new.disk c.args.opening.now c.args.events.now begins.0 begins.1 begins.2 c.requires.bare c.in-Ok.ensures.cause.later)
     (events-lack written sink_faults c.args.out.now c.play_events.new.out files faults c.args.world.now c.play_events.new.world c.args.disk.now c.play_events.new.disk c.args.opening.now c.args.events.now begins.0 begins.1 begins.2 c.requires.bare)
@@ -42,4 +42,6 @@ returns-in-Err-DiskFault g c =
     let opens : Opens script (g.D.SharedDisk.files c.args.disk.now) =
     record { opening = c.args.opening.now; events = c.args.events.now; parts = refl; empty = c.requires.bare; setup = begins.0; places = begins.1; begins = begins.2 } in
     let none = ap (λ (lines : List (List ℕ)). joined_lines lines ++ fault_line) (c.as_slice.ensures ∙ c.in-Err-DiskFault.printed-is ∙ broke.0) in
-    text-written (PlayEnds script scene) (PlayLacks script scene) DiskFault (joined_lines c.as_slice.result.now ++ fault_line) sink c.write_broken.result (cause.rose, AtOpening opens broke.1 broke.2 c.in-Err-DiskFault.ensures.same none) c.write_broken.ensures
+    let since : FaultedSince (edge g.D.SharedDisk.files g.D.SharedDisk.faults c.args.disk.now c.begin.new.disk) (g.D.SharedDisk.files c.args.disk.now) =
+    record { mid = c.args.disk.now; stands = refl; later = omega arith; rose = cause.rose } in
+    text-written (PlayEnds script scene) (PlayLacks script scene) DiskFault (joined_lines c.as_slice.result.now ++ fault_line) sink c.write_broken.result (cause.rose, AtOpening opens broke.1 broke.2 since c.in-Err-DiskFault.ensures.same none) c.write_broken.ensures

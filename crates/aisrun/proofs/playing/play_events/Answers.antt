@@ -1,7 +1,8 @@
-use Rattle.std.proofs.Common.{◌+◌, List, drop, subst, arith}
+use Rattle.std.proofs.Common.{◌+◌, List, drop, refl, subst, arith}
 use Rattle.std.proofs.Math.ListN.{drop_of_length-le}
 use Rattle.script_lines.specs.declared.line.Line.{Line}
 use Rattle.aisrun.specs.Edges.{edge}
+use Rattle.aisrun.specs.Endings.{FaultedSince}
 use Rattle.aisrun.specs.Steps.{Behind, CanFollow}
 use Rattle.aisrun.proofs.GoingSteps.{behind-start, behind-next, behind-last, behind-ends, follow-next, from-place, going-state, going-tells}
 use Rattle.aisrun.proofs.playing.play_events.Goals as goal
@@ -25,7 +26,8 @@ returns-in-Err g c setup places held begun =
     let others = drop (c.loop-line.line-index + 1) events in
     let at = from-place events c.loop-line.line-index line c.loop-line-test.true c.line-item.is in
     let behind = subst (λ (rest : List Line). Behind setup places held (files c.loop-line.disk) c.loop-line.world (edge written sink c.args.out.now c.loop-line.out) events rest) at (c.loop-line.invariant.behind setup places held begun) in
-    behind-ends written sink c.args.out.now c.loop-line.out c.play_line.new.out setup places held (files c.loop-line.disk) (files c.play_line.new.disk) (faults c.args.disk.now) (faults c.loop-line.disk) (faults c.play_line.new.disk) c.loop-line.world c.play_line.new.world events line others c.in-Err.status behind c.loop-line.invariant.sink c.loop-line.invariant.disk
+    behind-ends written sink c.args.out.now c.loop-line.out c.play_line.new.out setup places held (files c.loop-line.disk) (files c.play_line.new.disk) (faults c.loop-line.disk) (faults c.play_line.new.disk) (FaultedSince (edge files faults c.args.disk.now c.play_line.new.disk)) c.loop-line.world c.play_line.new.world events line others c.in-Err.status behind c.loop-line.invariant.sink
+    (λ rose. record { mid = c.loop-line.disk; stands = refl; later = c.loop-line.invariant.disk; rose = rose })
     (c.in-Err.ensures.ends setup behind.going.state behind.going.good behind.going.shows (going-tells setup places held (files c.loop-line.disk) c.loop-line.world behind.done behind.text behind.going))
 
 pub loop-line-preserved : goal.loop-line-preserved
@@ -55,7 +57,7 @@ loop-line-preserved g c =
 
 pub returns : goal.returns
 returns g c setup places held begun =
-    behind-last g.K.Sink.written g.K.Sink.faults c.args.out.now c.loop-line.out setup places held (g.D.SharedDisk.files c.loop-line.disk) c.loop-line.world (g.D.SharedDisk.faults c.args.disk.now) (g.D.SharedDisk.faults c.loop-line.disk) c.args.events.now (drop c.loop-line.line-index c.args.events.now) (drop_of_length-le c.args.events.now (omega arith)) (c.loop-line.invariant.behind setup places held begun)
+    behind-last g.K.Sink.written g.K.Sink.faults c.args.out.now c.loop-line.out setup places held (g.D.SharedDisk.files c.loop-line.disk) (FaultedSince (edge g.D.SharedDisk.files g.D.SharedDisk.faults c.args.disk.now c.loop-line.disk)) c.loop-line.world c.args.events.now (drop c.loop-line.line-index c.args.events.now) (drop_of_length-le c.args.events.now (omega arith)) (c.loop-line.invariant.behind setup places held begun)
 
 pub play_line-requires-clause-state : goal.play_line-requires-clause-state
 play_line-requires-clause-state g c =

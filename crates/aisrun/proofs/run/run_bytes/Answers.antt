@@ -1,9 +1,10 @@
-use Rattle.std.proofs.Common.{ℕ, List, Some, inl, inr, refl, sym, subst}
+use Rattle.std.proofs.Common.{◌≡◌, ℕ, List, false, Some, inl, inr, refl, sym, subst}
 use Rattle.script_lines.specs.declared.line.Line.{Line}
 use Rattle.script_language.specs.Scripts.{IsScriptOf}
 use Rattle.aisrun.specs.declared.ending.Status8.{Status8}
 use Rattle.aisrun.specs.Edges.{edge, stage}
 use Rattle.aisrun.specs.Endings.{PlayEnds, PlayLacks}
+use Rattle.aisrun.specs.Playing.{has_failures}
 use Rattle.aisrun.specs.Scripting.{BytesEnd, BytesLack, IsPlayable}
 use Rattle.aisrun.specs.Steps.{IsNever, IsText, Reaching, Written}
 use Rattle.aisrun.proofs.EndingSteps.{lacked, play-bytes, text-written}
@@ -23,7 +24,8 @@ returns-in-Ok-Lines g c =
     let scene = stage sink (edge g.D.SharedDisk.files g.D.SharedDisk.faults c.args.disk.now c.play.new.disk) c.args.world.now c.play.new.world in
     let lines = c.as_slice.result.now in
     let script = subst (λ (one : List Line). IsScriptOf one c.args.bytes.now) (sym c.as_slice.ensures) read.0 in
-    written-as (PlayEnds lines scene) (BytesEnd c.args.bytes.now scene) (PlayLacks lines scene) (BytesLack c.args.bytes.now scene) sink c.play.result (play-bytes scene c.args.bytes.now lines script) (λ text lacks. inr (lines, script, lacks)) c.play.ensures
+    let built = subst (λ (one : List Line). has_failures one ≡ false) (sym c.as_slice.ensures) read.1 in
+    written-as (PlayEnds lines scene) (BytesEnd c.args.bytes.now scene) (PlayLacks lines scene) (BytesLack c.args.bytes.now scene) sink c.play.result (play-bytes scene c.args.bytes.now lines script built) (λ text lacks. inr (lines, script, built, lacks)) c.play.ensures
 
 pub returns-in-Ok-Refused : goal.returns-in-Ok-Refused
 returns-in-Ok-Refused g c =
