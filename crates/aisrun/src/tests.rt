@@ -59,19 +59,21 @@ const ENDS: &str = "\
     expr,system,@Cb256||1|bad 5 BadWidth\n;\
     expr,application,@Cb0||1|bad 3 BadWidth\n";
 
-/// One digit each for the failing call of the source and of the sink, whether the script has a line on failures, whether there is a
-/// file, and the exit status; then the word and the text, one row a line. The disk's first changing call fails.
+/// One digit each for the failing call of the source, of the sink and of the disk's reading ones, whether the script has a line on
+/// failures, whether there is a file, and the exit status; then the word and the text, one row a line. The disk's first changing
+/// call fails.
 const REASONS: &str = "\
-    10002|run,run|usage: aisrun run, check, expr KIND TEXT or gen COUNT SEED\n;\
-    10114|run|read fault\n;\
-    00111|run|script not built\n;\
-    00017|run|root not empty: x\n;\
-    00006|run|disk fault\n;\
-    11115|run,run|;\
-    11115|run|;\
-    01115|run|;\
-    01015|run|;\
-    01005|run|";
+    100002|run,run|usage: aisrun run, check, expr KIND TEXT or gen COUNT SEED\n;\
+    100114|run|read fault\n;\
+    001111|run|script not built\n;\
+    000017|run|root not empty: x\n;\
+    000006|run|disk fault\n;\
+    001016|run|disk fault\n;\
+    110115|run,run|;\
+    110115|run|;\
+    010115|run|;\
+    010015|run|;\
+    010005|run|";
 
 /// The most bytes of a piece that a sink takes.
 const PIECE: usize = 100;
@@ -230,16 +232,16 @@ fn reason_ends(rt: &impl Abort, alloc: Global, row: &str) -> Result<(), Fail> {
         read: u64::from(digit(digits, 0)),
         write: u64::from(digit(digits, 1)),
         change: 1,
-        look: 0,
+        look: u64::from(digit(digits, 2)),
     };
-    let rest = if digit(digits, 2) == 1 {
+    let rest = if digit(digits, 3) == 1 {
         "crash a\n"
     } else {
         WRITE
     };
     let input = format!(in alloc; "{CLUSTER}{rest}")?;
     let mut stage = prepared(alloc, input.into_bytes(), failing)?;
-    if digit(digits, 3) == 1 {
+    if digit(digits, 4) == 1 {
         stage.disk.hold(b"x", Vec::new(alloc))?;
     }
     ends(
@@ -247,7 +249,7 @@ fn reason_ends(rt: &impl Abort, alloc: Global, row: &str) -> Result<(), Fail> {
         alloc,
         &mut stage,
         words,
-        digit(digits, 4),
+        digit(digits, 5),
         text.as_bytes(),
     )?;
     Ok(())
@@ -284,6 +286,31 @@ fn breaks_off(rt: &impl Abort, alloc: Global, change: u64) -> Result<(), Fail> {
 fn each_change_of_the_disk_fails_in_turn(rt: HostRuntime) -> Result<(), Fail> {
     for change in 1..15 {
         breaks_off(&rt, rt.alloc(), change)?;
+    }
+    Ok(())
+}
+
+const SHOWING: &str = "files\ncat \"saLogSystem.cfg\"\n";
+
+const FILES: &str =
+    "file saLogAlarm.cfg 156\nfile saLogAlarm_20240101_000000.log 0\nfile saLogNotification.cfg 163\nfile saLogNotification_20240101_000001.log 0\nfile saLogSystem.cfg 164\nfile saLogSystem_20240101_000002.log 0\n";
+
+// This reading call of the disk fails, and its line prints nothing.
+fn shows_nothing(rt: &impl Abort, alloc: Global, look: u64) -> Result<(), Fail> {
+    let input = format!(in alloc; "{CLUSTER}{SHOWING}")?;
+    let failing = Failing { look, ..NONE };
+    let mut stage = prepared(alloc, input.into_bytes(), failing)?;
+    // The start asks for the names, `files` for the names and six lengths, and `cat` for a length and bytes.
+    let shown = if look <= 8 { "" } else { FILES };
+    let text = format!(in alloc; "{shown}disk fault\n")?;
+    ends(rt, alloc, &mut stage, "run", 6, text.as_bytes())?;
+    Ok(())
+}
+
+#[test]
+fn each_look_at_the_disk_fails_in_turn(rt: HostRuntime) -> Result<(), Fail> {
+    for look in 1..11 {
+        shows_nothing(&rt, rt.alloc(), look)?;
     }
     Ok(())
 }
