@@ -2,6 +2,8 @@ mod WritingSteps
 mod ScriptSteps
 mod PlayLaws
 mod PromiseLaws
+mod WaitingLaws
+mod RefusalLaws
 mod GoingSteps
 mod FaultLaws
 mod EndingSteps

@@ -4,18 +4,21 @@ use Rattle.disk_model.specs.Disk.{Files}
 use Rattle.script_lines.specs.declared.line.Line.{Line}
 use Rattle.script_lines.specs.declared.line.Line.TheVariants as line
 use Rattle.plain_service.specs.Setups.{Setup, CanBegin}
+use Rattle.plain_service.proofs.RecordLaws.{record-alone}
 use Rattle.cluster_facts.specs.Types.{Entry}
 use Rattle.cluster_facts.specs.History.{Hand, Empty, Waiting, Applied, Ready, accepted_by}
 use Rattle.cluster_facts.specs.Ranges.{AreInRange}
 use Rattle.cluster_events.specs.Lines.{Told}
 use Rattle.cluster_events.specs.Servers.{State}
 use Rattle.cluster_events.proofs.Ending.{settle-settles}
+use Rattle.cluster_events.proofs.Filed.{answered-legal}
 use Rattle.lone_cluster.specs.Lone.{Alone, lone, IsGoodAlone}
 use Rattle.lone_cluster.proofs.Serving.{lone-serves, lone-spends}
 use Rattle.service_laws.specs.PlainOf.{plain_of}
 use Rattle.service_laws.proofs.ServiceLaws.{is_plain}
+use Rattle.service_laws.proofs.HistoryLaws.{history-of}
 use Rattle.aisrun.specs.Playing.{Played, Begun, Went}
-use Rattle.aisrun.specs.Promises.{Sentence, AtEachEnd, Throughout, KeepsOneHistory, RepliesRightly, ReadsRightly, CallsBack, PrintsPosts, KeepsFiles, KeepsRecords, SettlesAll}
+use Rattle.aisrun.specs.Promises.{Sentence, AtEachEnd, Throughout, KeepsOneHistory, RepliesRightly, ReadsRightly, CallsBack, PrintsPosts, KeepsFiles, KeepsRecords, StandsOnce, SettlesAll}
 use Rattle.aisrun.proofs.PlayLaws.{played-says, played-keeps, played-files, played-stays, range-before}
 
 -- a sentence that holds of all lines that were played holds at the end of each of them
@@ -59,6 +62,14 @@ keeps-files held = throughout held KeepsFiles (λ setup places told_first can li
 
 pub keeps-records : (held : Option Files) → Throughout held KeepsRecords
 keeps-records held = throughout held KeepsRecords (λ setup places told_first can lines state told files run range. played-stays setup places told_first can run range)
+
+pub stands-once : (held : Option Files) → Throughout held StandsOnce
+stands-once held =
+    throughout held StandsOnce (λ setup places told_first can lines state told files run range client number other_client other_number stored other spot own others at other_at.
+    let world = state.world in
+    let facts = (played-says setup places told_first run).0.sound.facts in
+    let legal = answered-legal (plain_of setup) world.now world.core.answered world.core.hand facts.legal in
+    record-alone setup world.core.answered client other_client number other_number stored other spot (history-of setup can world.now world.core.answered legal range) own others at other_at)
 
 settled : (setup : Setup) (places : ℕ) (held : Option Files) {lines : List Line} {state : State Alone} {told : List Told} {files : Files} → Played setup places held lines state told files → SettlesAll setup lines state told files
 settled setup places held Begun = tt

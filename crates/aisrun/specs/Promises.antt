@@ -1,11 +1,20 @@
 -- Words of public clauses: what is promised at the end of each line that is played, each sentence by itself.
-use Rattle.std.specs.Prelude.{ℕ, List, [], ◌∷◌, ◌++◌, Option}
+use Rattle.std.specs.Prelude.{◌≡◌, ℕ, suc, Bool, false, not, ◌||◌, ◌==◌, List, [], ◌∷◌, ◌++◌, length, Option, Some, None}
+use Rattle.ais_values.specs.FirstRow.{first_row}
 use Rattle.disk_model.specs.Disk.{Files, no_files}
 use Rattle.script_lines.specs.declared.line.Line.{Line}
-use Rattle.script_lines.specs.declared.line.Line.TheVariants.{Settle}
+use Rattle.script_lines.specs.declared.line.Line.TheVariants as line
 use Rattle.plain_service.specs.Setups.{Setup}
+use Rattle.plain_service.specs.Records.{StoredRecord, record_of, place_of}
+use Rattle.cluster_facts.specs.Types.{Which, Log, Ntf, Status, VersionRefused, TryAgain, BadHandle, Ask, Start, Other, Call, Reply, Message}
+use Rattle.cluster_facts.specs.Lists.{without}
+use Rattle.cluster_facts.specs.Messages.{sent_by}
+use Rattle.cluster_facts.specs.Agents.{can_serve, service_of, is_shut}
+use Rattle.cluster_facts.specs.Facts.{log_by, ntf_by}
 use Rattle.cluster_facts.specs.Storage.{all_applied}
-use Rattle.cluster_events.specs.Lines.{Told}
+use Rattle.cluster_events.specs.Lines.{Told, Declined}
+use Rattle.cluster_events.specs.Outcomes.{Outcome}
+use Rattle.cluster_events.specs.Saying.{gathered, replies_told}
 use Rattle.cluster_events.specs.Servers.{State}
 use Rattle.cluster_events.specs.Filing.{FilesStand, RecordsStay}
 use Rattle.cluster_events.specs.OnDisk.{performed}
@@ -33,6 +42,20 @@ AtEachEnd setup places held P (Went {lines = lines} {state = state} {told = told
 abbrev pub Throughout : (held : Option Files) (P : Setup → Sentence) → Type 0
 Throughout held P =
     (script done rest : List Line) (text : List ℕ) (front : PlaysFront held script done rest text) → AtEachEnd front.setup front.places held (P front.setup) front.goes.run
+
+-- what is said of one line: what was told before it, where it was played, and what it led to
+abbrev pub LineSentence : Type 1
+LineSentence = Line → List Told → State Alone → Outcome (State Alone) → Type 0
+
+-- it is so of each line
+abbrev pub OfEachLine : (P : LineSentence) {setup : Setup} {places : ℕ} {held : Option Files} {lines : List Line} {state : State Alone} {told : List Told} {files : Files} → Played setup places held lines state told files → Type 0
+OfEachLine P Begun = Unit {0}
+OfEachLine P (Went {state = state} {told = told} next shelf outcome more run shelf_is happens grown) = P next told state outcome × OfEachLine P run
+
+-- it is so of each line, however far a script was played on a disk that told these files before
+abbrev pub OfAllLines : (held : Option Files) (P : LineSentence) → Type 0
+OfAllLines held P =
+    (script done rest : List Line) (text : List ℕ) (front : PlaysFront held script done rest text) → OfEachLine P front.goes.run
 
 -- one history: it is legal, its entries are those of the `acc` lines, in order, and each client's calls stand in it in their order
 abbrev pub KeepsOneHistory : Setup → Sentence
@@ -64,10 +87,77 @@ KeepsFiles setup lines state told files = FilesStand service_disk (storage_of se
 abbrev pub KeepsRecords : Setup → Sentence
 KeepsRecords setup lines state told files = RecordsStay (plain_of setup) service_disk (storage_of setup) state.world files
 
+-- no two calls have a record at one place
+abbrev pub StandsOnce : Setup → Sentence
+StandsOnce setup lines state told files =
+    let past = state.world.core.answered in
+    (client number other_client other_number : ℕ) (stored other : StoredRecord) (spot : List ℕ × ℕ) → record_of setup past client number ≡ Some stored → record_of setup past other_client other_number ≡ Some other → place_of setup past stored ≡ Some spot → place_of setup past other ≡ Some spot → (client ≡ other_client) × (number ≡ other_number)
+
 -- after `settle` every call is in the history and answered, and no item is held, but for those whose client's queue is full
 abbrev pub IsSettledAfter : Setup → List Line → State Alone → Type 0
-IsSettledAfter setup (Settle ∷ lines) state = IsSettled (plain_of setup) state.world
+IsSettledAfter setup (line.Settle ∷ lines) state = IsSettled (plain_of setup) state.world
 IsSettledAfter setup _ state = Unit {0}
 
 abbrev pub SettlesAll : Setup → Sentence
 SettlesAll setup lines state told files = IsSettledAfter setup lines state
+
+-- What clients' agents refuse by themselves, by the calls that a client sent, each with its number, the newest first.
+
+-- the last initialisation or finalisation of the service among these calls is an initialisation
+abbrev pub holds_service : Which → List (ℕ × Call) → Bool
+holds_service Log sent = log_by sent
+holds_service Ntf sent = ntf_by sent
+
+-- some line tells the reply to this call
+abbrev pub is_replied : List (ℕ × Reply) → ℕ × Call → Bool
+is_replied [] sent = false
+is_replied (reply ∷ replies) sent = sent.0 == reply.0 || is_replied replies sent
+
+-- the calls to which no line tells the reply
+abbrev pub waiting_of : (replies : List (ℕ × Reply)) → List (ℕ × Call) → List (ℕ × Call)
+waiting_of replies sent = without (is_replied replies) sent
+
+-- a client sent these calls, and took no reply yet to those that wait. An initialisation is refused for a version that is not
+-- served, another call where its service is not held, and any call while one that waits has a number at most the next minus 32
+abbrev pub rows_of_refusal : Ask → (sent waiting : List (ℕ × Call)) → List (Bool × Status)
+rows_of_refusal (Start service version) sent waiting =
+    (not (can_serve service version), VersionRefused) ∷ (is_shut (suc (length sent)) waiting, TryAgain) ∷ []
+rows_of_refusal (Other call) sent waiting =
+    (not (holds_service (service_of call) sent), BadHandle) ∷ (is_shut (suc (length sent)) waiting, TryAgain) ∷ []
+
+-- a dispatch is refused where neither service is held
+abbrev pub rows_of_dispatch : List (ℕ × Call) → List (Bool × Status)
+rows_of_dispatch sent = (not (holds_service Log sent || holds_service Ntf sent), BadHandle) ∷ []
+
+-- a refusal, where there is one
+abbrev pub refused_as : ℕ → Option Status → List (ℕ × Status)
+refused_as client None = []
+refused_as client (Some status) = (client, status) ∷ []
+
+-- the first row that applies decides
+abbrev pub refused_by : ℕ → List (Bool × Status) → List (ℕ × Status)
+refused_by client rows = refused_as client (first_row rows)
+
+-- what is refused of a call, by the replies told and the calls sent before it
+abbrev pub call_refused : ℕ → Ask → (replies : List (ℕ × Reply)) → List (ℕ × Call) → List (ℕ × Status)
+call_refused client asked replies sent = refused_by client (rows_of_refusal asked sent (waiting_of replies sent))
+
+-- what is refused of a line, and to which client, by the lines told and the messages of the net before it
+abbrev pub refusals_due : Line → List Told → List Message → List (ℕ × Status)
+refusals_due (line.Log client asked) told net = call_refused client asked (replies_told client told) (sent_by client net)
+refusals_due (line.Ntf client asked) told net = call_refused client asked (replies_told client told) (sent_by client net)
+refusals_due (line.DispatchOne client) told net = refused_by client (rows_of_dispatch (sent_by client net))
+refusals_due (line.DispatchAll client workers) told net = refused_by client (rows_of_dispatch (sent_by client net))
+refusals_due _ told net = []
+
+-- the refusals among lines that are told
+abbrev pub refusal_in : Told → List (ℕ × Status)
+refusal_in (Declined client status) = (client, status) ∷ []
+refusal_in _ = []
+
+abbrev pub refusals_told : List Told → List (ℕ × Status)
+refusals_told told = gathered refusal_in told
+
+-- a line tells a refusal exactly where one is due
+abbrev pub DeclinesRightly : LineSentence
+DeclinesRightly next told state outcome = refusals_told outcome.told ≡ refusals_due next told state.world.net

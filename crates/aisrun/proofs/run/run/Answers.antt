@@ -1,5 +1,6 @@
 use Rattle.aisrun.proofs.StatusLaws.{ends-done, ends-refused, ends-usage, ends-lacking, ends-unread, ends-unwritten, ends-broken, ends-held, ends-overlong}
-use Rattle.aisrun.proofs.PromiseLaws.{keeps-one-history, replies-rightly, reads-rightly, calls-back, prints-posts, keeps-files, keeps-records, settles-all}
+use Rattle.aisrun.proofs.PromiseLaws.{keeps-one-history, replies-rightly, reads-rightly, calls-back, prints-posts, keeps-files, keeps-records, stands-once, settles-all}
+use Rattle.aisrun.proofs.RefusalLaws.{declines-rightly}
 use Rattle.aisrun.proofs.FaultLaws.{keeps-at-fault}
 use Rattle.aisrun.proofs.CompletenessLaws.{completes, checks, exprs}
 use Rattle.aisrun.proofs.run.run.Goals as goal
@@ -37,6 +38,9 @@ returns-clause-one_history g c = keeps-one-history _
 pub returns-clause-replies : goal.returns-clause-replies
 returns-clause-replies g c = replies-rightly _
 
+pub returns-clause-declines : goal.returns-clause-declines
+returns-clause-declines g c = declines-rightly _
+
 pub returns-clause-readers : goal.returns-clause-readers
 returns-clause-readers g c = reads-rightly _
 
@@ -51,6 +55,9 @@ returns-clause-files g c = keeps-files _
 
 pub returns-clause-stays : goal.returns-clause-stays
 returns-clause-stays g c = keeps-records _
+
+pub returns-clause-stands_once : goal.returns-clause-stands_once
+returns-clause-stands_once g c = stands-once _
 
 pub returns-clause-settles : goal.returns-clause-settles
 returns-clause-settles g c = settles-all _
