@@ -4,6 +4,7 @@ mod PlayLaws
 mod PromiseLaws
 mod WaitingLaws
 mod RefusalLaws
+mod TimeLaws
 mod GoingSteps
 mod FaultLaws
 mod EndingSteps

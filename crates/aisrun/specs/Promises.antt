@@ -1,20 +1,22 @@
 -- Words of public clauses: what is promised at the end of each line that is played, each sentence by itself.
 use Rattle.std.specs.Prelude.{◌≡◌, ℕ, suc, Bool, false, not, ◌||◌, ◌==◌, List, [], ◌∷◌, ◌++◌, length, Option, Some, None}
+use Rattle.std.specs.List.{AllByRecursion}
 use Rattle.ais_values.specs.FirstRow.{first_row}
 use Rattle.disk_model.specs.Disk.{Files, no_files}
 use Rattle.script_lines.specs.declared.line.Line.{Line}
 use Rattle.script_lines.specs.declared.line.Line.TheVariants as line
 use Rattle.plain_service.specs.Setups.{Setup}
 use Rattle.plain_service.specs.Records.{StoredRecord, record_of, place_of}
-use Rattle.cluster_facts.specs.Types.{Which, Log, Ntf, Status, VersionRefused, TryAgain, BadHandle, Ask, Start, Other, Call, Reply, Message}
+use Rattle.cluster_facts.specs.Types.{Which, Log, Ntf, Status, VersionRefused, TryAgain, BadHandle, Ask, Start, Other, Call, Reply, Entry, Message}
 use Rattle.cluster_facts.specs.Lists.{without}
 use Rattle.cluster_facts.specs.Messages.{sent_by}
 use Rattle.cluster_facts.specs.Agents.{can_serve, service_of, is_shut}
 use Rattle.cluster_facts.specs.Facts.{log_by, ntf_by}
+use Rattle.cluster_facts.specs.History.{time_of}
 use Rattle.cluster_facts.specs.Storage.{all_applied}
 use Rattle.cluster_events.specs.Lines.{Told, Declined}
 use Rattle.cluster_events.specs.Outcomes.{Outcome}
-use Rattle.cluster_events.specs.Saying.{gathered, replies_told}
+use Rattle.cluster_events.specs.Saying.{gathered, entries_told, replies_told}
 use Rattle.cluster_events.specs.Servers.{State}
 use Rattle.cluster_events.specs.Filing.{FilesStand, RecordsStay}
 use Rattle.cluster_events.specs.OnDisk.{performed}
@@ -100,6 +102,11 @@ IsSettledAfter setup _ state = Unit {0}
 
 abbrev pub SettlesAll : Setup → Sentence
 SettlesAll setup lines state told files = IsSettledAfter setup lines state
+
+-- an entry is committed at the time in force
+abbrev pub CommitsInTime : LineSentence
+CommitsInTime next told state outcome =
+    AllByRecursion (λ (line : ℕ × Entry). time_of line.1 ≡ state.world.now) (entries_told outcome.told)
 
 -- What clients' agents refuse by themselves, by the calls that a client sent, each with its number, the newest first.
 

@@ -12,7 +12,7 @@ ghost use Rattle.aisrun.specs.declared.ending.Status8.{Status8};
 ghost use Rattle.aisrun.specs.Edges.{around, edge, stage};
 ghost use Rattle.aisrun.specs.Endings.{Ends, EndsBroken, EndsDone, EndsHeld, EndsLacking, EndsOverlong, EndsRefused, EndsUnread, EndsUnwritten, EndsUsage};
 ghost use Rattle.aisrun.specs.Playing.{has_failures};
-ghost use Rattle.aisrun.specs.Promises.{OfAllLines, Throughout, CallsBack, DeclinesRightly, KeepsFiles, KeepsOneHistory, KeepsRecords, PrintsPosts, ReadsRightly, RepliesRightly, SettlesAll, StandsOnce};
+ghost use Rattle.aisrun.specs.Promises.{OfAllLines, Throughout, CallsBack, CommitsInTime, DeclinesRightly, KeepsFiles, KeepsOneHistory, KeepsRecords, PrintsPosts, ReadsRightly, RepliesRightly, SettlesAll, StandsOnce};
 ghost use Rattle.aisrun.specs.Scripting.{BytesEnd, BytesLack};
 ghost use Rattle.aisrun.specs.RunSteps.{EndWritten, InputEnds, InputLacks, WordsLack};
 ghost use Rattle.aisrun.specs.Steps.{Written};
@@ -124,7 +124,7 @@ fn run_words<S: Source, K: Sink, D: SharedDisk>(
 ///
 /// The clauses behind them say of each run what holds at the end of every line that was played, by any status. A line tells a
 /// refusal by a client's agent exactly where the calls that the client had sent, and those of them whose reply no line told,
-/// make one due. No two calls have a record at one place. Where a fault of
+/// make one due. Each entry is committed at the time in force. No two calls have a record at one place. Where a fault of
 /// the disk ended it in an entry's work, the same holds of history, replies, callbacks and posts up to the fault, the entry is
 /// committed and has no reply, and what was answered as stored before it stands, unless the entry gives its place away; where
 /// the fault came in a line that shows files, all stands as at the end of the line before.
@@ -180,6 +180,7 @@ pub fn run<S: Source, K: Sink, D: SharedDisk>(
     ensures one_history { Throughout (D.files disk.old) KeepsOneHistory }
     ensures replies { Throughout (D.files disk.old) RepliesRightly }
     ensures declines { OfAllLines (D.files disk.old) DeclinesRightly }
+    ensures in_time { OfAllLines (D.files disk.old) CommitsInTime }
     ensures readers { Throughout (D.files disk.old) ReadsRightly }
     ensures callbacks { Throughout (D.files disk.old) CallsBack }
     ensures posts { Throughout (D.files disk.old) PrintsPosts }

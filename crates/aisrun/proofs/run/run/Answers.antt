@@ -1,6 +1,7 @@
 use Rattle.aisrun.proofs.StatusLaws.{ends-done, ends-refused, ends-usage, ends-lacking, ends-unread, ends-unwritten, ends-broken, ends-held, ends-overlong}
 use Rattle.aisrun.proofs.PromiseLaws.{keeps-one-history, replies-rightly, reads-rightly, calls-back, prints-posts, keeps-files, keeps-records, stands-once, settles-all}
 use Rattle.aisrun.proofs.RefusalLaws.{declines-rightly}
+use Rattle.aisrun.proofs.TimeLaws.{commits-in-time}
 use Rattle.aisrun.proofs.FaultLaws.{keeps-at-fault}
 use Rattle.aisrun.proofs.CompletenessLaws.{completes, checks, exprs}
 use Rattle.aisrun.proofs.run.run.Goals as goal
@@ -40,6 +41,9 @@ returns-clause-replies g c = replies-rightly _
 
 pub returns-clause-declines : goal.returns-clause-declines
 returns-clause-declines g c = declines-rightly _
+
+pub returns-clause-in_time : goal.returns-clause-in_time
+returns-clause-in_time g c = commits-in-time _
 
 pub returns-clause-readers : goal.returns-clause-readers
 returns-clause-readers g c = reads-rightly _
