@@ -1,16 +1,19 @@
 -- Events of agents and net, and messages that are delivered or sent again, that break off.
-use Rattle.std.proofs.Common.{◌≡◌, ℕ, ◌<◌, inl, Option, Some, None, List, [], ◌∷◌, length, get_or, take, refl, sym, ◌∙◌, subst}
+use Rattle.std.proofs.Common.{◌≡◌, ℕ, ◌<◌, inl, Bool, if◌then◌else◌, Option, Some, None, List, [], ◌∷◌, length, get_or, take, refl, sym, ◌∙◌, subst}
 use Rattle.script_lines.specs.declared.line.Line.{Line}
 use Rattle.script_lines.specs.declared.line.Line.TheVariants as line
 use Rattle.disk_model.specs.Disk.{Files}
 use Rattle.plain_service.specs.Setups.{Setup}
 use Rattle.service_laws.specs.PlainOf.{plain_of}
 use Rattle.service_laws.proofs.ServiceLaws.{is_plain}
-use Rattle.cluster_facts.specs.Types.{Ask, Call, Status, Message}
+use Rattle.cluster_facts.specs.Types.{Ask, Call, Status, Message, Answer, Delivery}
 use Rattle.cluster_facts.specs.Lists.{Stands}
-use Rattle.cluster_facts.specs.Service.{Plain}
-use Rattle.cluster_facts.specs.Agents.{refusal, call_of, dispatch_refusal, resent}
+use Rattle.cluster_facts.specs.Messages.{sent_by}
+use Rattle.cluster_facts.specs.Service.{Plain, IsPlain}
+use Rattle.cluster_facts.specs.Agents.{refusal, call_of, dispatch_refusal, resent, fed_of, after_call}
 use Rattle.cluster_facts.specs.World.{World, number_of}
+use Rattle.cluster_facts.specs.Facts.{IsSound}
+use Rattle.cluster_facts.proofs.Words.{each_client}
 use Rattle.cluster_facts.proofs.Posting.{message_at-stands}
 use Rattle.cluster_events.specs.Outcomes.{Outcome, for_each}
 use Rattle.cluster_events.specs.Servers.{State, in_world}
@@ -18,6 +21,7 @@ use Rattle.cluster_events.specs.ClientEvents.{ask_by, ask, dispatch_one_by, disp
 use Rattle.cluster_events.specs.Running.{Happens}
 use Rattle.cluster_events.specs.Saying.{Says}
 use Rattle.cluster_events.specs.Serving.{IsSteady}
+use Rattle.cluster_events.proofs.Carrying.{WorldGoes, Stays-same, take_reply-goes, take_item-goes}
 use Rattle.cluster_events.proofs.Promised.{happens-kept}
 use Rattle.lone_cluster.specs.Lone.{Alone, lone, IsGoodAlone}
 use Rattle.lone_cluster.proofs.Serving.{lone-serves, lone-says, lone-works, never-steps}
@@ -29,12 +33,13 @@ use Rattle.cluster_core.specs.Clients.{place_of, dispatch_as}
 use Rattle.cluster_core.specs.Taken.{taken_as}
 use Rattle.cluster_core.specs.Worlds.{TellsFiles, LeavesFiles, StandsIn}
 use Rattle.cluster_core.specs.Delivered.{IsFetched, again, HearsAll}
-use Rattle.cluster_core.specs.Broken.{BreaksAlone, BreaksAloneIf}
-use Rattle.cluster_core.specs.PartlyDone.{TakesPartly, AsksPartly, MayDispatch, AllStandIn}
-use Rattle.cluster_core.proofs.TakenSteps.{IsMoved, any_shelf, taken-goes}
+use Rattle.cluster_core.specs.Broken.{IsFedOf, BreaksAlone, BreaksAloneIf}
+use Rattle.cluster_core.specs.PartlyDone.{SaysUnasked, TakesPartly, AsksPartly, MayDispatch, AllStandIn}
+use Rattle.cluster_core.proofs.TakenSteps.{IsMoved, any_shelf}
 use Rattle.cluster_core.proofs.ChainSteps.{again-goes, all-take, resent-by, resent-stand}
 use Rattle.cluster_core.proofs.RoundSteps.{hear-answered, files-same, All-at}
-use Rattle.cluster_core.proofs.BrokenSteps.{event-broken, shown-broken, happened-broken}
+use Rattle.cluster_core.proofs.UnaskedSteps.{lone-unasked}
+use Rattle.cluster_core.proofs.BrokenSteps.{sound-fed, unasked-fed, event-broken, shown-broken, happened-broken}
 
 -- what a line on agents is
 line-kept : (setup : Setup) (next : Line) (state : State Alone) (outcome : Outcome (State Alone)) → IsSteady (plain_of setup) IsGoodAlone state → Happens (plain_of setup) any_shelf (lone (plain_of setup)) next state outcome → IsSteady (plain_of setup) IsGoodAlone outcome.state × Says (plain_of setup) state.world outcome.state.world outcome.told
@@ -44,12 +49,24 @@ line-kept setup next state outcome steady happens =
     happens-kept plain plainly any_shelf (lone plain) IsGoodAlone (lone-serves plain plainly) (lone-says plain) (never-steps plain) (never-steps plain) (lone-works plain plainly) next state outcome steady happens
 
 -- **a delivery to an agent, done in part**
+delivered-goes : (plain : Plain) → IsPlain plain → (place : ℕ) (message : Message) (world : World) → Stands message world.net → IsSound plain world → WorldGoes plain (SaysUnasked plain) world (taken_as plain place message world)
+delivered-goes plain plainly place (Answer client number reply) world stands sound =
+    take_reply-goes plain plainly (lone plain) IsGoodAlone (lone-serves plain plainly) (SaysUnasked plain) (lone-unasked plain) place client number reply world stands sound
+delivered-goes plain plainly place (Delivery client key item) world stands sound =
+    take_item-goes plain plainly (lone plain) IsGoodAlone (lone-serves plain plainly) (SaysUnasked plain) (lone-unasked plain) place client key item world stands sound
+delivered-goes plain plainly place message world stands sound = record { sound = sound; carried = (lone-unasked plain).same world; stays = Stays-same world; core = refl }
+
 pub takes-break : (place : ℕ) (message : Message) (old : Kept) (net : List (List ℕ)) (agents : List Seen) → TakesPartly place message old.net net old.agents agents → BreaksAloneIf (StandsIn message) old (record old { net = net; agents = agents })
 takes-break place message old net agents partly held setup state good shows stands =
     let plain = plain_of setup in
-    let goes = taken-goes plain (is_plain setup) place message state.world stands good.steady.sound in
+    let goes = delivered-goes plain (is_plain setup) place message state.world stands good.steady.sound in
     event-broken setup state (taken_as plain place message state.world) old net agents held good shows
-    (record { sound = goes.sound; says = goes.carried; same = record { core = goes.core; now = goes.stays.now; places = goes.stays.places } })
+    (record {
+      sound = goes.sound;
+      says = goes.carried.says;
+      same = record { core = goes.core; now = goes.stays.now; places = goes.stays.places };
+      fed = unasked-fed plain state.world (taken_as plain place message state.world).state goes.sound goes.carried.asks.sent;
+    })
     (partly plain state.world (is_plain setup) shows.net shows.agents)
 
 -- **a call that a client asks for, done in part**
@@ -57,12 +74,19 @@ asked-moved : (plain : Plain) (client : ℕ) (call : Call) (status : Option Stat
 asked-moved plain client call (Some status) world = record { core = refl; now = refl; places = refl }
 asked-moved plain client call None world = record { core = refl; now = refl; places = refl }
 
+-- a call leaves what its client was fed
+asked-fed : (plain : Plain) (client : ℕ) (call : Call) (status : Option Status) (world : World) → IsSound plain world → (other : ℕ) → IsFedOf plain (ask_by plain client call status world).state.core.answered (sent_by other world.net) other (fed_of ((ask_by plain client call status world).state.agents other))
+asked-fed plain client call (Some status) world sound other = sound-fed plain world sound other
+asked-fed plain client call None world sound other =
+    let Q : ℕ → Bool → Type 0 = λ who own. IsFedOf plain world.core.answered (sent_by who world.net) who (fed_of (if own then after_call call (world.agents client) else world.agents who)) in
+    each_client Q client (sound-fed plain world sound client) (sound-fed plain world sound) other
+
 pub asks-break : (client : ℕ) (asked : Ask) (old : Kept) (net : List (List ℕ)) (agents : List Seen) → AsksPartly old.callbacks client asked old.net net old.agents agents → BreaksAlone old (record old { net = net; agents = agents })
 asks-break client asked old net agents partly held setup state good shows =
     let plain = plain_of setup in
     let kept = line-kept setup (line.Log client asked) state (in_world (ask plain client asked) state) good.steady refl in
     event-broken setup state (ask plain client asked state.world) old net agents held good shows
-    (record { sound = kept.0.sound; says = kept.1; same = asked-moved plain client (call_of asked) (refusal asked (state.world.agents client)) state.world })
+    (record { sound = kept.0.sound; says = kept.1; same = asked-moved plain client (call_of asked) (refusal asked (state.world.agents client)) state.world; fed = asked-fed plain client (call_of asked) (refusal asked (state.world.agents client)) state.world good.steady.sound })
     (partly plain state.world (is_plain setup) shows.net shows.agents (sym shows.callbacks))
 
 -- **callbacks that were handed out without their lines, or not**
@@ -78,6 +102,18 @@ given-moved : (how : How) (client : ℕ) (world : World) → IsMoved world (disp
 given-moved One client world = given_one-moved client (dispatch_refusal (world.agents client)) world
 given-moved (All workers) client world = given_all-moved client (dispatch_refusal (world.agents client)) world
 
+given_one-sent : (client : ℕ) (status : Option Status) (world : World) (other : ℕ) → sent_by other (dispatch_one_by client status world).state.net ≡ sent_by other world.net
+given_one-sent client (Some status) world other = refl
+given_one-sent client None world other = refl
+
+given_all-sent : (client : ℕ) (status : Option Status) (world : World) (other : ℕ) → sent_by other (dispatch_all_by client status world).state.net ≡ sent_by other world.net
+given_all-sent client (Some status) world other = refl
+given_all-sent client None world other = refl
+
+given-sent : (how : How) (client : ℕ) (world : World) (other : ℕ) → sent_by other (dispatch_as how client world).state.net ≡ sent_by other world.net
+given-sent One client world = given_one-sent client (dispatch_refusal (world.agents client)) world
+given-sent (All workers) client world = given_all-sent client (dispatch_refusal (world.agents client)) world
+
 given-kept : (setup : Setup) (how : How) (client : ℕ) (state : State Alone) → IsSteady (plain_of setup) IsGoodAlone state → IsSteady (plain_of setup) IsGoodAlone (in_world (dispatch_as how client) state).state × Says (plain_of setup) state.world (dispatch_as how client state.world).state (dispatch_as how client state.world).told
 given-kept setup One client state steady = line-kept setup (line.DispatchOne client) state (in_world (dispatch_one client) state) steady refl
 given-kept setup (All workers) client state steady = line-kept setup (line.DispatchAll client workers) state (in_world (dispatch_all client) state) steady refl
@@ -86,7 +122,12 @@ pub dispatch-breaks : (how : How) (client : ℕ) (old : Kept) (agents : List See
 dispatch-breaks how client old agents may held setup state good shows =
     let kept = given-kept setup how client state good.steady in
     event-broken setup state (dispatch_as how client state.world) old old.net agents held good shows
-    (record { sound = kept.0.sound; says = kept.1; same = given-moved how client state.world })
+    (record {
+      sound = kept.0.sound;
+      says = kept.1;
+      same = given-moved how client state.world;
+      fed = unasked-fed (plain_of setup) state.world (dispatch_as how client state.world).state kept.0.sound (given-sent how client state.world);
+    })
     (record { net_is = inl shows.net; agents_are = may state.world shows.agents })
 
 -- Nothing was done.

@@ -12,7 +12,8 @@ use Rattle.service_laws.specs.StorageOf.{storage_of}
 use Rattle.service_laws.proofs.StorageLaws.{is_storage}
 use Rattle.cluster_facts.specs.Types.{Call, Reply, Entry}
 use Rattle.cluster_facts.specs.Lists.{Stands, EndsIn}
-use Rattle.cluster_facts.specs.Messages.{sent_by, calls_in}
+use Rattle.cluster_facts.specs.Messages.{sent_by, receipts_of, calls_in}
+use Rattle.cluster_facts.specs.Service.{Plain}
 use Rattle.cluster_facts.specs.Storage.{Attempt, Between, dealt_in}
 use Rattle.cluster_facts.specs.Storage.Attempts.{none as no_attempt, more as one_more}
 use Rattle.cluster_facts.specs.Agents.{fed_of}
@@ -33,7 +34,7 @@ use Rattle.cluster_core.specs.declared.world.World.{World as Kept}
 use Rattle.cluster_core.specs.Spelled.{AreSpelled}
 use Rattle.cluster_core.specs.Clients.{ShowsAgents}
 use Rattle.cluster_core.specs.Worlds.{Shows, IsGood, TellsFiles, LeavesFiles}
-use Rattle.cluster_core.specs.Broken.{LeavesBetween, Broken}
+use Rattle.cluster_core.specs.Broken.{LeavesBetween, IsFedOf, Broken}
 use Rattle.cluster_core.specs.PartlyDone.{PartlyShows, SaysUnasked}
 use Rattle.cluster_core.proofs.FilesSteps.{left-same, left-told}
 use Rattle.cluster_core.proofs.ServerSteps.{agents-as}
@@ -94,6 +95,20 @@ failing-between setup state entry count (Some held) (Some left) fails tells =
 
 -- Events that broke off.
 
+-- in a sound world each client was fed items of subscriptions that it asked for
+pub sound-fed : (plain : Plain) (world : World) → IsSound plain world → (client : ℕ) → IsFedOf plain world.core.answered (sent_by client world.net) client (fed_of (world.agents client))
+sound-fed plain world sound client = record {
+  marks = receipts_of client world.net;
+  counted = (sound.facts.clients client).follows.counted;
+  items = sound.facts.told client;
+}
+
+-- so after an event in which nobody asked
+pub unasked-fed : (plain : Plain) (old new : World) → IsSound plain new → ((client : ℕ) → sent_by client new.net ≡ sent_by client old.net) → (client : ℕ) → IsFedOf plain new.core.answered (sent_by client old.net) client (fed_of (new.agents client))
+unasked-fed plain old new sound same client =
+    let F : List (ℕ × Call) → Type 0 = λ sent. IsFedOf plain new.core.answered sent client (fed_of (new.agents client)) in
+    subst F (same client) (sound-fed plain new sound client)
+
 -- some whole events happened, and what was to come did not
 pub whole-broken : (setup : Setup) (old new : State Alone) (told : List Told) (held left : Option Files) (world : Kept) → IsSound (plain_of setup) new.world → SaysUnasked (plain_of setup) old.world new.world told → AreSpelled new.world.net world.net → ShowsAgents new.world world.agents → world.history.entries ≡ committed new.world.core → world.now ≡ new.world.now → (TellsFiles setup old held → LeavesBetween setup (committed new.world.core) held left) → Broken setup old held left world
 whole-broken setup old new told held left world sound says net agents history now files = record {
@@ -103,6 +118,7 @@ whole-broken setup old new told held left world sound says net agents history no
   holds = Sound-holds (plain_of setup) new.world sound;
   deals = says.says.deals;
   asked = λ client. subst (λ (sent : List (ℕ × Call)). EndsIn sent (calls_in client (committed new.world.core))) (says.asks.sent client) ((Sound-holds (plain_of setup) new.world sound).calls client);
+  fed = unasked-fed (plain_of setup) old.world new.world sound says.asks.sent;
   times = says.asks.times;
   stays = says.asks.now;
   net = net;
@@ -136,6 +152,7 @@ happened-broken setup state middle told held between left world says files broke
   holds = broken.holds;
   deals = λ client. deals-both (plain_of setup) client middle.world.core.answered broken.rest.core.answered told broken.unseen broken.tells.answers (says.says.deals client) (broken.deals client);
   asked = λ client. subst (λ (sent : List (ℕ × Call)). EndsIn sent (calls_in client (committed broken.rest.core))) (says.asks.sent client) (broken.asked client);
+  fed = λ client. subst (λ (sent : List (ℕ × Call)). IsFedOf (plain_of setup) broken.rest.core.answered sent client (fed_of (broken.rest.agents client))) (says.asks.sent client) (broken.fed client);
   times = times-both state.world middle.world told broken.unseen says.asks broken.times;
   stays = broken.stays ∙ says.asks.now;
   net = broken.net;
@@ -152,13 +169,19 @@ pub record IsOfWorld (setup : Setup) (old : World) (outcome : Outcome World) : T
   pub sound : IsSound (plain_of setup) outcome.state
   pub says : Says (plain_of setup) old outcome.state outcome.told
   pub same : IsMoved old outcome.state
+  pub fed : (client : ℕ) → IsFedOf (plain_of setup) outcome.state.core.answered (sent_by client old.net) client (fed_of (outcome.state.agents client))
 
 -- a world with the net of one and the agents of another
 abbrev pub mixed : World → World → World → World
 mixed old of_net of_agents = record old { net = of_net.net; agents = of_agents.agents; clients = of_agents.clients }
 
 nothing-is : (setup : Setup) (world : World) → IsSound (plain_of setup) world → IsOfWorld setup world (quietly world)
-nothing-is setup world sound = record { sound = sound; says = Says-same (plain_of setup) world; same = record { core = refl; now = refl; places = refl } }
+nothing-is setup world sound = record {
+  sound = sound;
+  says = Says-same (plain_of setup) world;
+  same = record { core = refl; now = refl; places = refl };
+  fed = sound-fed (plain_of setup) world sound;
+}
 
 -- what the lines of such an event tell of history and agents, whatever the net is
 mixed-tells : (setup : Setup) (old of_net : World) (of_agents : Outcome World) → IsOfWorld setup old of_agents → Tells (plain_of setup) old (mixed old of_net of_agents.state) of_agents.told
@@ -185,6 +208,7 @@ event-by setup state of_net of_agents old net agents held good shows net_is agen
     let world = state.world in
     let rest = mixed world of_net.state of_agents.state in
     let D : ℕ → Core → Type 0 = λ client core. AllByRecursion (λ (deal : ℕ × Call × Reply). Stands deal (dealt_in plain client core.answered)) (deals_told client of_agents.told) in
+    let F : ℕ → Core → Type 0 = λ client core. IsFedOf plain core.answered (sent_by client world.net) client (fed_of (of_agents.state.agents client)) in
     let none : entries_told of_agents.told ≡ [] = grown-none (committed world.core) (entries_told of_agents.told) (sym (ap committed agents_are.same.core) ∙ agents_are.says.entries.grown) in
     record {
       rest = rest;
@@ -193,6 +217,7 @@ event-by setup state of_net of_agents old net agents held good shows net_is agen
       holds = mixed-holds setup world of_net of_agents good.steady.sound net_is agents_are;
       deals = λ client. subst (D client) agents_are.same.core (agents_are.says.deals client);
       asked = (Sound-holds plain world good.steady.sound).calls;
+      fed = λ client. subst (F client) agents_are.same.core (agents_are.fed client);
       times = subst (λ (lines : List (ℕ × Entry)). AllByRecursion (λ (line : ℕ × Entry). time_of line.1 ≡ world.now) lines) (sym none) tt;
       stays = refl;
       net = spelled;

@@ -8,12 +8,15 @@ use Rattle.service_laws.specs.Disks.{service_disk}
 use Rattle.service_laws.specs.StorageOf.{storage_of}
 use Rattle.script_lines.specs.declared.line.Line.{Line}
 use Rattle.script_lines.specs.declared.line.Server.TheVariants.{A as ServerA}
-use Rattle.cluster_facts.specs.Types.{Call, Reply, Entry}
-use Rattle.cluster_facts.specs.Lists.{Stands, EndsIn, without}
+use Rattle.cluster_facts.specs.Types.{Call, Reply, Callback, Entry}
+use Rattle.cluster_facts.specs.Lists.{Stands, EndsIn, IsCounted, without}
+use Rattle.cluster_facts.specs.Service.{Plain}
 use Rattle.cluster_facts.specs.Messages.{sent_by, calls_in}
 use Rattle.cluster_facts.specs.Storage.{Between, dealt_in}
+use Rattle.cluster_facts.specs.Agents.{fed_of}
 use Rattle.cluster_facts.specs.History.{Ready, committed, time_of}
 use Rattle.cluster_facts.specs.World.{World as WorldOf}
+use Rattle.cluster_facts.specs.Facts.{Fits, IsToldItem}
 use Rattle.cluster_events.specs.declared.lines.ServerRole.TheVariants.{Down}
 use Rattle.cluster_events.specs.Lines.{Told, Stood, is_ignored}
 use Rattle.cluster_events.specs.Outcomes.{Outcome}
@@ -35,9 +38,17 @@ LeavesBetween setup past None left = left ≡ None
 LeavesBetween setup past (Some held) left =
     (files : Files) × (left ≡ Some files) × Between service_disk (storage_of setup) past files
 
+-- the callbacks of items that a client got are, in order, those of the items 1, 2, 3 and so on of subscriptions that are asked for
+-- among these calls, each with the id that its call gave it
+pub record IsFedOf (plain : Plain) (past : List Entry) (sent : List (ℕ × Call)) (client : ℕ) (fed : List Callback) : Type 0 where
+  pub marks : List (ℕ × ℕ)
+  pub counted : IsCounted marks
+  pub items : Fits (IsToldItem plain past sent client) marks fed
+
 -- An event broke off for want of memory: from this state some of it happened, with lines that nobody sees. The history is legal;
 -- each client's calls in it are the first of those that it had sent before the event, and what came to it is of the time in force,
--- which stays. Each client was fed the beginning of its items, each reply that it took is the history's, and the files are between.
+-- which stays. Each client was fed the beginning of the items of subscriptions that it had asked for before the event, each reply
+-- that it took is the history's, and the files are between.
 pub record Broken (setup : Setup) (state : State Alone) (held left : Option Files) (world : World) : Type 0 where
   pub rest : WorldOf
   pub unseen : List Told
@@ -45,6 +56,7 @@ pub record Broken (setup : Setup) (state : State Alone) (held left : Option File
   pub holds : Holds (plain_of setup) rest
   pub deals : (client : ℕ) → AllByRecursion (λ (deal : ℕ × Call × Reply). Stands deal (dealt_in (plain_of setup) client rest.core.answered)) (deals_told client unseen)
   pub asked : (client : ℕ) → EndsIn (sent_by client state.world.net) (calls_in client (committed rest.core))
+  pub fed : (client : ℕ) → IsFedOf (plain_of setup) rest.core.answered (sent_by client state.world.net) client (fed_of (rest.agents client))
   pub times : AllByRecursion (λ (line : ℕ × Entry). time_of line.1 ≡ state.world.now) (entries_told unseen)
   pub stays : rest.now ≡ state.world.now
   pub net : AreSpelled rest.net world.net
