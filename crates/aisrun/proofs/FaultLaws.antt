@@ -32,8 +32,8 @@ use Rattle.cluster_core.specs.Worlds.{TellsFiles}
 use Rattle.aisrun.specs.AfterFault.{RecordsKept, IsUnanswered, FaultKeeps, KeepsAtFault}
 use Rattle.aisrun.specs.Endings.{FaultLeft, Showing, Working}
 use Rattle.aisrun.specs.Playing.{files_told, Goes}
-use Rattle.aisrun.proofs.GoingSteps.{answered-range, told-same}
-use Rattle.aisrun.proofs.PlayLaws.{at-end, played-files, played-says, played-stays}
+use Rattle.aisrun.proofs.GoingSteps.{told-same}
+use Rattle.aisrun.proofs.PlayLaws.{at-end, answered-range, played-files, played-says, played-stays}
 
 -- The entry in hand is unanswered.
 

@@ -11,9 +11,6 @@ use Rattle.script_lines.specs.declared.line.Line.{Line}
 use Rattle.script_lines.specs.declared.line.Line.TheVariants as line
 use Rattle.plain_service.specs.Setups.{Setup}
 use Rattle.plain_service.specs.Storing.{files_of}
-use Rattle.cluster_facts.specs.Types.{Entry}
-use Rattle.cluster_facts.specs.History.{Hand, Empty, Waiting, Applied, Ready, accepted_by}
-use Rattle.cluster_facts.specs.Ranges.{AreInRange}
 use Rattle.cluster_events.specs.Lines.{Told}
 use Rattle.cluster_events.specs.OnDisk.{performed}
 use Rattle.cluster_events.specs.Servers.{State}
@@ -33,7 +30,7 @@ use Rattle.aisrun.specs.declared.ending.Status8.TheVariants.{Done, ScriptRefused
 use Rattle.aisrun.specs.Edges.{edge}
 use Rattle.aisrun.specs.Endings.{FaultLeft, Showing, Working}
 use Rattle.aisrun.specs.Steps.{Behind, CanFollow, EventsEnd, Going, LacksBehind, LineEnds, LineLacks, Plays, Written, Whole, joined_lines, time_behind}
-use Rattle.aisrun.proofs.PlayLaws.{line-kept, line-now, played-files}
+use Rattle.aisrun.proofs.PlayLaws.{line-kept, line-now, answered-range, played-files}
 use Rattle.aisrun.proofs.WritingSteps.{written-behind}
 
 printed-append : (later earlier : List Told) → printed (later ++ earlier) ≡ printed earlier ++ printed later
@@ -100,12 +97,6 @@ going-next setup places held mid left old new lines text next printed_lines goin
       tells = told-again held mid left (files_of setup state.world.core.answered) (files_of setup outcome.state.world.core.answered) going.tells done.files;
       written = ap (λ front. front ++ joined_lines printed_lines) going.written ∙ ap (λ all. text_of going.told ++ joined_lines all) done.text ∙ sym (text-append outcome.told going.told);
     }
-
-pub answered-range : (past : List Entry) (hand : Hand) → AreInRange (accepted_by past hand) → AreInRange past
-answered-range past Empty range = range
-answered-range past (Waiting entry) range = range.1
-answered-range past (Applied entry) range = range.1
-answered-range past (Ready entry) range = range.1
 
 abbrev pub going-goes : (setup : Setup) (places : ℕ) (held left : Option Files) (world : World) (lines : List Line) (text : List ℕ) → Going setup places held left world lines text → Goes setup places held lines text
 going-goes setup places held left world lines text going =

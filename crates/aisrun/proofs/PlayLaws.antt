@@ -10,7 +10,7 @@ use Rattle.cluster_facts.specs.Messages.{sent_by, receipts_of}
 use Rattle.cluster_facts.specs.Service.{Plain}
 use Rattle.cluster_facts.specs.Storage.{all_applied, dealt_in}
 use Rattle.cluster_facts.specs.Agents.{fed_of, call_of, refusal, dispatch_refusal}
-use Rattle.cluster_facts.specs.History.{Hand, Empty, Waiting, Applied, Ready, IsLegal}
+use Rattle.cluster_facts.specs.History.{Hand, Empty, Waiting, Applied, Ready, IsLegal, accepted_by}
 use Rattle.cluster_facts.specs.Ranges.{AreInRange}
 use Rattle.cluster_facts.specs.World.{World, empty_world, message_at}
 use Rattle.cluster_facts.specs.Facts.{IsSound}
@@ -97,6 +97,13 @@ played-keeps setup places held {state = state} {told = told} run =
 pub range-before : (more past : List Entry) → AreInRange (more ++ past) → AreInRange past
 range-before [] past range = range
 range-before (entry ∷ more) past range = range-before more past range.1
+
+-- and so are those behind an entry in hand
+pub answered-range : (past : List Entry) (hand : Hand) → AreInRange (accepted_by past hand) → AreInRange past
+answered-range past Empty range = range
+answered-range past (Waiting entry) range = range.1
+answered-range past (Applied entry) range = range.1
+answered-range past (Ready entry) range = range.1
 
 -- the deeds of further entries lead from the files of a history to those with these entries
 performed-files : (setup : Setup) → CanBegin setup → (now : ℤ) (more past : List Entry) → IsLegal (plain_of setup) now (more ++ past) → AreInRange (more ++ past) → performed service_disk (storage_of setup) more past ((storage_of setup).files past) ≡ (storage_of setup).files (more ++ past)

@@ -6,7 +6,6 @@ use Rattle.script_lines.specs.declared.line.Line.TheVariants as line
 use Rattle.plain_service.specs.Setups.{Setup, CanBegin}
 use Rattle.plain_service.proofs.RecordLaws.{record-alone}
 use Rattle.cluster_facts.specs.Types.{Entry}
-use Rattle.cluster_facts.specs.History.{Hand, Empty, Waiting, Applied, Ready, accepted_by}
 use Rattle.cluster_facts.specs.Ranges.{AreInRange}
 use Rattle.cluster_events.specs.Lines.{Told}
 use Rattle.cluster_events.specs.Servers.{State}
@@ -19,7 +18,7 @@ use Rattle.service_laws.proofs.ServiceLaws.{is_plain}
 use Rattle.service_laws.proofs.HistoryLaws.{history-of}
 use Rattle.aisrun.specs.Playing.{Played, Begun, Went}
 use Rattle.aisrun.specs.Promises.{Sentence, AtEachEnd, Throughout, KeepsOneHistory, RepliesRightly, ReadsRightly, CallsBack, PrintsPosts, KeepsFiles, KeepsRecords, StandsOnce, SettlesAll}
-use Rattle.aisrun.proofs.PlayLaws.{played-says, played-keeps, played-files, played-stays, range-before}
+use Rattle.aisrun.proofs.PlayLaws.{played-says, played-keeps, played-files, played-stays, range-before, answered-range}
 
 -- a sentence that holds of all lines that were played holds at the end of each of them
 pub each-end : (setup : Setup) (places : ℕ) (held : Option Files) (P : Sentence) → ((lines : List Line) (state : State Alone) (told : List Told) (files : Files) → Played setup places held lines state told files → AreInRange state.world.core.answered → P lines state told files) → {lines : List Line} {state : State Alone} {told : List Told} {files : Files} → (run : Played setup places held lines state told files) → AreInRange state.world.core.answered → AtEachEnd setup places held P run
@@ -27,12 +26,6 @@ each-end setup places held P always Begun range = always _ _ _ _ Begun range
 each-end setup places held P always (Went {state = state} next shelf outcome more run shelf_is happens grown) range =
     let R : List Entry → Type 0 = λ entries. AreInRange entries in
     (always _ _ _ _ (Went next shelf outcome more run shelf_is happens grown) range, each-end setup places held P always run (range-before more state.world.core.answered (subst R grown range)))
-
-answered-range : (past : List Entry) (hand : Hand) → AreInRange (accepted_by past hand) → AreInRange past
-answered-range past Empty range = range
-answered-range past (Waiting entry) range = range.1
-answered-range past (Applied entry) range = range.1
-answered-range past (Ready entry) range = range.1
 
 throughout : (held : Option Files) (P : Setup → Sentence) → ((setup : Setup) (places : ℕ) (held : Option Files) → CanBegin setup → (lines : List Line) (state : State Alone) (told : List Told) (files : Files) → Played setup places held lines state told files → AreInRange state.world.core.answered → P setup lines state told files) → Throughout held P
 throughout held P always script done rest text front =
