@@ -54,8 +54,3 @@ none_handed given (callback ∷ queue) none = absurd (omega arith)
 pub none_left : (queue left : List Callback) → length queue ≡ 0 → queue ≡ left ++ [] → left ≡ all_but_oldest queue
 none_left [] left none is = sym (append-nil left) ∙ sym is
 none_left (callback ∷ queue) left none is = absurd (omega arith)
-
--- where nothing is left all was handed out
-pub all_handed : (given : ℕ) (queue left : List Callback) (taken all : List Numbered) → taken ++ reverse (numbered given queue) ≡ all → length queue ≡ 0 → taken ≡ all
-all_handed given [] left taken all so_far none = sym (append-nil taken) ∙ so_far
-all_handed given (callback ∷ queue) left taken all so_far none = absurd (omega arith)

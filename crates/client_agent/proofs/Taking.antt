@@ -1,10 +1,10 @@
 -- What becomes of a reply and of an item, by what is seen of the agent before and after.
-use Rattle.std.proofs.Common.{◌≡◌, ℕ, ◌<◌, ◌≤◌, ◌+◌, Bool, true, false, ◌||◌, nat_lt, if◌then◌else◌, Option, Some, None, List, [], ◌∷◌, ◌++◌, length, reverse, option_map, refl, ap, sym, subst, ◌∙◌, arith, length-append}
+use Rattle.std.proofs.Common.{◌≡◌, ℕ, ◌<◌, ◌≤◌, ◌+◌, Bool, true, false, ◌||◌, nat_lt, if◌then◌else◌, Option, Some, None, List, [], ◌∷◌, ◌++◌, length, reverse, refl, ap, sym, subst, ◌∙◌, arith, length-append}
 use Rattle.std.proofs.lemmas.List.{length-reverse}
 use Rattle.std.specs.Prelude.{nat_le}
 use Rattle.std.proofs.lemmas.Bool.Decides.{nat_tests}
-use Rattle.cluster_facts.specs.Types.{Call, Reply, Item, Callback, Receipt, BadHandle}
-use Rattle.cluster_facts.specs.Agents.{Living, Agent, callbacks_of, find_living, after_item, oldest}
+use Rattle.cluster_facts.specs.Types.{Item, Callback, Receipt, BadHandle}
+use Rattle.cluster_facts.specs.Agents.{Living, Agent, find_living, after_item, oldest}
 use Rattle.client_agent.specs.declared.answers.MissedWhy.TheVariants.{Left, Taken as TakenBefore, Ahead, Gone}
 use Rattle.client_agent.specs.declared.answers.Taken.{Taken}
 use Rattle.client_agent.specs.declared.answers.Taken.TheVariants.{Item as TakenItem, Missed}
@@ -17,15 +17,6 @@ use Rattle.client_agent.specs.Steps.{IsItem, IsItemBy, IsDispatched, numbered, h
 use Rattle.client_agent.specs.Inside.{agent_of, left_over}
 use Rattle.client_agent.proofs.Known.{known, same_seen}
 use Rattle.client_agent.proofs.Handing.{length-numbered}
-
--- Replies.
-
--- the call whose callbacks these are
-pub called : (reply : Reply) (callbacks : List Callback) (found : Option Call) → Some callbacks ≡ option_map (λ call. callbacks_of call reply) found → (call : Call) × (found ≡ Some call) × (callbacks ≡ callbacks_of call reply)
-called reply callbacks None is = absurd (let e : Some callbacks ≡ None = is in cc)
-called reply callbacks (Some call) is = (call, refl, (let e : Some callbacks ≡ Some (callbacks_of call reply) = is in cc))
-
--- Items.
 
 is_below : (one other : ℕ) → one < other → nat_lt one other ≡ true
 is_below one other below = grind (arith, nat_tests)

@@ -41,9 +41,6 @@ plain_ok byte next e =
       ]
     ]
 
-pub plain_at : plain_step 64 ≡ Ok At
-plain_at = refl
-
 pub plain_on : (byte : ℕ) → is_plain byte ≡ true → plain_step byte ≡ Ok Between
 plain_on byte e =
     let other : nat_eq byte 64 ≡ false = grind (arith, nat_tests) in

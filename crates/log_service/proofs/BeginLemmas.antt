@@ -2,20 +2,9 @@
 use Rattle.std.proofs.Common.{◌≡◌, ℕ, ◌<◌, suc, false, ◌||◌, List, [], ◌∷◌, ◌++◌, length, get_or, drop, refl, ap, sym, ◌∙◌, subst, arith, length-append}
 use Rattle.std.specs.List.{list_any}
 use Rattle.std.proofs.Math.Seq.{drop-cons}
-use Rattle.ais_values.specs.declared.kind.StreamKind.TheVariants as kind
-use Rattle.stream_config.specs.Attributes.{PassesAttrs}
-use Rattle.stream_config.specs.declared.attrs.StreamAttrs.{StreamAttrs}
 use Rattle.stream_config.specs.declared.state.StreamState.{StreamState}
 use Rattle.log_history.specs.Table.{OpenStream, has_nobody}
 use Rattle.log_service.specs.State.{joined_streams, IsSoundStream, AreSoundStreams}
-use Rattle.log_service.specs.Beginning.{AreWells}
-
-pub first-passes : (wells : List StreamAttrs) (read : StreamAttrs) → AreWells wells → read ≡ get_or wells 0 read → PassesAttrs kind.Alarm read
-first-passes [] read are is = absurd are
-first-passes (one ∷ []) read are is = absurd are
-first-passes (one ∷ two ∷ []) read are is = absurd are
-first-passes (one ∷ two ∷ three ∷ []) read are is = subst (λ (attrs : StreamAttrs). PassesAttrs kind.Alarm attrs) (sym is) are.0
-first-passes (one ∷ two ∷ three ∷ four ∷ more) read are is = absurd are
 
 -- a stream among sound ones is sound
 pub sound-at : (front rest : List OpenStream) (stream : OpenStream) → AreSoundStreams (front ++ stream ∷ rest) → IsSoundStream stream

@@ -154,18 +154,6 @@ ends-fit last now left new ended moment few ends =
 pub ended-from : (last now : ℤ) (left new : List OpenStream) (ended : ℤ × List StreamEvent) → EndsIn last now left new ended → pos 0 ≤ℤ ended.0
 ended-from last now left new ended ends = subst (λ (z : ℤ). pos 0 ≤ℤ z) (sym ends.stamp) (pos-from _)
 
-pub length-changed : {X : Type 0} (test : X → Bool) (change : X → X) (xs : List X) → length (change_first test change xs) ≡ length xs
-length-changed test change [] = refl
-length-changed test change (x ∷ xs) =
-    elim (test x) as (λ b. length (cond b (change x ∷ xs) (x ∷ change_first test change xs)) ≡ suc (length xs)) [
-      | true ↦ refl
-      | false ↦ ap suc (length-changed test change xs)
-    ]
-
-pub length-mapped : {X : Type 0} (change : X → X) (xs : List X) → length (map change xs) ≡ length xs
-length-mapped change [] = refl
-length-mapped change (x ∷ xs) = ap suc (length-mapped change xs)
-
 -- the count of the test is the number
 pub count-applications : (streams : List OpenStream) → count_by is_of_application streams ≡ applications_in streams
 count-applications streams = counted streams 0 ∙ zero-add (applications_in streams) where

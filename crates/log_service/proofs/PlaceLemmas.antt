@@ -82,12 +82,6 @@ pub on-err : {T E : Type 0} {P : Type 0} (result : Result T E) → P → OnErr r
 on-err (Ok value) holds = tt
 on-err (Err error) holds = holds
 
--- two reads of one place are the same
-pub same-read : {X : Type 0} (xs : List X) (place : ℕ) (one other : X) → place < length xs → one ≡ get_or xs place one → other ≡ get_or xs place other → one ≡ other
-same-read [] place one other within is was = absurd (omega arith)
-same-read (x ∷ xs) zero one other within is was = is ∙ sym was
-same-read (x ∷ xs) (suc place) one other within is was = same-read xs place one other (omega arith) is was
-
 -- what was read written again
 pub set-read : {X : Type 0} (xs : List X) (place : ℕ) (read : X) → read ≡ get_or xs place read → place < length xs → set xs place read ≡ xs
 set-read [] place read is within = refl

@@ -20,8 +20,6 @@ use Rattle.std.proofs.Common.{arith}
 use Rattle.cluster_events.specs.Outcomes.{Outcome}
 use Rattle.cluster_events.specs.Serving.{IsSteady}
 use Rattle.cluster_facts.specs.Messages.{message_of, sent_by}
-use Rattle.cluster_events.specs.Breaking.{IsStep}
-use Rattle.cluster_events.proofs.Broken.{agents-step}
 use Rattle.cluster_facts.specs.History.{IsLegal, MayFollow, accepted_by, committed_by}
 use Rattle.cluster_events.specs.Measure.{Spends, unheard}
 use Rattle.cluster_events.proofs.Measuring.{unheard-accepted, may-waits, Spends-carried}
@@ -235,7 +233,3 @@ posted-sent plain past (Called caller number time call) net client =
     let message = Answer caller number (plain.reply past caller number time call) in
     elim (knows plain message net) as (λ b. sent_by client (if b then net else message ∷ net) ≡ sent_by client net) [ true ↦ refl | false ↦ refl ]
 posted-sent plain past (Receipted caller key through time) net client = refl
-
-pub work-step : (plain : Plain) (state : State Alone) (entry : Entry) → IsStep (world_with state.world (Ready entry)) (answer_of plain entry (state_with state (Ready entry))).state.world
-work-step plain state entry =
-    agents-step (world_with state.world (Ready entry)) (answer_of plain entry (state_with state (Ready entry))).state.world refl (posted-sent plain state.world.core.answered entry state.world.net) refl

@@ -54,12 +54,6 @@ number-at [] n d left within = absurd (omega arith)
 number-at (x ∷ xs) zero d left within = left.0
 number-at (x ∷ xs) (suc n) d left within = number-at xs n d left.1 (omega arith)
 
--- an element written over itself
-set-same : {X : Type 0} (xs : List X) (n : ℕ) (d : X) → set xs n (get_or xs n d) ≡ xs
-set-same [] n d = refl
-set-same (x ∷ xs) zero d = refl
-set-same (x ∷ xs) (suc n) d = ap (λ ys. x ∷ ys) (set-same xs n d)
-
 module _ (notification : Notification) (n : ℕ) (xs subs : List Subscription) (element : Subscription) (within : n < length subs) (there : element ≡ get_or subs n element) where
   -- the next subscription is not changed yet
   next-is : subs ≡ changed_front (offered_sub notification) n xs → element ≡ get_or xs n element

@@ -1,6 +1,6 @@
 -- Where a subscription stands in the order, or belongs.
 use Rattle.std.proofs.Common.{◌≡◌, ℕ, suc, ◌+◌, ◌<◌, ◌≤◌, ◌==◌, Bool, true, false, not, ◌&&◌, cond, List, [], ◌∷◌, length, map, get_or, set, refl, ap, sym, subst, ◌∙◌, arith}
-use Rattle.std.specs.Prelude.{Some, None, find, insert}
+use Rattle.std.specs.Prelude.{Some, find, insert}
 use Rattle.std.specs.List.{prefix_len}
 use Rattle.std.proofs.lemmas.Bool.Decides.{nat_tests}
 use Rattle.client_set.specs.Rising.{put, ComesFirst, IsRising}
@@ -11,9 +11,6 @@ use Rattle.ntf_service.specs.State.{IsKeyAbove}
 
 one_more : (n : ℕ) → 1 + n ≡ suc n
 one_more n = omega arith
-
-key_first-apart : (c k d l : ℕ) → key_first c k d l ≡ true → (c == d && k == l) ≡ false
-key_first-apart c k d l first = grind (arith, nat_tests)
 
 key_first-one_way : (c k d l : ℕ) → key_first c k d l ≡ true → key_first d l c k ≡ false
 key_first-one_way c k d l first = grind (arith, nat_tests)
@@ -78,14 +75,6 @@ find-at client key (x ∷ xs) d within = at (is_kept_at client key x) refl (find
       let later = rest (omega (arith, within)) in
       let same : get_or xs n d ≡ get_or (x ∷ xs) (1 + n) d = ap (λ k. get_or (x ∷ xs) k d) (sym (one_more n)) in
       (later.0 ∙ ap (λ (y : Subscription). Some y) same, ap (λ y. is_kept_at client key y) (sym same) ∙ later.1)
-
--- nothing is found where none stands there
-pub find-absent : (client key : ℕ) (xs : List Subscription) → length xs ≤ place_in client key xs → find (is_kept_at client key) xs ≡ None
-find-absent client key [] beyond = refl
-find-absent client key (x ∷ xs) beyond = at (is_kept_at client key x) refl (find-absent client key xs) beyond where
-  at : (b : Bool) → is_kept_at client key x ≡ b → (length xs ≤ place_in client key xs → find (is_kept_at client key) xs ≡ None) → length (x ∷ xs) ≤ cond (not b) (1 + place_in client key xs) 0 → cond b (Some x) (find (is_kept_at client key) xs) ≡ None
-  at true is rest beyond = absurd (omega (arith, beyond))
-  at false is rest beyond = rest (omega (arith, beyond))
 
 -- a key above those of its client comes behind or before another
 later_first : (c k d l : ℕ) → (c ≡ d → k < l) → key_first c k d l ≡ false → key_first d l c k ≡ true

@@ -34,11 +34,6 @@ hex_all size number place digits long past before =
     sym (append-nil digits) ∙ ap (λ ds. ds ++ []) (sym (take_all place digits (omega arith)))
     ∙ ap (λ n. take place digits ++ hex_digits n number) (sym none) ∙ before
 
-pub length-hex_digits : (places number : ℕ) → length (hex_digits places number) ≡ places
-unfolding hex_digits
-length-hex_digits zero number = refl
-length-hex_digits (suc places) number = ap suc (length-hex_digits places number)
-
 pub hex_bytes-append : (one other : List ℕ) → hex_bytes (one ++ other) ≡ hex_bytes one ++ hex_bytes other
 hex_bytes-append [] other = refl
 hex_bytes-append (byte ∷ one) other = ap (λ ds. hex_digit (byte / 16) ∷ hex_digit (byte % 16) ∷ ds) (hex_bytes-append one other)

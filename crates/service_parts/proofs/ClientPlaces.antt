@@ -40,9 +40,6 @@ point-is test (x ∷ xs) (suc i) within point =
     sym (one_more i) ∙ ap (λ n. 1 + n) rest ∙ ap (λ b. cond b (1 + prefix_len test xs) 0) (sym (point.0 0 x (omega arith) (omega arith)))
 
 module _ {X : Type 0} (of : X → ℕ) where
-  abbrev pub before : X → X → Bool
-  before x y = nat_lt (of x) (of y)
-
   abbrev pub is_for : ℕ → X → Bool
   is_for client x = of x == client
 

@@ -57,16 +57,6 @@ window-some client callers caller found = ap (λ o. option_map_or (λ (c : Clien
 pub window-none : (client : ℕ) (callers : List ClientWindow) → find (is_window_for client) callers ≡ None → window_for client callers ≡ window_of []
 window-none client callers none = ap (λ o. option_map_or (λ (c : ClientWindow). c.window) o (window_of [])) none
 
-none-taken : (all : List Reply) → length all ≡ 0 → all ≡ []
-none-taken [] is = refl
-none-taken (reply ∷ all) is = absurd (omega (arith, is))
-
--- a client that made no call was given no reply
-pub unanswered : (all : List Reply) → window_of [] ≡ window_of all → all ≡ []
-unanswered all same =
-    let next : 1 ≡ length all + 1 = ap (λ (w : Kept Reply). w.next) same in
-    none-taken all (omega (arith, next))
-
 -- what decides a start, by what was found
 
 missing-is : (found : Option Cursor) (missing : Bool) → is_some found ≡ not missing → missing ≡ is_none found

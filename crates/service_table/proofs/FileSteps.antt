@@ -36,11 +36,6 @@ module _ {X : Type 0} (P : X → Type 0) where
   all-append [] ys each more = more
   all-append (x ∷ xs) ys each more = (each.0, all-append xs ys each.1 more)
 
-  pub all-drop : (k : ℕ) (xs : List X) → AllByRecursion P xs → AllByRecursion P (drop k xs)
-  all-drop zero xs each = each
-  all-drop (suc k) [] each = tt
-  all-drop (suc k) (x ∷ xs) each = all-drop k xs each.1
-
   all-behind : (xs ys : List X) → AllByRecursion P (xs ++ ys) → AllByRecursion P ys
   all-behind [] ys each = each
   all-behind (x ∷ xs) ys each = all-behind xs ys each.1

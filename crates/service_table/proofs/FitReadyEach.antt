@@ -4,31 +4,12 @@ use Rattle.std.specs.Prelude.{MatchOption, slice_get}
 use Rattle.std.specs.List.{AllByRecursion}
 use Rattle.std.proofs.lemmas.Bool.Decides.{nat_tests}
 use Rattle.client_set.specs.Rising.{IsRising, ComesFirst}
-use Rattle.sub_queue.specs.Queue.{IsSound}
 use Rattle.alarm_view.specs.Alarms.{IsAboveAll, CanAdd}
 use Rattle.calls.specs.declared.saved.Saved.{Saved}
 use Rattle.calls.specs.declared.saved.SavedStream.{SavedStream}
 use Rattle.calls.specs.declared.saved.SavedAlarm.{SavedAlarm}
-use Rattle.calls.specs.declared.saved.SavedSub.{SavedSub}
-use Rattle.plain_service.specs.Fitness.{IsFit, IsFitStream, IsFitAlarm, IsFitSub, IsStanding, is_record_before, is_id_before}
-use Rattle.service_table.specs.Tables.{kept_alarm_of, kept_sub_of}
-
--- **each queue can be made again**
-pub queue-fit : (saved : Saved) (sub : SavedSub) → IsFit saved → IsFitSub saved sub → IsSound (kept_sub_of saved.capacity sub).queue
-queue-fit saved sub fit is = record {
-  capacity = fit.counts.capacity;
-  first = is.first;
-  numbers = omega (arith, is.numbers, fit.counts.entries);
-  places = is.places;
-  lost = is.lost;
-}
-
-each-queue : (saved : Saved) (subs : List SavedSub) → IsFit saved → AllByRecursion (IsFitSub saved) subs → AllByRecursion (λ (sub : SavedSub). IsSound (kept_sub_of saved.capacity sub).queue) subs
-each-queue saved [] fit each = tt
-each-queue saved (sub ∷ subs) fit each = (queue-fit saved sub fit each.0, each-queue saved subs fit each.1)
-
-pub queues-fit : (saved : Saved) → IsFit saved → AllByRecursion (λ (sub : SavedSub). IsSound (kept_sub_of saved.capacity sub).queue) saved.subs
-queues-fit saved fit = each-queue saved saved.subs fit fit.subs.each
+use Rattle.plain_service.specs.Fitness.{IsFit, IsFitStream, IsFitAlarm, IsStanding, is_record_before, is_id_before}
+use Rattle.service_table.specs.Tables.{kept_alarm_of}
 
 -- an alarm behind these comes after each of them
 

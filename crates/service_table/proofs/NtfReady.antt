@@ -104,9 +104,6 @@ numbers-left : (number : ℕ) (windows : List ClientWindow) (subs : List Subscri
 numbers-left number windows [] few each = tt
 numbers-left number windows (kept ∷ subs) few each = (omega (arith, few, each.0.items), numbers-left number windows subs few each.1)
 
-pub have-numbers : (number : ℕ) (windows : List ClientWindow) (kept : NtfTable) → number ≤ 4000000000 → IsReadyNtf number windows kept → HaveNumbersLeft kept.subs
-have-numbers number windows kept few ready = numbers-left number windows kept.subs few ready.each
-
 pub can-send : (number : ℕ) (windows : List ClientWindow) (kept : NtfTable) → number ≤ 4000000000 → IsReadyNtf number windows kept → CanSendMore kept
 can-send number windows kept few ready =
     record { ids = omega (arith, few, ready.ids); items = numbers-left number windows kept.subs few ready.each }

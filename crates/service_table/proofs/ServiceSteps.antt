@@ -53,11 +53,6 @@ same_parts number number' log log' ntf ntf' alarms alarms' readings readings' wi
     ∙ ap (λ x. of_parts number' log' ntf' alarms' readings' x) f
 
 module _ (setup : Setup) (entries : List Entry) (history : IsHistory setup entries) where
-  -- the answers of a service that stands for a history are the history's
-  pub status-is : (client : ℕ) (call : Call) → status_in (service_of setup entries) client call ≡ status_of setup (past_of setup entries) client call
-  unfolding service_of
-  status-is client call = status-with setup entries (past_of setup entries) (possible setup entries history).log client call
-
   pub reply-is : (client : ℕ) (call : Call) → reply_in (service_of setup entries) client call ≡ reply_of setup entries client call
   unfolding service_of reply_of
   reply-is client call = reply-with setup entries (past_of setup entries) (possible setup entries history).log client call
