@@ -23,6 +23,3 @@ pub use seq::Seq;
 pub use status::{Status, negotiate};
 pub use text::{MAX_TEXT, Text, TextAnswer};
 pub use times::{UNKNOWN_TIME, is_time};
-
-#[cfg(test)]
-mod tests;

@@ -6,8 +6,6 @@ mod cursor;
 mod law;
 mod mode;
 mod search;
-#[cfg(test)]
-mod tests;
 mod view;
 
 pub use alarm::KeptAlarm;

@@ -7,8 +7,6 @@ mod history;
 mod law;
 mod reply;
 mod saved;
-#[cfg(test)]
-mod tests;
 
 pub use call::{Ask, Call};
 pub use entry::{Entry, Held};

@@ -7,8 +7,6 @@ mod answers;
 mod callbacks;
 mod kept;
 mod living;
-#[cfg(test)]
-mod tests;
 
 pub use agent::Agent;
 pub use answers::{Dispatched, How, MissedWhy, Numbered, Sent, Taken};

@@ -2,7 +2,5 @@
 #![tactic(auto)]
 
 mod client_set;
-#[cfg(test)]
-mod tests;
 
 pub use client_set::ClientSet;

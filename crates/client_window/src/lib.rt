@@ -2,8 +2,6 @@
 #![tactic(auto)]
 
 mod judged;
-#[cfg(test)]
-mod tests;
 mod window;
 
 pub use judged::Judged;

@@ -16,6 +16,3 @@ pub use answers::{DiskAnswer, DiskFault};
 pub use dir_disk::DirDisk;
 pub use mem_disk::MemDisk;
 pub use shared_disk::SharedDisk;
-
-#[cfg(test)]
-mod tests;

@@ -11,6 +11,3 @@ pub use cluster_lines::{
     put_entry, put_file, put_ignored, put_post, put_refused, put_server, put_text,
 };
 pub use shown::put_shown;
-
-#[cfg(test)]
-mod tests;

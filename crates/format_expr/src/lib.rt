@@ -16,6 +16,3 @@ pub use parse::parse_expr;
 pub use piece::{Expr, Piece};
 pub use print::print_expr;
 pub use token::{Moment, Part, TimePart, Token, letters_of, part_of};
-
-#[cfg(test)]
-mod tests;

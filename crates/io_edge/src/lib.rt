@@ -5,8 +5,6 @@ mod answers;
 mod call_plan;
 mod memory;
 mod streams;
-#[cfg(test)]
-mod tests;
 mod traits;
 mod whole_read;
 mod whole_write;

@@ -3,7 +3,5 @@
 #![tactic(auto)]
 
 mod law;
-#[cfg(test)]
-mod tests;
 
 pub use law::{law_of_changes, law_of_files, law_of_names, law_of_records};

@@ -10,8 +10,6 @@ mod records;
 mod state;
 mod step;
 mod streams;
-#[cfg(test)]
-mod tests;
 
 pub use law::law_of_history;
 pub use state::LogState;

@@ -2,7 +2,5 @@
 #![tactic(auto)]
 
 mod net;
-#[cfg(test)]
-mod tests;
 
 pub use net::{Net, Posted};

@@ -10,6 +10,3 @@ mod parts;
 pub use heard::{Heard, Outcome, Role, Why};
 pub use node::Node;
 pub use owed::Owed;
-
-#[cfg(test)]
-mod tests;

@@ -6,8 +6,6 @@ mod check;
 mod filter;
 mod law;
 mod matching;
-#[cfg(test)]
-mod tests;
 
 pub use check::check_filters;
 pub use filter::{Filter, FilterSet};

@@ -5,8 +5,6 @@
 
 mod law;
 mod subscription;
-#[cfg(test)]
-mod tests;
 
 pub use law::{
     law_of_asked, law_of_changes, law_of_items, law_of_readers, law_of_stored,

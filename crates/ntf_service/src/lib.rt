@@ -7,8 +7,6 @@ mod law;
 mod offering;
 mod searching;
 mod state;
-#[cfg(test)]
-mod tests;
 
 pub use law::law_of_history;
 pub use ntf_history::Subscription;

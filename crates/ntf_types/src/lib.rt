@@ -5,8 +5,6 @@
 mod check;
 mod law;
 mod notification;
-#[cfg(test)]
-mod tests;
 mod value;
 
 pub use check::{MAX_BYTES, MAX_ELEMENTS, MAX_SEVERITY, check_notification};

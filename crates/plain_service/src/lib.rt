@@ -4,8 +4,6 @@
 
 mod law;
 mod storage;
-#[cfg(test)]
-mod tests;
 
 pub use law::{
     law_of_events, law_of_ids, law_of_items, law_of_replies, law_of_steps, law_of_values,

@@ -11,6 +11,3 @@ mod sheet;
 pub use law::{law_of_cut_marks, law_of_equality};
 pub use print::{is_printable, print_record};
 pub use record::{Header, LogRecord, check_write};
-
-#[cfg(test)]
-mod tests;

@@ -10,7 +10,5 @@ mod judging;
 mod rising;
 mod standing;
 mod streams;
-#[cfg(test)]
-mod tests;
 
 pub use fit::is_fit;

@@ -20,6 +20,3 @@ pub use options::well_attrs;
 pub use reader::{count_lines, parse_script};
 pub use script_lines::{Line, ScriptAnswer, ScriptWhy, Server, WellOptions};
 pub use script_printer::{print_line, print_note, print_script};
-
-#[cfg(test)]
-mod tests;

@@ -3,7 +3,5 @@
 #![tactic(auto)]
 
 mod law;
-#[cfg(test)]
-mod tests;
 
 pub use law::{law_of_service, law_of_storage};

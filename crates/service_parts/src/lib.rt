@@ -6,8 +6,6 @@ mod accepting;
 mod readers;
 mod reading;
 mod standing;
-#[cfg(test)]
-mod tests;
 mod told;
 mod windows;
 

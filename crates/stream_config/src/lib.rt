@@ -16,6 +16,3 @@ pub use defaults::{default_format, well_known};
 pub use event::{Stamps, StreamEvent};
 pub use sizes::{per_file, stamp};
 pub use state::{LogFile, StreamState};
-
-#[cfg(test)]
-mod tests;

@@ -4,6 +4,3 @@
 mod performing;
 
 pub use performing::perform;
-
-#[cfg(test)]
-mod tests;

@@ -10,6 +10,3 @@ pub use deed::Deed;
 pub use listing::deeds;
 pub use names::file_name;
 pub use spot::{Spot, place};
-
-#[cfg(test)]
-mod tests;

@@ -5,8 +5,6 @@
 mod item;
 mod law;
 mod queue;
-#[cfg(test)]
-mod tests;
 
 pub use item::{Content, Item, Lost};
 pub use law::{law_of_calls, law_of_counts, law_of_equality, law_of_marks};

@@ -11,8 +11,6 @@ mod message;
 mod ntf;
 mod number;
 mod saved;
-#[cfg(test)]
-mod tests;
 mod text;
 mod wire;
 

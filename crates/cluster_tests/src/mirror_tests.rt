@@ -1,0 +1,239 @@
+//! What no clause says: that each call succeeds while there is memory.
+ghost use Rattle.std.specs.Prelude.{◌≡◌, ◌≢◌, ◌<◌, ◌≤◌, pos, ◌∷◌, []};
+ghost use Rattle.calls.specs.declared.call.Call.TheVariants.{NtfInit};
+ghost use Rattle.wire.specs.declared.message.Message.TheVariants.{Request, Receipt};
+ghost use Rattle.stream_config.specs.WellKnown.{default_attrs};
+ghost use Rattle.mirror.specs.Hearing.{CanHear};
+
+use ais_values::{Seq, StreamKind};
+use calls::Call;
+use disk_model::MemDisk;
+use mirror::{Heard, Node, Outcome, Role, Why};
+use service_core::Service;
+use std::alloc::Global;
+use std::process::Abort;
+use stream_config::{StreamAttrs, well_known};
+use wire::Message;
+
+/// 2024-01-01 00:00:00.
+const START: i64 = 1_704_067_200_000_000_000;
+
+/// The attributes of the three streams.
+fn wells(
+    rt: &impl Abort,
+    alloc: Global,
+    alarm: StreamAttrs,
+    notification: StreamAttrs,
+    system: StreamAttrs,
+) -> Seq<StreamAttrs>
+    ensures { result ≡ alarm ∷ notification ∷ system ∷ [] }
+{
+    let mut wells = Vec::with_capacity(alloc, 3).expect(rt, "memory");
+    wells.push_reserved(alarm);
+    wells.push_reserved(notification);
+    wells.push_reserved(system);
+    Seq::from_vec(wells)
+}
+
+/// The attributes of a stream unless other ones are given.
+fn given(rt: &impl Abort, alloc: Global, kind: StreamKind) -> StreamAttrs
+    requires { kind ≢ StreamKind.Application }
+    ensures { result ≡ default_attrs kind }
+{
+    well_known(alloc, kind).expect(rt, "memory")
+}
+
+/// A service that nobody has used.
+fn service(rt: &impl Abort, alloc: Global) -> Service {
+    let alarm = given(rt, alloc, StreamKind::Alarm);
+    let notification = given(rt, alloc, StreamKind::Notification);
+    let system = given(rt, alloc, StreamKind::System);
+    let wells = wells(rt, alloc, alarm, notification, system);
+    let (service, deeds) = Service::new(alloc, START, 4, wells).expect(rt, "memory");
+    drop(deeds);
+    service
+}
+
+/// What a server told: what became of a message or of work, how many messages are to be posted, and whether an entry is
+/// committed.
+#[derive(Clone, Copy, PartialEq)]
+struct Told {
+    outcome: Outcome,
+    posts: usize,
+    commits: bool,
+}
+
+fn told_by(heard: Heard) -> Told {
+    let told = Told {
+        outcome: heard.outcome,
+        posts: heard.to_net.as_slice().len(),
+        commits: heard.committed.is_some(),
+    };
+    drop(heard);
+    told
+}
+
+const ACCEPTED: Told = Told {
+    outcome: Outcome::Accepted,
+    posts: 0,
+    commits: true,
+};
+
+const REPEATED: Told = Told {
+    outcome: Outcome::Repeated,
+    posts: 1,
+    commits: false,
+};
+
+/// A call is answered by one reply.
+const WORKED: Told = Told {
+    outcome: Outcome::Worked,
+    posts: 1,
+    commits: false,
+};
+
+fn ignored(why: Why) -> Told {
+    Told {
+        outcome: Outcome::Ignored { why },
+        posts: 0,
+        commits: false,
+    }
+}
+
+/// Hears a message, and tells this.
+fn hears(rt: &impl Abort, alloc: Global, node: &mut Node, message: Message, want: Told)
+    requires { CanHear message (pos 1704067200000000000) }
+{
+    assert!(rt; node.has_room());
+    let heard = node.receive(alloc, &message, START);
+    drop(message);
+    let told = told_by(heard.expect(rt, "memory"));
+    assert!(rt; told == want);
+}
+
+/// Works the entry in hand, and tells this.
+fn works(rt: &impl Abort, alloc: Global, node: &mut Node, disk: &mut MemDisk, want: Told) {
+    assert!(rt; node.ready());
+    let heard = node.work(alloc, disk);
+    let told = told_by(heard.expect(rt, "a disk that serves"));
+    assert!(rt; told == want);
+}
+
+/// A call by which a client begins to use the Notification Service.
+fn request(client: u16, seq: u32) -> Message
+    ensures { result ≡ Request client seq NtfInit }
+{
+    Message::Request {
+        client,
+        seq,
+        call: Call::NtfInit,
+    }
+}
+
+/// Hears that call, and tells this.
+fn asks(rt: &impl Abort, alloc: Global, node: &mut Node, client: u16, seq: u32, want: Told)
+    requires least { 1 ≤ client }
+    requires most { client ≤ 4096 }
+    requires number { 0 < seq }
+{
+    hears(rt, alloc, node, request(client, seq), want);
+}
+
+/// The receipt of a client that has no subscription.
+fn receipt() -> Message
+    ensures { result ≡ Receipt 1 1 1 }
+{
+    Message::Receipt {
+        client: 1,
+        key: 1,
+        through: 1,
+    }
+}
+
+/// Hears that receipt, and tells this.
+fn receives(rt: &impl Abort, alloc: Global, node: &mut Node, want: Told) {
+    hears(rt, alloc, node, receipt(), want);
+}
+
+/// A call is accepted while nothing is in hand.
+fn accepts(rt: &impl Abort, alloc: Global, node: &mut Node) {
+    asks(rt, alloc, node, 1, 2, ignored(Why::Ahead));
+    asks(rt, alloc, node, 1, 1, ACCEPTED);
+    assert!(rt; node.in_hand() == Some(1));
+    asks(rt, alloc, node, 2, 1, ignored(Why::Busy { number: 1 }));
+    receives(rt, alloc, node, ignored(Why::Busy { number: 1 }));
+}
+
+/// It is answered once it was worked, and its reply is posted again as it comes again.
+fn answers(rt: &impl Abort, alloc: Global, node: &mut Node, disk: &mut MemDisk) {
+    works(rt, alloc, node, disk, WORKED);
+    assert!(rt; node.in_hand() == None);
+    asks(rt, alloc, node, 1, 1, REPEATED);
+    receives(rt, alloc, node, ignored(Why::Done));
+    assert!(rt; node.number() == Some(1));
+}
+
+/// A client makes 33 calls, so that the first reply is no longer kept.
+fn forgets(rt: &impl Abort, alloc: Global, node: &mut Node, disk: &mut MemDisk) {
+    for seq in 1..34 {
+        asks(rt, alloc, node, 7, seq, ACCEPTED);
+        works(rt, alloc, node, disk, WORKED);
+    }
+    asks(rt, alloc, node, 7, 1, ignored(Why::Old));
+    asks(rt, alloc, node, 7, 2, REPEATED);
+}
+
+fn new_disk(alloc: Global) -> MemDisk {
+    MemDisk::new(alloc, Vec::new(alloc), Vec::new(alloc), Vec::new(alloc))
+}
+
+#[test]
+fn a_call_is_answered_and_repeated(rt: HostRuntime) {
+    let alloc = rt.alloc();
+    let mut node = Node::start(Role::Active, service(&rt, alloc));
+    let mut disk = new_disk(alloc);
+    accepts(&rt, alloc, &mut node);
+    answers(&rt, alloc, &mut node, &mut disk);
+    drop(disk);
+    drop(node);
+}
+
+#[test]
+fn a_call_of_long_ago_is_old(rt: HostRuntime) {
+    let alloc = rt.alloc();
+    let mut node = Node::start(Role::Active, service(&rt, alloc));
+    let mut disk = new_disk(alloc);
+    forgets(&rt, alloc, &mut node, &mut disk);
+    drop(disk);
+    drop(node);
+}
+
+/// A server of another role than the active one's.
+fn ignores(rt: &impl Abort, alloc: Global, mut node: Node, role: Role) {
+    assert!(rt; node.role() == role);
+    receives(rt, alloc, &mut node, ignored(Why::NotForRole { role }));
+    drop(node);
+}
+
+#[test]
+fn other_roles_ignore_all(rt: HostRuntime) {
+    let alloc = rt.alloc();
+    ignores(&rt, alloc, Node::down(), Role::Down);
+    ignores(
+        &rt,
+        alloc,
+        Node::start(Role::Standby, service(&rt, alloc)),
+        Role::Standby,
+    );
+}
+
+#[test]
+fn nothing_is_pushed_while_nothing_is_held(rt: HostRuntime) {
+    let alloc = rt.alloc();
+    let node = Node::start(Role::Active, service(&rt, alloc));
+    let messages = node.push(alloc).expect(&rt, "memory");
+    let count = messages.as_slice().len();
+    drop(messages);
+    drop(node);
+    assert!(rt; count == 0);
+}

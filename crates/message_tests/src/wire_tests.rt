@@ -1,0 +1,284 @@
+//! Spellings and refusals from the rules' rows, and that calls succeed while there is memory.
+ghost use Rattle.wire.specs.MessageSpelling.{MessageInRange};
+
+use ais_values::{Duplicate, Name, Seq};
+use calls::{Call, Entry, Reply, Saved};
+use std::alloc::{AllocError, Global};
+use std::process::Abort;
+use std::test::Fail;
+use stream_config::StreamName;
+use sub_queue::{Content, Item, Lost};
+use wire::{Message, WireAnswer, WireWhy, decode, encode, law_of_equality, law_of_spellings};
+
+/// The bytes are refused at this place for this reason.
+fn refused(rt: &impl Abort, alloc: Global, bytes: &[u8], place: u32, why: WireWhy) {
+    assert!(rt; bytes.len() <= 1000);
+    let refusal = WireAnswer::Refused { place, why };
+    match decode(alloc, bytes) {
+        Ok(found) => {
+            drop(found);
+            assert!(rt; false, "{bytes:?} is a message");
+        }
+        Err(answer) => assert_eq!(rt; answer, refusal),
+    }
+}
+
+/// The bytes are read as the message.
+fn read(rt: &impl Abort, alloc: Global, bytes: &[u8], message: &Message) {
+    assert!(rt; bytes.len() <= 1000);
+    match decode(alloc, bytes) {
+        Ok(found) => {
+            let same = found == *message;
+            drop(found);
+            assert!(rt; same, "{bytes:?}");
+        }
+        Err(answer) => assert!(rt; false, "{bytes:?}: {answer:?}"),
+    }
+}
+
+/// The message has this spelling and is read from it.
+fn is_spelled(
+    rt: &impl Abort,
+    alloc: Global,
+    message: &Message,
+    want: &[u8],
+) -> Result<(), AllocError>
+    requires { MessageInRange message.now }
+{
+    let bytes = encode(alloc, message)?;
+    assert!(rt; bytes.as_slice() == want);
+    let copy = message.copy(alloc)?;
+    read(rt, alloc, bytes.as_slice(), &copy);
+    drop(copy);
+    Ok(())
+}
+
+/// The message has this spelling, is read from it, and each proper front of it is short.
+fn spelled(rt: &impl Abort, alloc: Global, message: Message, want: &[u8]) -> Result<(), AllocError>
+    requires { MessageInRange message }
+{
+    let spelled = is_spelled(rt, alloc, &message, want);
+    drop(message);
+    assert!(rt; want.len() <= 1000);
+    for end in 0..want.len() {
+        refused(rt, alloc, &want[..end], end as u32, WireWhy::Short);
+    }
+    spelled
+}
+
+#[test]
+fn requests_replies_and_receipts(rt: HostRuntime) -> Result<(), Fail> {
+    let alloc = rt.alloc();
+    let request = Message::Request {
+        client: 1,
+        seq: 1,
+        call: Call::LogInit,
+    };
+    spelled(&rt, alloc, request, &[1, 0, 1, 0, 0, 0, 1, 1])?;
+    let reply = Message::Reply {
+        client: 1,
+        seq: 1,
+        reply: Reply::Done,
+    };
+    spelled(&rt, alloc, reply, &[2, 0, 1, 0, 0, 0, 1, 2])?;
+    let receipt = Message::Receipt {
+        client: 1,
+        key: 2,
+        through: 2,
+    };
+    spelled(&rt, alloc, receipt, &[4, 0, 1, 0, 0, 0, 2, 0, 0, 0, 2])?;
+    Ok(())
+}
+
+#[test]
+fn messages_of_servers(rt: HostRuntime) -> Result<(), Fail> {
+    let alloc = rt.alloc();
+    let entry = Entry::Called {
+        client: 4096,
+        seq: 1,
+        time: -1,
+        call: Call::ReaderEnd,
+    };
+    let mirror = Message::Mirror { number: 2, entry };
+    spelled(
+        &rt,
+        alloc,
+        mirror,
+        &[
+            5, 0, 0, 0, 0, 0, 0, 0, 2, 1, 16, 0, 0, 0, 0, 1, 255, 255, 255, 255, 255, 255, 255,
+            255, 12,
+        ],
+    )?;
+    let ack = Message::MirrorAck { number: 3 };
+    spelled(&rt, alloc, ack, &[6, 0, 0, 0, 0, 0, 0, 0, 3])?;
+    let joined = Message::JoinAck { number: 258 };
+    spelled(&rt, alloc, joined, &[8, 0, 0, 0, 0, 0, 0, 1, 2])?;
+    Ok(())
+}
+
+#[test]
+fn an_item(rt: HostRuntime) -> Result<(), Fail> {
+    let alloc = rt.alloc();
+    let mut lost = Seq::new(alloc);
+    lost.push(Lost {
+        kind: 0x4000,
+        id: 5,
+    })?;
+    let content = Content::Discarded { lost };
+    let item = Item { number: 3, content };
+    let message = Message::Item {
+        client: 1,
+        key: 2,
+        item,
+    };
+    spelled(
+        &rt,
+        alloc,
+        message,
+        &[
+            3, 0, 1, 0, 0, 0, 2, 0, 0, 0, 3, 2, 0, 0, 0, 1, 64, 0, 0, 0, 0, 0, 0, 0, 0, 5,
+        ],
+    )?;
+    Ok(())
+}
+
+#[test]
+fn a_snapshot(rt: HostRuntime) -> Result<(), Fail> {
+    let alloc = rt.alloc();
+    let mut log_users = Seq::new(alloc);
+    log_users.push(0)?;
+    let saved = Saved {
+        number: 1,
+        last_stamp: 2,
+        last_id: 3,
+        capacity: 4,
+        log_users,
+        ntf_users: Seq::new(alloc),
+        windows: Seq::new(alloc),
+        streams: Seq::new(alloc),
+        alarms: Seq::new(alloc),
+        subs: Seq::new(alloc),
+        readers: Seq::new(alloc),
+    };
+    spelled(
+        &rt,
+        alloc,
+        Message::Snapshot { saved },
+        &[
+            7, 0, 0, 0, 0, 0, 0, 0, 1, 0, 0, 0, 0, 0, 0, 0, 2, 0, 0, 0, 0, 0, 0, 0, 3, 0, 0, 0, 4,
+            0, 0, 0, 1, 0, 0, 0, 0, 0, 0, 0, 0, 0, 0, 0, 0, 0, 0, 0, 0, 0, 0, 0, 0, 0, 0, 0, 0, 0,
+            0,
+        ],
+    )?;
+    Ok(())
+}
+
+#[test]
+fn a_name_and_a_text(rt: HostRuntime) -> Result<(), Fail> {
+    let alloc = rt.alloc();
+    let stream = StreamName::App {
+        name: Name::new(alloc, b"w")?,
+    };
+    let request = Message::Request {
+        client: 1,
+        seq: 1,
+        call: Call::LogClose { stream },
+    };
+    spelled(&rt, alloc, request, &[1, 0, 1, 0, 0, 0, 1, 4, 4, 0, 1, 119])?;
+    Ok(())
+}
+
+#[test]
+fn wrong_bytes_have_a_place(rt: HostRuntime) -> Result<(), Fail> {
+    let table: [(&[u8], u32, WireWhy); 13] = [
+        (b"", 0, WireWhy::Short),
+        (b"\x01\0\x01\0\0\0\x01\x01\0", 8, WireWhy::Trailing),
+        (b"\x09", 0, WireWhy::BadValue),
+        (b"\0", 0, WireWhy::BadValue),
+        // clients of 4,352, of 4,097 and of 0
+        (b"\x02\x11\0", 1, WireWhy::BadValue),
+        (b"\x02\x10\x01", 2, WireWhy::BadValue),
+        (b"\x02\0\0", 2, WireWhy::BadValue),
+        // a number of 0
+        (b"\x02\0\x01\0\0\0\0", 6, WireWhy::BadValue),
+        // an option that begins with 2
+        (b"\x01\0\x01\0\0\0\x01\x02\x03\x02", 9, WireWhy::BadValue),
+        // a name of 257 bytes, an empty one, and one with a byte 31
+        (
+            b"\x01\0\x01\0\0\0\x01\x04\x04\x01\x01",
+            10,
+            WireWhy::BadValue,
+        ),
+        (b"\x01\0\x01\0\0\0\x01\x04\x04\0\0", 10, WireWhy::BadValue),
+        (
+            b"\x01\0\x01\0\0\0\x01\x04\x04\0\x02A\x1f",
+            12,
+            WireWhy::BadValue,
+        ),
+        // a list that tells 4,294,967,295 elements, where none follows
+        (
+            b"\x03\0\x01\0\0\0\x02\0\0\0\x03\x02\xff\xff\xff\xff",
+            16,
+            WireWhy::Short,
+        ),
+    ];
+    for (bytes, place, why) in table {
+        refused(&rt, rt.alloc(), bytes, place, why);
+    }
+    law_of_spellings();
+    law_of_equality();
+    Ok(())
+}
+
+/// The request of client 1, number 1, `LogInit`, with one byte in place of another.
+fn changed(at: usize, byte: u8) -> [u8; 8] {
+    let mut bytes = *b"\x01\0\x01\0\0\0\x01\x01";
+    if at < 8 {
+        bytes[at] = byte;
+    }
+    bytes
+}
+
+/// Each byte of a request changed: the client and the number that are read then.
+#[test]
+fn other_bytes_are_other_requests(rt: HostRuntime) -> Result<(), Fail> {
+    let table = [
+        (1, 1, 257, 1),
+        (2, 2, 2, 1),
+        (3, 1, 1, 16_777_217),
+        (4, 1, 1, 65_537),
+        (5, 1, 1, 257),
+        (6, 255, 1, 255),
+    ];
+    for (at, byte, client, seq) in table {
+        let bytes = changed(at, byte);
+        let call = Call::LogInit;
+        let message = Message::Request { client, seq, call };
+        read(&rt, rt.alloc(), &bytes, &message);
+        drop(message);
+    }
+    Ok(())
+}
+
+/// Each byte of a request changed: where and why it is no message.
+#[test]
+fn other_bytes_are_no_message(rt: HostRuntime) -> Result<(), Fail> {
+    let table = [
+        (0, 0, 0, WireWhy::BadValue),
+        (0, 2, 8, WireWhy::Short),
+        (0, 3, 8, WireWhy::Short),
+        (0, 5, 8, WireWhy::Short),
+        (0, 9, 0, WireWhy::BadValue),
+        (1, 17, 1, WireWhy::BadValue),
+        (1, 16, 2, WireWhy::BadValue),
+        (2, 0, 2, WireWhy::BadValue),
+        (6, 0, 6, WireWhy::BadValue),
+        (7, 0, 7, WireWhy::BadValue),
+        (7, 2, 8, WireWhy::Short),
+        (7, 14, 7, WireWhy::BadValue),
+    ];
+    for (at, byte, place, why) in table {
+        refused(&rt, rt.alloc(), &changed(at, byte), place, why);
+    }
+    Ok(())
+}

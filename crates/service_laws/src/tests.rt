@@ -1,8 +1,0 @@
-use crate::{law_of_service, law_of_storage};
-
-/// The laws are calls that do nothing.
-#[test]
-fn calls_each_law() {
-    law_of_service();
-    law_of_storage();
-}

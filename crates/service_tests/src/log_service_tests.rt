@@ -1,0 +1,367 @@
+//! Calls of clients, and what they do to streams.
+ghost use Rattle.std.specs.Prelude.{◌≡◌, ◌≤◌, IfOk};
+ghost use Rattle.ais_values.specs.declared.kind.StreamKind.TheVariants.{Alarm, System};
+ghost use Rattle.stream_config.specs.Attributes.{PassesAttrs};
+ghost use Rattle.stream_config.specs.WellKnown.{default_file};
+ghost use Rattle.log_service.specs.State.{IsNotified};
+
+use ais_values::{ClassId, Name, Seq, Status, StreamKind, Text};
+use log_service::{LogState, Step, law_of_history};
+use record_print::{Header, LogRecord};
+use std::alloc::Global;
+use std::process::Abort;
+use std::test::Fail;
+use stream_config::{
+    FullAction, LogFile, StreamAttrs, StreamEvent, StreamName, StreamState, well_known,
+};
+
+/// 2024-01-01 00:00:00, and its second.
+const START: i64 = 1_704_067_200_000_000_000;
+
+const SECOND: i64 = 1_704_067_200;
+
+/// Attributes of a stream with records of 32 bytes.
+fn attrs(
+    alloc: Global,
+    file: &[u8],
+    max_file: u64,
+    action: FullAction,
+) -> Result<StreamAttrs, Fail> {
+    Ok(StreamAttrs {
+        file: Text::new(alloc, file)?,
+        path: Text::new(alloc, b".")?,
+        max_file,
+        record_size: 32,
+        ha: 0,
+        action,
+        rotated: 1,
+        expr: Text::new(alloc, b"@Cr @Cb")?,
+    })
+}
+
+/// Attributes of the system stream with records of 32 bytes.
+fn system(alloc: Global, max_file: u64, action: FullAction) -> Result<StreamAttrs, Fail>
+    requires least { 32 ≤ max_file }
+    requires most { max_file ≤ 64 }
+    ensures file { IfOk result (λ attrs. attrs.file ≡ default_file System) }
+    ensures passes { IfOk result (PassesAttrs System) }
+{
+    let given = well_known(alloc, StreamKind::System)?;
+    Ok(StreamAttrs {
+        max_file,
+        record_size: 32,
+        action,
+        rotated: 1,
+        ..given
+    })
+}
+
+/// A service with such a system stream.
+fn begun(alloc: Global, max_file: u64, action: FullAction) -> Result<LogState, Fail>
+    requires least { 32 ≤ max_file }
+    requires most { max_file ≤ 64 }
+{
+    let alarm = well_known(alloc, StreamKind::Alarm)?;
+    let notification = well_known(alloc, StreamKind::Notification)?;
+    let system = system(alloc, max_file, action)?;
+    let mut wells = Vec::with_capacity(alloc, 3)?;
+    wells.push_reserved(alarm);
+    wells.push_reserved(notification);
+    wells.push_reserved(system);
+    let (state, _events) = LogState::new(alloc, START, Seq::from_vec(wells))?;
+    Ok(state)
+}
+
+fn init(alloc: Global, state: &mut LogState, client: u16) -> Result<Status, Fail> {
+    Ok(state.init(alloc, client, START)?.status)
+}
+
+/// A client opens a stream. What was foreseen comes.
+fn open(
+    rt: &impl Abort,
+    alloc: Global,
+    state: &mut LogState,
+    client: u16,
+    name: &StreamName,
+    create: Option<&StreamAttrs>,
+) -> Result<Status, Fail> {
+    assert!(rt; state.is_call_time(START));
+    let foreseen = state.foresee_open(alloc, client, name, create, START)?;
+    let step = state.open_stream(alloc, client, name, create, START)?;
+    assert!(rt; step == foreseen);
+    Ok(step.status)
+}
+
+/// A client asks for the application's stream that is named by a letter.
+fn asks(
+    rt: &impl Abort,
+    alloc: Global,
+    state: &mut LogState,
+    client: u16,
+    letter: u8,
+    asked: &StreamAttrs,
+) -> Result<Status, Fail> {
+    let name = StreamName::App {
+        name: Name::new(alloc, [letter].as_slice())?,
+    };
+    open(rt, alloc, state, client, &name, Some(asked))
+}
+
+fn header(alloc: Global) -> Result<Header, Fail> {
+    Ok(Header::Generic {
+        class: ClassId {
+            vendor: 0,
+            major: 0,
+            minor: 0,
+        },
+        user: Name::new(alloc, b"u")?,
+        severity: 6,
+    })
+}
+
+/// Client 1 writes a record to the system stream. What was foreseen comes.
+fn writes(rt: &impl Abort, alloc: Global, state: &mut LogState) -> Result<Status, Fail> {
+    let header = header(alloc)?;
+    let body = Text::new(alloc, b"x")?;
+    let name = StreamName::System;
+    assert!(rt; state.is_call_time(START));
+    assert!(rt; state.has_number_left(&name));
+    let foreseen = state.foresee_write(alloc, 1, &name, 0, START, &header, &body, START)?;
+    let step = state.write(alloc, 1, &name, 0, START, &header, &body, START)?;
+    assert!(rt; step == foreseen);
+    Ok(step.status)
+}
+
+/// A service with such a system stream, which client 1 has open.
+fn opened(
+    rt: &impl Abort,
+    alloc: Global,
+    max_file: u64,
+    action: FullAction,
+) -> Result<LogState, Fail>
+    requires least { 32 ≤ max_file }
+    requires most { max_file ≤ 64 }
+{
+    let mut state = begun(alloc, max_file, action)?;
+    assert!(rt; init(alloc, &mut state, 1)? == Status::Ok);
+    let status = open(rt, alloc, &mut state, 1, &StreamName::System, None)?;
+    assert!(rt; status == Status::Ok);
+    Ok(state)
+}
+
+/// How many records the stream at a place has taken, and the stamp of its last file.
+fn told(state: &LogState, place: u32) -> (u32, i64) {
+    match state.stream_at(place) {
+        None => (0, 0),
+        Some(stream) => match stream.files.as_slice().last() {
+            None => (0, 0),
+            Some(file) => (stream.taken, file.created),
+        },
+    }
+}
+
+/// The last closing stamp of streams that end, and their number.
+fn ends(step: &Step) -> (i64, usize) {
+    let last = match step.events.as_slice().last() {
+        Some(StreamEvent::Ended { closed, .. }) => *closed,
+        _ => 0,
+    };
+    (last, step.events.as_slice().len())
+}
+
+/// Client 2 closes the application's stream that is named by a letter.
+fn closes(
+    rt: &impl Abort,
+    alloc: Global,
+    state: &mut LogState,
+    letter: u8,
+) -> Result<(i64, usize), Fail> {
+    let name = StreamName::App {
+        name: Name::new(alloc, [letter].as_slice())?,
+    };
+    assert!(rt; state.is_call_time(START));
+    let foreseen = state.foresee_close(alloc, 2, &name, START)?;
+    let step = state.close(alloc, 2, &name, START)?;
+    assert!(rt; step == foreseen);
+    Ok(ends(&step))
+}
+
+fn closes_all(
+    rt: &impl Abort,
+    alloc: Global,
+    state: &mut LogState,
+    client: u16,
+) -> Result<(i64, usize), Fail> {
+    assert!(rt; state.is_call_time(START));
+    let foreseen = state.foresee_close_all(alloc, client, START)?;
+    let step = state.close_all(alloc, client, START)?;
+    assert!(rt; step == foreseen);
+    Ok(ends(&step))
+}
+
+/// The record of an alarm.
+fn notified(alloc: Global) -> Result<LogRecord, Fail>
+    ensures { IfOk result (IsNotified Alarm) }
+{
+    Ok(LogRecord {
+        time: START,
+        header: Header::Ntf {
+            id: 1,
+            event_type: 16_385,
+            object: Name::new(alloc, b"node1")?,
+            notifier: Name::new(alloc, b"hw")?,
+            class: ClassId {
+                vendor: 1,
+                major: 2,
+                minor: 3,
+            },
+            event_time: START,
+        },
+        body: Text::new(alloc, b"fan")?,
+    })
+}
+
+/// Stores the record of an alarm. What was foreseen comes.
+fn stores(rt: &impl Abort, alloc: Global, state: &mut LogState) -> Result<Status, Fail> {
+    let rec = notified(alloc)?;
+    assert!(rt; state.is_call_time(START));
+    assert!(rt; state.has_number_left(&StreamName::Alarm));
+    let foreseen = state.foresee_store(alloc, StreamKind::Alarm, &rec, START)?;
+    let step = state.store(alloc, StreamKind::Alarm, &rec, START)?;
+    assert!(rt; step == foreseen);
+    Ok(step.status)
+}
+
+/// The alarm stream, made at the second 7.
+fn alarm_state(alloc: Global) -> Result<StreamState, Fail>
+    ensures name { IfOk result (λ state. state.name ≡ StreamName.Alarm) }
+    ensures passes { IfOk result (λ state. PassesAttrs Alarm state.attrs) }
+{
+    let mut files = Seq::new(alloc);
+    files.push(LogFile {
+        created: 7,
+        closed: None,
+    })?;
+    Ok(StreamState {
+        name: StreamName::Alarm,
+        attrs: well_known(alloc, StreamKind::Alarm)?,
+        taken: 0,
+        files,
+    })
+}
+
+/// A stream takes so many records, and then answers so. Its last file has this stamp then.
+fn plays(
+    rt: &impl Abort,
+    alloc: Global,
+    max_file: u64,
+    action: FullAction,
+    taken: u32,
+    created: i64,
+) -> Result<Status, Fail>
+    requires least { 32 ≤ max_file }
+    requires most { max_file ≤ 64 }
+{
+    let mut state = opened(rt, alloc, max_file, action)?;
+    for _ in 0..taken {
+        assert!(rt; writes(rt, alloc, &mut state)? == Status::Ok);
+    }
+    assert!(rt; told(&state, 2) == (taken, created));
+    writes(rt, alloc, &mut state)
+}
+
+/// A stream that halts takes two records; one that wraps takes five in one file; one that rotates has changed its
+/// file twice when it has the third.
+#[test]
+fn full_actions(rt: HostRuntime) -> Result<(), Fail> {
+    let alloc = rt.alloc();
+    let halts = plays(&rt, alloc, 64, FullAction::Halt, 2, SECOND + 2)?;
+    assert!(rt; halts == Status::NoSpace);
+    let wraps = plays(&rt, alloc, 64, FullAction::Wrap, 5, SECOND + 2)?;
+    assert!(rt; wraps == Status::Ok);
+    let rotates = plays(&rt, alloc, 32, FullAction::Rotate, 3, SECOND + 6)?;
+    assert!(rt; rotates == Status::Ok);
+    Ok(())
+}
+
+/// Two clients ask for streams of applications.
+fn asked(rt: &impl Abort, alloc: Global, state: &mut LogState) -> Result<(), Fail> {
+    let one = attrs(alloc, b"one", 64, FullAction::Wrap)?;
+    let two = attrs(alloc, b"two", 64, FullAction::Wrap)?;
+    assert!(rt; asks(rt, alloc, state, 1, b'a', &one)? == Status::Ok);
+    assert!(rt; asks(rt, alloc, state, 2, b'a', &one)? == Status::Ok);
+    assert!(rt; asks(rt, alloc, state, 1, b'a', &two)? == Status::Exist);
+    assert!(rt; asks(rt, alloc, state, 1, b'b', &one)? == Status::Exist);
+    assert!(rt; asks(rt, alloc, state, 1, b'b', &two)? == Status::Ok);
+    assert!(rt; asks(rt, alloc, state, 3, b'c', &two)? == Status::BadHandle);
+    Ok(())
+}
+
+/// Streams of applications are made, asked for again, and end when nobody has them open.
+#[test]
+fn application_streams(rt: HostRuntime) -> Result<(), Fail> {
+    let alloc = rt.alloc();
+    let mut state = opened(&rt, alloc, 64, FullAction::Wrap)?;
+    assert!(rt; init(alloc, &mut state, 2)? == Status::Ok);
+    asked(&rt, alloc, &mut state)?;
+    assert!(rt; told(&state, 3) == (0, SECOND + 3) && told(&state, 4) == (0, SECOND + 4));
+    assert!(rt; state.openers_at(3) == Some([1, 2].as_slice()));
+    assert!(rt; closes(&rt, alloc, &mut state, b'a')? == (0, 0));
+    assert!(rt; closes_all(&rt, alloc, &mut state, 1)? == (SECOND + 6, 2));
+    assert!(rt; state.count() == 3 && state.users() == [2].as_slice());
+    assert!(rt; state.last_stamp() == SECOND + 6);
+    law_of_history();
+    Ok(())
+}
+
+/// The 65th stream of an application is refused.
+#[test]
+fn holds_64_application_streams(rt: HostRuntime) -> Result<(), Fail> {
+    let alloc = rt.alloc();
+    let mut state = opened(&rt, alloc, 64, FullAction::Wrap)?;
+    for place in 0..64u8 {
+        let file = [97 + place / 8, 97 + place % 8];
+        let own = attrs(alloc, file.as_slice(), 64, FullAction::Wrap)?;
+        assert!(rt; asks(&rt, alloc, &mut state, 1, place + 60, &own)? == Status::Ok);
+    }
+    let own = attrs(alloc, b"own", 64, FullAction::Wrap)?;
+    assert!(rt; asks(&rt, alloc, &mut state, 1, b' ', &own)? == Status::NoResources);
+    assert!(rt; state.count() == 67);
+    Ok(())
+}
+
+/// The record of a notification is stored in the stream of its kind, and taken back.
+#[test]
+fn stores_for_notifications(rt: HostRuntime) -> Result<(), Fail> {
+    let alloc = rt.alloc();
+    let mut state = opened(&rt, alloc, 64, FullAction::Wrap)?;
+    assert!(rt; stores(&rt, alloc, &mut state)? == Status::Ok);
+    assert!(rt; told(&state, 0) == (1, SECOND) && told(&state, 1) == (0, SECOND + 1));
+    state.take_back(7, alarm_state(alloc)?);
+    assert!(rt; told(&state, 0) == (0, 7) && state.last_stamp() == 7);
+    Ok(())
+}
+
+/// A state of this stream alone, which nobody has open, and of one user.
+fn again(alloc: Global, stream: StreamState) -> Result<LogState, Fail>
+    requires name { stream.name ≡ StreamName.Alarm }
+    requires passes { PassesAttrs Alarm stream.attrs }
+{
+    let mut users = Seq::new(alloc);
+    users.push(1)?;
+    let mut streams = Seq::new(alloc);
+    streams.push(stream)?;
+    let mut openers = Seq::new(alloc);
+    openers.push(Seq::new(alloc))?;
+    Ok(LogState::rebuild(alloc, 7, users, streams, openers)?)
+}
+
+/// A state is made again of its parts.
+#[test]
+fn rebuilds(rt: HostRuntime) -> Result<(), Fail> {
+    let alloc = rt.alloc();
+    let state = again(alloc, alarm_state(alloc)?)?;
+    assert!(rt; state.last_stamp() == 7 && state.users() == [1].as_slice());
+    assert!(rt; told(&state, 0) == (0, 7) && state.count() == 1);
+    Ok(())
+}

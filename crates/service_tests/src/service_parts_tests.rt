@@ -1,0 +1,208 @@
+//! That calls succeed while there is memory, with what the rules say of a few values.
+ghost use Rattle.std.specs.Prelude.{IsTrue};
+ghost use Rattle.alarm_view.specs.Alarms.{IsAlarm};
+ghost use Rattle.stream_config.specs.Attributes.{kind_of, PassesAttrs};
+
+use ais_values::{ClassId, Name, Seq, Status, StreamKind, Text, UNKNOWN_TIME};
+use alarm_view::AlarmView;
+use calls::{Reply, SavedReader};
+use client_window::Judged;
+use ntf_filters::{Filter, FilterSet};
+use ntf_types::{Body, Notification};
+use service_parts::{
+    Told, accepted, answer_call, end_reading, first_standing, is_alarm, judge_call, next_call,
+    read_on, record_for, room_for, start_reading, stop_reader,
+};
+use std::alloc::Global;
+use std::process::Abort;
+use stream_config::{LogFile, StreamName, StreamState, well_known};
+
+/// An alarm as a client sends it.
+fn alarm(rt: &impl Abort, alloc: Global, event_time: i64) -> Notification
+    ensures { IsAlarm result.body }
+{
+    Notification {
+        id: 1,
+        event_type: 0x4001,
+        object: Name::new(alloc, b"node1").expect(rt, "a name"),
+        notifier: Name::new(alloc, b"hw").expect(rt, "a name"),
+        class: ClassId {
+            vendor: 1,
+            major: 2,
+            minor: 3,
+        },
+        event_time,
+        correlated: Seq::new(alloc),
+        text: Text::new(alloc, b"fan").expect(rt, "a text"),
+        info: Seq::new(alloc),
+        body: Body::Alarm {
+            cause: 5,
+            severity: 4,
+        },
+    }
+}
+
+/// The stored alarms are one of id 1, at the time 100.
+fn one_alarm(rt: &impl Abort, alloc: Global) -> AlarmView {
+    let mut view = AlarmView::new(alloc);
+    let alarm = alarm(rt, alloc, 100);
+    view.add(0, alarm).expect(rt, "memory");
+    view
+}
+
+fn all_alarms(alloc: Global) -> FilterSet {
+    FilterSet {
+        objects: None,
+        attributes: None,
+        states: None,
+        alarms: Some(Filter {
+            types: Seq::new(alloc),
+            objects: Seq::new(alloc),
+            notifiers: Seq::new(alloc),
+            classes: Seq::new(alloc),
+            sources: Seq::new(alloc),
+            causes: Seq::new(alloc),
+            severities: Seq::new(alloc),
+        }),
+        security: None,
+    }
+}
+
+/// What client 5, which uses the service, is answered where it starts a reader.
+fn start(
+    rt: &impl Abort,
+    alloc: Global,
+    view: &AlarmView,
+    readers: &mut Vec<SavedReader>,
+    code: u32,
+    value: i64,
+) -> Status {
+    let filters = all_alarms(alloc);
+    let started = start_reading(alloc, view, readers, true, 5, code, value, &filters);
+    drop(filters);
+    started.expect(rt, "memory")
+}
+
+/// The id that a read of client 5 tells, and 0 where it is refused as one that finds nothing.
+fn read(rt: &impl Abort, alloc: Global, view: &AlarmView, readers: &mut Vec<SavedReader>) -> u64 {
+    let told = read_on(alloc, view, readers, true, 5, 2).expect(rt, "memory");
+    let id = match &told.reply {
+        Reply::Found { notification } => notification.id,
+        Reply::Refused { status } if *status == Status::NotExist => 0,
+        _ => 99,
+    };
+    drop(told);
+    id
+}
+
+#[test]
+fn a_reader_reads_the_stored_alarm_once(rt: HostRuntime) {
+    let alloc = rt.alloc();
+    let view = one_alarm(&rt, alloc);
+    let mut readers = Vec::new(alloc);
+    let missing = start(&rt, alloc, &view, &mut readers, 5, 100);
+    let started = start(&rt, alloc, &view, &mut readers, 3, 100);
+    let again = start(&rt, alloc, &view, &mut readers, 7, 0);
+    let first = read(&rt, alloc, &view, &mut readers);
+    let second = read(&rt, alloc, &view, &mut readers);
+    let ended = end_reading(&mut readers, true, 5);
+    let absent = end_reading(&mut readers, true, 5);
+    drop(view);
+    drop(readers);
+    assert_eq!(rt; missing, Status::NotExist);
+    assert_eq!(rt; started, Status::Ok);
+    assert_eq!(rt; again, Status::NoResources);
+    assert_eq!(rt; (first, second), (1, 0));
+    assert_eq!(rt; ended, Status::Ok);
+    assert_eq!(rt; absent, Status::BadHandle);
+}
+
+#[test]
+fn a_reader_stops_with_its_client(rt: HostRuntime) {
+    let alloc = rt.alloc();
+    let view = one_alarm(&rt, alloc);
+    let mut readers = Vec::new(alloc);
+    let started = start(&rt, alloc, &view, &mut readers, 7, 0);
+    let before = readers.len();
+    stop_reader(&mut readers, 5);
+    let after = readers.len();
+    drop(view);
+    drop(readers);
+    assert_eq!(rt; started, Status::Ok);
+    assert_eq!(rt; (before, after), (1, 0));
+}
+
+#[test]
+fn the_moment_of_acceptance_is_filled_in(rt: HostRuntime) {
+    let alloc = rt.alloc();
+    for (time, want) in [(UNKNOWN_TIME, 50), (0, 0), (70, 70)] {
+        let given = alarm(&rt, alloc, time);
+        let taken = accepted(alloc, 7, 50, &given).expect(&rt, "memory");
+        let rec = record_for(alloc, 50, &taken).expect(&rt, "memory");
+        let told = (taken.id, taken.event_time, rec.time, is_alarm(&taken.body));
+        drop(given);
+        drop(taken);
+        drop(rec);
+        assert_eq!(rt; told, (7, want, 50, true));
+    }
+}
+
+/// Whether the replies of a status are these.
+fn tells(told: Told, status: Status) -> bool {
+    let kept = Reply::Refused { status };
+    let same = told.reply == kept && told.kept == kept;
+    drop(told);
+    drop(kept);
+    same
+}
+
+#[test]
+fn a_reply_is_told_twice(rt: HostRuntime) {
+    assert!(rt; tells(Told::refused(Status::Exist), Status::Exist));
+    assert!(rt; !tells(Told::done(), Status::Ok));
+    assert!(rt; !tells(Told::sent(3), Status::Ok));
+}
+
+#[test]
+fn a_first_call_is_answered(rt: HostRuntime) {
+    let alloc = rt.alloc();
+    let mut callers = Vec::new(alloc);
+    let first = next_call(callers.as_slice(), 9);
+    let fresh = room_for(alloc, &mut callers, 9).expect(&rt, "memory");
+    answer_call(&mut callers, 9, fresh, Reply::Done);
+    let second = next_call(callers.as_slice(), 9);
+    let repeated = matches!(judge_call(callers.as_slice(), 9, 1), Judged::Repeat { .. });
+    let new = matches!(judge_call(callers.as_slice(), 9, 2), Judged::New);
+    drop(callers);
+    assert_eq!(rt; (first, second), (1, 2));
+    assert!(rt; repeated && new);
+}
+
+/// The first record that stands of the system stream, which keeps 4 files of 1,024 records.
+fn standing_after(rt: &impl Abort, alloc: Global, taken: u32) -> u32 {
+    let attrs = well_known(alloc, StreamKind::System).expect(rt, "memory");
+    let mut files = Seq::new(alloc);
+    files
+        .push(LogFile {
+            created: 0,
+            closed: None,
+        })
+        .expect(rt, "memory");
+    let state = StreamState {
+        name: StreamName::System,
+        attrs,
+        taken,
+        files,
+    };
+    let first = first_standing(&state);
+    drop(state);
+    first
+}
+
+#[test]
+fn records_stand_until_their_file_is_removed(rt: HostRuntime) {
+    for (taken, want) in [(0, 0), (4096, 0), (4097, 1024), (5120, 1024), (5121, 2048)] {
+        let first = standing_after(&rt, rt.alloc(), taken);
+        assert_eq!(rt; first, want, "after {taken}");
+    }
+}

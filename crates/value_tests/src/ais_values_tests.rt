@@ -1,0 +1,160 @@
+//! What no clause says: that each call succeeds while there is memory.
+use ais_values::tables::*;
+use ais_values::*;
+use std::test::Fail;
+
+#[test]
+fn codes_and_names(rt: HostRuntime) {
+    for (code, name) in [(0x3001, "state change"), (0x4002, "QoS")] {
+        assert_eq!(rt; code_of(&EVENT_TYPES, name), Some(code));
+        assert_eq!(rt; name_of(&EVENT_TYPES, code), Some(name));
+    }
+    assert_eq!(rt; code_of(&MONTHS, "nothing"), None);
+    assert_eq!(rt; name_of(&MONTHS, 13), None);
+    for (code, found) in [
+        (0x1000, false),
+        (0x1001, true),
+        (0x5005, true),
+        (0x5006, false),
+    ] {
+        assert_eq!(rt; is_event_type(code), found);
+    }
+    for (time, accepted) in [
+        (i64::MIN, true),
+        (i64::MIN + 1, false),
+        (-1, false),
+        (0, true),
+    ] {
+        assert_eq!(rt; is_time(time), accepted);
+    }
+}
+
+#[test]
+fn statuses_have_their_rows(rt: HostRuntime) -> Result<(), Fail> {
+    let alloc = rt.alloc();
+    for status in [
+        Status::Ok,
+        Status::Version,
+        Status::TryAgain,
+        Status::InvalidParam,
+        Status::BadHandle,
+        Status::NotExist,
+        Status::Exist,
+        Status::NoSpace,
+        Status::NoResources,
+        Status::BadFlags,
+    ] {
+        let word = status.word();
+        assert_eq!(rt; code_of(&STATUSES, word), Some(u32::from(status.code())));
+        assert!(rt; format!(in alloc; "{status}")?.as_str() == word);
+        assert_eq!(rt; status.copy(alloc)?, status);
+    }
+    Ok(())
+}
+
+#[test]
+fn versions(rt: HostRuntime) {
+    let log = Version {
+        release: b'A',
+        major: 2,
+        minor: 1,
+    };
+    let ntf = Version {
+        release: b'A',
+        major: 1,
+        minor: 1,
+    };
+    for (service, release, major, minor, want) in [
+        (Which::Log, b'A', 2, 9, Ok(log)),
+        (Which::Log, b'A', 1, 0, Ok(log)),
+        (Which::Log, b'A', 3, 0, Err(Status::Version)),
+        (Which::Log, b'B', 1, 1, Err(Status::Version)),
+        (Which::Ntf, b'A', 1, 1, Ok(ntf)),
+        (Which::Ntf, b'A', 0, 255, Ok(ntf)),
+        (Which::Ntf, b'A', 2, 0, Err(Status::Version)),
+    ] {
+        assert_eq!(rt;
+            negotiate(
+                service,
+                Version {
+                    release,
+                    major,
+                    minor
+                }
+            ),
+            want
+        );
+    }
+}
+
+#[test]
+fn names_and_texts_have_bounds(rt: HostRuntime) -> Result<(), Fail> {
+    let alloc = rt.alloc();
+    for (length, byte, accepted) in [
+        (0, b'a', false),
+        (1, b'a', true),
+        (256, b'a', true),
+        (257, b'a', false),
+        (3, 31, false),
+        (3, 32, true),
+        (3, 126, true),
+        (3, 127, false),
+    ] {
+        let bytes = vec![in alloc; byte; length]?;
+        match Name::new(alloc, bytes.as_slice()) {
+            Ok(name) => {
+                assert!(rt; accepted && name.as_slice() == bytes.as_slice());
+                assert!(rt; name.copy(alloc)? == name);
+            }
+            Err(why) => assert!(rt; !accepted && why == NameAnswer::Refused),
+        }
+    }
+    for (length, accepted) in [(0, true), (16_384, true), (16_385, false)] {
+        let bytes = vec![in alloc; 200; length]?;
+        match Text::new(alloc, bytes.as_slice()) {
+            Ok(text) => {
+                assert!(rt; accepted && text.as_slice() == bytes.as_slice());
+                assert!(rt; text.copy(alloc)? == text);
+            }
+            Err(why) => assert!(rt; !accepted && why == TextAnswer::Refused),
+        }
+    }
+    let text = Text::from_vec(vec![in alloc; 1, 2]?);
+    assert!(rt; text.as_slice() == [1, 2].as_slice());
+    Ok(())
+}
+
+#[test]
+fn lists_and_copies(rt: HostRuntime) -> Result<(), Fail> {
+    let alloc = rt.alloc();
+    let mut numbers = Seq::new(alloc);
+    for number in 0..40u16 {
+        numbers.push(number)?;
+    }
+    assert_eq!(rt; numbers.as_slice().len(), 40);
+    let again = numbers.copy(alloc)?;
+    assert!(rt; again == numbers);
+    let vector = again.into_vec();
+    assert!(rt; Seq::from_vec(vector) == numbers);
+    assert_eq!(rt; Some(7u8).copy(alloc)?, Some(7));
+    assert_eq!(rt; None::<u32>.copy(alloc)?, None);
+    assert_eq!(rt; u64::MAX.copy(alloc)?, u64::MAX);
+    assert_eq!(rt; i64::MIN.copy(alloc)?, i64::MIN);
+    assert!(rt; true.copy(alloc)?);
+    assert_eq!(rt; MONTHS[3].copy(alloc)?, MONTHS[3]);
+    assert_eq!(rt; Which::Ntf.copy(alloc)?, Which::Ntf);
+    assert_eq!(rt; StreamKind::System.copy(alloc)?, StreamKind::System);
+    let version = Version {
+        release: b'A',
+        major: 2,
+        minor: 1,
+    };
+    assert_eq!(rt; version.copy(alloc)?, version);
+    let class = ClassId {
+        vendor: 1,
+        major: 2,
+        minor: 3,
+    };
+    assert_eq!(rt; class.copy(alloc)?, class);
+    Ok(())
+}

@@ -1,0 +1,70 @@
+//! What no clause says: that each call succeeds while there is memory.
+use ais_values::Seq;
+use client_window::{Judged, Window};
+use std::alloc::Global;
+use std::process::Abort;
+use std::test::Fail;
+
+/// A judgement as a number: the reply, or 1 for a new call, 2 for an old one and 3 for one ahead.
+fn told(judged: Judged<'_, u32>) -> u32 {
+    match judged {
+        Judged::New => 1,
+        Judged::Old => 2,
+        Judged::Ahead => 3,
+        Judged::Repeat { reply } => *reply,
+    }
+}
+
+/// A window that took the replies 101, 102 and so on.
+fn answered(rt: &impl Abort, alloc: Global, count: u32) -> Result<Window<u32>, Fail> {
+    let mut window = Window::new(alloc)?;
+    for _ in 0..count {
+        let next = window.next();
+        assert!(rt; next < 1000);
+        window.take(100 + next);
+    }
+    Ok(window)
+}
+
+#[test]
+fn judges_by_number(rt: HostRuntime) -> Result<(), Fail> {
+    let alloc = rt.alloc();
+    for (count, seq, want) in [
+        (0, 0, 2),
+        (0, 1, 1),
+        (0, 2, 3),
+        (32, 0, 2),
+        (32, 1, 101),
+        (32, 32, 132),
+        (32, 33, 1),
+        (33, 1, 2),
+        (33, 2, 102),
+        (40, 8, 2),
+        (40, 9, 109),
+        (40, 40, 140),
+        (40, 41, 1),
+        (40, 42, 3),
+        (40, u32::MAX, 3),
+    ] {
+        let window = answered(&rt, alloc, count)?;
+        assert_eq!(rt; told(window.judge(seq)), want, "{count} {seq}");
+    }
+    Ok(())
+}
+
+#[test]
+fn is_rebuilt_of_its_parts(rt: HostRuntime) -> Result<(), Fail> {
+    let alloc = rt.alloc();
+    let window = answered(&rt, alloc, 40)?;
+    assert_eq!(rt; window.reply_at(0), Some(&109));
+    assert_eq!(rt; window.reply_at(31), Some(&140));
+    assert_eq!(rt; window.reply_at(32), None);
+    let mut replies = Seq::new(alloc);
+    replies.push(7)?;
+    replies.push(8)?;
+    let rebuilt = Window::rebuild(alloc, 3, replies)?;
+    assert_eq!(rt; rebuilt.next(), 3);
+    assert_eq!(rt; told(rebuilt.judge(1)), 7);
+    assert_eq!(rt; told(rebuilt.judge(2)), 8);
+    Ok(())
+}

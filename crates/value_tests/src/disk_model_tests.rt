@@ -1,0 +1,187 @@
+use ais_values::Text;
+use disk_model::*;
+use std::alloc::Global;
+use std::fs;
+use std::process::Abort;
+use std::test::Fail;
+
+const ROOT: &str = "ais_log_root";
+
+fn bytes_of<D: SharedDisk>(
+    disk: &mut D,
+    alloc: Global,
+    name: &[u8],
+) -> Result<Option<Vec<u8>>, DiskAnswer> {
+    let Some(len) = disk.len(name)? else {
+        return Ok(None);
+    };
+    let mut bytes = vec![in alloc; 0; len as usize]?;
+    let count = disk.read(name, 0, bytes.as_mut_slice())?;
+    bytes.truncate(count);
+    Ok(Some(bytes))
+}
+
+fn holds<D: SharedDisk>(
+    rt: &impl Abort,
+    disk: &mut D,
+    alloc: Global,
+    name: &str,
+    want: Option<&[u8]>,
+) -> Result<(), DiskAnswer> {
+    let found = bytes_of(disk, alloc, name.as_bytes())?;
+    match (&found, want) {
+        (None, None) => {}
+        (Some(bytes), Some(want)) => {
+            assert_eq!(rt; bytes.as_slice(), want, "bytes of {name}");
+        }
+        _ => assert!(rt; false, "{name} stands or not"),
+    }
+    Ok(())
+}
+
+fn lists<D: SharedDisk>(
+    rt: &impl Abort,
+    disk: &mut D,
+    alloc: Global,
+    want: &[&str],
+) -> Result<(), DiskAnswer> {
+    let names = disk.names(alloc)?;
+    let names: &[Text] = names.as_slice();
+    assert_eq!(rt; names.len(), want.len(), "how many names");
+    for (name, want) in names.iter().zip(want) {
+        assert_eq!(rt; name.as_slice(), want.as_bytes());
+    }
+    Ok(())
+}
+
+// What every disk does where nothing fails.
+fn changes_files<D: SharedDisk>(
+    rt: &impl Abort,
+    disk: &mut D,
+    alloc: Global,
+) -> Result<(), DiskAnswer> {
+    lists(rt, disk, alloc, &[])?;
+    for name in ["a0/x.cfg", "a/x.cfg", "a-b/x.cfg", "z"] {
+        disk.create(name.as_bytes())?;
+        disk.write_at(name.as_bytes(), 0, b"hello")?;
+        disk.write_at(name.as_bytes(), 3, b"LOW")?;
+        disk.write_at(name.as_bytes(), 7, b"far")?;
+        disk.sync(name.as_bytes())?;
+        holds(rt, disk, alloc, name, Some(b"helLOW"))?;
+    }
+    lists(rt, disk, alloc, &["a-b/x.cfg", "a/x.cfg", "a0/x.cfg", "z"])?;
+    let mut part = [7; 4];
+    assert_eq!(rt; disk.read(b"z", 4, &mut part)?, 2);
+    assert_eq!(rt; part, *b"OW\x07\x07");
+    assert_eq!(rt; disk.read(b"z", 9, &mut part)?, 0);
+    disk.rename(b"z", b"b/y")?;
+    disk.rename(b"b/y", b"b/y")?;
+    disk.rename(b"z", b"a/x.cfg")?;
+    holds(rt, disk, alloc, "z", None)?;
+    holds(rt, disk, alloc, "b/y", Some(b"helLOW"))?;
+    disk.create(b"a/x.cfg")?;
+    disk.rename(b"a/x.cfg", b"a0/x.cfg")?;
+    disk.remove(b"a-b/x.cfg")?;
+    disk.remove(b"a-b/x.cfg")?;
+    disk.sync(b"a-b/x.cfg")?;
+    lists(rt, disk, alloc, &["a0/x.cfg", "b/y"])?;
+    holds(rt, disk, alloc, "a0/x.cfg", Some(b""))
+}
+
+#[test]
+fn a_disk_in_memory_changes_its_files(rt: HostRuntime) -> Result<(), Fail> {
+    let alloc = rt.alloc();
+    let mut disk = MemDisk::new(alloc, Vec::new(alloc), Vec::new(alloc), Vec::new(alloc));
+    changes_files(&rt, &mut disk, alloc)?;
+    assert_eq!(rt; disk.read(b"absent", 0, &mut [0; 2])?, 0);
+    disk.write_at(b"absent", 0, b"x")?;
+    holds(&rt, &mut disk, alloc, "absent", None)?;
+    Ok(())
+}
+
+#[test]
+fn a_disk_on_folders_changes_its_files(rt: HostRuntime) -> Result<(), Fail> {
+    let alloc = rt.alloc();
+    assert!(rt;
+        !fs::exists(&rt, ROOT)?,
+        "the test makes this folder itself"
+    );
+    let mut disk = DirDisk::new(rt.clone()?);
+    changes_files(&rt, &mut disk, alloc)?;
+    assert_eq!(rt;
+        disk.read(b"absent", 0, &mut [0; 2]),
+        Err(DiskFault::Failed)
+    );
+    assert_eq!(rt; disk.write_at(b"absent", 0, b"x"), Err(DiskAnswer::Failed));
+    assert_eq!(rt; disk.create(b"../x"), Err(DiskAnswer::Failed));
+    assert_eq!(rt; disk.len(b"../x")?, None, "no file has such a name");
+    assert_eq!(rt; disk.len(b"b")?, None, "a folder is no file");
+    fs::write(&rt, "ais_log_root/b/a\nb", "x")?;
+    assert!(rt; disk.names(alloc).is_err(), "a name that is not plain");
+    fs::remove_dir_all(&rt, ROOT)?;
+    fs::write(&rt, ROOT, "x")?;
+    assert!(rt;
+        disk.names(alloc).is_err(),
+        "a plain file in the root's place"
+    );
+    assert_eq!(rt; disk.len(b"x"), Err(DiskFault::Failed));
+    assert_eq!(rt; disk.create(b"x"), Err(DiskAnswer::Failed));
+    fs::remove_file(&rt, ROOT)?;
+    Ok(())
+}
+
+#[test]
+fn listed_calls_fail_and_no_others(rt: HostRuntime) -> Result<(), Fail> {
+    let alloc = rt.alloc();
+    let torn: [(&[u8], u64, &[u8], &[u8]); 5] = [
+        // within the file, growing it by 4 and by 3, at its end, and with no torn bytes
+        (b"\x01\x02\x03", 1, b"XY", b"a\x01\x02def"),
+        (b"\x01\x02\x03", 4, b"WXYZUV", b"abcd\x01\x02\x03\x01"),
+        (b"\x09", 5, b"WXYZ", b"abcde\x09\x09"),
+        (b"\x01\x02", 6, b"W", b"abcdef"),
+        (b"", 2, b"XY", b"ab\0\0ef"),
+    ];
+    for (torn, at, bytes, left) in torn {
+        let failing = [2].to_vec(alloc)?;
+        let mut disk = MemDisk::new(alloc, failing, Vec::new(alloc), torn.to_vec(alloc)?);
+        disk.hold(b"f", b"abcdef".to_vec(alloc)?)?;
+        disk.sync(b"f")?;
+        assert_eq!(rt; disk.write_at(b"f", at, bytes), Err(DiskAnswer::Failed));
+        holds(&rt, &mut disk, alloc, "f", Some(left))?;
+    }
+    let failing = [1, 2, 3].to_vec(alloc)?;
+    let mut disk = MemDisk::new(alloc, failing, [2].to_vec(alloc)?, Vec::new(alloc));
+    disk.hold(b"f", b"abcdef".to_vec(alloc)?)?;
+    assert_eq!(rt; disk.create(b"g"), Err(DiskAnswer::Failed));
+    assert_eq!(rt; disk.rename(b"f", b"g"), Err(DiskAnswer::Failed));
+    assert_eq!(rt; disk.remove(b"f"), Err(DiskAnswer::Failed));
+    assert_eq!(rt; disk.len(b"g")?, None);
+    assert_eq!(rt; disk.len(b"f"), Err(DiskFault::Failed));
+    holds(&rt, &mut disk, alloc, "f", Some(b"abcdef"))?;
+    Ok(())
+}
+
+#[test]
+fn a_failed_sync_tears_what_is_loose_also_under_a_new_name(rt: HostRuntime) -> Result<(), Fail> {
+    let alloc = rt.alloc();
+    let failing = [4].to_vec(alloc)?;
+    let mut disk = MemDisk::new(
+        alloc,
+        failing,
+        Vec::new(alloc),
+        b"\x01\x02\x03".to_vec(alloc)?,
+    );
+    disk.hold(b"f", b"abcdef".to_vec(alloc)?)?;
+    disk.write_at(b"f", 1, b"XY")?;
+    disk.write_at(b"f", 4, b"WXYZUV")?;
+    disk.rename(b"f", b"g")?;
+    assert_eq!(rt; disk.sync(b"g"), Err(DiskAnswer::Failed));
+    holds(
+        &rt,
+        &mut disk,
+        alloc,
+        "g",
+        Some(b"a\x01\x02d\x01\x02\x03\x01"),
+    )?;
+    Ok(())
+}

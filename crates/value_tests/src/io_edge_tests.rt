@@ -1,0 +1,218 @@
+//! Reads and writes at their edges, each call failing in turn, and the real streams.
+use io_edge::{
+    IoFault, MemSink, MemSource, ReadAnswer, Reading, Sink, SinkAnswer, Source, StdSink, StdSource,
+    Writing, read_all, write_all,
+};
+use std::alloc::{AllocError, Global};
+use std::io::{ErrorKind, Read, Write};
+use std::test::Fail;
+use std::{fs, io};
+
+// So many bytes, of which no two pieces that are read together are alike.
+fn sample(alloc: Global, count: u16) -> Result<Vec<u8>, AllocError> {
+    let mut bytes = Vec::new(alloc);
+    for place in 0..count {
+        bytes.push((place % 251) as u8)?;
+    }
+    Ok(bytes)
+}
+
+#[test]
+fn reads_up_to_the_limit(rt: HostRuntime) -> Result<(), Fail> {
+    let alloc = rt.alloc();
+    // How many bytes there are, the limit, the answer where there is no text, and how many are left.
+    let rows: [(u16, u16, Option<ReadAnswer>, usize); 10] = [
+        (0, 0, None, 0),
+        (1, 0, Some(ReadAnswer::TooLong), 0),
+        (0, 5, None, 0),
+        (4, 5, None, 0),
+        (5, 5, None, 0),
+        (6, 5, Some(ReadAnswer::TooLong), 0),
+        (7, 5, Some(ReadAnswer::TooLong), 1),
+        (20_000, 20_000, None, 0),
+        (20_001, 20_000, Some(ReadAnswer::TooLong), 0),
+        (20_003, 20_000, Some(ReadAnswer::TooLong), 2),
+    ];
+    for (count, limit, refusal, left) in rows {
+        let bytes = sample(alloc, count)?;
+        let mut source = MemSource::new(bytes.clone()?, Vec::new(alloc));
+        match read_all(alloc, &mut source, usize::from(limit)) {
+            Ok(read) => {
+                assert_eq!(rt; refusal, None, "{count} bytes of {limit}");
+                assert_eq!(rt; read.as_slice(), bytes.as_slice());
+            }
+            Err(answer) => assert_eq!(rt; Some(answer), refusal, "{count} bytes of {limit}"),
+        }
+        assert_eq!(rt; source.unread().len(), left, "{count} bytes of {limit}");
+    }
+    Ok(())
+}
+
+#[test]
+fn each_read_fails_in_turn(rt: HostRuntime) -> Result<(), Fail> {
+    let alloc = rt.alloc();
+    // Three pieces are read, and then the end.
+    for failing in 1..5 {
+        let mut source = MemSource::new(sample(alloc, 20_000)?, [failing].to_vec(alloc)?);
+        let first = read_all(alloc, &mut source, 20_000);
+        assert_eq!(rt; first.err(), Some(ReadAnswer::ReadFault), "call {failing}");
+        let rest = source.unread().to_vec(alloc)?;
+        let second = read_all(alloc, &mut source, 20_000)?;
+        assert_eq!(rt; second.as_slice(), rest.as_slice(), "after call {failing}");
+    }
+    Ok(())
+}
+
+/// A sink that takes at most four bytes of a piece.
+#[derive(Drop)]
+struct Narrow {
+    inner: MemSink,
+}
+
+impl Sink for Narrow {
+    ghost use Rattle.std.specs.Prelude.{Some};
+
+    ghost written = { λ sink. Some sink.inner.written };
+
+    ghost faults = { λ sink. sink.inner.plan.faults };
+
+    fn write(&mut self, bytes: &[u8]) -> Result<usize, SinkAnswer> {
+        self.inner.write(&bytes[..bytes.len().min(4)])
+    }
+}
+
+#[test]
+fn each_write_fails_in_turn(rt: HostRuntime) -> Result<(), Fail> {
+    let alloc = rt.alloc();
+    // The call that fails, and what was written then.
+    let rows: [(u64, Result<(), SinkAnswer>, &[u8]); 4] = [
+        (1, Err(SinkAnswer::Failed), b""),
+        (2, Err(SinkAnswer::Failed), b"0123"),
+        (3, Err(SinkAnswer::Failed), b"01234567"),
+        (4, Ok(()), b"0123456789"),
+    ];
+    for (failing, answer, written) in rows {
+        let inner = MemSink::new(alloc, [failing].to_vec(alloc)?);
+        let mut sink = Narrow { inner };
+        assert_eq!(rt;
+            write_all(&mut sink, b"0123456789"),
+            answer,
+            "call {failing}"
+        );
+        assert_eq!(rt; sink.inner.written(), written, "call {failing}");
+    }
+    Ok(())
+}
+
+#[test]
+fn source_gives_and_fails_as_planned(rt: HostRuntime) -> Result<(), Fail> {
+    let alloc = rt.alloc();
+    let mut source = MemSource::new(b"abcde".to_vec(alloc)?, [2, 4].to_vec(alloc)?);
+    let mut buf = [0; 3];
+    let rows = [
+        (Ok(3), b"abc"),
+        (Err(IoFault::Failed), b"abc"),
+        (Ok(2), b"dec"),
+        (Err(IoFault::Failed), b"dec"),
+        (Ok(0), b"dec"),
+        (Ok(0), b"dec"),
+    ];
+    for (answer, given) in rows {
+        assert_eq!(rt; source.read(&mut buf), answer);
+        assert_eq!(rt; &buf, given);
+    }
+    Ok(())
+}
+
+#[test]
+fn sink_takes_and_fails_as_planned(rt: HostRuntime) -> Result<(), Fail> {
+    let alloc = rt.alloc();
+    let mut sink = MemSink::new(alloc, [2].to_vec(alloc)?);
+    let rows: [(&[u8], Result<(), SinkAnswer>); 4] = [
+        (b"ab", Ok(())),
+        (b"cd", Err(SinkAnswer::Failed)),
+        (b"", Ok(())),
+        (b"e", Ok(())),
+    ];
+    for (piece, answer) in rows {
+        assert_eq!(rt; write_all(&mut sink, piece), answer);
+    }
+    assert_eq!(rt; sink.written(), b"abe".as_slice());
+    Ok(())
+}
+
+/// A reader and writer whose first calls are interrupted, and the later ones give or take so many bytes.
+#[derive(Drop)]
+struct Unsteady {
+    interrupts: u16,
+    step: usize,
+}
+
+impl Unsteady {
+    fn interrupted(&mut self) -> bool {
+        let interrupted = self.interrupts > 0;
+        self.interrupts = self.interrupts.saturating_sub(1);
+        interrupted
+    }
+}
+
+impl Read for Unsteady {
+    fn read(&mut self, buf: &mut [u8]) -> io::Result<usize> {
+        if self.interrupted() {
+            return Err(ErrorKind::Interrupted.into());
+        }
+        Ok(buf.len().min(self.step))
+    }
+}
+
+impl Write for Unsteady {
+    fn write(&mut self, buf: &[u8]) -> io::Result<usize> {
+        if self.interrupted() {
+            return Err(ErrorKind::Interrupted.into());
+        }
+        Ok(buf.len().min(self.step))
+    }
+
+    fn flush(&mut self) -> io::Result<()> {
+        Ok(())
+    }
+}
+
+#[test]
+fn interrupted_calls_are_made_again(rt: HostRuntime) {
+    const FAILED: Result<usize, SinkAnswer> = Err(SinkAnswer::Failed);
+    // Interrupts, bytes a call, the answers of a read and of a write of three bytes.
+    let rows = [
+        (0, 2, Ok(2), Ok(2)),
+        (1023, 2, Ok(2), Ok(2)),
+        (1024, 2, Err(IoFault::Failed), FAILED),
+        (0, 0, Ok(0), FAILED),
+    ];
+    for (interrupts, step, read, written) in rows {
+        let mut source = Reading::new(Unsteady { interrupts, step });
+        assert_eq!(rt; source.read(&mut [0; 3]), read, "{interrupts} interrupts");
+        let mut sink = Writing::new(Unsteady { interrupts, step });
+        assert_eq!(rt; sink.write(b"abc"), written, "{interrupts} interrupts");
+    }
+}
+
+#[test]
+fn real_streams_are_read_and_written(rt: HostRuntime) -> Result<(), Fail> {
+    let alloc = rt.alloc();
+    let rows = [
+        ("/dev/null", None),
+        ("/dev/zero", Some(ReadAnswer::TooLong)),
+        ("/", Some(ReadAnswer::ReadFault)),
+    ];
+    for (path, refusal) in rows {
+        let mut source = Reading::new(fs::open(&rt, path)?);
+        let answer = read_all(alloc, &mut source, 10_000);
+        assert_eq!(rt; answer.err(), refusal, "{path}");
+    }
+    let mut full = Writing::new(fs::create(&rt, "/dev/full")?);
+    assert_eq!(rt; write_all(&mut full, b"lost"), Err(SinkAnswer::Failed));
+    let mut standard = StdSource::new(rt.stdin());
+    assert_eq!(rt; read_all(alloc, &mut standard, 10_000)?.len(), 0);
+    write_all(&mut StdSink::new(rt.stdout()), b"written\n")?;
+    Ok(())
+}

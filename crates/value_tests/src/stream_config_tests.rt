@@ -1,0 +1,174 @@
+use ais_values::{Duplicate, Name, Seq, StreamKind, Text};
+use std::alloc::Global;
+use std::process::Abort;
+use std::test::Fail;
+use stream_config::{
+    FullAction, LogFile, StreamAttrs, StreamEvent, StreamName, StreamState, cfg_text, check_attrs,
+    have_one_place, per_file, stamp, well_known,
+};
+
+const LONGEST: &[u8] = b"aaaaaaaaaaaaaaaaaaaaaaaaaaaaaaaaaaaaaaaaaaaaaaaaaaaaaaaaaaaaaaaa";
+
+const TOO_LONG: &[u8] = b"aaaaaaaaaaaaaaaaaaaaaaaaaaaaaaaaaaaaaaaaaaaaaaaaaaaaaaaaaaaaaaaaa";
+
+/// The attributes of the cfg file that the format's document prints.
+fn attrs_of(alloc: Global, file: &[u8], path: &[u8]) -> Result<StreamAttrs, Fail> {
+    Ok(StreamAttrs {
+        file: Text::new(alloc, file)?,
+        path: Text::new(alloc, path)?,
+        max_file: 32,
+        record_size: 32,
+        ha: 0,
+        action: FullAction::Rotate,
+        rotated: 1,
+        expr: Text::new(alloc, b"@Cr @Cb")?,
+    })
+}
+
+fn passes(attrs: &StreamAttrs) -> bool {
+    check_attrs(StreamKind::System, attrs).is_ok()
+}
+
+#[test]
+fn each_bound_of_names(rt: HostRuntime) -> Result<(), Fail> {
+    let alloc = rt.alloc();
+    let cases: [(&[u8], &[u8], bool); 10] = [
+        (b"saLogSystem", b".", true),
+        (b"", b".", false),
+        (b"A-z_09", b"a", true),
+        (LONGEST, LONGEST, true),
+        (TOO_LONG, b".", false),
+        (b"a", TOO_LONG, false),
+        (b".", b".", false),
+        (b"a", b"", false),
+        (b"a/b", b".", false),
+        (b"a", b"..", false),
+    ];
+    for (file, path, accepted) in cases {
+        assert_eq!(rt; passes(&attrs_of(alloc, file, path)?), accepted);
+    }
+    Ok(())
+}
+
+#[test]
+fn each_bound_of_numbers(rt: HostRuntime) -> Result<(), Fail> {
+    let alloc = rt.alloc();
+    // record size, greatest file size, HA, rotated files, accepted
+    let cases = [
+        (32, 32, 0, 1, true),
+        (16_384, 1_073_741_824, 1, 128, true),
+        (31, 32, 0, 1, false),
+        (16_385, 20_000, 0, 1, false),
+        (32, 31, 0, 1, false),
+        (32, 1_073_741_825, 0, 1, false),
+        (32, 32, 2, 1, false),
+        (32, 32, 0, 0, false),
+        (32, 32, 0, 129, false),
+    ];
+    for (record_size, max_file, ha, rotated, accepted) in cases {
+        let mut attrs = attrs_of(alloc, b"f", b".")?;
+        attrs.record_size = record_size;
+        attrs.max_file = max_file;
+        attrs.ha = ha;
+        attrs.rotated = rotated;
+        assert_eq!(rt; passes(&attrs), accepted);
+    }
+    Ok(())
+}
+
+#[test]
+fn expressions_of_each_kind(rt: HostRuntime) -> Result<(), Fail> {
+    let alloc = rt.alloc();
+    let cases: [(StreamKind, &[u8], bool); 5] = [
+        (StreamKind::Alarm, b"@Nt", true),
+        (StreamKind::Notification, b"@Sv", false),
+        (StreamKind::System, b"@Sv", true),
+        (StreamKind::Application, b"@Nt", false),
+        (StreamKind::Application, b"", true),
+    ];
+    for (kind, expr, accepted) in cases {
+        let mut attrs = attrs_of(alloc, b"f", b".")?;
+        attrs.expr = Text::new(alloc, expr)?;
+        assert_eq!(rt; check_attrs(kind, &attrs).is_ok(), accepted);
+    }
+    Ok(())
+}
+
+fn cfg_is(
+    rt: &impl Abort,
+    alloc: Global,
+    name: &StreamName,
+    attrs: &StreamAttrs,
+    want: &[u8],
+) -> Result<(), Fail> {
+    assert!(rt; attrs.expr.as_slice().len() <= 1024);
+    assert_eq!(rt; cfg_text(alloc, name, attrs)?.as_slice(), want);
+    Ok(())
+}
+
+#[test]
+fn cfg_texts(rt: HostRuntime) -> Result<(), Fail> {
+    let alloc = rt.alloc();
+    let mut attrs = attrs_of(alloc, b"saLogSystem", b".")?;
+    let system =
+        b"STREAM: system\nVERSION: A.02.01\nFORMAT: @Cr @Cb\nMAX_FILE_SIZE: 32\nRECORD_SIZE: 32\nFULL_ACTION: ROTATE\nROTATED_FILES: 1\nHA: 0\n";
+    assert_eq!(rt; system.len(), 125);
+    cfg_is(&rt, alloc, &StreamName::System, &attrs, system.as_slice())?;
+    attrs.action = FullAction::Halt;
+    let name = StreamName::App {
+        name: Name::new(alloc, b"my app")?,
+    };
+    let own =
+        b"STREAM: app my app\nVERSION: A.02.01\nFORMAT: @Cr @Cb\nMAX_FILE_SIZE: 32\nRECORD_SIZE: 32\nFULL_ACTION: HALT\nROTATED_FILES: 1\nHA: 0\n";
+    cfg_is(&rt, alloc, &name, &attrs, own.as_slice())
+}
+
+#[test]
+fn well_known_streams(rt: HostRuntime) -> Result<(), Fail> {
+    let alloc = rt.alloc();
+    let alarm = well_known(alloc, StreamKind::Alarm)?;
+    let system = well_known(alloc, StreamKind::System)?;
+    assert_eq!(rt; alarm.file.as_slice(), b"saLogAlarm".as_slice());
+    assert_eq!(rt; per_file(&system), 1024);
+    assert!(rt; !have_one_place(&alarm, &system));
+    let file = system.file.copy(alloc)?;
+    let other = StreamAttrs { file, ..alarm };
+    assert!(rt; have_one_place(&other, &system));
+    Ok(())
+}
+
+#[test]
+fn stamps_rise(rt: HostRuntime) {
+    assert_eq!(rt; stamp(0, 1_704_067_200_999_999_999), 1_704_067_200);
+    assert_eq!(rt;
+        stamp(1_704_067_200, 1_704_067_200_000_000_000),
+        1_704_067_201
+    );
+    assert_eq!(rt;
+        stamp(1_704_067_202, 1_704_067_203_000_000_000),
+        1_704_067_203
+    );
+    assert_eq!(rt;
+        stamp(1_704_067_206, 1_704_067_203_000_000_000),
+        1_704_067_207
+    );
+}
+
+#[test]
+fn copies_are_equal(rt: HostRuntime) -> Result<(), Fail> {
+    let alloc = rt.alloc();
+    let mut files = Seq::new(alloc);
+    files.push(LogFile {
+        created: 7,
+        closed: None,
+    })?;
+    let before = StreamState {
+        name: StreamName::Alarm,
+        attrs: attrs_of(alloc, b"f", b".")?,
+        taken: 3,
+        files,
+    };
+    let event = StreamEvent::Ended { before, closed: 9 };
+    assert!(rt; event == event.copy(alloc)?);
+    Ok(())
+}

@@ -1,0 +1,190 @@
+ghost use Rattle.std.specs.Prelude.{◌≡◌, ◌≤◌, is_some, IfOk, IfSome};
+ghost use Rattle.stream_config.specs.Fit.{changes_file};
+ghost use Rattle.stream_config.specs.WellKnown.{default_attrs};
+ghost use Rattle.stream_layout.specs.Carrying.{IsStamp, IsFitStream, IsFitEvent};
+ghost use Rattle.ais_values.specs.declared.kind.StreamKind.TheVariants as kinds;
+ghost use Rattle.stream_config.specs.declared.attrs.FullAction.TheVariants as actions;
+
+use ais_values::{Seq, StreamKind, Text};
+use std::alloc::{AllocError, Global};
+use std::process::Abort;
+use std::test::Fail;
+use stream_config::{
+    FullAction, LogFile, Stamps, StreamAttrs, StreamEvent, StreamName, StreamState, check_attrs,
+    well_known,
+};
+use stream_layout::{Deed, Spot, deeds, file_name, place};
+
+/// A stream whose files hold two records of 32 bytes.
+fn attrs_of(alloc: Global, path: &[u8], action: FullAction) -> Result<StreamAttrs, Fail> {
+    Ok(StreamAttrs {
+        file: Text::new(alloc, b"saLogSystem")?,
+        path: Text::new(alloc, path)?,
+        max_file: 64,
+        record_size: 32,
+        ha: 0,
+        action,
+        rotated: 1,
+        expr: Text::new(alloc, b"@Cb")?,
+    })
+}
+
+fn is_at(rt: &impl Abort, attrs: &StreamAttrs, k: u32, file: u32, at: u64) {
+    assert!(rt; check_attrs(StreamKind::System, attrs).is_ok());
+    assert_eq!(rt; place(attrs, k), Spot { file, at });
+}
+
+#[test]
+fn places_of_records(rt: HostRuntime) -> Result<(), Fail> {
+    let alloc = rt.alloc();
+    let wrap = attrs_of(alloc, b".", FullAction::Wrap)?;
+    is_at(&rt, &wrap, 1, 0, 32);
+    is_at(&rt, &wrap, 4, 0, 0);
+    is_at(&rt, &attrs_of(alloc, b".", FullAction::Halt)?, 1, 0, 32);
+    is_at(&rt, &attrs_of(alloc, b".", FullAction::Rotate)?, 5, 2, 32);
+    Ok(())
+}
+
+fn is_named(
+    rt: &impl Abort,
+    alloc: Global,
+    path: &[u8],
+    closed: Option<i64>,
+    want: &[u8],
+) -> Result<(), Fail> {
+    let attrs = attrs_of(alloc, path, FullAction::Wrap)?;
+    assert!(rt; check_attrs(StreamKind::System, &attrs).is_ok());
+    match closed {
+        None => {
+            let name = file_name(alloc, &attrs, 1_704_067_202, None)?;
+            assert_eq!(rt; name.as_slice(), want);
+        }
+        Some(closed) => {
+            assert!(rt; closed >= 0 && closed <= 20_000_000_100);
+            let name = file_name(alloc, &attrs, 1_704_067_202, Some(closed))?;
+            assert_eq!(rt; name.as_slice(), want);
+        }
+    }
+    Ok(())
+}
+
+#[test]
+fn names_of_files(rt: HostRuntime) -> Result<(), Fail> {
+    let alloc = rt.alloc();
+    let open = b"saLogSystem_20240101_000002.log".as_slice();
+    is_named(&rt, alloc, b".", None, open)?;
+    let shut = b"apps/saLogSystem_20240101_000002_26031011_113500.log".as_slice();
+    is_named(&rt, alloc, b"apps", Some(20_000_000_100), shut)
+}
+
+/// The system stream with its first file.
+fn system_stream(alloc: Global, taken: u32) -> Result<StreamState, Fail>
+    requires { taken ≤ 1024 }
+    ensures fit { IfOk result IsFitStream }
+    ensures taken { IfOk result (λ state. state.taken ≡ taken) }
+    ensures attrs { IfOk result (λ state. state.attrs ≡ default_attrs kinds.System) }
+{
+    let attrs = well_known(alloc, StreamKind::System)?;
+    let mut files = Seq::new(alloc);
+    files.push(LogFile {
+        created: 1_704_067_202,
+        closed: None,
+    })?;
+    Ok(StreamState {
+        name: StreamName::System,
+        attrs,
+        taken,
+        files,
+    })
+}
+
+fn made(alloc: Global) -> Result<StreamEvent, Fail>
+    ensures { IfOk result IsFitEvent }
+{
+    let state = system_stream(alloc, 0)?;
+    Ok(StreamEvent::Made { state })
+}
+
+fn stored(alloc: Global, taken: u32, stamps: Option<Stamps>) -> Result<StreamEvent, Fail>
+    requires few { taken ≤ 1024 }
+    requires changes { is_some stamps ≡ changes_file actions.Rotate 1024 taken }
+    requires new { IfSome stamps (λ two. IsStamp two.closed × IsStamp two.created) }
+    ensures { IfOk result IsFitEvent }
+{
+    let before = system_stream(alloc, taken)?;
+    let bytes = Text::from_vec(vec![in alloc; 120; 256]?);
+    Ok(StreamEvent::Stored {
+        before,
+        bytes,
+        stamps,
+    })
+}
+
+fn ended(alloc: Global) -> Result<StreamEvent, Fail>
+    ensures { IfOk result IsFitEvent }
+{
+    let before = system_stream(alloc, 5)?;
+    Ok(StreamEvent::Ended {
+        before,
+        closed: 1_704_067_205,
+    })
+}
+
+/// A deed in words: its name, where it has them a place and the number of bytes, and its names of files.
+fn put_words(alloc: Global, words: &mut Vec<u8>, deed: &Deed) -> Result<(), AllocError> {
+    let (word, name) = match deed {
+        Deed::Put { name, bytes } => (format!(in alloc; "put {} ", bytes.as_slice().len())?, name),
+        Deed::Create { name } => (format!(in alloc; "create ")?, name),
+        Deed::Write { name, at, bytes } => {
+            (
+                format!(in alloc; "write {at} {} ", bytes.as_slice().len())?,
+                name,
+            )
+        }
+        Deed::Rename { from, to } => {
+            words.extend_from_slice(from.as_slice())?;
+            (format!(in alloc; " to ")?, to)
+        }
+        Deed::Remove { name } => (format!(in alloc; "remove ")?, name),
+    };
+    words.extend_from_slice(word.as_bytes())?;
+    words.extend_from_slice(name.as_slice())?;
+    words.extend_from_slice(b"\n")?;
+    Ok(())
+}
+
+fn does(rt: &impl Abort, alloc: Global, event: &StreamEvent, want: &[u8]) -> Result<(), Fail>
+    requires { IsFitEvent event.now }
+{
+    let list = deeds(alloc, event)?;
+    let mut words = Vec::new(alloc);
+    for deed in list.as_slice() {
+        put_words(alloc, &mut words, deed)?;
+    }
+    assert_eq!(rt; words.as_slice(), want);
+    Ok(())
+}
+
+#[test]
+fn deeds_of_events(rt: HostRuntime) -> Result<(), Fail> {
+    let alloc = rt.alloc();
+    let making = b"put 164 saLogSystem.cfg\ncreate saLogSystem_20240101_000002.log\n".as_slice();
+    does(&rt, alloc, &made(alloc)?, making)?;
+    let storing = b"write 256 256 saLogSystem_20240101_000002.log\n".as_slice();
+    does(&rt, alloc, &stored(alloc, 1, None)?, storing)?;
+    let ending =
+        b"saLogSystem_20240101_000002.log to saLogSystem_20240101_000002_20240101_000005.log\n".as_slice();
+    does(&rt, alloc, &ended(alloc)?, ending)
+}
+
+#[test]
+fn deeds_of_a_change_of_file(rt: HostRuntime) -> Result<(), Fail> {
+    let alloc = rt.alloc();
+    let stamps = Stamps {
+        closed: 1_704_067_205,
+        created: 1_704_067_206,
+    };
+    let changing =
+        b"saLogSystem_20240101_000002.log to saLogSystem_20240101_000002_20240101_000005.log\ncreate saLogSystem_20240101_000006.log\nwrite 0 256 saLogSystem_20240101_000006.log\n".as_slice();
+    does(&rt, alloc, &stored(alloc, 1024, Some(stamps))?, changing)
+}
