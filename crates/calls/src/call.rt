@@ -89,14 +89,20 @@ impl Duplicate for Call {
                 time,
                 header,
                 body,
-            } => Ok(Call::LogWrite {
-                stream: stream.copy(alloc)?,
-                invocation: *invocation,
-                flags: *flags,
-                time: *time,
-                header: header.copy(alloc)?,
-                body: body.copy(alloc)?,
-            }),
+            } => {
+                let stream = stream.copy(alloc)?;
+                let body = body.copy(alloc)?;
+                // The wide field last, so that no copy of it has to be let go.
+                let header = header.copy(alloc)?;
+                Ok(Call::LogWrite {
+                    stream,
+                    invocation: *invocation,
+                    flags: *flags,
+                    time: *time,
+                    header,
+                    body,
+                })
+            }
             Call::LogClose { stream } => Ok(Call::LogClose {
                 stream: stream.copy(alloc)?,
             }),

@@ -82,12 +82,13 @@ impl Duplicate for SavedWindow {
     }
 }
 
+// A wide field is copied last, so that no copy of it has to be let go where a later one fails.
+
 impl Duplicate for SavedStream {
     fn copy(&self, alloc: Global) -> Result<Self, AllocError> {
-        Ok(SavedStream {
-            state: self.state.copy(alloc)?,
-            openers: self.openers.copy(alloc)?,
-        })
+        let openers = self.openers.copy(alloc)?;
+        let state = self.state.copy(alloc)?;
+        Ok(SavedStream { state, openers })
     }
 }
 
@@ -102,14 +103,16 @@ impl Duplicate for SavedAlarm {
 
 impl Duplicate for SavedSub {
     fn copy(&self, alloc: Global) -> Result<Self, AllocError> {
+        let held = self.held.copy(alloc)?;
+        let lost = self.lost.copy(alloc)?;
         Ok(SavedSub {
             client: self.client,
             key: self.key,
             id: self.id,
             filters: self.filters.copy(alloc)?,
             first: self.first,
-            held: self.held.copy(alloc)?,
-            lost: self.lost.copy(alloc)?,
+            held,
+            lost,
         })
     }
 }
