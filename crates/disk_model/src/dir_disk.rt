@@ -1,6 +1,6 @@
 //! The disk of the real program: files below a folder of the system.
 ghost use Rattle.std.specs.Prelude.{◌≡◌, ◌≤◌, Option, None, ℕ, length, IfOk, IsErrOf};
-ghost use Rattle.ais_values.specs.Causes.{HasCauseOf, Rose};
+ghost use Rattle.ais_values.specs.Causes.{RoseExactlyOn, Rose};
 ghost use Rattle.disk_model.specs.declared.answers.DiskAnswer.{DiskAnswer};
 ghost use Rattle.disk_model.specs.declared.answers.DiskFault.{DiskFault};
 
@@ -57,7 +57,7 @@ impl<R: Drop> DirDisk<R> {
 
     // The answer to what the system said of a changing call.
     fn told(&mut self, said: io::Result<()>) -> Result<(), DiskAnswer>
-        ensures { HasCauseOf self.old self.new result DiskAnswer.Failed }
+        ensures { RoseExactlyOn self.old self.new result DiskAnswer.Failed }
     {
         match said {
             Ok(()) => Ok(()),

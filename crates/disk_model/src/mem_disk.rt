@@ -1,7 +1,7 @@
 //! A disk in memory, told in advance which of its calls fail.
 ghost use Rattle.std.specs.Prelude.{◌≡◌, ◌≤◌, List, ℕ, length, Option, Some, option_map, IfOk, IfSome, OnOk, OnErr, IsErrOf};
 ghost use Rattle.std.specs.FinMap as map;
-ghost use Rattle.ais_values.specs.Causes.{one_more, HasCauseOf};
+ghost use Rattle.ais_values.specs.Causes.{one_more, RoseExactlyOn};
 ghost use Rattle.ais_values.specs.Texts.{IsText};
 ghost use Rattle.disk_model.specs.Disk.{Files, no_files, settled_file, created, written_at, synced, renamed, removed, adjusted, length_of, bytes_at, Gives};
 ghost use Rattle.disk_model.specs.Failures.{WhereTold, LeftByCreate, LeftByWrite, LeftBySync, LeftByRename, LeftByRemove};
@@ -136,7 +136,7 @@ impl SharedDisk for MemDisk {
     fn names(&mut self, alloc: Global) -> Result<Seq<Text>, DiskAnswer>
         ensures exact { Reads result self.old self.new }
         ensures listed { IfOk result (λ names. names ≡ map.keys self.old.files) }
-        ensures cause { HasCauseOf self.old.faults self.new.faults result DiskAnswer.Failed }
+        ensures cause { RoseExactlyOn self.old.faults self.new.faults result DiskAnswer.Failed }
     {
         if self.read_fails() {
             self.count_read();
@@ -151,7 +151,7 @@ impl SharedDisk for MemDisk {
     fn len(&mut self, name: &[u8]) -> Result<Option<u64>, DiskFault>
         ensures exact { ReadsAt result self.old self.new }
         ensures told { IfOk result (λ len. len ≡ length_of self.old.files name.now) }
-        ensures cause { HasCauseOf self.old.faults self.new.faults result DiskFault.Failed }
+        ensures cause { RoseExactlyOn self.old.faults self.new.faults result DiskFault.Failed }
     {
         let fails = self.read_fails();
         self.count_read();
@@ -169,7 +169,7 @@ impl SharedDisk for MemDisk {
         ensures exact { ReadsAt result self.old self.new }
         ensures told { IfOk result (λ count. Gives count buf.old buf.new
             (bytes_at self.old.files name.now at (length buf.old))) }
-        ensures cause { HasCauseOf self.old.faults self.new.faults result DiskFault.Failed }
+        ensures cause { RoseExactlyOn self.old.faults self.new.faults result DiskFault.Failed }
     {
         let fails = self.read_fails();
         self.count_read();
@@ -186,7 +186,7 @@ impl SharedDisk for MemDisk {
     fn create(&mut self, name: &[u8]) -> Result<(), DiskAnswer>
         requires { IsText name.now }
         ensures exact { Changes result (λ f. created f name.now) (λ f. f) self.old self.new }
-        ensures cause { HasCauseOf self.old.faults self.new.faults result DiskAnswer.Failed }
+        ensures cause { RoseExactlyOn self.old.faults self.new.faults result DiskAnswer.Failed }
     {
         if self.fails() {
             self.count_change();
@@ -205,7 +205,7 @@ impl SharedDisk for MemDisk {
             self.new }
         ensures left { IsErrOf result DiskAnswer.Failed
             → LeftByWrite name.now at bytes.now self.old.files self.new.files }
-        ensures cause { HasCauseOf self.old.faults self.new.faults result DiskAnswer.Failed }
+        ensures cause { RoseExactlyOn self.old.faults self.new.faults result DiskAnswer.Failed }
     {
         if self.fails() {
             self.shelf
@@ -225,7 +225,7 @@ impl SharedDisk for MemDisk {
         ensures left { IsErrOf result DiskAnswer.Failed
             → LeftBySync name.now self.old.files self.new.files }
         ensures never_memory { IsErrOf result DiskAnswer.Memory → ⊥ }
-        ensures cause { HasCauseOf self.old.faults self.new.faults result DiskAnswer.Failed }
+        ensures cause { RoseExactlyOn self.old.faults self.new.faults result DiskAnswer.Failed }
     {
         let fails = self.fails();
         self.count_change();
@@ -241,7 +241,7 @@ impl SharedDisk for MemDisk {
     fn rename(&mut self, from: &[u8], to: &[u8]) -> Result<(), DiskAnswer>
         requires { IsText to.now }
         ensures exact { Changes result (λ f. renamed f from.now to.now) (λ f. f) self.old self.new }
-        ensures cause { HasCauseOf self.old.faults self.new.faults result DiskAnswer.Failed }
+        ensures cause { RoseExactlyOn self.old.faults self.new.faults result DiskAnswer.Failed }
     {
         if self.fails() {
             self.count_change();
@@ -256,7 +256,7 @@ impl SharedDisk for MemDisk {
     fn remove(&mut self, name: &[u8]) -> Result<(), DiskAnswer>
         ensures exact { Changes result (λ f. removed f name.now) (λ f. f) self.old self.new }
         ensures never_memory { IsErrOf result DiskAnswer.Memory → ⊥ }
-        ensures cause { HasCauseOf self.old.faults self.new.faults result DiskAnswer.Failed }
+        ensures cause { RoseExactlyOn self.old.faults self.new.faults result DiskAnswer.Failed }
     {
         let fails = self.fails();
         self.count_change();

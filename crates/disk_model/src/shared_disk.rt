@@ -1,7 +1,7 @@
 //! A disk with named files, as the servers see it.
 ghost use Rattle.std.specs.Prelude.{◌≡◌, ◌≤◌, List, ℕ, length, Option, option_map, IfOk, IfSome, OnOk, IsErrOf};
 ghost use Rattle.std.specs.FinMap as map;
-ghost use Rattle.ais_values.specs.Causes.{HasCauseOf};
+ghost use Rattle.ais_values.specs.Causes.{RoseExactlyOn};
 ghost use Rattle.ais_values.specs.Texts.{IsText};
 ghost use Rattle.disk_model.specs.Disk.{Files, created, written_at, synced, renamed, removed, length_of, bytes_at, Gives};
 ghost use Rattle.disk_model.specs.Failures.{WhereTold, LeftByCreate, LeftByWrite, LeftBySync, LeftByRename, LeftByRemove};
@@ -16,26 +16,27 @@ use std::alloc::Global;
 ///
 /// A changing call (`create`, `write_at`, `sync`, `rename`, `remove`) is done where it answers `Ok`. Where
 /// it answers `Memory` nothing was changed. Where it answers `Failed` it may have been done in part, as its
-/// clause says. `Failed` comes only where the count of faults rose.
+/// clause says. Of every call, `Failed` comes exactly where the count of faults rose, and on every other
+/// answer the count stands.
 pub trait SharedDisk {
     /// The files with their loose ranges, where the disk tells them.
     ghost files: { Self → Option Files };
 
-    /// How many faults the disk has told. It never falls.
+    /// How many faults the disk has told. The count never falls, and may stop at the greatest `u64`.
     ghost faults: { Self → ℕ };
 
     /// The names of all files, in byte order.
     fn names(&mut self, alloc: Global) -> Result<Seq<Text>, DiskAnswer>
         ensures listed { IfOk result (λ names. IfSome (files self.old) (λ f. names ≡ map.keys f)) }
         ensures same { files self.new ≡ files self.old }
-        ensures cause { HasCauseOf (faults self.old) (faults self.new) result DiskAnswer.Failed };
+        ensures cause { RoseExactlyOn (faults self.old) (faults self.new) result DiskAnswer.Failed };
 
     /// The length of a file in bytes; `None` exactly where no file has that name.
     fn len(&mut self, name: &[u8]) -> Result<Option<u64>, DiskFault>
         ensures told { IfOk result (λ len. IfSome (files self.old)
             (λ f. len ≡ length_of f name.now)) }
         ensures same { files self.new ≡ files self.old }
-        ensures cause { HasCauseOf (faults self.old) (faults self.new) result DiskFault.Failed };
+        ensures cause { RoseExactlyOn (faults self.old) (faults self.new) result DiskFault.Failed };
 
     /// Reads the bytes that stand from a place on, all that fit into the buffer, and answers their number.
     ///
@@ -45,7 +46,7 @@ pub trait SharedDisk {
         ensures told { IfOk result (λ count. IfSome (files self.old) (λ f.
             Gives count buf.old buf.new (bytes_at f name.now at (length buf.old)))) }
         ensures same { files self.new ≡ files self.old }
-        ensures cause { HasCauseOf (faults self.old) (faults self.new) result DiskFault.Failed };
+        ensures cause { RoseExactlyOn (faults self.old) (faults self.new) result DiskFault.Failed };
 
     /// Makes an empty file of that name; an old one is replaced. A failed call was done wholly or not at all.
     fn create(&mut self, name: &[u8]) -> Result<(), DiskAnswer>
@@ -55,7 +56,7 @@ pub trait SharedDisk {
         ensures memory { IsErrOf result DiskAnswer.Memory → files self.new ≡ files self.old }
         ensures failed { IsErrOf result DiskAnswer.Failed →
             WhereTold (LeftByCreate name.now) (files self.old) (files self.new) }
-        ensures cause { HasCauseOf (faults self.old) (faults self.new) result DiskAnswer.Failed };
+        ensures cause { RoseExactlyOn (faults self.old) (faults self.new) result DiskAnswer.Failed };
 
     /// Puts bytes at a place of a file, over what stands there and past its end. Their range is loose until
     /// the next `sync`. Where the name is absent or the place is past the file's end, nothing changes.
@@ -68,7 +69,7 @@ pub trait SharedDisk {
         ensures memory { IsErrOf result DiskAnswer.Memory → files self.new ≡ files self.old }
         ensures failed { IsErrOf result DiskAnswer.Failed →
             WhereTold (LeftByWrite name.now at bytes.now) (files self.old) (files self.new) }
-        ensures cause { HasCauseOf (faults self.old) (faults self.new) result DiskAnswer.Failed };
+        ensures cause { RoseExactlyOn (faults self.old) (faults self.new) result DiskAnswer.Failed };
 
     /// Makes all bytes of a file durable: it has no loose range then. Of an absent name nothing changes.
     ///
@@ -80,7 +81,7 @@ pub trait SharedDisk {
         ensures memory { IsErrOf result DiskAnswer.Memory → files self.new ≡ files self.old }
         ensures failed { IsErrOf result DiskAnswer.Failed →
             WhereTold (LeftBySync name.now) (files self.old) (files self.new) }
-        ensures cause { HasCauseOf (faults self.old) (faults self.new) result DiskAnswer.Failed };
+        ensures cause { RoseExactlyOn (faults self.old) (faults self.new) result DiskAnswer.Failed };
 
     /// Gives a file another name, with its loose ranges; a file of that name is replaced. Where the file is
     /// absent, or both names are equal, nothing changes. A failed call was done wholly or not at all.
@@ -91,7 +92,7 @@ pub trait SharedDisk {
         ensures memory { IsErrOf result DiskAnswer.Memory → files self.new ≡ files self.old }
         ensures failed { IsErrOf result DiskAnswer.Failed →
             WhereTold (LeftByRename from.now to.now) (files self.old) (files self.new) }
-        ensures cause { HasCauseOf (faults self.old) (faults self.new) result DiskAnswer.Failed };
+        ensures cause { RoseExactlyOn (faults self.old) (faults self.new) result DiskAnswer.Failed };
 
     /// Removes a file. Where it is absent nothing changes. A failed call was done wholly or not at all.
     fn remove(&mut self, name: &[u8]) -> Result<(), DiskAnswer>
@@ -100,5 +101,5 @@ pub trait SharedDisk {
         ensures memory { IsErrOf result DiskAnswer.Memory → files self.new ≡ files self.old }
         ensures failed { IsErrOf result DiskAnswer.Failed →
             WhereTold (LeftByRemove name.now) (files self.old) (files self.new) }
-        ensures cause { HasCauseOf (faults self.old) (faults self.new) result DiskAnswer.Failed };
+        ensures cause { RoseExactlyOn (faults self.old) (faults self.new) result DiskAnswer.Failed };
 }

@@ -2,7 +2,7 @@
 ghost use Rattle.std.specs.Prelude.{◌≡◌, ◌↔◌, ◌<◌, ◌≤◌, ◌++◌, [], Some, min, length, take, IfOk, OnOk, IsErrOf, MatchResult};
 ghost use Rattle.std.specs.Io.{ReadsAtMost, WritesAtMost};
 ghost use Rattle.std.specs.Io.KnownBytes.{ReadConsumes, WriteAppends};
-ghost use Rattle.ais_values.specs.Causes.{HasCauseOf};
+ghost use Rattle.ais_values.specs.Causes.{RoseExactlyOn};
 ghost use Rattle.io_edge.specs.Plans.{first_plan, FailsNext, after_call, after_fault};
 
 use crate::call_plan::CallPlan;
@@ -61,7 +61,7 @@ impl Source for MemSource {
     fn read(&mut self, buf: &mut [u8]) -> Result<usize, IoFault>
         ensures bound { ReadsAtMost result buf.new }
         ensures bytes { ReadConsumes (Some self.old.left) (Some self.new.left) result buf.new }
-        ensures cause { HasCauseOf self.old.plan.faults self.new.plan.faults result IoFault.Failed }
+        ensures cause { RoseExactlyOn self.old.plan.faults self.new.plan.faults result IoFault.Failed }
         ensures fails { IsErrOf result IoFault.Failed ↔ FailsNext self.old.plan }
         ensures count { IfOk result (λ count. count ≡ min (length buf.old) (length self.old.left)) }
         ensures plan { MatchResult result (λ _. self.new.plan ≡ after_call self.old.plan)
@@ -137,7 +137,7 @@ impl Sink for MemSink {
         ensures some { IfOk result (λ count. 0 < length bytes.now → 1 ≤ count) }
         ensures bytes { WriteAppends (Some self.old.written) (Some self.new.written) result
             bytes.now }
-        ensures cause { HasCauseOf self.old.plan.faults self.new.plan.faults result
+        ensures cause { RoseExactlyOn self.old.plan.faults self.new.plan.faults result
             SinkAnswer.Failed }
         ensures fails { IsErrOf result SinkAnswer.Failed ↔ FailsNext self.old.plan }
         ensures whole { IfOk result (λ count. count ≡ length bytes.now) }

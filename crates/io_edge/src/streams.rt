@@ -2,7 +2,7 @@
 ghost use Rattle.std.specs.Prelude.{◌≡◌, ◌<◌, ◌≤◌, length, IfOk, IsErrOf, MatchResult};
 ghost use Rattle.std.specs.Io.{ReadsAtMost, WritesAtMost};
 ghost use Rattle.std.specs.Io.KnownBytes.{ReadConsumes, WriteAppends};
-ghost use Rattle.ais_values.specs.Causes.{HasCauseOf, one_more};
+ghost use Rattle.ais_values.specs.Causes.{RoseExactlyOn, one_more};
 
 use crate::{IoFault, Sink, SinkAnswer, Source};
 use std::io;
@@ -85,7 +85,7 @@ impl<R: Read> Source for Reading<R> {
     fn read(&mut self, buf: &mut [u8]) -> Result<usize, IoFault>
         ensures bound { ReadsAtMost result buf.new }
         ensures bytes { ReadConsumes self.old.bytes self.new.bytes result buf.new }
-        ensures cause { HasCauseOf self.old.faults self.new.faults result IoFault.Failed }
+        ensures cause { RoseExactlyOn self.old.faults self.new.faults result IoFault.Failed }
         ensures faults { MatchResult result (λ _. self.new.faults ≡ self.old.faults)
             (λ _. self.new.faults ≡ one_more self.old.faults) }
     {
@@ -138,7 +138,7 @@ impl<W: Write> Sink for Writing<W> {
         ensures bound { WritesAtMost result bytes.now }
         ensures some { IfOk result (λ count. 0 < length bytes.now → 1 ≤ count) }
         ensures bytes { WriteAppends self.old.bytes self.new.bytes result bytes.now }
-        ensures cause { HasCauseOf self.old.faults self.new.faults result SinkAnswer.Failed }
+        ensures cause { RoseExactlyOn self.old.faults self.new.faults result SinkAnswer.Failed }
         ensures faults { MatchResult result (λ _. self.new.faults ≡ self.old.faults)
             (λ _. self.new.faults ≡ one_more self.old.faults) }
         ensures no_memory { IsErrOf result SinkAnswer.Memory → ⊥ }

@@ -1,11 +1,11 @@
--- What stands before the place of the next piece was appended.
-use Rattle.std.proofs.Common.{◌≤◌, ◌-◌, length, take}
+-- What stands before the place of the next piece was appended, and nothing failed.
+use Rattle.std.proofs.Common.{◌≡◌, ◌≤◌, ◌-◌, length, take}
 use Rattle.std.specs.Io.KnownBytes.{Appends}
 use Rattle.io_edge.proofs.whole_write.write_all.Given as goal
 
 abbrev pub invariant-loop-done : goal.invariant-loop-done
 invariant-loop-done g l =
-    (l.done ≤ length l.bytes) × (g.K.Sink.faults l.initial.sink ≤ g.K.Sink.faults l.sink)
+    (l.done ≤ length l.bytes) × (g.K.Sink.faults l.sink ≡ g.K.Sink.faults l.initial.sink)
     × Appends (g.K.Sink.written l.initial.sink) (g.K.Sink.written l.sink) (take l.done l.bytes)
 
 abbrev pub decreases-loop-done : goal.decreases-loop-done

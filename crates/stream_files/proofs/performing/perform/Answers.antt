@@ -1,4 +1,4 @@
-use Rattle.std.proofs.Common.{◌<◌, length, arith}
+use Rattle.std.proofs.Common.{◌<◌, length, ◌∙◌, arith}
 use Rattle.disk_model.specs.DeviceCalls.{Breaks}
 use Rattle.stream_layout.specs.Deeds.{calls_of_all}
 use Rattle.disk_model.proofs.Breaking.{breaks_memory, breaks_failed}
@@ -22,10 +22,8 @@ returns-in-Err-clause-failed g c = breaks_failed c.in-Err.answer _ _ _ (broken g
 pub loop-deed-preserved : goal.loop-deed-preserved
 loop-deed-preserved g c =
     let within : c.loop-deed.deed-index < length c.as_slice-deed-items.result.now = omega arith in
-    let before = c.loop-deed.invariant.later in
-    let after = c.in-Ok.ensures.cause.later in
     record {
       done = done_more c.as_slice-deed-items.result.now c.loop-deed.deed-index c.deed-item.result _ _ _ within c.deed-item.is
           c.loop-deed.invariant.done c.in-Ok.ensures.performs;
-      later = omega (arith, before, after);
+      stands = c.in-Ok.ensures.cause.stands ∙ c.loop-deed.invariant.stands;
     }
