@@ -7,7 +7,7 @@ use Rattle.disk_model.specs.Disk.{Files}
 use Rattle.disk_model.specs.Failures.{WhereTold}
 use Rattle.disk_model.specs.declared.answers.DiskAnswer.{DiskAnswer}
 use Rattle.disk_model.specs.declared.answers.DiskAnswer.TheVariants.{Memory, Failed}
-use Rattle.disk_model.specs.DeviceCalls.{DeviceCall, applied, all_applied, LeftBy, LeftAlone, BreaksOff, FailsAfter, LacksMemoryAfter, DoesFront, Breaks, Performs}
+use Rattle.disk_model.specs.DeviceCalls.{DeviceCall, applied, all_applied, LeftBy, LeftAlone, BreaksOff, FailsAfter, LacksMemoryAfter, Breaks, Performs}
 
 -- calls after others are done on the files that those leave
 pub all_applied-append : (front back : List DeviceCall) (files : Files) → all_applied (front ++ back) files ≡ all_applied back (all_applied front files)
@@ -101,21 +101,3 @@ pub breaks_failed : {T : Type 0} (e : DiskAnswer) (calls : List DeviceCall) (old
     → Breaks e calls old new → IsErrOf {T = T} (Err e) Failed → (count : ℕ) × FailsAfter calls count old new
 breaks_failed Memory calls old new b is = cc
 breaks_failed Failed calls old new b is = b
-
--- calls in two rows that are done
-pub applied_after : (front calls : List DeviceCall) (old middle new : Option Files)
-    → middle ≡ option_map (all_applied front) old → new ≡ option_map (all_applied calls) middle → new ≡ option_map (all_applied (front ++ calls)) old
-applied_after front calls old middle new first second = performs_after {T = Unit {0}} front calls (Ok tt) old middle new first second
-
--- the front of calls after others that were done, and before others
-pub does_within : (front calls back : List DeviceCall) (old middle new : Option Files)
-    → middle ≡ option_map (all_applied front) old → DoesFront calls middle new → DoesFront (front ++ (calls ++ back)) old new
-does_within front calls back old middle new is d = record {
-  done = front ++ d.done;
-  undone = d.undone ++ back;
-  in_order =
-      ap (λ c. front ++ (c ++ back)) d.in_order
-      ∙ ap (λ c. front ++ c) (append_assoc d.done d.undone back)
-      ∙ sym (append_assoc front d.done (d.undone ++ back));
-  stands = applied_after front d.done old middle new is d.stands;
-}

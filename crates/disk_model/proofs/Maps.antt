@@ -1,5 +1,5 @@
 -- Laws of finite maps whose keys tie only where they are equal, for equations between changed maps.
-use Rattle.std.proofs.Common.{◌≡◌, ◌≢◌, Bool, true, false, cond, Option, Some, None, refl, sym, ap, ◌∙◌, arith}
+use Rattle.std.proofs.Common.{◌≡◌, ◌≢◌, Bool, true, false, cond, Some, None, refl, sym, ap, ◌∙◌, arith}
 use Rattle.std.specs.declared.cmp.Ordering.{Ordering}
 use Rattle.std.specs.declared.cmp.Ordering.TheVariants.{Equal}
 use Rattle.std.specs.Ordering.{is_eq, eq_by_cmp}
@@ -44,10 +44,6 @@ module _ {K X : Type 0} {R : K → K → Ordering} (o : IsTotalOrder R) (same : 
   pub get-insert_other : (m : FinMap R X) (k : K) (v : X) (q : K) → q ≢ k → get (insert m k v) q ≡ get m q
   get-insert_other m k v q n = get-insert o m k v q ∙ ap (λ b. cond b (Some v) (get m q)) (apart o same q k n)
 
-  -- what was removed is not found
-  pub get-remove_same : (m : FinMap R X) (k : K) → get (remove m k) k ≡ None
-  get-remove_same m k = get-remove o m k k ∙ ap (λ b. cond b None (get m k)) (tied o same k)
-
   -- what is removed at a key leaves the others
   pub get-remove_other : (m : FinMap R X) (k q : K) → q ≢ k → get (remove m k) q ≡ get m q
   get-remove_other m k q n = get-remove o m k q ∙ ap (λ b. cond b None (get m q)) (apart o same q k n)
@@ -68,26 +64,6 @@ module _ {K X : Type 0} {R : K → K → Ordering} (o : IsTotalOrder R) (same : 
         | false ↦ λ e. refl
       ] refl)
 
-  -- to remove what is absent changes nothing
-  pub remove_absent : (m : FinMap R X) (k : K) → get m k ≡ None → remove m k ≡ m
-  remove_absent m k absent = same_map o same _ _ (λ q.
-      get-remove o m k q
-      ∙ elim (eq_by_cmp R q k) as (λ b. eq_by_cmp R q k ≡ b → cond b None (get m q) ≡ get m q) [
-        | true ↦ λ e. sym absent ∙ ap (get m) (sym (same_key o same q k e))
-        | false ↦ λ e. refl
-      ] refl)
-
-  -- what is removed twice is removed
-  pub remove_twice : (m : FinMap R X) (k : K) → remove (remove m k) k ≡ remove m k
-  remove_twice m k = remove_absent (remove m k) k (get-remove_same m k)
-
-  -- what was put and is removed might as well never have been put
-  pub remove-insert : (m : FinMap R X) (k : K) (v : X) → remove (insert m k v) k ≡ remove m k
-  remove-insert m k v = same_map o same _ _ (λ q.
-      get-remove o (insert m k v) k q ∙ ap (cond (eq_by_cmp R q k) None) (get-insert o m k v q)
-      ∙ elim (eq_by_cmp R q k) as (λ b. cond b None (cond b (Some v) (get m q)) ≡ cond b None (get m q)) [ true ↦ refl | false ↦ refl ]
-      ∙ sym (get-remove o m k q))
-
   -- what is put at a key might as well have been removed before
   pub insert-remove : (m : FinMap R X) (k : K) (v : X) → insert (remove m k) k v ≡ insert m k v
   insert-remove m k v = same_map o same _ _ (λ q.
@@ -95,26 +71,9 @@ module _ {K X : Type 0} {R : K → K → Ordering} (o : IsTotalOrder R) (same : 
       ∙ elim (eq_by_cmp R q k) as (λ b. cond b (Some v) (cond b None (get m q)) ≡ cond b (Some v) (get m q)) [ true ↦ refl | false ↦ refl ]
       ∙ sym (get-insert o m k v q))
 
-  -- what is put at two keys, in either order
-  pub insert_comm : (m : FinMap R X) (j k : K) (v w : X) → j ≢ k → insert (insert m j v) k w ≡ insert (insert m k w) j v
-  insert_comm m j k v w n = same_map o same _ _ (λ q.
-      get-insert o (insert m j v) k w q ∙ ap (cond (eq_by_cmp R q k) (Some w)) (get-insert o m j v q)
-      ∙ sym (in_either_order (eq_by_cmp R q j) (eq_by_cmp R q k) (Some v) (Some w) (get m q) (one_of o same j k q n))
-      ∙ sym (get-insert o (insert m k w) j v q ∙ ap (cond (eq_by_cmp R q j) (Some v)) (get-insert o m k w q)))
-
   -- what is removed at one key and put at another, in either order
   pub remove-insert_other : (m : FinMap R X) (j k : K) (v : X) → j ≢ k → remove (insert m j v) k ≡ insert (remove m k) j v
   remove-insert_other m j k v n = same_map o same _ _ (λ q.
       get-remove o (insert m j v) k q ∙ ap (cond (eq_by_cmp R q k) None) (get-insert o m j v q)
       ∙ sym (in_either_order (eq_by_cmp R q j) (eq_by_cmp R q k) (Some v) None (get m q) (one_of o same j k q n))
       ∙ sym (get-insert o (remove m k) j v q ∙ ap (cond (eq_by_cmp R q j) (Some v)) (get-remove o m k q)))
-
-  -- what is removed at two keys, in either order
-  pub remove_comm : (m : FinMap R X) (j k : K) → remove (remove m j) k ≡ remove (remove m k) j
-  remove_comm m j k = same_map o same _ _ (λ q.
-      get-remove o (remove m j) k q ∙ ap (cond (eq_by_cmp R q k) None) (get-remove o m j q)
-      ∙ elim (eq_by_cmp R q k) as (λ b. cond b None (cond (eq_by_cmp R q j) None (get m q)) ≡ cond (eq_by_cmp R q j) None (cond b None (get m q))) [
-        | true ↦ elim (eq_by_cmp R q j) as (λ b. ◌≡◌ {A = Option X} None (cond b None None)) [ true ↦ refl | false ↦ refl ]
-        | false ↦ refl
-      ]
-      ∙ sym (get-remove o (remove m k) j q ∙ ap (cond (eq_by_cmp R q j) None) (get-remove o m k q)))

@@ -1,6 +1,7 @@
 -- Where a key stands, or would stand, in a list of entries whose keys rise.
-use Rattle.std.proofs.Common.{◌≡◌, ◌≢◌, ℕ, zero, suc, ◌<◌, ◌≤◌, Bool, true, false, ◌&&◌, T, Some, None, List, [], ◌∷◌, length, get_or, set, refl, sym, ap, subst, ◌∙◌, arith}
+use Rattle.std.proofs.Common.{◌≡◌, ◌≢◌, ℕ, zero, suc, ◌<◌, ◌≤◌, Bool, true, false, T, Some, None, List, [], ◌∷◌, length, get_or, set, refl, sym, ap, subst, ◌∙◌, arith}
 use Rattle.std.specs.List.{insert, remove}
+use Rattle.std.proofs.lemmas.Bool.{and_parts}
 use Rattle.std.proofs.lemmas.List.{get_or_read}
 use Rattle.std.specs.List.Sorted.{IsPartitionedBy, IsPartitionPoint}
 use Rattle.std.specs.declared.cmp.Ordering.{Ordering}
@@ -11,19 +12,10 @@ use Rattle.std.specs.FinMap.{IsAntisymmetric}
 use Rattle.std.specs.FinMap.Entries.{put, find, is_sorted, below_all}
 use Rattle.disk_model.specs.Shelf.{place_of, without, KeyStandsAt, KeyLacksAt}
 
--- a test that passes, in std's older form
-pub passes : (b : Bool) → b ≡ true → T b
-passes b e = subst T (sym e) tt
-
--- and back
+-- a test that passes, from std's older form
 pub passed : (b : Bool) → T b → b ≡ true
 passed true h = refl
 passed false h = absurd h
-
-both_parts : (a b : Bool) → (a && b) ≡ true → (a ≡ true) × (b ≡ true)
-both_parts true true e = (refl, refl)
-both_parts true false e = cc
-both_parts false b e = cc
 
 is_less : (r : Ordering) → is_lt r ≡ true → r ≡ Less
 is_less r e = grind arith
@@ -47,7 +39,7 @@ module _ {K X : Type 0} {R : K → K → Ordering} (o : IsTotalOrder R) (same : 
   below_rest : (k j : K) (es : List (K × X)) → R k j ≡ Less → below_all R j es ≡ true → below_all R k es ≡ true
   below_rest k j [] less h = refl
   below_rest k j (e ∷ es) less h =
-      let parts = both_parts (is_lt (R j e.0)) (below_all R j es) h in
+      let parts = and_parts (is_lt (R j e.0)) (below_all R j es) h in
       let next : R j e.0 ≡ Less = is_less (R j e.0) parts.0 in
       let first : R k e.0 ≡ Less = o.trans k j e.0 less next in
       rw first (below_rest k j es less parts.1)
@@ -56,7 +48,7 @@ module _ {K X : Type 0} {R : K → K → Ordering} (o : IsTotalOrder R) (same : 
   find_below : (k : K) (es : List (K × X)) → below_all R k es ≡ true → find R k es ≡ None
   find_below k [] h = refl
   find_below k (e ∷ es) h =
-      let parts = both_parts (is_lt (R k e.0)) (below_all R k es) h in
+      let parts = and_parts (is_lt (R k e.0)) (below_all R k es) h in
       let first : R k e.0 ≡ Less = is_less (R k e.0) parts.0 in
       rw first (find_below k es parts.1)
 
@@ -64,7 +56,7 @@ module _ {K X : Type 0} {R : K → K → Ordering} (o : IsTotalOrder R) (same : 
   without_below : (k : K) (es : List (K × X)) → below_all R k es ≡ true → without R k es ≡ es
   without_below k [] h = refl
   without_below k (e ∷ es) h =
-      let parts = both_parts (is_lt (R k e.0)) (below_all R k es) h in
+      let parts = and_parts (is_lt (R k e.0)) (below_all R k es) h in
       let first : R k e.0 ≡ Less = is_less (R k e.0) parts.0 in
       rw first (ap (λ t. e ∷ t) (without_below k es parts.1))
 
@@ -85,7 +77,7 @@ module _ {K X : Type 0} {R : K → K → Ordering} (o : IsTotalOrder R) (same : 
       → place_of R k es < length es → (get_or es (place_of R k es) d).0 ≡ k → Stands k v d es
   stands k v d [] sorted within at = absurd (omega arith)
   stands k v d (e ∷ es) sorted within at =
-      let parts = both_parts (below_all R e.0 es) (is_sorted R es) sorted in
+      let parts = and_parts (below_all R e.0 es) (is_sorted R es) sorted in
       against o e.0 k (Stands k v d (e ∷ es))
       (λ p q.
       let within' : suc (place_of R k es) < suc (length es) = rw p at within in
@@ -112,7 +104,7 @@ module _ {K X : Type 0} {R : K → K → Ordering} (o : IsTotalOrder R) (same : 
       → ((d : K × X) → place_of R k es < length es → (get_or es (place_of R k es) d).0 ≢ k) → Lacks k es
   lacks k [] sorted other = record { missing = refl; put_is = λ v. refl; without_is = refl }
   lacks k (e ∷ es) sorted other =
-      let parts = both_parts (below_all R e.0 es) (is_sorted R es) sorted in
+      let parts = and_parts (below_all R e.0 es) (is_sorted R es) sorted in
       against o e.0 k (Lacks k (e ∷ es))
       (λ p q.
       let other' : (d : K × X) → suc (place_of R k es) < suc (length es) → (get_or es (place_of R k es) d).0 ≢ k = rw p at other in
@@ -136,20 +128,20 @@ module _ {K X : Type 0} {R : K → K → Ordering} (o : IsTotalOrder R) (same : 
   -- a key below all entries is below each
   below_each : (k : K) (es : List (K × X)) (n : ℕ) (d : K × X) → below_all R k es ≡ true → n < length es → R k (get_or es n d).0 ≡ Less
   below_each k [] n d h within = absurd (omega arith)
-  below_each k (e ∷ es) zero d h within = is_less (R k e.0) (both_parts (is_lt (R k e.0)) (below_all R k es) h).0
-  below_each k (e ∷ es) (suc n) d h within = below_each k es n d (both_parts (is_lt (R k e.0)) (below_all R k es) h).1 (omega arith)
+  below_each k (e ∷ es) zero d h within = is_less (R k e.0) (and_parts (is_lt (R k e.0)) (below_all R k es) h).0
+  below_each k (e ∷ es) (suc n) d h within = below_each k es n d (and_parts (is_lt (R k e.0)) (below_all R k es) h).1 (omega arith)
 
   -- the entries below a key stand before the others
   pub rising_partitioned : (k : K) (es : List (K × X)) → is_sorted R es ≡ true → IsPartitionedBy (λ e. is_lt (R e.0 k)) es
   rising_partitioned k [] sorted i j d le within e = absurd (omega arith)
   rising_partitioned k (x ∷ es) sorted zero zero d le within e = e
   rising_partitioned k (x ∷ es) sorted zero (suc j) d le within e =
-      let parts = both_parts (below_all R x.0 es) (is_sorted R es) sorted in
+      let parts = and_parts (below_all R x.0 es) (is_sorted R es) sorted in
       let first = below_each x.0 es j d parts.0 (omega arith) in
       ap is_lt (o.trans x.0 (get_or es j d).0 k first (is_less (R (get_or es j d).0 k) e))
   rising_partitioned k (x ∷ es) sorted (suc i) zero d le within e = absurd (omega arith)
   rising_partitioned k (x ∷ es) sorted (suc i) (suc j) d le within e =
-      rising_partitioned k es (both_parts (below_all R x.0 es) (is_sorted R es) sorted).1 i j d (omega arith) (omega arith) e
+      rising_partitioned k es (and_parts (below_all R x.0 es) (is_sorted R es) sorted).1 i j d (omega arith) (omega arith) e
 
   -- the point between them is the key's place
   pub place_is : (k : K) (es : List (K × X)) (i : ℕ) → i ≤ length es

@@ -7,8 +7,9 @@ use Rattle.std.specs.Cmp.Lexicographic.{slice_cmp}
 use Rattle.std.specs.FinMap.{IsAntisymmetric, slice_cmp-IsAntisymmetric, nat_cmp-IsAntisymmetric, get, insert, remove, from_sorted, same_entries_map, entries-insert, entries-from_sorted, get-from_sorted, get-remove, same_map, keys, empty, empty_of_len, len-entries}
 use Rattle.std.specs.Option.{option_map_or}
 use Rattle.std.specs.FinMap.Entries.{put, find, is_sorted, is_sorted-put, is_sorted-where_key, find-where_key}
+use Rattle.std.proofs.lemmas.Float.{T_from_true}
 use Rattle.disk_model.specs.Shelf.{without, adjusted_in}
-use Rattle.disk_model.proofs.Places.{passes, passed}
+use Rattle.disk_model.proofs.Places.{passed}
 
 -- names tie only where they are equal
 pub names_differ : IsAntisymmetric (slice_cmp nat_cmp)
@@ -21,38 +22,38 @@ turned false x y = refl
 module _ {K X : Type 0} {R : K → K → Ordering} (o : IsTotalOrder R) (same : IsAntisymmetric R) where
   -- an entry put in its place keeps the list rising
   pub sorted_put : (k : K) (v : X) (es : List (K × X)) → is_sorted R es ≡ true → is_sorted R (put R k v es) ≡ true
-  sorted_put k v es sorted = passed _ (is_sorted-put R o k v es (passes _ sorted))
+  sorted_put k v es sorted = passed _ (is_sorted-put R o k v es (T_from_true _ sorted))
 
   -- entries left out keep the list rising
   pub sorted_without : (k : K) (es : List (K × X)) → is_sorted R es ≡ true → is_sorted R (without R k es) ≡ true
-  sorted_without k es sorted = passed _ (is_sorted-where_key R (λ x. not (eq_by_cmp R k x)) es (passes _ sorted))
+  sorted_without k es sorted = passed _ (is_sorted-where_key R (λ x. not (eq_by_cmp R k x)) es (T_from_true _ sorted))
 
   -- what is found in the map is found in the list
   pub find_shelved : (k : K) (es : List (K × X)) → is_sorted R es ≡ true → get (from_sorted {R = R} es) k ≡ find R k es
-  find_shelved k es sorted = get-from_sorted R es k (passes _ sorted)
+  find_shelved k es sorted = get-from_sorted R es k (T_from_true _ sorted)
 
   -- an entry put in its place is put into the map
   pub put_shelved : (k : K) (v : X) (es : List (K × X)) → is_sorted R es ≡ true
       → from_sorted {R = R} (put R k v es) ≡ insert (from_sorted es) k v
   put_shelved k v es sorted = same_entries_map _ _
-      (entries-from_sorted R (put R k v es) (is_sorted-put R o k v es (passes _ sorted))
-      ∙ ap (put R k v) (sym (entries-from_sorted R es (passes _ sorted)))
+      (entries-from_sorted R (put R k v es) (is_sorted-put R o k v es (T_from_true _ sorted))
+      ∙ ap (put R k v) (sym (entries-from_sorted R es (T_from_true _ sorted)))
       ∙ sym (entries-insert o (from_sorted es) k v))
 
   -- entries left out are removed from the map
   pub without_shelved : (k : K) (es : List (K × X)) → is_sorted R es ≡ true
       → from_sorted {R = R} (without R k es) ≡ remove (from_sorted es) k
   without_shelved k es sorted = same_map o same _ _ (λ q.
-      get-from_sorted R (without R k es) q (is_sorted-where_key R (λ x. not (eq_by_cmp R k x)) es (passes _ sorted))
+      get-from_sorted R (without R k es) q (is_sorted-where_key R (λ x. not (eq_by_cmp R k x)) es (T_from_true _ sorted))
       ∙ find-where_key R (λ x. not (eq_by_cmp R k x)) q (λ x t. ap (λ r. not (is_eq r)) (sym (alike_right o q x k t))) es
       ∙ turned (eq_by_cmp R k q) (find R q es) None
       ∙ ap (λ b. cond b None (find R q es)) ((eq_by_cmp_equiv o).symm k q)
-      ∙ ap (cond (eq_by_cmp R q k) None) (sym (get-from_sorted R es q (passes _ sorted)))
+      ∙ ap (cond (eq_by_cmp R q k) None) (sym (get-from_sorted R es q (T_from_true _ sorted)))
       ∙ sym (get-remove o (from_sorted es) k q))
 
   -- the keys of the map are those of the list
   pub keys_shelved : (es : List (K × X)) → is_sorted R es ≡ true → keys (from_sorted {R = R} es) ≡ map (λ e. e.0) es
-  keys_shelved es sorted = ap (map (λ e. e.0)) (entries-from_sorted R es (passes _ sorted))
+  keys_shelved es sorted = ap (map (λ e. e.0)) (entries-from_sorted R es (T_from_true _ sorted))
 
   -- the value at a key changed in the list is changed in the map
   pub sorted_adjusted : (change : X → X) (k : K) (es : List (K × X)) → is_sorted R es ≡ true → is_sorted R (adjusted_in R change k es) ≡ true

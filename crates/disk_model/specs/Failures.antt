@@ -1,5 +1,6 @@
 -- Words of public clauses: what a changing call that failed may have left.
-use Rattle.std.specs.Prelude.{◌≡◌, ℕ, ◌+◌, ◌<◌, ◌≤◌, min, max, Bool, false, ◌&&◌, ◌||◌, ◌⊎◌, nat_le, nat_lt, List, [], ◌∷◌, length, slice_index, Option, Some, None, MatchOption, ⊤}
+use Rattle.std.specs.Prelude.{◌≡◌, ℕ, ◌+◌, ◌<◌, ◌≤◌, min, max, Bool, false, ◌&&◌, ◌||◌, ◌⊎◌, nat_le, nat_lt, ⊤}
+use Rattle.std.specs.Prelude.{List, [], ◌∷◌, length, slice_index, Option, Some, None, MatchOption}
 use Rattle.std.specs.FinMap as map
 use Rattle.disk_model.specs.Disk.{File, Files, file_written, created, renamed, removed}
 

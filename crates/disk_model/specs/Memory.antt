@@ -1,5 +1,6 @@
 -- Words of public clauses on a disk in memory: when its calls fail, and what a failed call leaves of a file.
-use Rattle.std.specs.Prelude.{◌≡◌, ℕ, zero, suc, ◌+◌, ◌-◌, ◌/◌, ◌%◌, min, Bool, true, false, ◌==◌, List, [], ◌∷◌, ◌++◌, length, take, nat_le, if◌then◌else◌, slice_index, Result, Ok, Err}
+use Rattle.std.specs.Prelude.{◌≡◌, ℕ, zero, suc, ◌+◌, ◌-◌, ◌/◌, ◌%◌, min, Bool, true, false, ◌==◌, nat_le, if◌then◌else◌}
+use Rattle.std.specs.Prelude.{List, [], ◌∷◌, ◌++◌, length, take, slice_index, Result, Ok, Err}
 use Rattle.std.specs.List.{list_any}
 use Rattle.ais_values.specs.Causes.{one_more}
 use Rattle.disk_model.specs.declared.answers.DiskFault.{DiskFault}

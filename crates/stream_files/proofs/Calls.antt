@@ -49,13 +49,3 @@ breaks_deed deeds i deed e old middle new within read before one =
     ∙ ap (λ d. calls_of_all (take i deeds) ++ (calls_of d ++ calls_of_all (drop (i + 1) deeds))) (sym read) in
     subst (λ c. Breaks e c old new) (sym calls)
     (breaks_within (calls_of_all (take i deeds)) (calls_of deed) (calls_of_all (drop (i + 1) deeds)) e old middle new before one)
-
--- some calls of a deed of a list were done, after those of the deeds before it
-pub does_deed : (deeds : List Deed) (i : ℕ) (deed : Deed) (old middle new : Option Files) → i < length deeds → deed ≡ get_or deeds i deed
-    → middle ≡ option_map (all_applied (calls_of_all (take i deeds))) old → DoesFront (calls_of deed) middle new → DoesFront (calls_of_all deeds) old new
-does_deed deeds i deed old middle new within read before one =
-    let calls : calls_of_all deeds ≡ calls_of_all (take i deeds) ++ (calls_of deed ++ calls_of_all (drop (i + 1) deeds)) =
-    calls_around deeds i deed within
-    ∙ ap (λ d. calls_of_all (take i deeds) ++ (calls_of d ++ calls_of_all (drop (i + 1) deeds))) (sym read) in
-    subst (λ c. DoesFront c old new) (sym calls)
-    (does_within (calls_of_all (take i deeds)) (calls_of deed) (calls_of_all (drop (i + 1) deeds)) old middle new before one)
