@@ -2,9 +2,9 @@
 use Rattle.std.proofs.Common.{◌≡◌, ℕ, ◌+◌, ◌<◌, List, [], ◌∷◌, ◌++◌, length, get_or, take, drop, Option, option_map, Ok, refl, sym, ap, subst, ◌∙◌, append_assoc}
 use Rattle.std.proofs.lemmas.List.{take_more, drop_more, take-append-drop, append-nil}
 use Rattle.disk_model.specs.Disk.{Files}
-use Rattle.disk_model.specs.DeviceCalls.{all_applied, DoesFront, Breaks}
+use Rattle.disk_model.specs.DeviceCalls.{all_applied, Breaks}
 use Rattle.disk_model.specs.declared.answers.DiskAnswer.{DiskAnswer}
-use Rattle.disk_model.proofs.Breaking.{breaks_within, does_within, performs_after}
+use Rattle.disk_model.proofs.Breaking.{breaks_within, performs_after}
 use Rattle.stream_layout.specs.declared.deed.Deed.{Deed}
 use Rattle.stream_layout.specs.Deeds.{calls_of, calls_of_all}
 
