@@ -1,25 +1,13 @@
 -- What the first row of a name or of a code says, on a table whose names and codes differ.
-use Rattle.std.proofs.Common.{◌≡◌, ℕ, Bool, true, false, not, cond, ◌&&◌, ◌||◌, List, [], ◌∷◌, Some, None, refl, sym, ap, ◌∙◌, inl, inr, ⊎_elim}
+use Rattle.std.proofs.Common.{◌≡◌, ℕ, Bool, true, false, not, cond, List, [], ◌∷◌, Some, None, refl, sym, ap, ◌∙◌, inl, inr, ⊎_elim}
 use Rattle.std.specs.Prelude.{◌↔◌}
 use Rattle.std.specs.Bool.{Decides}
 use Rattle.std.specs.List.{list_any, find}
 use Rattle.std.proofs.lemmas.Slice.Eq.{bytes_eq-Decides}
 use Rattle.std.proofs.lemmas.Bool.Decides.{Decides-eqb}
+use Rattle.std.proofs.lemmas.Bool.{and_parts, not-true, or_right}
 use Rattle.ais_values.specs.declared.codes.CodeRow.{CodeRow}
 use Rattle.ais_values.specs.Codes.{all_differ, HasPair, HasRow, are_apart, has_name, has_code}
-
--- the parts of a test by `&&`
-pub both_true : (a b : Bool) → (a && b) ≡ true → (a ≡ true) × (b ≡ true)
-both_true true b h = (refl, h)
-both_true false b h = cc
-
-not_true : (a : Bool) → not a ≡ true → a ≡ false
-not_true true h = cc
-not_true false h = refl
-
-or_true : (a b : Bool) → b ≡ true → (a || b) ≡ true
-or_true true b h = refl
-or_true false b h = h
 
 -- elements with a key and a value, and a test that finds a key
 module _ {X K V : Type 0} (key : X → K) (value : X → V) (is : K → X → Bool) (decides : (k : K) (x : X) → Decides (is k x) (key x ≡ k)) where
@@ -29,14 +17,14 @@ module _ {X K V : Type 0} (key : X → K) (value : X → V) (is : K → X → Bo
   any_from_HasPair : (xs : List X) (k : K) (v : V) → Pairs xs k v → list_any (is k) xs ≡ true
   any_from_HasPair [] k v h = absurd h
   any_from_HasPair (x ∷ xs) k v (inl p) = rw ((decides k x).1 p.0) refl
-  any_from_HasPair (x ∷ xs) k v (inr q) = or_true (is k x) (list_any (is k) xs) (any_from_HasPair xs k v q)
+  any_from_HasPair (x ∷ xs) k v (inr q) = or_right (is k x) (list_any (is k) xs) (any_from_HasPair xs k v q)
 
   -- the first element of the key has the one value that is paired with it
   pub first_of_key : (xs : List X) (k : K) (x : X) → all_differ (λ a. is (key a)) xs ≡ true → find (is k) xs ≡ Some x → (v : V) → (value x ≡ v) ↔ Pairs xs k v
   first_of_key [] k x apart found v = cc
   first_of_key (a ∷ xs) k x apart found v =
-      let parts = both_true (not (list_any (is (key a)) xs)) (all_differ (λ a. is (key a)) xs) apart in
-      let later : list_any (is (key a)) xs ≡ false = not_true (list_any (is (key a)) xs) parts.0 in
+      let parts = and_parts (not (list_any (is (key a)) xs)) (all_differ (λ a. is (key a)) xs) apart in
+      let later : list_any (is (key a)) xs ≡ false = not-true (list_any (is (key a)) xs) parts.0 in
       let at : (b : Bool) → is k a ≡ b → cond b (Some a) (find (is k) xs) ≡ Some x → (value x ≡ v) ↔ Pairs (a ∷ xs) k v = elim [
         | true ↦ λ test here.
             let same : a ≡ x = cc in
@@ -72,7 +60,7 @@ HasPair-swapped key value (x ∷ xs) k v =
 -- the rows of a table whose names and codes differ
 module _ {S : Type 0} (text : S → List ℕ) (rows : List (CodeRow S)) (apart : are_apart text rows ≡ true) where
   abbrev parts : (all_differ (λ row. has_name text (text row.name)) rows ≡ true) × (all_differ (λ row. has_code row.code) rows ≡ true)
-  parts = both_true (all_differ (λ row. has_name text (text row.name)) rows) (all_differ (λ row. has_code row.code) rows) apart
+  parts = and_parts (all_differ (λ row. has_name text (text row.name)) rows) (all_differ (λ row. has_code row.code) rows) apart
 
   -- the first row of a name has its code
   pub code_from_name : (name : List ℕ) (row : CodeRow S) → find (has_name text name) rows ≡ Some row → (code : ℕ) → (row.code ≡ code) ↔ HasRow text rows name code

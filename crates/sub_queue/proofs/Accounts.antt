@@ -1,7 +1,7 @@
 -- What holds of a subscription whatever happened to it.
 use Rattle.std.proofs.Common.{◌≡◌, ℕ, ◌+◌, ◌-◌, ◌<◌, ◌≤◌, Bool, true, false, ◌&&◌, nat_lt, nat_le, cond, ◌⊎◌, inl, inr, suc, List, [], ◌∷◌, ◌++◌, length, drop, refl, ap, sym, subst, ◌∙◌, arith, append_assoc, length-append, length-drop, add_comm}
 use Rattle.std.proofs.lemmas.Bool.Decides.{leb_tells}
-use Rattle.std.proofs.lemmas.Bool.{leb-true, le-leb}
+use Rattle.std.proofs.lemmas.Bool.{leb-true, le-leb, and_parts}
 use Rattle.std.specs.Bool.{Decides}
 use Rattle.std.specs.Cmp.Derive.{both_true}
 use Rattle.std.proofs.lemmas.List.{append-nil, drop-append-le, drop-drop}
@@ -59,11 +59,6 @@ both_tests true true = inl refl
 both_tests true false = inr refl
 both_tests false b = inr refl
 
-both : (a b : Bool) → (a && b) ≡ true → (a ≡ true) × (b ≡ true)
-both true true e = (refl, refl)
-both true false e = cc
-both false b e = cc
-
 IsPossible-receipt : (capacity through : ℕ) (account : Account) → IsPossible capacity account → IsPossible capacity (after_receipt through account)
 IsPossible-receipt capacity through account possible =
     let P : Bool → Type 0 = λ new. IsPossible capacity (receipt_by through account new) in
@@ -74,9 +69,9 @@ IsPossible-receipt capacity through account possible =
       | inl new ↦ elim (leb_tells through (length account.made)) [
         | inl within ↦
             let made = within.1 in
-            let after = leb-true (suc account.through) through (both (nat_lt account.through through) (nat_le through (length account.made)) new).0 in
+            let after = leb-true (suc account.through) through (and_parts (nat_lt account.through through) (nat_le through (length account.made)) new).0 in
             subst P (sym new) (record { receipts = omega arith; places = omega arith; lost = inl refl })
-        | inr beyond ↦ let tests = both (nat_lt account.through through) (nat_le through (length account.made)) new in absurd (cc (beyond.0, tests.1))
+        | inr beyond ↦ let tests = and_parts (nat_lt account.through through) (nat_le through (length account.made)) new in absurd (cc (beyond.0, tests.1))
       ]
       | inr old ↦ subst P (sym old) possible
     ]
@@ -152,7 +147,7 @@ pub is_new_receipt-decides : (capacity through : ℕ) (account : Account) → De
 is_new_receipt-decides capacity through account =
     let long = length-drop account.through account.made in (
       λ e.
-          let tests = both (nat_lt account.through through) (nat_le through (length account.made)) e in
+          let tests = and_parts (nat_lt account.through through) (nat_le through (length account.made)) e in
           let after : account.through < through = leb-true (suc account.through) through tests.0 in
           let within : through ≤ length account.made = leb-true through (length account.made) tests.1 in
           record { from = omega arith; below = omega arith },
