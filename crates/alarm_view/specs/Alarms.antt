@@ -23,7 +23,8 @@ notifications alarms = map (λ (alarm : KeptAlarm). alarm.notification) alarms
 abbrev pub RiseFrom : ℕ → ℕ → List KeptAlarm → Type 0
 RiseFrom number id [] = number ≤ 4294967295
 RiseFrom number id (alarm ∷ alarms) =
-    (number ≤ alarm.number) × (id ≤ alarm.notification.id) × IsAlarm alarm.notification.body × RiseFrom (alarm.number + 1) (alarm.notification.id + 1) alarms
+    (number ≤ alarm.number) × (id ≤ alarm.notification.id) × IsAlarm alarm.notification.body
+    × RiseFrom (alarm.number + 1) (alarm.notification.id + 1) alarms
 
 -- what holds of the alarms that are kept: they are alarms, their record numbers and their ids rise, and no record number is 4,294,967,295
 abbrev pub AreInOrder : List KeptAlarm → Type 0

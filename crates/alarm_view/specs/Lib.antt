@@ -3,4 +3,5 @@ pub mod Order
 pub mod Alarms
 pub mod Nearest
 pub mod Search
+pub mod Found
 pub use Rattle.client_set.specs.Members

@@ -8,7 +8,8 @@ use Rattle.alarm_view.specs.declared.mode.Direction.TheVariants.{Older, Younger}
 
 abbrev pub mode_of : ℕ → Option SearchMode
 mode_of code =
-    first_row ((code == 1, BeforeOrAtTime) ∷ (code == 2, AtTime) ∷ (code == 3, AtOrAfterTime) ∷ (code == 4, BeforeTime) ∷ (code == 5, AfterTime) ∷ (code == 6, NotificationId) ∷ (code == 7, OnlyFilter) ∷ [])
+    first_row ((code == 1, BeforeOrAtTime) ∷ (code == 2, AtTime) ∷ (code == 3, AtOrAfterTime) ∷ (code == 4, BeforeTime)
+    ∷ (code == 5, AfterTime) ∷ (code == 6, NotificationId) ∷ (code == 7, OnlyFilter) ∷ [])
 
 abbrev pub direction_of : ℕ → Option Direction
 direction_of code = first_row ((code == 1, Older) ∷ (code == 2, Younger) ∷ [])

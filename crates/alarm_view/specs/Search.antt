@@ -1,4 +1,4 @@
--- Words of bodies alone: the same searches as functions that compute: what the bodies follow, and what definitions above this crate cite. No public clause names them.
+-- Words of bodies, of definitions above this crate, and of `law_of_search`, which ties them to the relations: searches as functions that compute.
 use Rattle.std.specs.Prelude.{ℤ, pos, Bool, true, not, ◌&&◌, int_lt, if◌then◌else◌, List, [], ◌∷◌, Option, Some, None}
 use Rattle.std.specs.Ordering.{int_eq}
 use Rattle.ntf_types.specs.declared.notification.Notification.{Notification}

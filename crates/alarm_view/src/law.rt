@@ -1,4 +1,4 @@
-//! Laws of the order of alarms, and of the nearest among them.
+//! Laws of the order of alarms, of the nearest among them, and of the searches for it.
 ghost use Rattle.std.specs.Prelude.{◌≡◌, true, false, ℤ, List};
 ghost use Rattle.ntf_types.specs.declared.notification.Notification.{Notification};
 ghost use Rattle.alarm_view.specs.declared.alarm.KeptAlarm.{KeptAlarm};
@@ -9,6 +9,7 @@ ghost use Rattle.alarm_view.specs.declared.mode.SearchMode.{SearchMode};
 ghost use Rattle.alarm_view.specs.Order.{Point, comes_before};
 ghost use Rattle.alarm_view.specs.Alarms.{notifications, AreInOrder};
 ghost use Rattle.alarm_view.specs.Nearest.{IsStart, IsNext};
+ghost use Rattle.alarm_view.specs.Found.{HoldsOnce, StartsExactly, FollowsExactly};
 
 /// In each direction the places are in an order: none is met before itself, of two with different
 /// ids exactly one is met first, and what is met before one that is met before a third is met
@@ -28,11 +29,18 @@ pub fn law_of_order()
 /// There is one starting alarm at most, and one alarm at most that is read next.
 pub fn law_of_nearest()
     ensures start { (mode : SearchMode) (value : ℤ) (filters : FilterSet)
-        (alarms : List KeptAlarm) → AreInOrder alarms → (one other : Notification) →
-        IsStart mode value filters (notifications alarms) one →
-        IsStart mode value filters (notifications alarms) other → one ≡ other }
+        (alarms : List KeptAlarm) → AreInOrder alarms →
+        HoldsOnce (IsStart mode value filters (notifications alarms)) }
     ensures next { (cursor : Cursor) (way : Direction) (filters : FilterSet)
-        (alarms : List KeptAlarm) → AreInOrder alarms → (one other : Notification) →
-        IsNext cursor way filters (notifications alarms) one →
-        IsNext cursor way filters (notifications alarms) other → one ≡ other }
+        (alarms : List KeptAlarm) → AreInOrder alarms →
+        HoldsOnce (IsNext cursor way filters (notifications alarms)) }
+{}
+
+/// The searches that definitions compute with, over alarms in order, the newest first, find exactly the starting
+/// alarm, and exactly the one that is read next; nothing is found exactly where there is no such alarm.
+pub fn law_of_search()
+    ensures start { (mode : SearchMode) (value : ℤ) (filters : FilterSet)
+        (alarms : List KeptAlarm) → AreInOrder alarms → StartsExactly mode value filters alarms }
+    ensures next { (cursor : Cursor) (way : Direction) (filters : FilterSet)
+        (alarms : List KeptAlarm) → AreInOrder alarms → FollowsExactly cursor way filters alarms }
 {}

@@ -10,6 +10,6 @@ mod view;
 
 pub use alarm::KeptAlarm;
 pub use cursor::Cursor;
-pub use law::{law_of_nearest, law_of_order};
+pub use law::{law_of_nearest, law_of_order, law_of_search};
 pub use mode::{Direction, SearchMode};
 pub use view::AlarmView;

@@ -1,5 +1,5 @@
 -- `==` of filters and of sets of filters decides whether they are equal.
-use Rattle.std.proofs.Common.{◌≡◌, nat_eq, ap}
+use Rattle.std.proofs.Common.{◌≡◌, ap}
 use Rattle.std.specs.Bool.{Decides}
 use Rattle.std.specs.Cmp.Lexicographic.{pointwise_decides}
 use Rattle.std.proofs.lemmas.Bool.Decides.{Decides-eqb, Decides-and, Decides-like}

@@ -1,5 +1,5 @@
 -- The tests of filters and of sets of filters decide what they stand for.
-use Rattle.std.proofs.Common.{◌≡◌, ◌↔◌, IsTrue, ℕ, Bool, ◌==◌, nat_eq, List, [], ◌∷◌, length, get_or, Contains, Option, Some, None, IsSome, IfSome, IsSomeAnd, is_some, refl, ap, sym, arith}
+use Rattle.std.proofs.Common.{◌≡◌, ◌↔◌, IsTrue, ℕ, Bool, ◌==◌, nat_eq, List, [], ◌∷◌, length, get_or, Contains, Option, Some, None, IsSome, IfSome, IsSomeAnd, is_some, refl, sym, arith}
 use Rattle.std.specs.List.{list_any}
 use Rattle.std.specs.Bool.{Decides, one_answer}
 use Rattle.std.specs.Str.{bytes_eq}

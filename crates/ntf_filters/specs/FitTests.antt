@@ -1,4 +1,4 @@
--- Words of definitions above this crate: what may be used, as a test that computes. A law says that it decides the same.
+-- Words of definitions above this crate, and of `law_of_tests`, which ties them to `IsFit`: what may be used, as a test that computes.
 use Rattle.std.specs.Prelude.{Bool, true, ◌&&◌, ◌||◌, ◌==◌, length, Option, Some, None, is_some}
 use Rattle.ntf_filters.specs.declared.filter.Filter.{Filter}
 use Rattle.ntf_filters.specs.declared.filter.FilterSet.{FilterSet}
@@ -20,4 +20,7 @@ has_filter filters =
 -- a set of filters that may be used
 unfoldable pub is_fit : FilterSet → Bool
 is_fit filters =
-    has_filter filters && (lists_no_alarms filters.objects && (lists_no_alarms filters.attributes && (lists_no_alarms filters.states && (lists_no_sources filters.alarms && lists_no_sources filters.security))))
+    has_filter filters
+    && (lists_no_alarms filters.objects
+    && (lists_no_alarms filters.attributes
+    && (lists_no_alarms filters.states && (lists_no_sources filters.alarms && lists_no_sources filters.security))))

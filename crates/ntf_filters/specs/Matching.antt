@@ -1,4 +1,4 @@
--- Words of bodies, and of definitions above this crate: what a set asks for, as tests that compute. A law says that they decide the same.
+-- Words of bodies, of definitions above this crate, and of `law_of_tests`, which ties them to `IsMatch`: what a set asks for, as tests that compute.
 use Rattle.std.specs.Prelude.{ℕ, Bool, false, ◌&&◌, ◌||◌, ◌==◌, nat_eq, List, length, Option, Some, None}
 use Rattle.std.specs.List.{list_any}
 use Rattle.std.specs.Str.{bytes_eq}
@@ -24,7 +24,8 @@ same_class one other = one.vendor == other.vendor && (one.major == other.major &
 -- the lists of what every notification has
 unfoldable pub admits_common : Notification → Filter → Bool
 admits_common notification filter =
-    admits nat_eq filter.types notification.event_type && admits bytes_eq filter.objects notification.object && admits bytes_eq filter.notifiers notification.notifier && admits same_class filter.classes notification.class
+    admits nat_eq filter.types notification.event_type && admits bytes_eq filter.objects notification.object
+    && admits bytes_eq filter.notifiers notification.notifier && admits same_class filter.classes notification.class
 
 -- the lists of what only some notifications have
 unfoldable pub admits_body : Body → Filter → Bool

@@ -9,5 +9,5 @@ mod matching;
 
 pub use check::check_filters;
 pub use filter::{Filter, FilterSet};
-pub use law::law_of_equality;
+pub use law::{law_of_equality, law_of_tests};
 pub use matching::matches;

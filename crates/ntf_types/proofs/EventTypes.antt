@@ -1,6 +1,7 @@
 -- The table of event types agrees with the definition by cases.
 use Rattle.std.proofs.Common.{◌≡◌, ℕ, Bool, true, false, ◌&&◌, ◌||◌, ◌==◌, nat_eq, cond, IsTrue, ◌↔◌, List, [], ◌∷◌, map, refl, ap, sym, ◌∙◌}
 use Rattle.std.specs.List.{list_any, filter, Contains}
+use Rattle.std.proofs.Math.Bool.{and-true, and-false}
 use Rattle.std.proofs.lemmas.Map.Views.{Contains-from_any, list_any-from_Contains}
 use Rattle.std.proofs.lemmas.Bool.{eqb-true}
 use Rattle.std.proofs.lemmas.Cmp.{nat_eq_equiv}
@@ -10,20 +11,12 @@ use Rattle.ntf_types.specs.declared.notification.Body.TheVariants.{Objects, Attr
 use Rattle.ntf_types.specs.Kinds.{kind_of, event_types_of}
 use Rattle.ntf_types.specs.EventRows.{kind_of_row, has_row, codes_in, HasEventTypes}
 
-and_true : (b : Bool) → (b && true) ≡ b
-and_true true = refl
-and_true false = refl
-
-and_false : (b : Bool) → (b && false) ≡ false
-and_false true = refl
-and_false false = refl
-
 -- a row counts only where it is of the type
 joined : (mine : Bool) (code event_type : ℕ) (codes : List ℕ) (rest : Bool) → rest ≡ list_any (nat_eq event_type) codes → (nat_eq event_type code && mine || rest) ≡ list_any (nat_eq event_type) (cond mine (code ∷ codes) codes)
 joined true code event_type codes rest tail =
-    ap (λ b. b || rest) (and_true (nat_eq event_type code)) ∙ ap (λ r. nat_eq event_type code || r) tail
+    ap (λ b. b || rest) (and-true (nat_eq event_type code)) ∙ ap (λ r. nat_eq event_type code || r) tail
 joined false code event_type codes rest tail =
-    ap (λ b. b || rest) (and_false (nat_eq event_type code)) ∙ tail
+    ap (λ b. b || rest) (and-false (nat_eq event_type code)) ∙ tail
 
 -- the codes of the rows of a type, one row at a time
 codes_in-cons : {S : Type 0} → (kind : ℕ) (row : CodeRow S) (rows : List (CodeRow S)) → codes_in kind (row ∷ rows) ≡ cond (kind_of_row row == kind) (row.code ∷ codes_in kind rows) (codes_in kind rows)

@@ -1,11 +1,12 @@
 -- The test of a notification decides whether it may be sent.
-use Rattle.std.proofs.Common.{ℕ, ◌≤◌, Bool, nat_eq, nat_le, List, length, Contains, Option, Some, None, IfSome, refl}
+use Rattle.std.proofs.Common.{ℕ, Bool, nat_eq, List, length, Contains, Option, Some, None, IfSome, refl}
 use Rattle.std.specs.List.{list_all, list_any}
 use Rattle.std.specs.Bool.{Decides}
-use Rattle.std.proofs.lemmas.Bool.{eqb-true, leb-true, le-leb}
+use Rattle.std.proofs.lemmas.Bool.{eqb-true}
 use Rattle.std.proofs.lemmas.Bool.Decides.{Decides-and, Decides-like, Decides-by_and}
 use Rattle.std.proofs.lemmas.Cmp.{nat_eq_equiv}
 use Rattle.std.proofs.lemmas.Map.Views.{Contains-from_any, list_any-from_Contains}
+use Rattle.ais_values.proofs.Comparing.{at_most}
 use Rattle.ais_values.proofs.TimeLaws.{is_time-decides}
 use Rattle.ntf_types.specs.declared.value.Value.{Value}
 use Rattle.ntf_types.specs.declared.value.Value.TheVariants.{Int, NameOf, TextOf, Binary}
@@ -16,10 +17,6 @@ use Rattle.ntf_types.specs.declared.notification.Notification.{Notification}
 use Rattle.ntf_types.specs.Kinds.{event_types_of}
 use Rattle.ntf_types.specs.Sound.{IsSource, IsShortValue, HasShortValue, IsShortChange, AreSound, IsSoundBody, IsSound}
 use Rattle.ntf_types.specs.SoundTests.{is_source, is_short, has_short, is_short_before, is_short_change, are_sound, is_sound_body, is_sound}
-
--- a number is at most another exactly where the test says so
-at_most : (a b : ℕ) → Decides (nat_le a b) (a ≤ b)
-at_most a b = (leb-true a b, le-leb a b)
 
 contains-decides : (value : ℕ) (values : List ℕ) → Decides (list_any (nat_eq value) values) (Contains values value)
 contains-decides value values =

@@ -1,4 +1,4 @@
--- Words of definitions above this crate: what may be sent, as a test that computes. A law says that it decides the same.
+-- Words of definitions above this crate, and of `law_of_tests`, which ties them to `IsSound`: what may be sent, as a test that computes.
 use Rattle.std.specs.Prelude.{ℕ, Bool, true, ◌&&◌, nat_eq, nat_le, List, length, Option, Some, None}
 use Rattle.std.specs.List.{list_all, list_any}
 use Rattle.ais_values.specs.TimeTests.{is_time}

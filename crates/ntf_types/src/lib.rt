@@ -8,6 +8,6 @@ mod notification;
 mod value;
 
 pub use check::{MAX_BYTES, MAX_ELEMENTS, MAX_SEVERITY, check_notification};
-pub use law::law_of_equality;
+pub use law::{law_of_equality, law_of_tests};
 pub use notification::{Body, Notification, kind_of};
 pub use value::{Change, Pair, StateChange, Value};

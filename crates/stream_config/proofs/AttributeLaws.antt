@@ -1,12 +1,12 @@
 -- The tests of attributes say what the rules say.
-use Rattle.std.proofs.Common.{◌≡◌, ◌≢◌, ℕ, ◌≤◌, List, length, nat_le, IsTrue, codes, refl}
+use Rattle.std.proofs.Common.{◌≡◌, ◌≢◌, ℕ, ◌≤◌, List, length, IsTrue, codes, refl}
 use Rattle.std.specs.Bool.{Decides}
 use Rattle.std.specs.List.{list_all, All}
-use Rattle.std.proofs.lemmas.Bool.{leb-true, le-leb}
 use Rattle.std.proofs.lemmas.Bool.Decides.{Decides-like, Decides-and, Decides-or, Decides-by_and}
 use Rattle.std.proofs.lemmas.Slice.Eq.{bytes_eq-Decides}
 use Rattle.ais_values.specs.declared.kind.StreamKind.{StreamKind}
 use Rattle.ais_values.specs.declared.kind.StreamKind.TheVariants.{Alarm, Notification, System, Application}
+use Rattle.ais_values.proofs.Comparing.{at_most}
 use Rattle.format_expr.specs.Language.{IsExpression}
 use Rattle.format_expr.specs.Scan.{is_expression}
 use Rattle.format_expr.specs.Tokens.{part_with, shown_parts}
@@ -16,16 +16,13 @@ use Rattle.stream_config.specs.Attributes.{is_file_byte, IsFileName, IsPath, IsS
 use Rattle.stream_config.specs.AttributeTests.{is_file_name, is_path, is_sized, is_format, passes_attrs, have_one_place}
 use Rattle.stream_config.specs.WellKnown.{default_attrs}
 
-decides_le : (a b : ℕ) → Decides (nat_le a b) (a ≤ b)
-decides_le a b = (leb-true a b, le-leb a b)
-
 decides_file_name : (bytes : List ℕ) → Decides (is_file_name bytes) (IsFileName bytes)
 decides_file_name bytes =
     Decides-like (is_file_name bytes)
     (λ (p : ((1 ≤ length bytes) × (length bytes ≤ 64)) × All (λ byte. IsTrue (is_file_byte byte)) bytes).
     record { some = p.0.0; bound = p.0.1; plain = p.1 })
     (λ (is : IsFileName bytes). ((is.some, is.bound), is.plain))
-    (Decides-and _ _ (Decides-and _ _ (decides_le 1 (length bytes)) (decides_le (length bytes) 64))
+    (Decides-and _ _ (Decides-and _ _ (at_most 1 (length bytes)) (at_most (length bytes) 64))
     (Decides-by_and is_file_byte (λ byte. IsTrue (is_file_byte byte)) (list_all is_file_byte) (λ byte. (λ e. e, λ e. e)) refl (λ _ _. refl) bytes))
 
 decides_path : (bytes : List ℕ) → Decides (is_path bytes) (IsPath bytes)
@@ -37,8 +34,8 @@ decides_sized attrs =
     (λ (p : (((32 ≤ attrs.record_size) × (attrs.record_size ≤ 16384)) × (attrs.record_size ≤ attrs.max_file)) × (attrs.max_file ≤ 1073741824)).
     record { least_record = p.0.0.0; greatest_record = p.0.0.1; least_file = p.0.1; greatest_file = p.1 })
     (λ (is : IsSized attrs). (((is.least_record, is.greatest_record), is.least_file), is.greatest_file))
-    (Decides-and _ _ (Decides-and _ _ (Decides-and _ _ (decides_le 32 attrs.record_size) (decides_le attrs.record_size 16384))
-    (decides_le attrs.record_size attrs.max_file)) (decides_le attrs.max_file 1073741824))
+    (Decides-and _ _ (Decides-and _ _ (Decides-and _ _ (at_most 32 attrs.record_size) (at_most attrs.record_size 16384))
+    (at_most attrs.record_size attrs.max_file)) (at_most attrs.max_file 1073741824))
 
 decides_format : (kind : StreamKind) (text : List ℕ) → Decides (is_format kind text) (IsFormat kind text)
 unfolding is_format
@@ -46,7 +43,7 @@ decides_format kind text =
     Decides-like (is_format kind text)
     (λ (p : (length text ≤ 1024) × IsExpression kind text). record { valid = p.1; bound = p.0 })
     (λ (is : IsFormat kind text). (is.bound, is.valid))
-    (Decides-and _ _ (decides_le (length text) 1024) (decides_expression kind text))
+    (Decides-and _ _ (at_most (length text) 1024) (decides_expression kind text))
 
 -- the whole test
 pub decides_attrs : (kind : StreamKind) (attrs : StreamAttrs) → Decides (passes_attrs kind attrs) (PassesAttrs kind attrs)
@@ -58,8 +55,8 @@ decides_attrs kind attrs =
     (λ (is : PassesAttrs kind attrs).
     ((((((is.file, is.path), is.sizes), is.ha), is.some_rotated), is.few_rotated), is.format))
     (Decides-and _ _ (Decides-and _ _ (Decides-and _ _ (Decides-and _ _ (Decides-and _ _ (Decides-and _ _
-    (decides_file_name attrs.file) (decides_path attrs.path)) (decides_sized attrs)) (decides_le attrs.ha 1))
-    (decides_le 1 attrs.rotated)) (decides_le attrs.rotated 128)) (decides_format kind attrs.expr))
+    (decides_file_name attrs.file) (decides_path attrs.path)) (decides_sized attrs)) (at_most attrs.ha 1))
+    (at_most 1 attrs.rotated)) (at_most attrs.rotated 128)) (decides_format kind attrs.expr))
 
 pub decides_place : (one other : StreamAttrs) → Decides (have_one_place one other) (HaveOnePlace one other)
 decides_place one other =

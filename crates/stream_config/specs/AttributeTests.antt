@@ -1,4 +1,4 @@
--- Words of public clauses of the layers above: the rules of attributes as tests that compute, which a law ties to the rules.
+-- Words of public clauses of the layers above: the rules of attributes as tests that compute. `law_of_tests` ties them to the rules.
 use Rattle.std.specs.Prelude.{ℕ, List, length, Bool, ◌&&◌, ◌||◌, nat_le, codes}
 use Rattle.std.specs.List.{list_all}
 use Rattle.std.specs.Str.{bytes_eq}

@@ -1,4 +1,4 @@
--- Words of public clauses of the layers above: tests of whether two names or two attributes are equal, which laws tie to equality.
+-- Words of public clauses of the layers above: tests of whether two names or two attributes are equal. `law_of_tests` ties them to equality.
 use Rattle.std.specs.Prelude.{ℕ, List, [], Bool, ◌&&◌, ◌==◌}
 use Rattle.std.specs.Str.{bytes_eq}
 use Rattle.stream_config.specs.declared.attrs.FullAction.{FullAction}

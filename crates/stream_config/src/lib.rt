@@ -6,6 +6,7 @@ mod cfg;
 mod check;
 mod defaults;
 mod event;
+mod law;
 mod sizes;
 mod state;
 
@@ -14,5 +15,6 @@ pub use cfg::cfg_text;
 pub use check::{check_attrs, have_one_place};
 pub use defaults::{default_format, well_known};
 pub use event::{Stamps, StreamEvent};
+pub use law::{law_of_equality, law_of_tests};
 pub use sizes::{per_file, stamp};
 pub use state::{LogFile, StreamState};

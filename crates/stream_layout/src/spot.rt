@@ -3,6 +3,8 @@ ghost use Rattle.std.specs.Prelude.{◌≡◌};
 ghost use Rattle.stream_config.specs.Attributes.{IsSized};
 ghost use Rattle.stream_layout.specs.Spots.{spot_of};
 
+use ais_values::Duplicate;
+use std::alloc::{AllocError, Global};
 use stream_config::{FullAction, StreamAttrs, per_file};
 
 /// The place of a record in the files of its stream.
@@ -12,6 +14,12 @@ pub struct Spot {
     pub file: u32,
     /// The offset of its first byte there.
     pub at: u64,
+}
+
+impl Duplicate for Spot {
+    fn copy(&self, _alloc: Global) -> Result<Self, AllocError> {
+        Ok(*self)
+    }
 }
 
 /// Where record `k` of a stream stands, counted from 0. A stream that wraps or halts has one file; one that
