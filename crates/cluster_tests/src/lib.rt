@@ -1,7 +1,9 @@
-//! Tests of a node of the cluster, and the laws over whole histories called once.
+//! Tests of a node of the cluster and of values that are handed to it, and the laws over whole histories called once.
 #![tactic(auto)]
 
 #[cfg(test)]
 mod mirror_tests;
+#[cfg(test)]
+mod saved_fit_tests;
 #[cfg(test)]
 mod service_laws_tests;

@@ -1,4 +1,4 @@
-//! Tests of the crates of the two services and of what is saved of them, a file a tested crate: what no clause says.
+//! Tests of the crates of the two services, a file a tested crate: what no clause says.
 #![tactic(auto)]
 
 #[cfg(test)]
@@ -19,8 +19,6 @@ mod ntf_service_tests;
 mod ntf_types_tests;
 #[cfg(test)]
 mod plain_service_tests;
-#[cfg(test)]
-mod saved_fit_tests;
 #[cfg(test)]
 mod service_parts_tests;
 #[cfg(test)]

@@ -314,6 +314,58 @@ fn application_streams(rt: HostRuntime) -> Result<(), Fail> {
     Ok(())
 }
 
+/// Whether the application's stream of this letter ends with this closing stamp.
+fn is_end(event: &StreamEvent, letter: u8, stamp: i64) -> bool {
+    match event {
+        StreamEvent::Ended { before, closed } => match &before.name {
+            StreamName::App { name } => name.as_slice() == [letter].as_slice() && *closed == stamp,
+            _ => false,
+        },
+        _ => false,
+    }
+}
+
+/// Client 1 closes all that it has open: whether the streams of two letters end then, one behind the other.
+fn end_in_order(
+    rt: &impl Abort,
+    alloc: Global,
+    state: &mut LogState,
+    first: (u8, i64),
+    second: (u8, i64),
+) -> Result<bool, Fail> {
+    assert!(rt; state.is_call_time(START));
+    let step = state.close_all(alloc, 1, START)?;
+    let in_order = match step.events.as_slice() {
+        [one, other] => is_end(one, first.0, first.1) && is_end(other, second.0, second.1),
+        _ => false,
+    };
+    drop(step);
+    Ok(in_order)
+}
+
+/// Streams end in the order in which they were made, and not in that of their names. One that another client has
+/// open stays.
+#[test]
+fn streams_end_in_order_of_creation(rt: HostRuntime) -> Result<(), Fail> {
+    let alloc = rt.alloc();
+    let mut state = opened(&rt, alloc, 64, FullAction::Wrap)?;
+    assert!(rt; init(alloc, &mut state, 2)? == Status::Ok);
+    for (client, letter) in [(1, b'c'), (1, b'a'), (1, b'b'), (2, b'a')] {
+        let own = attrs(alloc, [letter].as_slice(), 64, FullAction::Wrap)?;
+        assert!(rt; asks(&rt, alloc, &mut state, client, letter, &own)? == Status::Ok);
+    }
+    let ends = end_in_order(
+        &rt,
+        alloc,
+        &mut state,
+        (b'c', SECOND + 6),
+        (b'b', SECOND + 7),
+    )?;
+    assert!(rt; ends && state.count() == 4 && state.openers_at(3) == Some([2].as_slice()));
+    assert!(rt; state.last_stamp() == SECOND + 7);
+    Ok(())
+}
+
 /// The 65th stream of an application is refused.
 #[test]
 fn holds_64_application_streams(rt: HostRuntime) -> Result<(), Fail> {

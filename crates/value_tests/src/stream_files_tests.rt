@@ -94,8 +94,8 @@ fn each_device_call_fails_in_turn(rt: HostRuntime) -> Result<(), Fail> {
     Ok(())
 }
 
-/// The changing call of this number fails, and with `fails` the one before it too: whether the deeds made
-/// all calls before it and no others.
+/// The changing call of this number fails, and with `fails` the one before it too, and so does the first reading
+/// call: whether the deeds made all changing calls before it and no others, and no reading call.
 fn makes_calls_before(
     alloc: Global,
     deeds: &Seq<Deed>,
@@ -104,9 +104,10 @@ fn makes_calls_before(
 ) -> Result<bool, DiskAnswer> {
     let first = if fails { next.saturating_sub(1) } else { next };
     let failing = [first, next].to_vec(alloc)?;
-    let mut disk = MemDisk::new(alloc, failing, Vec::new(alloc), Vec::new(alloc));
+    let mut disk = MemDisk::new(alloc, failing, [1].to_vec(alloc)?, Vec::new(alloc));
     let answer = perform(&mut disk, deeds);
-    Ok(answer.is_err() == fails && disk.remove(b"none").is_err())
+    let changed = disk.remove(b"none").is_err();
+    Ok(answer.is_err() == fails && changed && disk.len(b"none").is_err())
 }
 
 #[test]

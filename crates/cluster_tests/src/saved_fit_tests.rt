@@ -1,20 +1,35 @@
-//! What no clause says: a value that keeps all rules is fit, and for each rule one that breaks it alone is not.
+//! A value that keeps all rules is fit, and for each rule one that breaks it alone is not. A service is made again
+//! of those that are fit.
 mod building;
 mod plan;
 
 use building::built;
+use calls::Saved;
 use plan::{
     ALARMS, ALARMS_BY_SOURCE, EMPTY, NONE, OBJECTS_BY_CAUSE, OBJECTS_TOO, Plan, alarm, reader,
     sound, stream, sub, window,
 };
 use saved_fit::is_fit;
+use service_core::Service;
 use std::alloc::Global;
 use std::process::Abort;
 
-/// Whether the value that a plan tells is fit.
+/// Whether a service is made again of a value.
+fn is_restored(alloc: Global, value: &Saved) -> bool {
+    match Service::restore(alloc, value) {
+        Ok(service) => {
+            drop(service);
+            true
+        }
+        Err(_) => false,
+    }
+}
+
+/// Whether the value that a plan tells is fit. Just then a service is made again of it.
 fn is_plan_fit(rt: &impl Abort, alloc: Global, plan: &Plan) -> bool {
     let value = built(rt, alloc, plan);
     let fit = is_fit(&value);
+    assert!(rt; is_restored(alloc, &value) == fit);
     drop(value);
     fit
 }
