@@ -1,8 +1,8 @@
 //! What a call came to.
 ghost use Rattle.std.specs.Prelude.{◌≡◌, []};
 
-use ais_values::{Seq, Status};
-use std::alloc::Global;
+use ais_values::{Duplicate, Seq, Status};
+use std::alloc::{AllocError, Global};
 use stream_config::StreamEvent;
 
 /// A call's answer, and what the call did to streams, in order.
@@ -10,6 +10,15 @@ use stream_config::StreamEvent;
 pub struct Step {
     pub status: Status,
     pub events: Seq<StreamEvent>,
+}
+
+impl Duplicate for Step {
+    fn copy(&self, alloc: Global) -> Result<Self, AllocError> {
+        Ok(Step {
+            status: self.status,
+            events: self.events.copy(alloc)?,
+        })
+    }
 }
 
 impl Step {
