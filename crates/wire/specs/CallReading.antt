@@ -17,7 +17,8 @@ use Rattle.ais_values.specs.declared.status.Status.TheVariants as status
 use Rattle.calls.specs.declared.call.Call.TheVariants as call
 use Rattle.calls.specs.declared.reply.Reply.TheVariants as reply
 use Rattle.calls.specs.declared.entry.Entry.TheVariants as entry
-use Rattle.wire_code.specs.Reading.{At, made, both, nothing, number_at, signed_at, client_at, count_at, list_at, option_at, text_at, tagged, variant, no_variant}
+use Rattle.wire_code.specs.Reading.{At, made, both, nothing, number_at, signed_at, client_at}
+use Rattle.wire_code.specs.Reading.{count_at, list_at, option_at, text_at, tagged, variant, no_variant}
 use Rattle.wire.specs.NtfReading.{notification_at, filter_set_at}
 use Rattle.wire.specs.LogReading.{stream_name_at, attrs_at, header_at}
 
@@ -59,7 +60,9 @@ unfoldable pub call_at : At Call
 call_at bytes = tagged
     (variant 1 (made (λ (_ : Unit {0}). call.LogInit) nothing)
     (variant 2 (made (λ (p : StreamName × Option StreamAttrs). call.LogOpen p.0 p.1) (both stream_name_at (option_at attrs_at)))
-    (variant 3 (made (λ (p : StreamName × (ℕ × (ℕ × (ℤ × (Header × List ℕ))))). call.LogWrite p.0 p.1.0 p.1.1.0 p.1.1.1.0 p.1.1.1.1.0 p.1.1.1.1.1) (both stream_name_at (both (number_at 8) (both (number_at 4) (both signed_at (both header_at text_at))))))
+    (variant 3 (made (λ (p : StreamName × (ℕ × (ℕ × (ℤ × (Header × List ℕ))))).
+    call.LogWrite p.0 p.1.0 p.1.1.0 p.1.1.1.0 p.1.1.1.1.0 p.1.1.1.1.1)
+    (both stream_name_at (both (number_at 8) (both (number_at 4) (both signed_at (both header_at text_at))))))
     (variant 4 (made (λ (x : StreamName). call.LogClose x) stream_name_at)
     (variant 5 (made (λ (_ : Unit {0}). call.LogFini) nothing)
     ntf_call_at))))) bytes

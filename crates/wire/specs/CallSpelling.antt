@@ -12,7 +12,8 @@ use Rattle.ais_values.specs.declared.status.Status.TheVariants as status
 use Rattle.calls.specs.declared.call.Call.TheVariants as call
 use Rattle.calls.specs.declared.reply.Reply.TheVariants as reply
 use Rattle.calls.specs.declared.entry.Entry.TheVariants as entry
-use Rattle.wire_code.specs.Spelling.{number_text, IsNumber, signed_text, IsSigned, counted_text, IsText, IsClient, IsCount, list_text, ListFits, option_text, OptionFits}
+use Rattle.wire_code.specs.Spelling.{number_text, IsNumber, signed_text, IsSigned, counted_text, IsText}
+use Rattle.wire_code.specs.Spelling.{IsClient, IsCount, list_text, ListFits, option_text, OptionFits}
 use Rattle.wire.specs.NtfSpelling.{notification_text, NotificationFits, filter_set_text, FilterSetFits}
 use Rattle.wire.specs.LogSpelling.{stream_name_text, StreamNameFits, attrs_text, AttrsFits, header_text, HeaderFits}
 
@@ -36,7 +37,9 @@ StatusFits status = Unit {0}
 unfoldable pub call_text : Call → List ℕ
 call_text call.LogInit = 1 ∷ []
 call_text (call.LogOpen stream create) = 2 ∷ (stream_name_text stream ++ option_text attrs_text create)
-call_text (call.LogWrite stream invocation flags time header body) = 3 ∷ (stream_name_text stream ++ (number_text 8 invocation ++ (number_text 4 flags ++ (signed_text time ++ (header_text header ++ counted_text body)))))
+call_text (call.LogWrite stream invocation flags time header body) =
+    3 ∷ (stream_name_text stream ++ (number_text 8 invocation ++ (number_text 4 flags ++ (signed_text time
+    ++ (header_text header ++ counted_text body)))))
 call_text (call.LogClose stream) = 4 ∷ stream_name_text stream
 call_text call.LogFini = 5 ∷ []
 call_text call.NtfInit = 6 ∷ []
@@ -51,7 +54,8 @@ call_text call.NtfFini = 13 ∷ []
 abbrev pub CallFits : Call → Type 0
 CallFits call.LogInit = Unit {0}
 CallFits (call.LogOpen stream create) = StreamNameFits stream × OptionFits AttrsFits create
-CallFits (call.LogWrite stream invocation flags time header body) = StreamNameFits stream × IsNumber 8 invocation × IsNumber 4 flags × IsSigned time × HeaderFits header × IsText body
+CallFits (call.LogWrite stream invocation flags time header body) =
+    StreamNameFits stream × IsNumber 8 invocation × IsNumber 4 flags × IsSigned time × HeaderFits header × IsText body
 CallFits (call.LogClose stream) = StreamNameFits stream
 CallFits call.LogFini = Unit {0}
 CallFits call.NtfInit = Unit {0}

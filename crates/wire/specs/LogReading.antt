@@ -32,10 +32,21 @@ stream_name_at bytes = tagged
 
 -- the attributes of a stream
 abbrev pub attrs_of : List ℕ × (List ℕ × (ℕ × (ℕ × (ℕ × (FullAction × (ℕ × List ℕ)))))) → StreamAttrs
-attrs_of p = record { file = p.0; path = p.1.0; max_file = p.1.1.0; record_size = p.1.1.1.0; ha = p.1.1.1.1.0; action = p.1.1.1.1.1.0; rotated = p.1.1.1.1.1.1.0; expr = p.1.1.1.1.1.1.1 }
+attrs_of p = record {
+  file = p.0;
+  path = p.1.0;
+  max_file = p.1.1.0;
+  record_size = p.1.1.1.0;
+  ha = p.1.1.1.1.0;
+  action = p.1.1.1.1.1.0;
+  rotated = p.1.1.1.1.1.1.0;
+  expr = p.1.1.1.1.1.1.1;
+}
 
 unfoldable pub attrs_at : At StreamAttrs
-attrs_at bytes = made attrs_of (both text_at (both text_at (both (number_at 8) (both (number_at 4) (both (number_at 1) (both action_at (both (number_at 4) text_at))))))) bytes
+attrs_at bytes =
+    made attrs_of (both text_at (both text_at (both (number_at 8) (both (number_at 4) (both (number_at 1)
+    (both action_at (both (number_at 4) text_at))))))) bytes
 
 -- a file of a stream, by its stamps
 abbrev pub log_file_of : ℤ × Option ℤ → LogFile
@@ -54,6 +65,8 @@ stream_at bytes = made stream_of (both stream_name_at (both attrs_at (both (numb
 -- the header of a log record
 unfoldable pub header_at : At Header
 header_at bytes = tagged
-    (variant 1 (made (λ (p : ℕ × (ℕ × (List ℕ × (List ℕ × (ClassId × ℤ))))). header.Ntf p.0 p.1.0 p.1.1.0 p.1.1.1.0 p.1.1.1.1.0 p.1.1.1.1.1) (both (number_at 8) (both (number_at 2) (both name_at (both name_at (both class_at signed_at))))))
+    (variant 1 (made (λ (p : ℕ × (ℕ × (List ℕ × (List ℕ × (ClassId × ℤ))))).
+    header.Ntf p.0 p.1.0 p.1.1.0 p.1.1.1.0 p.1.1.1.1.0 p.1.1.1.1.1)
+    (both (number_at 8) (both (number_at 2) (both name_at (both name_at (both class_at signed_at))))))
     (variant 2 (made (λ (p : ClassId × (List ℕ × ℕ)). header.Generic p.0 p.1.0 p.1.1) (both class_at (both name_at (number_at 2))))
     no_variant)) bytes

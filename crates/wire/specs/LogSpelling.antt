@@ -38,7 +38,9 @@ StreamNameFits (stream_name.App name) = IsName name
 -- the attributes of a stream
 unfoldable pub attrs_text : StreamAttrs → List ℕ
 attrs_text attrs =
-    counted_text attrs.file ++ (counted_text attrs.path ++ (number_text 8 attrs.max_file ++ (number_text 4 attrs.record_size ++ (number_text 1 attrs.ha ++ (action_text attrs.action ++ (number_text 4 attrs.rotated ++ counted_text attrs.expr))))))
+    counted_text attrs.file ++ (counted_text attrs.path ++ (number_text 8 attrs.max_file
+    ++ (number_text 4 attrs.record_size ++ (number_text 1 attrs.ha ++ (action_text attrs.action
+    ++ (number_text 4 attrs.rotated ++ counted_text attrs.expr))))))
 
 pub record AttrsFits (attrs : StreamAttrs) : Type 0 where
   pub file : IsText attrs.file
@@ -72,9 +74,12 @@ pub record StreamFits (stream : StreamState) : Type 0 where
 
 -- the header of a log record
 unfoldable pub header_text : Header → List ℕ
-header_text (header.Ntf id event_type object notifier class event_time) = 1 ∷ (number_text 8 id ++ (number_text 2 event_type ++ (counted_text object ++ (counted_text notifier ++ (class_text class ++ signed_text event_time)))))
+header_text (header.Ntf id event_type object notifier class event_time) =
+    1 ∷ (number_text 8 id ++ (number_text 2 event_type ++ (counted_text object ++ (counted_text notifier
+    ++ (class_text class ++ signed_text event_time)))))
 header_text (header.Generic class user severity) = 2 ∷ (class_text class ++ (counted_text user ++ number_text 2 severity))
 
 abbrev pub HeaderFits : Header → Type 0
-HeaderFits (header.Ntf id event_type object notifier class event_time) = IsNumber 8 id × IsNumber 2 event_type × IsName object × IsName notifier × ClassFits class × IsSigned event_time
+HeaderFits (header.Ntf id event_type object notifier class event_time) =
+    IsNumber 8 id × IsNumber 2 event_type × IsName object × IsName notifier × ClassFits class × IsSigned event_time
 HeaderFits (header.Generic class user severity) = ClassFits class × IsName user × IsNumber 2 severity

@@ -57,26 +57,53 @@ body_at bytes = tagged
     (variant 2 (made (λ (p : ℕ × List Change). body.Attributes p.0 p.1) (both (number_at 2) (list_at change_at)))
     (variant 3 (made (λ (p : ℕ × List StateChange). body.States p.0 p.1) (both (number_at 2) (list_at state_change_at)))
     (variant 4 (made (λ (p : ℕ × ℕ). body.Alarm p.0 p.1) (both (number_at 2) (number_at 2)))
-    (variant 5 (made (λ (p : ℕ × (ℕ × (Value × (Value × Value)))). body.Security p.0 p.1.0 p.1.1.0 p.1.1.1.0 p.1.1.1.1) (both (number_at 2) (both (number_at 2) (both value_at (both value_at value_at)))))
+    (variant 5 (made (λ (p : ℕ × (ℕ × (Value × (Value × Value)))). body.Security p.0 p.1.0 p.1.1.0 p.1.1.1.0 p.1.1.1.1)
+    (both (number_at 2) (both (number_at 2) (both value_at (both value_at value_at)))))
     no_variant))))) bytes
 
 -- a notification
 abbrev pub notification_of : ℕ × (ℕ × (List ℕ × (List ℕ × (ClassId × (ℤ × (List ℕ × (List ℕ × (List Pair × Body)))))))) → Notification
-notification_of p = record { id = p.0; event_type = p.1.0; object = p.1.1.0; notifier = p.1.1.1.0; class = p.1.1.1.1.0; event_time = p.1.1.1.1.1.0; correlated = p.1.1.1.1.1.1.0; text = p.1.1.1.1.1.1.1.0; info = p.1.1.1.1.1.1.1.1.0; body = p.1.1.1.1.1.1.1.1.1 }
+notification_of p = record {
+  id = p.0;
+  event_type = p.1.0;
+  object = p.1.1.0;
+  notifier = p.1.1.1.0;
+  class = p.1.1.1.1.0;
+  event_time = p.1.1.1.1.1.0;
+  correlated = p.1.1.1.1.1.1.0;
+  text = p.1.1.1.1.1.1.1.0;
+  info = p.1.1.1.1.1.1.1.1.0;
+  body = p.1.1.1.1.1.1.1.1.1;
+}
 
 unfoldable pub notification_at : At Notification
-notification_at bytes = made notification_of (both (number_at 8) (both (number_at 2) (both name_at (both name_at (both class_at (both signed_at (both (list_at (number_at 8)) (both text_at (both (list_at pair_at) body_at))))))))) bytes
+notification_at bytes =
+    made notification_of (both (number_at 8) (both (number_at 2) (both name_at (both name_at (both class_at
+    (both signed_at (both (list_at (number_at 8)) (both text_at (both (list_at pair_at) body_at))))))))) bytes
 
 -- a filter
 abbrev pub filter_of : List ℕ × (List (List ℕ) × (List (List ℕ) × (List ClassId × (List ℕ × (List ℕ × List ℕ))))) → Filter
-filter_of p = record { types = p.0; objects = p.1.0; notifiers = p.1.1.0; classes = p.1.1.1.0; sources = p.1.1.1.1.0; causes = p.1.1.1.1.1.0; severities = p.1.1.1.1.1.1 }
+filter_of p = record {
+  types = p.0;
+  objects = p.1.0;
+  notifiers = p.1.1.0;
+  classes = p.1.1.1.0;
+  sources = p.1.1.1.1.0;
+  causes = p.1.1.1.1.1.0;
+  severities = p.1.1.1.1.1.1;
+}
 
 unfoldable pub filter_at : At Filter
-filter_at bytes = made filter_of (both (list_at (number_at 2)) (both (list_at name_at) (both (list_at name_at) (both (list_at class_at) (both (list_at (number_at 2)) (both (list_at (number_at 2)) (list_at (number_at 2)))))))) bytes
+filter_at bytes =
+    made filter_of (both (list_at (number_at 2)) (both (list_at name_at) (both (list_at name_at)
+    (both (list_at class_at) (both (list_at (number_at 2))
+    (both (list_at (number_at 2)) (list_at (number_at 2)))))))) bytes
 
 -- at most one filter for each type
 abbrev pub filter_set_of : Option Filter × (Option Filter × (Option Filter × (Option Filter × Option Filter))) → FilterSet
 filter_set_of p = record { objects = p.0; attributes = p.1.0; states = p.1.1.0; alarms = p.1.1.1.0; security = p.1.1.1.1 }
 
 unfoldable pub filter_set_at : At FilterSet
-filter_set_at bytes = made filter_set_of (both (option_at filter_at) (both (option_at filter_at) (both (option_at filter_at) (both (option_at filter_at) (option_at filter_at))))) bytes
+filter_set_at bytes =
+    made filter_set_of (both (option_at filter_at) (both (option_at filter_at) (both (option_at filter_at)
+    (both (option_at filter_at) (option_at filter_at))))) bytes

@@ -72,19 +72,25 @@ body_text (body.Objects source attrs) = 1 ∷ (number_text 2 source ++ list_text
 body_text (body.Attributes source changes) = 2 ∷ (number_text 2 source ++ list_text change_text changes)
 body_text (body.States source changes) = 3 ∷ (number_text 2 source ++ list_text state_change_text changes)
 body_text (body.Alarm cause severity) = 4 ∷ (number_text 2 cause ++ number_text 2 severity)
-body_text (body.Security cause severity detector user provider) = 5 ∷ (number_text 2 cause ++ (number_text 2 severity ++ (value_text detector ++ (value_text user ++ value_text provider))))
+body_text (body.Security cause severity detector user provider) =
+    5 ∷ (number_text 2 cause ++ (number_text 2 severity ++ (value_text detector ++ (value_text user
+    ++ value_text provider))))
 
 abbrev pub BodyFits : Body → Type 0
 BodyFits (body.Objects source attrs) = IsNumber 2 source × ListFits PairFits attrs
 BodyFits (body.Attributes source changes) = IsNumber 2 source × ListFits ChangeFits changes
 BodyFits (body.States source changes) = IsNumber 2 source × ListFits StateChangeFits changes
 BodyFits (body.Alarm cause severity) = IsNumber 2 cause × IsNumber 2 severity
-BodyFits (body.Security cause severity detector user provider) = IsNumber 2 cause × IsNumber 2 severity × ValueFits detector × ValueFits user × ValueFits provider
+BodyFits (body.Security cause severity detector user provider) =
+    IsNumber 2 cause × IsNumber 2 severity × ValueFits detector × ValueFits user × ValueFits provider
 
 -- a notification
 unfoldable pub notification_text : Notification → List ℕ
 notification_text notification =
-    number_text 8 notification.id ++ (number_text 2 notification.event_type ++ (counted_text notification.object ++ (counted_text notification.notifier ++ (class_text notification.class ++ (signed_text notification.event_time ++ (list_text (number_text 8) notification.correlated ++ (counted_text notification.text ++ (list_text pair_text notification.info ++ body_text notification.body))))))))
+    number_text 8 notification.id ++ (number_text 2 notification.event_type ++ (counted_text notification.object
+    ++ (counted_text notification.notifier ++ (class_text notification.class ++ (signed_text notification.event_time
+    ++ (list_text (number_text 8) notification.correlated ++ (counted_text notification.text
+    ++ (list_text pair_text notification.info ++ body_text notification.body))))))))
 
 pub record NotificationFits (notification : Notification) : Type 0 where
   pub id : IsNumber 8 notification.id
@@ -101,7 +107,10 @@ pub record NotificationFits (notification : Notification) : Type 0 where
 -- a filter
 unfoldable pub filter_text : Filter → List ℕ
 filter_text filter =
-    list_text (number_text 2) filter.types ++ (list_text counted_text filter.objects ++ (list_text counted_text filter.notifiers ++ (list_text class_text filter.classes ++ (list_text (number_text 2) filter.sources ++ (list_text (number_text 2) filter.causes ++ list_text (number_text 2) filter.severities)))))
+    list_text (number_text 2) filter.types ++ (list_text counted_text filter.objects
+    ++ (list_text counted_text filter.notifiers ++ (list_text class_text filter.classes
+    ++ (list_text (number_text 2) filter.sources ++ (list_text (number_text 2) filter.causes
+    ++ list_text (number_text 2) filter.severities)))))
 
 pub record FilterFits (filter : Filter) : Type 0 where
   pub types : ListFits (IsNumber 2) filter.types
@@ -115,7 +124,9 @@ pub record FilterFits (filter : Filter) : Type 0 where
 -- at most one filter for each type
 unfoldable pub filter_set_text : FilterSet → List ℕ
 filter_set_text set =
-    option_text filter_text set.objects ++ (option_text filter_text set.attributes ++ (option_text filter_text set.states ++ (option_text filter_text set.alarms ++ option_text filter_text set.security)))
+    option_text filter_text set.objects ++ (option_text filter_text set.attributes
+    ++ (option_text filter_text set.states ++ (option_text filter_text set.alarms
+    ++ option_text filter_text set.security)))
 
 pub record FilterSetFits (set : FilterSet) : Type 0 where
   pub objects : OptionFits FilterFits set.objects

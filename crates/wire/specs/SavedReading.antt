@@ -43,7 +43,9 @@ abbrev pub saved_sub_of : ℕ × (ℕ × (ℕ × (FilterSet × (ℕ × (List Con
 saved_sub_of p = record { client = p.0; key = p.1.0; id = p.1.1.0; filters = p.1.1.1.0; first = p.1.1.1.1.0; held = p.1.1.1.1.1.0; lost = p.1.1.1.1.1.1 }
 
 unfoldable pub saved_sub_at : At SavedSub
-saved_sub_at bytes = made saved_sub_of (both client_at (both count_at (both (number_at 4) (both filter_set_at (both (number_at 4) (both (list_at content_at) (list_at lost_at))))))) bytes
+saved_sub_at bytes =
+    made saved_sub_of (both client_at (both count_at (both (number_at 4) (both filter_set_at (both (number_at 4)
+    (both (list_at content_at) (list_at lost_at))))))) bytes
 
 -- a reader of stored alarms
 abbrev pub saved_reader_of : ℕ × (FilterSet × (ℤ × (ℕ × Bool))) → SavedReader
@@ -53,8 +55,25 @@ unfoldable pub saved_reader_at : At SavedReader
 saved_reader_at bytes = made saved_reader_of (both client_at (both filter_set_at (both signed_at (both (number_at 8) flag_at)))) bytes
 
 -- the value of a service
-abbrev pub saved_of : ℕ × (ℤ × (ℕ × (ℕ × (List ℕ × (List ℕ × (List SavedWindow × (List SavedStream × (List SavedAlarm × (List SavedSub × List SavedReader))))))))) → Saved
-saved_of p = record { number = p.0; last_stamp = p.1.0; last_id = p.1.1.0; capacity = p.1.1.1.0; log_users = p.1.1.1.1.0; ntf_users = p.1.1.1.1.1.0; windows = p.1.1.1.1.1.1.0; streams = p.1.1.1.1.1.1.1.0; alarms = p.1.1.1.1.1.1.1.1.0; subs = p.1.1.1.1.1.1.1.1.1.0; readers = p.1.1.1.1.1.1.1.1.1.1 }
+abbrev pub saved_of : ℕ × (ℤ × (ℕ × (ℕ × (List ℕ × (List ℕ × (List SavedWindow × (List SavedStream × (List SavedAlarm
+    × (List SavedSub × List SavedReader))))))))) → Saved
+saved_of p = record {
+  number = p.0;
+  last_stamp = p.1.0;
+  last_id = p.1.1.0;
+  capacity = p.1.1.1.0;
+  log_users = p.1.1.1.1.0;
+  ntf_users = p.1.1.1.1.1.0;
+  windows = p.1.1.1.1.1.1.0;
+  streams = p.1.1.1.1.1.1.1.0;
+  alarms = p.1.1.1.1.1.1.1.1.0;
+  subs = p.1.1.1.1.1.1.1.1.1.0;
+  readers = p.1.1.1.1.1.1.1.1.1.1;
+}
 
 unfoldable pub saved_at : At Saved
-saved_at bytes = made saved_of (both (number_at 8) (both signed_at (both (number_at 8) (both (number_at 4) (both (list_at (number_at 2)) (both (list_at (number_at 2)) (both (list_at saved_window_at) (both (list_at saved_stream_at) (both (list_at saved_alarm_at) (both (list_at saved_sub_at) (list_at saved_reader_at))))))))))) bytes
+saved_at bytes =
+    made saved_of (both (number_at 8) (both signed_at (both (number_at 8) (both (number_at 4)
+    (both (list_at (number_at 2)) (both (list_at (number_at 2)) (both (list_at saved_window_at)
+    (both (list_at saved_stream_at) (both (list_at saved_alarm_at)
+    (both (list_at saved_sub_at) (list_at saved_reader_at))))))))))) bytes

@@ -47,7 +47,8 @@ pub record SavedAlarmFits (alarm : SavedAlarm) : Type 0 where
 -- a subscription
 unfoldable pub saved_sub_text : SavedSub → List ℕ
 saved_sub_text sub =
-    number_text 2 sub.client ++ (number_text 4 sub.key ++ (number_text 4 sub.id ++ (filter_set_text sub.filters ++ (number_text 4 sub.first ++ (list_text content_text sub.held ++ list_text lost_text sub.lost)))))
+    number_text 2 sub.client ++ (number_text 4 sub.key ++ (number_text 4 sub.id ++ (filter_set_text sub.filters
+    ++ (number_text 4 sub.first ++ (list_text content_text sub.held ++ list_text lost_text sub.lost)))))
 
 pub record SavedSubFits (sub : SavedSub) : Type 0 where
   pub client : IsClient sub.client
@@ -81,7 +82,11 @@ pub record SavedReaderInRange (reader : SavedReader) : Type 0 where
 -- the value of a service
 unfoldable pub saved_text : Saved → List ℕ
 saved_text saved =
-    number_text 8 saved.number ++ (signed_text saved.last_stamp ++ (number_text 8 saved.last_id ++ (number_text 4 saved.capacity ++ (list_text (number_text 2) saved.log_users ++ (list_text (number_text 2) saved.ntf_users ++ (list_text saved_window_text saved.windows ++ (list_text saved_stream_text saved.streams ++ (list_text saved_alarm_text saved.alarms ++ (list_text saved_sub_text saved.subs ++ list_text saved_reader_text saved.readers)))))))))
+    number_text 8 saved.number ++ (signed_text saved.last_stamp ++ (number_text 8 saved.last_id
+    ++ (number_text 4 saved.capacity ++ (list_text (number_text 2) saved.log_users
+    ++ (list_text (number_text 2) saved.ntf_users ++ (list_text saved_window_text saved.windows
+    ++ (list_text saved_stream_text saved.streams ++ (list_text saved_alarm_text saved.alarms
+    ++ (list_text saved_sub_text saved.subs ++ list_text saved_reader_text saved.readers)))))))))
 
 pub record SavedFits (saved : Saved) : Type 0 where
   pub number : IsNumber 8 saved.number

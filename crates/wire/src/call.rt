@@ -1,7 +1,10 @@
 //! Spelling and reading of calls, replies, items and entries.
+ghost use Rattle.std.specs.Prelude.{◌≡◌, ◌∷◌, []};
 ghost use Rattle.wire_code.specs.Reading.{Gives};
+ghost use Rattle.wire.specs.CallSpelling.{status_text};
 ghost use Rattle.wire.specs.CallReading.{ntf_call_at, reader_call_at};
 
+use crate::parts::{Parts, spell_tag, spell_tagged};
 use crate::wire::Wire;
 use ais_values::{Seq, Status, Text};
 use calls::{Call, Entry, Reply};
@@ -13,6 +16,25 @@ use stream_config::StreamName;
 use sub_queue::{Content, Item, Lost};
 use wire_code::{Fault, Trouble, read_client, read_count, read_first};
 
+/// The byte of a status.
+#[tactic(auto, unfolding(crate::specs::CallSpelling::status_text))]
+fn status_tag(status: Status) -> u8
+    ensures { status_text status ≡ result ∷ [] }
+{
+    match status {
+        Status::Ok => 1,
+        Status::Version => 3,
+        Status::TryAgain => 6,
+        Status::InvalidParam => 7,
+        Status::BadHandle => 9,
+        Status::NotExist => 12,
+        Status::Exist => 14,
+        Status::NoSpace => 15,
+        Status::NoResources => 18,
+        Status::BadFlags => 25,
+    }
+}
+
 impl Wire for Status {
     ghost use Rattle.wire.specs.CallSpelling.{status_text, StatusFits};
     ghost use Rattle.wire.specs.CallReading.{status_at};
@@ -23,50 +45,9 @@ impl Wire for Status {
 
     ghost at = { status_at };
 
-    #[tactic(auto, unfolding(crate::specs::CallSpelling::status_text))]
     fn spell(&self, out: &mut Vec<u8>) -> Result<(), AllocError> {
-        match self {
-            Status::Ok => {
-                out.push(1)?;
-                Ok(())
-            }
-            Status::Version => {
-                out.push(3)?;
-                Ok(())
-            }
-            Status::TryAgain => {
-                out.push(6)?;
-                Ok(())
-            }
-            Status::InvalidParam => {
-                out.push(7)?;
-                Ok(())
-            }
-            Status::BadHandle => {
-                out.push(9)?;
-                Ok(())
-            }
-            Status::NotExist => {
-                out.push(12)?;
-                Ok(())
-            }
-            Status::Exist => {
-                out.push(14)?;
-                Ok(())
-            }
-            Status::NoSpace => {
-                out.push(15)?;
-                Ok(())
-            }
-            Status::NoResources => {
-                out.push(18)?;
-                Ok(())
-            }
-            Status::BadFlags => {
-                out.push(25)?;
-                Ok(())
-            }
-        }
+        spell_tag(status_tag(*self), out)?;
+        Ok(())
     }
 
     #[tactic(auto, unfolding(crate::specs::CallReading::status_at))]
@@ -153,13 +134,11 @@ impl Wire for Call {
     fn spell(&self, out: &mut Vec<u8>) -> Result<(), AllocError> {
         match self {
             Call::LogInit => {
-                out.push(1)?;
+                spell_tag(1, out)?;
                 Ok(())
             }
             Call::LogOpen { stream, create } => {
-                out.push(2)?;
-                stream.spell(out)?;
-                create.spell(out)?;
+                spell_tagged(2, &(stream, create), out)?;
                 Ok(())
             }
             Call::LogWrite {
@@ -170,42 +149,35 @@ impl Wire for Call {
                 header,
                 body,
             } => {
-                out.push(3)?;
-                stream.spell(out)?;
-                invocation.spell(out)?;
-                flags.spell(out)?;
-                time.spell(out)?;
-                header.spell(out)?;
-                body.spell(out)?;
+                spell_tagged(
+                    3,
+                    &(stream, (invocation, (flags, (time, (header, body))))),
+                    out,
+                )?;
                 Ok(())
             }
             Call::LogClose { stream } => {
-                out.push(4)?;
-                stream.spell(out)?;
+                spell_tagged(4, &stream, out)?;
                 Ok(())
             }
             Call::LogFini => {
-                out.push(5)?;
+                spell_tag(5, out)?;
                 Ok(())
             }
             Call::NtfInit => {
-                out.push(6)?;
+                spell_tag(6, out)?;
                 Ok(())
             }
             Call::NtfSend { notification } => {
-                out.push(7)?;
-                notification.spell(out)?;
+                spell_tagged(7, &notification, out)?;
                 Ok(())
             }
             Call::NtfSubscribe { id, filters } => {
-                out.push(8)?;
-                id.spell(out)?;
-                filters.spell(out)?;
+                spell_tagged(8, &(id, filters), out)?;
                 Ok(())
             }
             Call::NtfUnsubscribe { id } => {
-                out.push(9)?;
-                id.spell(out)?;
+                spell_tagged(9, &id, out)?;
                 Ok(())
             }
             Call::ReaderStart {
@@ -213,23 +185,19 @@ impl Wire for Call {
                 value,
                 filters,
             } => {
-                out.push(10)?;
-                mode.spell(out)?;
-                value.spell(out)?;
-                filters.spell(out)?;
+                spell_tagged(10, &(mode, (value, filters)), out)?;
                 Ok(())
             }
             Call::ReaderRead { direction } => {
-                out.push(11)?;
-                direction.spell(out)?;
+                spell_tagged(11, &direction, out)?;
                 Ok(())
             }
             Call::ReaderEnd => {
-                out.push(12)?;
+                spell_tag(12, out)?;
                 Ok(())
             }
             Call::NtfFini => {
-                out.push(13)?;
+                spell_tag(13, out)?;
                 Ok(())
             }
         }
@@ -286,22 +254,19 @@ impl Wire for Reply {
     fn spell(&self, out: &mut Vec<u8>) -> Result<(), AllocError> {
         match self {
             Reply::Refused { status } => {
-                out.push(1)?;
-                status.spell(out)?;
+                spell_tagged(1, &status, out)?;
                 Ok(())
             }
             Reply::Done => {
-                out.push(2)?;
+                spell_tag(2, out)?;
                 Ok(())
             }
             Reply::Sent { id } => {
-                out.push(3)?;
-                id.spell(out)?;
+                spell_tagged(3, &id, out)?;
                 Ok(())
             }
             Reply::Found { notification } => {
-                out.push(4)?;
-                notification.spell(out)?;
+                spell_tagged(4, &notification, out)?;
                 Ok(())
             }
         }
@@ -341,8 +306,7 @@ impl Wire for Lost {
 
     #[tactic(auto, unfolding(crate::specs::CallSpelling::lost_text))]
     fn spell(&self, out: &mut Vec<u8>) -> Result<(), AllocError> {
-        self.kind.spell(out)?;
-        self.id.spell(out)?;
+        (&self.kind, &self.id).spell_parts(out)?;
         Ok(())
     }
 
@@ -367,13 +331,11 @@ impl Wire for Content {
     fn spell(&self, out: &mut Vec<u8>) -> Result<(), AllocError> {
         match self {
             Content::Notified { notification } => {
-                out.push(1)?;
-                notification.spell(out)?;
+                spell_tagged(1, &notification, out)?;
                 Ok(())
             }
             Content::Discarded { lost } => {
-                out.push(2)?;
-                lost.spell(out)?;
+                spell_tagged(2, &lost, out)?;
                 Ok(())
             }
         }
@@ -410,8 +372,7 @@ impl Wire for Item {
 
     #[tactic(auto, unfolding(crate::specs::CallSpelling::item_text))]
     fn spell(&self, out: &mut Vec<u8>) -> Result<(), AllocError> {
-        self.number.spell(out)?;
-        self.content.spell(out)?;
+        (&self.number, &self.content).spell_parts(out)?;
         Ok(())
     }
 
@@ -444,11 +405,7 @@ impl Wire for Entry {
                 time,
                 call,
             } => {
-                out.push(1)?;
-                client.spell(out)?;
-                seq.spell(out)?;
-                time.spell(out)?;
-                call.spell(out)?;
+                spell_tagged(1, &(client, (seq, (time, call))), out)?;
                 Ok(())
             }
             Entry::Receipted {
@@ -457,11 +414,7 @@ impl Wire for Entry {
                 through,
                 time,
             } => {
-                out.push(2)?;
-                client.spell(out)?;
-                key.spell(out)?;
-                through.spell(out)?;
-                time.spell(out)?;
+                spell_tagged(2, &(client, (key, (through, time))), out)?;
                 Ok(())
             }
         }

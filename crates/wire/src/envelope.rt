@@ -3,6 +3,7 @@ ghost use Rattle.wire_code.specs.Reading.{Gives};
 ghost use Rattle.wire.specs.MessageReading.{server_message_at};
 
 use crate::Message;
+use crate::parts::spell_tagged;
 use crate::wire::Wire;
 use calls::{Call, Entry, Reply, Saved};
 use std::alloc::{AllocError, Global};
@@ -50,24 +51,15 @@ impl Wire for Message {
     fn spell(&self, out: &mut Vec<u8>) -> Result<(), AllocError> {
         match self {
             Message::Request { client, seq, call } => {
-                out.push(1)?;
-                client.spell(out)?;
-                seq.spell(out)?;
-                call.spell(out)?;
+                spell_tagged(1, &(client, (seq, call)), out)?;
                 Ok(())
             }
             Message::Reply { client, seq, reply } => {
-                out.push(2)?;
-                client.spell(out)?;
-                seq.spell(out)?;
-                reply.spell(out)?;
+                spell_tagged(2, &(client, (seq, reply)), out)?;
                 Ok(())
             }
             Message::Item { client, key, item } => {
-                out.push(3)?;
-                client.spell(out)?;
-                key.spell(out)?;
-                item.spell(out)?;
+                spell_tagged(3, &(client, (key, item)), out)?;
                 Ok(())
             }
             Message::Receipt {
@@ -75,31 +67,23 @@ impl Wire for Message {
                 key,
                 through,
             } => {
-                out.push(4)?;
-                client.spell(out)?;
-                key.spell(out)?;
-                through.spell(out)?;
+                spell_tagged(4, &(client, (key, through)), out)?;
                 Ok(())
             }
             Message::Mirror { number, entry } => {
-                out.push(5)?;
-                number.spell(out)?;
-                entry.spell(out)?;
+                spell_tagged(5, &(number, entry), out)?;
                 Ok(())
             }
             Message::MirrorAck { number } => {
-                out.push(6)?;
-                number.spell(out)?;
+                spell_tagged(6, &number, out)?;
                 Ok(())
             }
             Message::Snapshot { saved } => {
-                out.push(7)?;
-                saved.spell(out)?;
+                spell_tagged(7, &saved, out)?;
                 Ok(())
             }
             Message::JoinAck { number } => {
-                out.push(8)?;
-                number.spell(out)?;
+                spell_tagged(8, &number, out)?;
                 Ok(())
             }
         }

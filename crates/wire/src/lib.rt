@@ -10,6 +10,7 @@ mod log;
 mod message;
 mod ntf;
 mod number;
+mod parts;
 mod saved;
 mod text;
 mod wire;

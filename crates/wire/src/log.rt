@@ -1,4 +1,5 @@
 //! Spelling and reading of streams and log records.
+use crate::parts::{Parts, spell_tag, spell_tagged};
 use crate::wire::Wire;
 use ais_values::{ClassId, Name, Seq, Text};
 use record_print::Header;
@@ -20,15 +21,15 @@ impl Wire for FullAction {
     fn spell(&self, out: &mut Vec<u8>) -> Result<(), AllocError> {
         match self {
             FullAction::Wrap => {
-                out.push(1)?;
+                spell_tag(1, out)?;
                 Ok(())
             }
             FullAction::Halt => {
-                out.push(2)?;
+                spell_tag(2, out)?;
                 Ok(())
             }
             FullAction::Rotate => {
-                out.push(3)?;
+                spell_tag(3, out)?;
                 Ok(())
             }
         }
@@ -60,20 +61,19 @@ impl Wire for StreamName {
     fn spell(&self, out: &mut Vec<u8>) -> Result<(), AllocError> {
         match self {
             StreamName::Alarm => {
-                out.push(1)?;
+                spell_tag(1, out)?;
                 Ok(())
             }
             StreamName::Notification => {
-                out.push(2)?;
+                spell_tag(2, out)?;
                 Ok(())
             }
             StreamName::System => {
-                out.push(3)?;
+                spell_tag(3, out)?;
                 Ok(())
             }
             StreamName::App { name } => {
-                out.push(4)?;
-                name.spell(out)?;
+                spell_tagged(4, &name, out)?;
                 Ok(())
             }
         }
@@ -107,14 +107,20 @@ impl Wire for StreamAttrs {
 
     #[tactic(auto, unfolding(crate::specs::LogSpelling::attrs_text))]
     fn spell(&self, out: &mut Vec<u8>) -> Result<(), AllocError> {
-        self.file.spell(out)?;
-        self.path.spell(out)?;
-        self.max_file.spell(out)?;
-        self.record_size.spell(out)?;
-        self.ha.spell(out)?;
-        self.action.spell(out)?;
-        self.rotated.spell(out)?;
-        self.expr.spell(out)?;
+        (
+            &self.file,
+            (
+                &self.path,
+                (
+                    &self.max_file,
+                    (
+                        &self.record_size,
+                        (&self.ha, (&self.action, (&self.rotated, &self.expr))),
+                    ),
+                ),
+            ),
+        )
+            .spell_parts(out)?;
         Ok(())
     }
 
@@ -150,8 +156,7 @@ impl Wire for LogFile {
 
     #[tactic(auto, unfolding(crate::specs::LogSpelling::log_file_text))]
     fn spell(&self, out: &mut Vec<u8>) -> Result<(), AllocError> {
-        self.created.spell(out)?;
-        self.closed.spell(out)?;
+        (&self.created, &self.closed).spell_parts(out)?;
         Ok(())
     }
 
@@ -174,10 +179,7 @@ impl Wire for StreamState {
 
     #[tactic(auto, unfolding(crate::specs::LogSpelling::stream_text))]
     fn spell(&self, out: &mut Vec<u8>) -> Result<(), AllocError> {
-        self.name.spell(out)?;
-        self.attrs.spell(out)?;
-        self.taken.spell(out)?;
-        self.files.spell(out)?;
+        (&self.name, (&self.attrs, (&self.taken, &self.files))).spell_parts(out)?;
         Ok(())
     }
 
@@ -217,13 +219,11 @@ impl Wire for Header {
                 class,
                 event_time,
             } => {
-                out.push(1)?;
-                id.spell(out)?;
-                event_type.spell(out)?;
-                object.spell(out)?;
-                notifier.spell(out)?;
-                class.spell(out)?;
-                event_time.spell(out)?;
+                spell_tagged(
+                    1,
+                    &(id, (event_type, (object, (notifier, (class, event_time))))),
+                    out,
+                )?;
                 Ok(())
             }
             Header::Generic {
@@ -231,10 +231,7 @@ impl Wire for Header {
                 user,
                 severity,
             } => {
-                out.push(2)?;
-                class.spell(out)?;
-                user.spell(out)?;
-                severity.spell(out)?;
+                spell_tagged(2, &(class, (user, severity)), out)?;
                 Ok(())
             }
         }

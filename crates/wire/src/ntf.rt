@@ -1,4 +1,5 @@
 //! Spelling and reading of notifications and filters.
+use crate::parts::{Parts, spell_tagged};
 use crate::wire::Wire;
 use ais_values::{ClassId, Name, Seq, Text};
 use ntf_filters::{Filter, FilterSet};
@@ -18,9 +19,7 @@ impl Wire for ClassId {
 
     #[tactic(auto, unfolding(crate::specs::NtfSpelling::class_text))]
     fn spell(&self, out: &mut Vec<u8>) -> Result<(), AllocError> {
-        self.vendor.spell(out)?;
-        self.major.spell(out)?;
-        self.minor.spell(out)?;
+        (&self.vendor, (&self.major, &self.minor)).spell_parts(out)?;
         Ok(())
     }
 
@@ -52,23 +51,19 @@ impl Wire for Value {
     fn spell(&self, out: &mut Vec<u8>) -> Result<(), AllocError> {
         match self {
             Value::Int { value } => {
-                out.push(1)?;
-                value.spell(out)?;
+                spell_tagged(1, &value, out)?;
                 Ok(())
             }
             Value::NameOf { name } => {
-                out.push(2)?;
-                name.spell(out)?;
+                spell_tagged(2, &name, out)?;
                 Ok(())
             }
             Value::TextOf { text } => {
-                out.push(3)?;
-                text.spell(out)?;
+                spell_tagged(3, &text, out)?;
                 Ok(())
             }
             Value::Binary { bytes } => {
-                out.push(4)?;
-                bytes.spell(out)?;
+                spell_tagged(4, &bytes, out)?;
                 Ok(())
             }
         }
@@ -111,8 +106,7 @@ impl Wire for Pair {
 
     #[tactic(auto, unfolding(crate::specs::NtfSpelling::pair_text))]
     fn spell(&self, out: &mut Vec<u8>) -> Result<(), AllocError> {
-        self.id.spell(out)?;
-        self.value.spell(out)?;
+        (&self.id, &self.value).spell_parts(out)?;
         Ok(())
     }
 
@@ -135,9 +129,7 @@ impl Wire for Change {
 
     #[tactic(auto, unfolding(crate::specs::NtfSpelling::change_text))]
     fn spell(&self, out: &mut Vec<u8>) -> Result<(), AllocError> {
-        self.id.spell(out)?;
-        self.after.spell(out)?;
-        self.before.spell(out)?;
+        (&self.id, (&self.after, &self.before)).spell_parts(out)?;
         Ok(())
     }
 
@@ -160,9 +152,7 @@ impl Wire for StateChange {
 
     #[tactic(auto, unfolding(crate::specs::NtfSpelling::state_change_text))]
     fn spell(&self, out: &mut Vec<u8>) -> Result<(), AllocError> {
-        self.id.spell(out)?;
-        self.after.spell(out)?;
-        self.before.spell(out)?;
+        (&self.id, (&self.after, &self.before)).spell_parts(out)?;
         Ok(())
     }
 
@@ -187,27 +177,19 @@ impl Wire for Body {
     fn spell(&self, out: &mut Vec<u8>) -> Result<(), AllocError> {
         match self {
             Body::Objects { source, attrs } => {
-                out.push(1)?;
-                source.spell(out)?;
-                attrs.spell(out)?;
+                spell_tagged(1, &(source, attrs), out)?;
                 Ok(())
             }
             Body::Attributes { source, changes } => {
-                out.push(2)?;
-                source.spell(out)?;
-                changes.spell(out)?;
+                spell_tagged(2, &(source, changes), out)?;
                 Ok(())
             }
             Body::States { source, changes } => {
-                out.push(3)?;
-                source.spell(out)?;
-                changes.spell(out)?;
+                spell_tagged(3, &(source, changes), out)?;
                 Ok(())
             }
             Body::Alarm { cause, severity } => {
-                out.push(4)?;
-                cause.spell(out)?;
-                severity.spell(out)?;
+                spell_tagged(4, &(cause, severity), out)?;
                 Ok(())
             }
             Body::Security {
@@ -217,12 +199,7 @@ impl Wire for Body {
                 user,
                 provider,
             } => {
-                out.push(5)?;
-                cause.spell(out)?;
-                severity.spell(out)?;
-                detector.spell(out)?;
-                user.spell(out)?;
-                provider.spell(out)?;
+                spell_tagged(5, &(cause, (severity, (detector, (user, provider)))), out)?;
                 Ok(())
             }
         }
@@ -280,16 +257,26 @@ impl Wire for Notification {
 
     #[tactic(auto, unfolding(crate::specs::NtfSpelling::notification_text))]
     fn spell(&self, out: &mut Vec<u8>) -> Result<(), AllocError> {
-        self.id.spell(out)?;
-        self.event_type.spell(out)?;
-        self.object.spell(out)?;
-        self.notifier.spell(out)?;
-        self.class.spell(out)?;
-        self.event_time.spell(out)?;
-        self.correlated.spell(out)?;
-        self.text.spell(out)?;
-        self.info.spell(out)?;
-        self.body.spell(out)?;
+        (
+            &self.id,
+            (
+                &self.event_type,
+                (
+                    &self.object,
+                    (
+                        &self.notifier,
+                        (
+                            &self.class,
+                            (
+                                &self.event_time,
+                                (&self.correlated, (&self.text, (&self.info, &self.body))),
+                            ),
+                        ),
+                    ),
+                ),
+            ),
+        )
+            .spell_parts(out)?;
         Ok(())
     }
 
@@ -335,13 +322,20 @@ impl Wire for Filter {
 
     #[tactic(auto, unfolding(crate::specs::NtfSpelling::filter_text))]
     fn spell(&self, out: &mut Vec<u8>) -> Result<(), AllocError> {
-        self.types.spell(out)?;
-        self.objects.spell(out)?;
-        self.notifiers.spell(out)?;
-        self.classes.spell(out)?;
-        self.sources.spell(out)?;
-        self.causes.spell(out)?;
-        self.severities.spell(out)?;
+        (
+            &self.types,
+            (
+                &self.objects,
+                (
+                    &self.notifiers,
+                    (
+                        &self.classes,
+                        (&self.sources, (&self.causes, &self.severities)),
+                    ),
+                ),
+            ),
+        )
+            .spell_parts(out)?;
         Ok(())
     }
 
@@ -376,11 +370,14 @@ impl Wire for FilterSet {
 
     #[tactic(auto, unfolding(crate::specs::NtfSpelling::filter_set_text))]
     fn spell(&self, out: &mut Vec<u8>) -> Result<(), AllocError> {
-        self.objects.spell(out)?;
-        self.attributes.spell(out)?;
-        self.states.spell(out)?;
-        self.alarms.spell(out)?;
-        self.security.spell(out)?;
+        (
+            &self.objects,
+            (
+                &self.attributes,
+                (&self.states, (&self.alarms, &self.security)),
+            ),
+        )
+            .spell_parts(out)?;
         Ok(())
     }
 

@@ -1,4 +1,5 @@
 //! Spelling and reading of the saved value of a service.
+use crate::parts::Parts;
 use crate::wire::Wire;
 use ais_values::Seq;
 use calls::{Saved, SavedAlarm, SavedReader, SavedStream, SavedSub, SavedWindow};
@@ -22,9 +23,7 @@ impl Wire for SavedWindow {
 
     #[tactic(auto, unfolding(crate::specs::SavedSpelling::saved_window_text))]
     fn spell(&self, out: &mut Vec<u8>) -> Result<(), AllocError> {
-        self.client.spell(out)?;
-        self.next.spell(out)?;
-        self.replies.spell(out)?;
+        (&self.client, (&self.next, &self.replies)).spell_parts(out)?;
         Ok(())
     }
 
@@ -56,8 +55,7 @@ impl Wire for SavedStream {
 
     #[tactic(auto, unfolding(crate::specs::SavedSpelling::saved_stream_text))]
     fn spell(&self, out: &mut Vec<u8>) -> Result<(), AllocError> {
-        self.state.spell(out)?;
-        self.openers.spell(out)?;
+        (&self.state, &self.openers).spell_parts(out)?;
         Ok(())
     }
 
@@ -80,8 +78,7 @@ impl Wire for SavedAlarm {
 
     #[tactic(auto, unfolding(crate::specs::SavedSpelling::saved_alarm_text))]
     fn spell(&self, out: &mut Vec<u8>) -> Result<(), AllocError> {
-        self.k.spell(out)?;
-        self.notification.spell(out)?;
+        (&self.k, &self.notification).spell_parts(out)?;
         Ok(())
     }
 
@@ -106,13 +103,17 @@ impl Wire for SavedSub {
 
     #[tactic(auto, unfolding(crate::specs::SavedSpelling::saved_sub_text))]
     fn spell(&self, out: &mut Vec<u8>) -> Result<(), AllocError> {
-        self.client.spell(out)?;
-        self.key.spell(out)?;
-        self.id.spell(out)?;
-        self.filters.spell(out)?;
-        self.first.spell(out)?;
-        self.held.spell(out)?;
-        self.lost.spell(out)?;
+        (
+            &self.client,
+            (
+                &self.key,
+                (
+                    &self.id,
+                    (&self.filters, (&self.first, (&self.held, &self.lost))),
+                ),
+            ),
+        )
+            .spell_parts(out)?;
         Ok(())
     }
 
@@ -150,11 +151,11 @@ impl Wire for SavedReader {
 
     #[tactic(auto, unfolding(crate::specs::SavedSpelling::saved_reader_text))]
     fn spell(&self, out: &mut Vec<u8>) -> Result<(), AllocError> {
-        self.client.spell(out)?;
-        self.filters.spell(out)?;
-        self.time.spell(out)?;
-        self.id.spell(out)?;
-        self.fresh.spell(out)?;
+        (
+            &self.client,
+            (&self.filters, (&self.time, (&self.id, &self.fresh))),
+        )
+            .spell_parts(out)?;
         Ok(())
     }
 
@@ -189,17 +190,29 @@ impl Wire for Saved {
 
     #[tactic(auto, unfolding(crate::specs::SavedSpelling::saved_text))]
     fn spell(&self, out: &mut Vec<u8>) -> Result<(), AllocError> {
-        self.number.spell(out)?;
-        self.last_stamp.spell(out)?;
-        self.last_id.spell(out)?;
-        self.capacity.spell(out)?;
-        self.log_users.spell(out)?;
-        self.ntf_users.spell(out)?;
-        self.windows.spell(out)?;
-        self.streams.spell(out)?;
-        self.alarms.spell(out)?;
-        self.subs.spell(out)?;
-        self.readers.spell(out)?;
+        (
+            &self.number,
+            (
+                &self.last_stamp,
+                (
+                    &self.last_id,
+                    (
+                        &self.capacity,
+                        (
+                            &self.log_users,
+                            (
+                                &self.ntf_users,
+                                (
+                                    &self.windows,
+                                    (&self.streams, (&self.alarms, (&self.subs, &self.readers))),
+                                ),
+                            ),
+                        ),
+                    ),
+                ),
+            ),
+        )
+            .spell_parts(out)?;
         Ok(())
     }
 

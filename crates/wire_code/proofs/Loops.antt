@@ -79,7 +79,3 @@ no_byte_at bytes i past = ap (byte_at 32 126) (drop_all i bytes past)
 pub gives_trouble : {X R S : Type 0} (at : At X) (viewed : R → X × List ℕ) (view : S → List X × List ℕ) (trouble : Trouble) (items : List X) (left : ℕ) (bytes : List ℕ) (whole : Result (List X × List ℕ) Fault) → with_front items (many_at at left bytes) ≡ whole → 0 < left → Gives viewed (Err trouble) (at bytes) → Gives view (Err trouble) whole
 gives_trouble at viewed view Memory items left bytes whole before some first = tt
 gives_trouble at viewed view (Faulty fault) items left bytes whole before some first = read_wrong at items left bytes fault whole before some first
-
--- what was added twice
-pub joined : (before middle now one two : List ℕ) → middle ≡ before ++ one → now ≡ middle ++ two → now ≡ before ++ (one ++ two)
-joined before middle now one two first second = second ∙ ap (λ (front : List ℕ). front ++ two) first ∙ append_assoc before one two

@@ -13,9 +13,6 @@ use Rattle.wire_code.proofs.NumberCodes.{number_code, number_below, number_text-
 
 -- a byte in a range
 module _ (low high : ℕ) where
-  in_range : ℕ → Bool
-  in_range byte = nat_le low byte && nat_le byte high
-
   byte_read : (byte : ℕ) (rest : List ℕ) → IsWithin low high byte → byte_at low high (byte ∷ rest) ≡ Ok (byte, rest)
   byte_read byte rest fits = cond-true (nat_le low byte && nat_le byte high) (Ok (byte, rest)) (wrong rest) (and_from _ _ (le-leb _ _ fits.least) (le-leb _ _ fits.most))
 

@@ -1,5 +1,6 @@
 -- Words of bodies alone: how the front of a byte string is read as a value.
-use Rattle.std.specs.Prelude.{◌≡◌, ℕ, zero, suc, ◌-◌, ◌*◌, ℤ, Bool, true, false, ◌&&◌, ◌==◌, nat_lt, nat_le, if◌then◌else◌, List, [], ◌∷◌, length, take, drop, slice_index, Option, Some, None, Result, Ok, Err}
+use Rattle.std.specs.Prelude.{◌≡◌, ℕ, zero, suc, ◌-◌, ◌*◌, ℤ, Bool, true, false, ◌&&◌, ◌==◌, nat_lt, nat_le}
+use Rattle.std.specs.Prelude.{if◌then◌else◌, List, [], ◌∷◌, length, take, drop, slice_index, Option, Some, None, Result, Ok, Err}
 use Rattle.std.specs.Int.{cast_signed, w64}
 use Rattle.byteorder.specs.Endian.{big_number}
 use Rattle.wire_code.specs.declared.fault.Fault.{Fault}
@@ -98,7 +99,9 @@ abbrev pub no_variant : {X : Type 0} → ℕ → At X
 no_variant tag rest = wrong rest
 
 unfoldable pub option_at : {X : Type 0} → At X → At (Option X)
-option_at {X} at bytes = tagged (variant 0 (made {Y = Option X} (λ (_ : Unit {0}). None) nothing) (variant 1 (made {Y = Option X} (λ (x : X). Some x) at) no_variant)) bytes
+option_at {X} at bytes = tagged
+    (variant 0 (made {Y = Option X} (λ (_ : Unit {0}). None) nothing)
+    (variant 1 (made {Y = Option X} (λ (x : X). Some x) at) no_variant)) bytes
 
 unfoldable pub flag_at : At Bool
 flag_at bytes = tagged (variant 0 (made (λ (_ : Unit {0}). false) nothing) (variant 1 (made (λ (_ : Unit {0}). true) nothing) no_variant)) bytes
