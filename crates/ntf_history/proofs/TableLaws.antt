@@ -94,7 +94,7 @@ or_second : (a b : Bool) → b ≡ true → (a || b) ≡ true
 or_second true b e = refl
 or_second false b e = e
 
-or_none : (a b : Bool) → (a || b) ≡ false → b ≡ false
+pub or_none : (a b : Bool) → (a || b) ≡ false → b ≡ false
 or_none true b e = cc
 or_none false b e = e
 

@@ -1,9 +1,12 @@
 -- Words of public clauses: subscriptions, and all that happened to each.
 use Rattle.std.specs.Prelude.{◌≡◌, ℕ, ◌==◌, nat_lt, Bool, false, ◌&&◌, ◌||◌, if◌then◌else◌, List, [], ◌∷◌, ◌++◌, Option, Some, None, is_some, find, filter}
+use Rattle.std.specs.List.{flat_map}
 use Rattle.ntf_types.specs.declared.notification.Notification.{Notification}
 use Rattle.ntf_filters.specs.Matching.{matches}
+use Rattle.sub_queue.specs.declared.item.Lost.{Lost}
 use Rattle.sub_queue.specs.declared.item.Content.{Content}
-use Rattle.sub_queue.specs.History.{Happening, Account, account_of, is_new_receipt}
+use Rattle.sub_queue.specs.declared.item.Content.TheVariants.{Notified, Discarded}
+use Rattle.sub_queue.specs.History.{Happening, Account, account_of, has_place, is_new_receipt}
 use Rattle.sub_queue.specs.History.{Happening as happening}
 use Rattle.client_set.specs.Rising.{put, without}
 use Rattle.ntf_history.specs.Changes.{Sub, NtfChange}
@@ -68,6 +71,10 @@ account capacity past client key = account_of capacity (happened past client key
 abbrev pub made : ℕ → List NtfChange → ℕ → ℕ → List Content
 made capacity past client key = (account capacity past client key).made
 
+-- what was lost of it since the last of these items
+abbrev pub lost_of : ℕ → List NtfChange → ℕ → ℕ → List Lost
+lost_of capacity past client key = (account capacity past client key).lost
+
 -- the number through which its items have a receipt
 abbrev pub through_of : ℕ → List NtfChange → ℕ → ℕ → ℕ
 through_of capacity past client key = (account capacity past client key).through
@@ -93,6 +100,33 @@ sent_since (_ ∷ past) client key = sent_since past client key
 -- those of them for which a subscription asks
 abbrev pub asked_since : List NtfChange → Sub → List Notification
 asked_since past sub = filter (matches sub.filters) (sent_since past sub.client sub.key)
+
+-- a notification, if there is a subscription that asks for it
+abbrev pub asked_by : Option Sub → Notification → List Notification
+asked_by None notification = []
+asked_by (Some sub) notification = if matches sub.filters notification then notification ∷ [] else []
+
+-- the notifications for which the subscription of this client and key asked, of those sent while it lasted, in order of time
+abbrev pub asked_while : List NtfChange → ℕ → ℕ → List Notification
+asked_while [] client key = []
+asked_while (Sent notification record_number ∷ past) client key =
+    asked_while past client key ++ asked_by (sub_at past client key) notification
+asked_while (_ ∷ past) client key = asked_while past client key
+
+-- those of them that were dropped: as they came, as many items as the capacity were without receipt
+abbrev pub dropped_while : ℕ → List NtfChange → ℕ → ℕ → List Notification
+dropped_while capacity [] client key = []
+dropped_while capacity (Sent notification record_number ∷ past) client key =
+    dropped_while capacity past client key ++ (if has_place capacity (account capacity past client key) then [] else asked_by (sub_at past client key) notification)
+dropped_while capacity (_ ∷ past) client key = dropped_while capacity past client key
+
+-- what is told as lost in an item, and in items, in order
+abbrev pub losses_of : Content → List Lost
+losses_of (Notified notification) = []
+losses_of (Discarded lost) = lost
+
+abbrev pub losses_in : List Content → List Lost
+losses_in contents = flat_map losses_of contents
 
 -- one list is another with more behind it
 pub record Extends {X : Type 0} (before after : List X) : Type 0 where

@@ -9,7 +9,7 @@ ghost use Rattle.client_set.specs.Members.{Stands, has};
 ghost use Rattle.client_set.specs.Rising.{IsRising};
 ghost use Rattle.ntf_history.specs.Changes.{Sub, NtfChange, is_using, users, last_id};
 ghost use Rattle.ntf_history.specs.Changes.NtfChange.{Subscribed, Sent, Receipted};
-ghost use Rattle.ntf_history.specs.Subscriptions.{has_id, subs, account, made, through_of, is_new, asked_since, comes_first, Extends};
+ghost use Rattle.ntf_history.specs.Subscriptions.{has_id, subs, made, lost_of, through_of, is_new, asked_since, asked_while, dropped_while, losses_in, comes_first, Extends};
 ghost use Rattle.ntf_history.specs.StoredAlarms.{is_alarm, stored_alarms};
 ghost use Rattle.ntf_history.specs.Possible.{HaveIds, CanSend, CanFollow, ArePossible};
 ghost use Rattle.ntf_history.specs.Tables.{after_change, empty_table, is_kept_under, is_new_in, IsSoundTable, kept_of, table_of};
@@ -21,14 +21,19 @@ pub fn law_of_changes()
         table_of capacity (change ∷ past) ≡ after_change change (table_of capacity past) }
 {}
 
-/// The items ever made for a subscription that lasts, and then what was lost since the last, tell
-/// of the notifications sent since it was made for which it asks, each once and in order.
+/// Of each subscription that was ever made, also after its end: the items made for it, and then what
+/// was lost since the last, tell of the notifications for which it asked while it lasted, each once
+/// and in order; what they tell as lost are those of them that were dropped. Of one that lasts these
+/// are the notifications sent since it was made for which it asks.
 pub fn law_of_asked()
-    ensures { (capacity : ℕ) (past : List NtfChange) (sub : Sub) → ArePossible past →
-        Stands sub (subs past) →
-        marks_in (made capacity past sub.client sub.key)
-        ++ (account capacity past sub.client sub.key).lost
-        ≡ map mark_of (asked_since past sub) }
+    ensures told { (capacity : ℕ) (past : List NtfChange) (client key : ℕ) →
+        marks_in (made capacity past client key) ++ lost_of capacity past client key
+        ≡ map mark_of (asked_while past client key) }
+    ensures dropped { (capacity : ℕ) (past : List NtfChange) (client key : ℕ) →
+        losses_in (made capacity past client key) ++ lost_of capacity past client key
+        ≡ map mark_of (dropped_while capacity past client key) }
+    ensures lasting { (past : List NtfChange) (sub : Sub) → ArePossible past →
+        Stands sub (subs past) → asked_while past sub.client sub.key ≡ asked_since past sub }
 {}
 
 /// Items keep their numbers and contents: a change adds some behind them, or none. Only a receipt
