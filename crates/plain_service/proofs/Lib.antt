@@ -11,6 +11,7 @@ pub mod Possible
 pub mod ReplyLaws
 pub mod ItemLaws
 pub mod IdLaws
+pub mod AskedLaws
 pub mod HistoryEvents
 pub mod FitCounts
 pub mod FitStamp

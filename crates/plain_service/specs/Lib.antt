@@ -5,6 +5,7 @@ pub mod Answers
 pub mod Changing
 pub mod Replies
 pub mod Items
+pub mod Asked
 pub mod Storing
 pub mod Legal
 pub mod Values

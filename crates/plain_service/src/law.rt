@@ -12,7 +12,9 @@ ghost use Rattle.calls.specs.declared.entry.Entry.TheVariants.{Called, Receipted
 ghost use Rattle.calls.specs.declared.entry.Held.{Held as HeldOf};
 ghost use Rattle.calls.specs.declared.reply.Reply.TheVariants.{Refused, Sent};
 ghost use Rattle.log_history.specs.Table.{table, table_after};
-ghost use Rattle.ntf_history.specs.Subscriptions.{Extends};
+ghost use Rattle.client_set.specs.Rising.{IsRising};
+ghost use Rattle.sub_queue.specs.Items.{marks_in};
+ghost use Rattle.ntf_history.specs.Subscriptions.{Extends, losses_in};
 ghost use Rattle.ntf_history.specs.Tables.{table_of, after_change, after_receipt};
 ghost use Rattle.plain_service.specs.Setups.{Setup, log_setup};
 ghost use Rattle.plain_service.specs.Alarms.{first_standing};
@@ -20,6 +22,7 @@ ghost use Rattle.plain_service.specs.Answers.{status_of};
 ghost use Rattle.plain_service.specs.Changing.{past_of, ntf_change, if_ok};
 ghost use Rattle.plain_service.specs.Replies.{ok_reply, reply_of, calls_of, replies_to, ids_told, AreCounted, EndsIn};
 ghost use Rattle.plain_service.specs.Items.{items_of, made_for, through_for, is_new_receipt, IsHeldItem, Leaves};
+ghost use Rattle.plain_service.specs.Asked.{lost_for, sends_asked, sends_dropped, lower_id};
 ghost use Rattle.plain_service.specs.Storing.{log_change_by, events_by};
 ghost use Rattle.plain_service.specs.Legal.{IsHistory};
 ghost use Rattle.plain_service.specs.Values.{saved_of};
@@ -74,6 +77,22 @@ pub fn law_of_items()
     ensures received { (setup : Setup) (past : List EntryOf) (client key through : ℕ) (now : ℤ) →
         is_new_receipt setup past client key through ≡ true →
         through_for setup (Receipted client key through now ∷ past) client key ≡ through }
+{}
+
+/// Of each subscription that was ever made, also after its end: the items made for it, and then what
+/// was lost since the last, tell of the sends answered ok for which it asked while it lasted, by type
+/// and by the id that the send was told, each once and in order; what they tell as lost are those of
+/// them that were dropped. The ids rise, so that no send is told twice and those of one sender come in
+/// its order.
+pub fn law_of_asked()
+    ensures told { (setup : Setup) (past : List EntryOf) (client key : ℕ) →
+        marks_in (made_for setup past client key) ++ lost_for setup past client key
+        ≡ sends_asked setup past client key }
+    ensures dropped { (setup : Setup) (past : List EntryOf) (client key : ℕ) →
+        losses_in (made_for setup past client key) ++ lost_for setup past client key
+        ≡ sends_dropped setup past client key }
+    ensures rise { (setup : Setup) (past : List EntryOf) (client key : ℕ) →
+        IsRising lower_id (sends_asked setup past client key) }
 {}
 
 /// The value of a history is fit to be handed on.
