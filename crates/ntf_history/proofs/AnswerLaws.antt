@@ -1,17 +1,12 @@
 -- What the answers and the receipts ask of the history, the kept table tells.
-use Rattle.std.proofs.Common.{◌≡◌, ℕ, suc, ◌<◌, nat_le, Bool, true, false, ◌&&◌, ◌||◌, cond, List, [], ◌∷◌, map, length, refl, ap, ◌∙◌, arith}
+use Rattle.std.proofs.Common.{◌≡◌, ℕ, suc, ◌<◌, Bool, true, false, ◌&&◌, ◌||◌, cond, List, [], ◌∷◌, map, length, refl, ap, ◌∙◌, arith}
 use Rattle.std.specs.Prelude.{Option, Some, None, find, option_map, is_some}
 use Rattle.std.specs.List.{list_any}
-use Rattle.std.proofs.lemmas.Bool.Decides.{nat_tests}
-use Rattle.ais_values.specs.FirstRow.{first_row}
-use Rattle.ntf_filters.specs.declared.filter.FilterSet.{FilterSet}
-use Rattle.ntf_filters.specs.FitTests.{is_fit}
 use Rattle.sub_queue.specs.Queue.{IsCapacity}
 use Rattle.sub_queue.specs.History.{is_new_receipt}
-use Rattle.ntf_history.specs.Changes.{Sub, NtfChange, is_using}
-use Rattle.ntf_history.specs.Subscriptions.{has_key, has_id, subs, sub_at, account, is_new, is_known}
-use Rattle.ntf_history.specs.Possible.{CanSubscribe, ArePossible}
-use Rattle.ntf_history.specs.Rows.{subscribe_by, subscribe_rows}
+use Rattle.ntf_history.specs.Changes.{Sub, NtfChange}
+use Rattle.ntf_history.specs.Subscriptions.{has_key, has_id, subs, sub_at, account, is_new}
+use Rattle.ntf_history.specs.Possible.{ArePossible}
 use Rattle.ntf_history.specs.Tables.{HaveQueues, IsSoundTable, is_kept_at, is_kept_under, is_new_for, is_new_in, kept_of, table_of}
 use Rattle.ntf_history.proofs.KeyLaws.{has_key-is, sub_at-stands}
 use Rattle.ntf_history.proofs.TableLaws.{has_item-queue_for}
@@ -67,18 +62,3 @@ table_of-sound capacity past fits possible short = record {
   queues = HaveQueues-kept capacity past (subs past) fits short;
   few = omega (arith, length-kept capacity past, length-subs past possible);
 }
-
--- where no row of a subscription holds, the client uses the service, the filters may be used, the id is free and fewer than 64 last
-pub none-holds : (a b c d : Bool) → first_row (subscribe_by a b c d) ≡ None → (a ≡ true) × (b ≡ true) × (c ≡ false) × (d ≡ false)
-none-holds true true false false is = (refl, refl, refl, refl)
-none-holds true true false true is = cc
-none-holds true true true d is = cc
-none-holds true false c d is = cc
-none-holds false b c d is = cc
-
--- a subscription that is answered ok can be made, if its key is new
-pub ok-can_subscribe : (past : List NtfChange) (client key id : ℕ) (filters : FilterSet) → first_row (subscribe_rows past client id filters) ≡ None → is_known past client key ≡ false → CanSubscribe (record { client = client; key = key; id = id; filters = filters }) past
-ok-can_subscribe past client key id filters ok new =
-    let holds = none-holds (is_using past client) (is_fit filters) (list_any (has_id client id) (subs past)) (nat_le 64 (length (subs past))) ok in
-    let few = holds.3 in
-    record { user = holds.0; new = new; id = holds.2; few = grind (arith, nat_tests) }

@@ -2,6 +2,7 @@
 use Rattle.std.proofs.Common.{◌≡◌, ℕ, ◌+◌, ◌<◌, ◌≤◌, ◌==◌, nat_lt, Bool, true, false, not, ◌&&◌, ◌||◌, cond, inl, inr, List, [], ◌∷◌, length, map, refl, ap, ◌∙◌, arith}
 use Rattle.std.specs.List.{list_any}
 use Rattle.std.proofs.lemmas.Bool.Decides.{nat_tests}
+use Rattle.std.proofs.lemmas.Bool.{or_right, and_from, or_parts, or_from}
 use Rattle.sub_queue.specs.Queue.{IsCapacity, IsSound}
 use Rattle.sub_queue.specs.History.{account_of, queue_for}
 use Rattle.sub_queue.proofs.Accounts.{account_of-possible, queue_for-sound}
@@ -51,25 +52,16 @@ IsRising-kept capacity past (x ∷ xs) rising =
 pub kept-rising : (capacity : ℕ) (past : List NtfChange) → IsRising kept_first (table_of capacity past).subs
 kept-rising capacity past = IsRising-kept capacity past (subs past) (subs-rising past)
 
--- each subscription that lasts is of a client that uses the service
-or_second : (a b : Bool) → b ≡ true → (a || b) ≡ true
-or_second true b e = refl
-or_second false b e = e
-
-both_true : (a b : Bool) → a ≡ true → b ≡ true → (a && b) ≡ true
-both_true true b one other = other
-both_true false b one other = cc
-
 is_not : (c d : ℕ) → (c == d) ≡ false → not (d == c) ≡ true
 is_not c d apart = grind (arith, nat_tests)
 
 pub subs-users : (past : List NtfChange) → ArePossible past → (sub : Sub) → Stands sub (subs past) → is_using past sub.client ≡ true
 subs-users [] possible sub stands = absurd stands
 subs-users (Began other ∷ past) possible sub stands =
-    or_second (other == sub.client) (is_using past sub.client) (subs-users past possible.1 sub stands)
+    or_right (other == sub.client) (is_using past sub.client) (subs-users past possible.1 sub stands)
 subs-users (Ended other ∷ past) possible sub stands =
     let left = Stands-without (is_of other) sub (subs past) stands in
-    both_true (not (other == sub.client)) (is_using past sub.client) (is_not sub.client other left.1) (subs-users past possible.1 sub left.0)
+    and_from (not (other == sub.client)) (is_using past sub.client) (is_not sub.client other left.1) (subs-users past possible.1 sub left.0)
 subs-users (Subscribed new ∷ past) possible sub stands = elim (Stands-put comes_first sub new (subs past) stands) [
   | inl same ↦ ap (λ (s : Sub). is_using past s.client) same ∙ possible.0.user
   | inr there ↦ subs-users past possible.1 sub there
@@ -111,39 +103,31 @@ length-subs (Receipted other key through ∷ past) possible = length-subs past p
 has_id-back : (c i d j : ℕ) → (c == d && i == j) ≡ false → (d == c && j == i) ≡ false
 has_id-back c i d j apart = grind (arith, nat_tests)
 
-none_first : (a b : Bool) → (a || b) ≡ false → (a ≡ false) × (b ≡ false)
-none_first true b e = cc
-none_first false b e = (refl, e)
-
-none_both : (a b : Bool) → a ≡ false → b ≡ false → (a || b) ≡ false
-none_both true b one other = cc
-none_both false b one other = other
-
 -- a test that fails at an element and at all of a list fails at all after it is put there
 none-put : (test : Sub → Bool) (x : Sub) (xs : List Sub) → test x ≡ false → list_any test xs ≡ false → list_any test (put comes_first x xs) ≡ false
-none-put test x [] fails none = none_both (test x) false fails refl
+none-put test x [] fails none = or_from (test x) false fails refl
 none-put test x (y ∷ ys) fails none =
-    let parts = none_first (test y) (list_any test ys) none in
+    let parts = or_parts (test y) (list_any test ys) none in
     placed parts.0 parts.1 (comes_first x y) (comes_first y x) (none-put test x ys fails parts.1) where
       placed : test y ≡ false → list_any test ys ≡ false → (below above : Bool) → list_any test (put comes_first x ys) ≡ false → list_any test (cond below (x ∷ y ∷ ys) (cond above (y ∷ put comes_first x ys) (x ∷ ys))) ≡ false
       placed first later true above rest =
-          none_both (test x) (test y || list_any test ys) fails (none_both (test y) (list_any test ys) first later)
-      placed first later false true rest = none_both (test y) (list_any test (put comes_first x ys)) first rest
-      placed first later false false rest = none_both (test x) (list_any test ys) fails later
+          or_from (test x) (test y || list_any test ys) fails (or_from (test y) (list_any test ys) first later)
+      placed first later false true rest = or_from (test y) (list_any test (put comes_first x ys)) first rest
+      placed first later false false rest = or_from (test x) (list_any test ys) fails later
 
 none-without : (test taken : Sub → Bool) (xs : List Sub) → list_any test xs ≡ false → list_any test (without taken xs) ≡ false
 none-without test taken [] none = refl
 none-without test taken (x ∷ xs) none =
-    let parts = none_first (test x) (list_any test xs) none in
+    let parts = or_parts (test x) (list_any test xs) none in
     left parts.0 (taken x) (none-without test taken xs parts.1) where
       left : test x ≡ false → (gone : Bool) → list_any test (without taken xs) ≡ false → list_any test (cond gone (without taken xs) (x ∷ without taken xs)) ≡ false
       left first true rest = rest
-      left first false rest = none_both (test x) (list_any test (without taken xs)) first rest
+      left first false rest = or_from (test x) (list_any test (without taken xs)) first rest
 
 HaveIds-put : (x : Sub) (xs : List Sub) → list_any (has_id x.client x.id) xs ≡ false → HaveIds xs → HaveIds (put comes_first x xs)
 HaveIds-put x [] new ids = (refl, tt)
 HaveIds-put x (y ∷ ys) new ids =
-    let parts = none_first (has_id x.client x.id y) (list_any (has_id x.client x.id) ys) new in
+    let parts = or_parts (has_id x.client x.id y) (list_any (has_id x.client x.id) ys) new in
     let back = has_id-back y.client y.id x.client x.id parts.0 in
     placed parts.1 (none-put (has_id y.client y.id) x ys back ids.0) (comes_first x y) (comes_first y x) (HaveIds-put x ys parts.1 ids.1) where
       placed : list_any (has_id x.client x.id) ys ≡ false → list_any (has_id y.client y.id) (put comes_first x ys) ≡ false → (below above : Bool) → HaveIds (put comes_first x ys) → HaveIds (cond below (x ∷ y ∷ ys) (cond above (y ∷ put comes_first x ys) (x ∷ ys)))

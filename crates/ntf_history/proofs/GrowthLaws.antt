@@ -3,6 +3,7 @@ use Rattle.std.proofs.Common.{◌≡◌, ℕ, ◌+◌, ◌≤◌, ◌==◌, Bool
 use Rattle.std.specs.Prelude.{Option, Some, None}
 use Rattle.std.proofs.lemmas.Bool.Decides.{nat_tests}
 use Rattle.std.proofs.lemmas.List.{append-nil}
+use Rattle.std.proofs.lemmas.Bool.{and_parts}
 use Rattle.ntf_types.specs.declared.notification.Notification.{Notification}
 use Rattle.ntf_filters.specs.Matching.{matches}
 use Rattle.sub_queue.specs.declared.item.Content.TheVariants.{Notified}
@@ -15,8 +16,9 @@ use Rattle.client_set.proofs.RisingLaws.{Stands-put, Stands-without}
 use Rattle.ntf_history.specs.Changes.{Sub, NtfChange}
 use Rattle.ntf_history.specs.Changes.NtfChange.{Began, Ended, Subscribed, Unsubscribed, Sent, Receipted}
 use Rattle.ntf_history.specs.Subscriptions.{has_id, is_of, comes_first, subs, sub_at, lasts, offered_to, happened, account, made, through_of, is_new, Extends}
+use Rattle.ntf_history.proofs.KeyLaws.{keys_same}
 
-Extends-same : {X : Type 0} (xs : List X) → Extends xs xs
+pub Extends-same : {X : Type 0} (xs : List X) → Extends xs xs
 Extends-same xs = record { more = []; is = sym (append-nil xs) }
 
 -- an offer makes one item, or none
@@ -62,21 +64,13 @@ through-offered capacity (Some sub) notification before = asked (matches sub.fil
   asked true = refl
   asked false = refl
 
-both : (a b : Bool) → (a && b) ≡ true → (a ≡ true) × (b ≡ true)
-both true true e = (refl, refl)
-both true false e = cc
-both false b e = cc
-
-keys_same : (c k d l : ℕ) → (c == d && k == l) ≡ true → (c ≡ d) × (k ≡ l)
-keys_same c k d l same = (grind (arith, nat_tests), grind (arith, nat_tests))
-
 -- a receipt of this client and key moves the number, if it is new
 through-receipted : (capacity : ℕ) (client key other number through : ℕ) (alive : Bool) (before : List Happening) (mine : Bool) → (client == other && key == number && alive) ≡ mine → ((account_of capacity (cond mine (happening.Receipted through ∷ before) before)).through ≡ (account_of capacity before).through) ⊎ (Receipted other number through ≡ Receipted client key (account_of capacity (cond mine (happening.Receipted through ∷ before) before)).through)
 through-receipted capacity client key other number through alive before false is = inl refl
 through-receipted capacity client key other number through alive before true is = new (is_new_receipt through (account_of capacity before)) where
   new : (b : Bool) → (cond b through (account_of capacity before).through ≡ (account_of capacity before).through) ⊎ (Receipted other number through ≡ Receipted client key (cond b through (account_of capacity before).through))
   new true =
-      let tests = both (client == other && key == number) alive is in
+      let tests = and_parts (client == other && key == number) alive is in
       let keys = keys_same client key other number tests.0 in
       inr (ap (λ c. Receipted c number through) (sym keys.0) ∙ ap (λ k. Receipted client k through) (sym keys.1))
   new false = inl refl
@@ -98,7 +92,7 @@ self_same c k alive is = grind (arith, nat_tests)
 -- a new receipt is the last one then
 pub through-received : (capacity : ℕ) (past : List NtfChange) (client key through : ℕ) → is_new capacity past client key through ≡ true → through_of capacity (Receipted client key through ∷ past) client key ≡ through
 through-received capacity past client key through new =
-    let tests = both (lasts past client key) (is_new_receipt through (account capacity past client key)) new in
+    let tests = and_parts (lasts past client key) (is_new_receipt through (account capacity past client key)) new in
     let before = happened past client key in
     let mine = self_same client key (lasts past client key) tests.0 in
     ap (λ b. (account_of capacity (cond b (happening.Receipted through ∷ before) before)).through) mine ∙ ap (λ b. cond b through (account_of capacity before).through) tests.1

@@ -47,7 +47,7 @@ both_same c k = grind (arith, nat_tests)
 pub has_key-self : (sub : Sub) → has_key sub.client sub.key sub ≡ true
 has_key-self sub = both_same sub.client sub.key
 
-keys_same : (c k d l : ℕ) → (c == d && k == l) ≡ true → (c ≡ d) × (k ≡ l)
+pub keys_same : (c k d l : ℕ) → (c == d && k == l) ≡ true → (c ≡ d) × (k ≡ l)
 keys_same c k d l same = (grind (arith, nat_tests), grind (arith, nat_tests))
 
 -- the client and the key of a subscription that has them

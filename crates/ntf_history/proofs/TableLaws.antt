@@ -3,7 +3,7 @@ use Rattle.std.proofs.Common.{◌≡◌, ℕ, suc, ◌==◌, nat_lt, nat_le, Boo
 use Rattle.std.specs.Prelude.{Option, Some, None, is_some, Decides}
 use Rattle.std.specs.Bool.{one_answer}
 use Rattle.std.specs.Cmp.Derive.{both_true}
-use Rattle.std.proofs.lemmas.Bool.{leb-true, le-leb}
+use Rattle.std.proofs.lemmas.Bool.{leb-true, le-leb, and_parts, and_right, or_left, or_right}
 use Rattle.ntf_types.specs.declared.notification.Notification.{Notification}
 use Rattle.ntf_filters.specs.Matching.{matches}
 use Rattle.sub_queue.specs.Items.{discarded}
@@ -47,15 +47,10 @@ kept-sent capacity past notification record_number sub stands =
     let queue = ap (λ h. queue_for capacity (account_of capacity h)) found ∙ queue-sent capacity sub notification before in
     ap (sub_with sub) queue
 
-both : (a b : Bool) → (a && b) ≡ true → (a ≡ true) × (b ≡ true)
-both true true e = (refl, refl)
-both true false e = cc
-both false b e = cc
-
 -- a receipt is new for a queue exactly where the queue has the item
 pub has_item-decides : (through : ℕ) (queue : Queue) → Decides (has_item through queue) (IsNew through queue)
 has_item-decides through queue = (
-  λ e. let tests = both (nat_le queue.first through) (nat_lt through (next_number queue)) e in record { from = leb-true queue.first through tests.0; below = leb-true (suc through) (next_number queue) tests.1 },
+  λ e. let tests = and_parts (nat_le queue.first through) (nat_lt through (next_number queue)) e in record { from = leb-true queue.first through tests.0; below = leb-true (suc through) (next_number queue) tests.1 },
   λ new. both_true (le-leb queue.first through new.from) (le-leb (suc through) (next_number queue) new.below),
 )
 
@@ -82,18 +77,6 @@ queue-receipted capacity through before true =
       has false is =
           ap (queue_for capacity) (receipted-account through (account_of capacity before) (sym (has_item-queue_for capacity through (account_of capacity before)) ∙ is))
 
-and_false : (a b : Bool) → b ≡ false → (a && b) ≡ false
-and_false true b e = e
-and_false false b e = refl
-
-or_first : (a b : Bool) → a ≡ true → (a || b) ≡ true
-or_first true b e = refl
-or_first false b e = cc
-
-or_second : (a b : Bool) → b ≡ true → (a || b) ≡ true
-or_second true b e = refl
-or_second false b e = e
-
 pub or_none : (a b : Bool) → (a || b) ≡ false → b ≡ false
 or_none true b e = cc
 or_none false b e = e
@@ -118,8 +101,8 @@ stands-known (Began client ∷ past) sub stands = stands-known past sub stands
 stands-known (Ended client ∷ past) sub stands =
     stands-known past sub (Stands-without (is_of client) sub (subs past) stands).0
 stands-known (Subscribed new ∷ past) sub stands = elim (Stands-put comes_first sub new (subs past) stands) [
-  | inl same ↦ or_first (has_key sub.client sub.key new) (is_known past sub.client sub.key) (ap (λ (s : Sub). has_key sub.client sub.key s) (sym same) ∙ has_key-self sub)
-  | inr there ↦ or_second (has_key sub.client sub.key new) (is_known past sub.client sub.key) (stands-known past sub there)
+  | inl same ↦ or_left (has_key sub.client sub.key new) (is_known past sub.client sub.key) (ap (λ (s : Sub). has_key sub.client sub.key s) (sym same) ∙ has_key-self sub)
+  | inr there ↦ or_right (has_key sub.client sub.key new) (is_known past sub.client sub.key) (stands-known past sub there)
 ]
 stands-known (Unsubscribed client id ∷ past) sub stands =
     stands-known past sub (Stands-without (has_id client id) sub (subs past) stands).0
@@ -153,7 +136,7 @@ unknown-nothing (Receipted other number through ∷ past) client key new =
     let before = happened past client key in
     let mine = (client == other && key == number) in
     let gone : lasts past client key ≡ false = ap is_some (unknown-absent past client key new) in
-    ap (λ b. cond b (happening.Receipted through ∷ before) before) (and_false mine (lasts past client key) gone) ∙ unknown-nothing past client key new
+    ap (λ b. cond b (happening.Receipted through ∷ before) before) (and_right mine (lasts past client key) gone) ∙ unknown-nothing past client key new
 
 -- a new subscription has an empty queue
 kept-new : (capacity : ℕ) (past : List NtfChange) (sub : Sub) → is_known past sub.client sub.key ≡ false → kept_of capacity past sub ≡ sub_with sub (empty_queue capacity)

@@ -1,4 +1,5 @@
--- Words of public clauses: what the calls of the Notification Service that were answered ok, and the new receipts, changed, newest first; who uses the service, and which ids were given.
+-- Words of public clauses: what the calls of the Notification Service that were answered ok, and the new receipts, changed, newest first; who uses the
+-- service, and which ids were given.
 use Rattle.std.specs.Prelude.{ℕ, ◌+◌, ◌==◌, nat_lt, Bool, false, not, ◌&&◌, ◌||◌, List, [], ◌∷◌}
 use Rattle.ntf_types.specs.declared.notification.Notification.{Notification}
 use Rattle.ntf_filters.specs.declared.filter.FilterSet.{FilterSet}
@@ -11,7 +12,8 @@ pub record Sub : Type 0 where
   pub id : ℕ
   pub filters : FilterSet
 
--- what a call or a receipt changed: a client began or ended its use, a subscription was made or taken back, a notification was sent, with its id and event time, as the record of this number of its stream, or a receipt came
+-- what a call or a receipt changed: a client began or ended its use, a subscription was made or taken back, a notification was sent, with its id and
+-- event time, as the record of this number of its stream, or a receipt came
 pub data NtfChange : Type 0 where
   Began : (client : ℕ) → NtfChange
   Ended : (client : ℕ) → NtfChange

@@ -1,4 +1,5 @@
--- Words of public clauses: the answers of the Notification Service: for each call the rows of a condition and a status, in order, of which the first whose condition holds decides; with none the call is answered ok.
+-- Words of public clauses: the answers of the Notification Service: for each call the rows of a condition and a status, in order, of which the first
+-- whose condition holds decides; with none the call is answered ok.
 use Rattle.std.specs.Prelude.{ℕ, ℤ, pos, ◌==◌, nat_le, int_lt, Bool, not, ◌&&◌, List, [], ◌∷◌, length, reverse, Option, Some, None, is_some, is_none, unwrap_or}
 use Rattle.std.specs.List.{list_any}
 use Rattle.ais_values.specs.FirstRow.{first_row}
@@ -26,7 +27,8 @@ AnswerRow = Bool × Status
 abbrev pub answer : List AnswerRow → Status
 answer rows = unwrap_or (first_row rows) Ok
 
--- the rows of calls that the kept table alone decides, by what holds: whether the client uses the service, the filters may be used, the client has a subscription of the id, 64 subscriptions last
+-- the rows of calls that the kept table alone decides, by what holds: whether the client uses the service, the filters may be used, the client has a
+-- subscription of the id, 64 subscriptions last
 
 abbrev pub begin_by : Bool → List AnswerRow
 begin_by is_user = (is_user, NoResources) ∷ []
@@ -83,7 +85,10 @@ next_by (Some way) cursor filters stored = next_alarm cursor way filters (revers
 -- a client starts a reader among the stored alarms, by the code of a mode and a value
 abbrev pub start_rows : List KeptAlarm → List ReaderChange → List NtfChange → ℕ → ℕ → ℤ → FilterSet → List AnswerRow
 start_rows stored readings past client code value filters =
-    unused past client ∷ (is_none (mode_of code), InvalidParam) ∷ (int_lt value (pos 0) && not (code == 7), InvalidParam) ∷ (not (is_fit filters), InvalidParam) ∷ (not (asks_for_alarms filters), InvalidParam) ∷ (is_some (reader_of readings client), NoResources) ∷ (nat_le 16 (length (readers readings)), NoResources) ∷ (is_none (start_by (mode_of code) value filters stored), NotExist) ∷ []
+    unused past client ∷ (is_none (mode_of code), InvalidParam) ∷ (int_lt value (pos 0) && not (code == 7), InvalidParam)
+    ∷ (not (is_fit filters), InvalidParam) ∷ (not (asks_for_alarms filters), InvalidParam)
+    ∷ (is_some (reader_of readings client), NoResources) ∷ (nat_le 16 (length (readers readings)), NoResources)
+    ∷ (is_none (start_by (mode_of code) value filters stored), NotExist) ∷ []
 
 -- the next alarm of a client's reader, if it has one
 abbrev pub read_by : Option Reader → ℕ → List KeptAlarm → Option Notification
@@ -93,7 +98,8 @@ read_by (Some reader) code stored = next_by (direction_of code) reader.cursor re
 -- a client's reader reads on in the direction of a code
 abbrev pub read_rows : List KeptAlarm → List ReaderChange → List NtfChange → ℕ → ℕ → List AnswerRow
 read_rows stored readings past client code =
-    unused past client ∷ (is_none (reader_of readings client), BadHandle) ∷ (is_none (direction_of code), InvalidParam) ∷ (is_none (read_by (reader_of readings client) code stored), NotExist) ∷ []
+    unused past client ∷ (is_none (reader_of readings client), BadHandle) ∷ (is_none (direction_of code), InvalidParam)
+    ∷ (is_none (read_by (reader_of readings client) code stored), NotExist) ∷ []
 
 -- a client stops its reader
 abbrev pub stop_rows : List ReaderChange → List NtfChange → ℕ → List AnswerRow

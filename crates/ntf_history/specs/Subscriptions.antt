@@ -117,7 +117,8 @@ asked_while (_ ∷ past) client key = asked_while past client key
 abbrev pub dropped_while : ℕ → List NtfChange → ℕ → ℕ → List Notification
 dropped_while capacity [] client key = []
 dropped_while capacity (Sent notification record_number ∷ past) client key =
-    dropped_while capacity past client key ++ (if has_place capacity (account capacity past client key) then [] else asked_by (sub_at past client key) notification)
+    dropped_while capacity past client key
+    ++ (if has_place capacity (account capacity past client key) then [] else asked_by (sub_at past client key) notification)
 dropped_while capacity (_ ∷ past) client key = dropped_while capacity past client key
 
 -- what is told as lost in an item, and in items, in order

@@ -1,7 +1,7 @@
 -- The items of a subscription, and what was lost since, tell of the ok sends for which it asked while it lasted, each once and in order.
-use Rattle.std.proofs.Common.{◌≡◌, ℕ, suc, ◌+◌, ◌≤◌, nat_lt, Bool, true, false, cond, List, [], ◌∷◌, ◌++◌, length, map, refl, ap, sym, subst, ◌∙◌, arith}
+use Rattle.std.proofs.Common.{◌≡◌, ℕ, suc, ◌+◌, ◌≤◌, Bool, true, false, cond, List, [], ◌∷◌, ◌++◌, length, map, refl, ap, sym, subst, ◌∙◌, arith}
 use Rattle.std.specs.Prelude.{ℤ, Option, Some, None}
-use Rattle.std.specs.List.{AllByRecursion, cons_option}
+use Rattle.std.specs.List.{AllByRecursion}
 use Rattle.std.proofs.lemmas.Bool.{lt-ltb}
 use Rattle.std.proofs.lemmas.List.{append-nil, map-append}
 use Rattle.ais_values.specs.declared.status.Status.{Status}
@@ -18,18 +18,17 @@ use Rattle.calls.specs.declared.reply.Reply.{Reply}
 use Rattle.calls.specs.declared.reply.Reply.TheVariants.{Sent}
 use Rattle.calls.specs.declared.entry.Entry.{Entry}
 use Rattle.calls.specs.declared.entry.Entry.TheVariants.{Called, Receipted}
-use Rattle.ntf_history.specs.Changes.{Sub, NtfChange, last_id}
-use Rattle.ntf_history.specs.Changes.{NtfChange as ntf}
+use Rattle.ntf_history.specs.Changes.{Sub, last_id}
 use Rattle.ntf_history.specs.Subscriptions.{sub_at, account, asked_by, asked_while, dropped_while, losses_in}
 use Rattle.ntf_history.proofs.MarkLaws.{told-asked, losses-dropped}
-use Rattle.plain_service.specs.Setups.{Setup, log_setup}
+use Rattle.plain_service.specs.Setups.{Setup}
 use Rattle.plain_service.specs.Pasts.{Past}
-use Rattle.plain_service.specs.Alarms.{accepted_as, taken_by, stream_for}
+use Rattle.plain_service.specs.Alarms.{accepted_as}
 use Rattle.plain_service.specs.Answers.{status_of}
-use Rattle.plain_service.specs.Changing.{past_of, past_after, ntf_change, accepted_notification}
+use Rattle.plain_service.specs.Changing.{past_of, past_after, accepted_notification}
 use Rattle.plain_service.specs.Replies.{ok_reply, reply_by, reply_of, id_told, ids_told}
 use Rattle.plain_service.specs.Items.{made_for, through_for}
-use Rattle.plain_service.specs.Asked.{sub_for, lost_for, has_place_for, mark_under, mark_asked, sends_asked, sends_dropped, lower_id}
+use Rattle.plain_service.specs.Asked.{sub_for, lost_for, mark_under, mark_asked, sends_asked, sends_dropped, lower_id}
 use Rattle.plain_service.proofs.IdLaws.{id-next}
 use Rattle.plain_service.proofs.ListLaws.{each-push, each-weaker}
 use Rattle.plain_service.proofs.Possible.{past_after-by}

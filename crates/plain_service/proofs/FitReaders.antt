@@ -4,6 +4,7 @@ use Rattle.std.specs.Prelude.{ℤ, pos, int_lt, Option, Some, None, is_some, is_
 use Rattle.std.specs.List.{AllByRecursion, cons_option}
 use Rattle.std.proofs.lemmas.Bool.Decides.{nat_tests}
 use Rattle.std.proofs.lemmas.List.{length-map}
+use Rattle.std.proofs.lemmas.Bool.{or_right}
 use Rattle.ais_values.specs.declared.status.Status.TheVariants as status
 use Rattle.client_set.specs.Rising.{without, ComesFirst, IsRising}
 use Rattle.ntf_types.specs.declared.notification.Notification.{Notification}
@@ -37,7 +38,7 @@ use Rattle.plain_service.proofs.FitCounts.{fit-counts, fit-windows}
 use Rattle.plain_service.proofs.FitStamp.{fit-stamp}
 use Rattle.plain_service.proofs.FitStreams.{fit-streams}
 use Rattle.plain_service.proofs.FitSubs.{fit-subs}
-use Rattle.plain_service.proofs.ListLaws.{each-put, each-without, each-weaker, each-mapped, or-second}
+use Rattle.plain_service.proofs.ListLaws.{each-put, each-without, each-weaker, each-mapped}
 use Rattle.plain_service.proofs.OkAnswers.{start-ok}
 use Rattle.plain_service.proofs.Possible.{past_after-by}
 
@@ -99,7 +100,7 @@ few-below count is = grind (arith, nat_tests)
 
 readers-called : (setup : Setup) (past : Past) (client seq : ℕ) (now : ℤ) (call : Call) → IsClient client → status_of setup past client call ≡ status.Ok → HaveRightReaders past → HaveRightReaders (past_after setup past client seq now call status.Ok)
 readers-called setup past client seq now NtfInit caller ok before = record {
-  each = right-using (ntf.is_using past.ntf) (λ other. client == other || ntf.is_using past.ntf other) (readers past.readings) (λ other is. or-second (client == other) (ntf.is_using past.ntf other) is) before.each;
+  each = right-using (ntf.is_using past.ntf) (λ other. client == other || ntf.is_using past.ntf other) (readers past.readings) (λ other is. or_right (client == other) (ntf.is_using past.ntf other) is) before.each;
   few = before.few;
 }
 readers-called setup past client seq now (NtfSend notification) caller ok before = record { each = before.each; few = before.few }

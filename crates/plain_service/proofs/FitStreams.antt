@@ -3,6 +3,7 @@ use Rattle.std.proofs.Common.{◌≡◌, ◌≢◌, ℕ, suc, ◌≤◌, Bool, t
 use Rattle.std.specs.Prelude.{Option, Some, None, is_none, filter}
 use Rattle.std.specs.List.{AllByRecursion, list_any}
 use Rattle.std.proofs.lemmas.List.{length-map}
+use Rattle.std.proofs.lemmas.Bool.{and_from, or_from}
 use Rattle.ais_values.specs.Codes.{all_differ}
 use Rattle.stream_config.specs.declared.attrs.StreamName.{StreamName}
 use Rattle.stream_config.specs.declared.attrs.StreamName.TheVariants as name
@@ -25,7 +26,7 @@ use Rattle.plain_service.specs.Changing.{past_of}
 use Rattle.plain_service.specs.Fitness.{IsFitStream, IsOfApplication, HaveFitStreams, have_one_name, stand_at_one_place}
 use Rattle.plain_service.specs.Legal.{IsHistory}
 use Rattle.plain_service.specs.Values.{saved_stream, saved_of}
-use Rattle.plain_service.proofs.ListLaws.{Each-becoming, each-both, each-weaker, each-of, each-mapped, mapped-each, each-filter, find-none, none-each, differ-mapped, filter-each, neither, both-so}
+use Rattle.plain_service.proofs.ListLaws.{Each-becoming, each-both, each-weaker, each-of, each-mapped, mapped-each, each-filter, find-none, none-each, differ-mapped, filter-each}
 use Rattle.plain_service.proofs.WellKnown.{is_living-at, stored_in, well_known}
 use Rattle.log_history.proofs.StreamLaws.{IsSoundStream, fit-files, fit-stamps}
 use Rattle.log_history.proofs.SoundStreams.{Each-both, sound}
@@ -144,7 +145,7 @@ few-others one two three streams named few =
 
 any-none : {X : Type 0} (test : X → Bool) (xs : List X) → AllByRecursion (λ x. test x ≡ false) xs → list_any test xs ≡ false
 any-none test [] each = refl
-any-none test (x ∷ xs) each = neither (test x) (list_any test xs) each.0 (any-none test xs each.1)
+any-none test (x ∷ xs) each = or_from (test x) (list_any test xs) each.0 (any-none test xs each.1)
 
 turned : (one other : StreamName) → same_name other one ≡ false → same_name one other ≡ false
 turned one other apart = by_case (same_name one other) refl where
@@ -160,7 +161,7 @@ names-differ (stream ∷ streams) single =
     let apart = any-none (λ (other : Stream). same_name stream.name other.name) streams
     (each-weaker (λ (other : Stream). same_name other.name stream.name ≡ false) (λ (other : Stream). same_name stream.name other.name ≡ false) (λ other is. turned stream.name other.name is) streams
     (none-each (λ (other : Stream). same_name other.name stream.name) streams none)) in
-    both-so (not (list_any (λ (other : Stream). same_name stream.name other.name) streams)) (all_differ (λ (one other : Stream). same_name one.name other.name) streams) (ap not apart)
+    and_from (not (list_any (λ (other : Stream). same_name stream.name other.name) streams)) (all_differ (λ (one other : Stream). same_name one.name other.name) streams) (ap not apart)
     (names-differ streams (λ n. (single n).1))
 
 -- each stream

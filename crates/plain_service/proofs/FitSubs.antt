@@ -4,6 +4,7 @@ use Rattle.std.specs.Prelude.{ℤ, Some, MatchOption}
 use Rattle.std.specs.List.{AllByRecursion, find, list_any}
 use Rattle.std.proofs.lemmas.Bool.Decides.{nat_tests}
 use Rattle.std.proofs.lemmas.List.{length-map}
+use Rattle.std.proofs.lemmas.Bool.{and_from, or_parts, or_from, or_right}
 use Rattle.ais_values.specs.Codes.{all_differ}
 use Rattle.ais_values.specs.declared.status.Status.TheVariants as status
 use Rattle.client_set.specs.Members.{Stands, has}
@@ -33,7 +34,7 @@ use Rattle.plain_service.specs.Legal.{IsClient, IsHistory}
 use Rattle.plain_service.specs.Replies.{next_number, callers, window_of}
 use Rattle.plain_service.specs.Values.{saved_sub, saved_of}
 use Rattle.plain_service.proofs.FitCounts.{begins, history-count}
-use Rattle.plain_service.proofs.ListLaws.{each-put, each-without, each-standing, each-mapped, standing-each, neither, either-not, both-so, or-second}
+use Rattle.plain_service.proofs.ListLaws.{each-put, each-without, each-standing, each-mapped, standing-each}
 use Rattle.plain_service.proofs.Possible.{past_after-by, possible}
 use Rattle.plain_service.proofs.SentLaws.{IsRight, ntf-right}
 
@@ -67,14 +68,14 @@ module _ (capacity : ℕ) (past : List NtfChange) where
   ids-apart : (sub : Sub) (others : List Sub) → list_any (has_id sub.client sub.id) others ≡ false → list_any (have_one_id (saved_sub capacity past sub)) (map (saved_sub capacity past) others) ≡ false
   ids-apart sub [] none = refl
   ids-apart sub (other ∷ others) none =
-      let two = either-not (has_id sub.client sub.id other) (list_any (has_id sub.client sub.id) others) none in
-      neither (sub.client == other.client && sub.id == other.id) (list_any (have_one_id (saved_sub capacity past sub)) (map (saved_sub capacity past) others))
+      let two = or_parts (has_id sub.client sub.id other) (list_any (has_id sub.client sub.id) others) none in
+      or_from (sub.client == other.client && sub.id == other.id) (list_any (have_one_id (saved_sub capacity past sub)) (map (saved_sub capacity past) others))
       (turned sub.client sub.id other.client other.id two.0) (ids-apart sub others two.1)
 
   ids-differ : (these : List Sub) → HaveIds these → all_differ have_one_id (map (saved_sub capacity past) these) ≡ true
   ids-differ [] ids = refl
   ids-differ (sub ∷ others) ids =
-      both-so (not (list_any (have_one_id (saved_sub capacity past sub)) (map (saved_sub capacity past) others))) (all_differ have_one_id (map (saved_sub capacity past) others))
+      and_from (not (list_any (have_one_id (saved_sub capacity past sub)) (map (saved_sub capacity past) others))) (all_differ have_one_id (map (saved_sub capacity past) others))
       (ap not (ids-apart sub others ids.0)) (ids-differ others ids.1)
 
 -- the client of a subscription has a window, and its key is below the next number
@@ -103,17 +104,17 @@ using-later client setup past caller seq now NtfFini known before using = by_cas
   by_case : (b : Bool) → (not b && ntf.is_using past.ntf client) ≡ true → (b || known) ≡ true
   by_case true is = refl
   by_case false is = before is
-using-later client setup past caller seq now (NtfSend notification) known before using = or-second (caller == client) known (before using)
-using-later client setup past caller seq now (NtfSubscribe id asked) known before using = or-second (caller == client) known (before using)
-using-later client setup past caller seq now (NtfUnsubscribe id) known before using = or-second (caller == client) known (before using)
-using-later client setup past caller seq now _ known before using = or-second (caller == client) known (before using)
+using-later client setup past caller seq now (NtfSend notification) known before using = or_right (caller == client) known (before using)
+using-later client setup past caller seq now (NtfSubscribe id asked) known before using = or_right (caller == client) known (before using)
+using-later client setup past caller seq now (NtfUnsubscribe id) known before using = or_right (caller == client) known (before using)
+using-later client setup past caller seq now _ known before using = or_right (caller == client) known (before using)
 
 pub user-called : (setup : Setup) (entries : List Entry) (client : ℕ) → ntf.is_using (past_of setup entries).ntf client ≡ true → has client (callers entries) ≡ true
 user-called setup [] client using = using
 user-called setup (Called caller seq now call ∷ entries) client using =
     has-put client caller (callers entries)
     ∙ past_after-by (λ after. ntf.is_using after.ntf client ≡ true → (caller == client || has client (callers entries)) ≡ true) setup (past_of setup entries) caller seq now call (status_of setup (past_of setup entries) caller call)
-    (λ before. or-second (caller == client) (has client (callers entries)) (user-called setup entries client before))
+    (λ before. or_right (caller == client) (has client (callers entries)) (user-called setup entries client before))
     (λ ok. using-later client setup (past_of setup entries) caller seq now call (has client (callers entries)) (user-called setup entries client)) using
 user-called setup (Receipted caller key through now ∷ entries) client using = user-called setup entries client using
 
@@ -125,7 +126,7 @@ known-made (Subscribed new ∷ past) sub (inl same) =
     ap (λ (s : Sub). has_key sub.client sub.key s || is_known past sub.client sub.key) (sym e)
     ∙ ap (λ b. b || is_known past sub.client sub.key) (has_key-self sub)
 known-made (Subscribed new ∷ past) sub (inr there) =
-    or-second (has_key sub.client sub.key new) (is_known past sub.client sub.key) (known-made past sub there)
+    or_right (has_key sub.client sub.key new) (is_known past sub.client sub.key) (known-made past sub there)
 known-made (Began client ∷ past) sub (inl same) = cc
 known-made (Began client ∷ past) sub (inr there) = known-made past sub there
 known-made (Ended client ∷ past) sub (inl same) = cc

@@ -3,7 +3,6 @@ use Rattle.std.proofs.Common.{◌≡◌, ℕ, zero, suc, ◌+◌, ◌-◌, ◌<�
 use Rattle.std.specs.Prelude.{ℤ, Option, Some, None, is_some, slice_get}
 use Rattle.std.specs.List.{AllByRecursion, cons_option, flat_map}
 use Rattle.std.proofs.lemmas.Bool.{leb-true, leb-false}
-use Rattle.std.proofs.lemmas.List.{append-nil}
 use Rattle.sub_queue.specs.declared.item.Content.{Content}
 use Rattle.sub_queue.specs.declared.item.Item.{Item}
 use Rattle.sub_queue.specs.Items.{numbered}
@@ -18,7 +17,7 @@ use Rattle.ntf_history.specs.Changes.{Sub, NtfChange}
 use Rattle.ntf_history.specs.Changes.{NtfChange as ntf}
 use Rattle.ntf_history.specs.Subscriptions.{subs, sub_at, made, through_of, Extends}
 use Rattle.ntf_history.proofs.KeyLaws.{sub_at-stands, sub_at-member, has_key-is}
-use Rattle.ntf_history.proofs.GrowthLaws.{made-grows, through-moves, through-received}
+use Rattle.ntf_history.proofs.GrowthLaws.{Extends-same, made-grows, through-moves, through-received}
 use Rattle.plain_service.specs.Setups.{Setup, log_setup}
 use Rattle.plain_service.specs.Pasts.{Past}
 use Rattle.plain_service.specs.Answers.{status_of}
@@ -27,9 +26,6 @@ use Rattle.plain_service.specs.Changing.{past_of, ntf_change, accepted_notificat
 use Rattle.plain_service.specs.Items.{held_for, items_for, items_after, items_of, made_for, through_for, lasts_for, is_new_receipt, IsHeldItem, IsReceipt, Leaves}
 use Rattle.plain_service.proofs.ListLaws.{standing-each}
 use Rattle.plain_service.proofs.Possible.{past_after-by}
-
-Extends-same : {X : Type 0} (xs : List X) → Extends xs xs
-Extends-same xs = record { more = []; is = sym (append-nil xs) }
 
 grows-option : (capacity : ℕ) (change : Option NtfChange) (past : List NtfChange) (client key : ℕ) → Extends (made capacity past client key) (made capacity (cons_option change past) client key)
 grows-option capacity None past client key = Extends-same (made capacity past client key)

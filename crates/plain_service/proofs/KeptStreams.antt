@@ -6,6 +6,7 @@ use Rattle.std.specs.List.{AllByRecursion, count_by}
 use Rattle.std.proofs.lemmas.Bool.Decides.{nat_tests}
 use Rattle.std.proofs.lemmas.List.Elements.{filter-append}
 use Rattle.std.proofs.lemmas.List.Sums.{length-filter}
+use Rattle.std.proofs.lemmas.Bool.{and_from, not-true}
 use Rattle.ais_values.specs.Codes.{all_differ}
 use Rattle.ais_values.specs.declared.status.Status.TheVariants as status
 use Rattle.stream_config.specs.declared.attrs.StreamAttrs.{StreamAttrs}
@@ -35,7 +36,7 @@ use Rattle.plain_service.specs.Answers.{status_of}
 use Rattle.plain_service.specs.Changing.{past_after, past_of}
 use Rattle.plain_service.specs.Fitness.{AreClients, IsAmong}
 use Rattle.plain_service.specs.Legal.{IsClient, IsHistory}
-use Rattle.plain_service.proofs.ListLaws.{each-put, each-without, each-weaker, each-push, each-filter, each-change_first, each-mapped, differ-changed, differ-filtered, differ-pushed, differ-mapped, count-changed, count-filtered, both-so, not-so}
+use Rattle.plain_service.proofs.ListLaws.{each-put, each-without, each-weaker, each-push, each-filter, each-change_first, each-mapped, differ-changed, differ-filtered, differ-pushed, differ-mapped, count-changed, count-filtered}
 use Rattle.plain_service.proofs.Possible.{past_after-by}
 
 -- a change by which a client joins a list has the number of one
@@ -89,7 +90,7 @@ among-put client using user is = has-put user client using ∙ later (client == 
 
 among-without : (client : ℕ) (using : List ℕ) (user : ℕ) → IsAmong using user → (user == client) ≡ false → IsAmong (without (λ other. other == client) using) user
 among-without client using user is apart =
-    has-without user client using ∙ both-so (not (client == user)) (has user using) (ap not (turned client user apart)) is where
+    has-without user client using ∙ and_from (not (client == user)) (has user using) (ap not (turned client user apart)) is where
       turned : (a b : ℕ) → (b == a) ≡ false → (a == b) ≡ false
       turned a b e = grind (arith, nat_tests)
 
@@ -157,7 +158,7 @@ IsLeft-ended client using stream is = record {
 used-kept : (using : List ℕ) (streams : List OpenStream) → AllByRecursion (IsLeft using) streams → AllByRecursion (IsUsed using) (kept_streams streams)
 used-kept using streams each =
     each-weaker (λ (stream : OpenStream). IsLeft using stream × (not (has_nobody stream) ≡ true)) (IsUsed using)
-    (λ stream is. record { rising = is.0.rising; clients = is.0.clients; users = is.0.users; somebody = not-so (has_nobody stream) is.1 })
+    (λ stream is. record { rising = is.0.rising; clients = is.0.clients; users = is.0.users; somebody = not-true (has_nobody stream) is.1 })
     (kept_streams streams) (each-filter (IsLeft using) (λ stream. not (has_nobody stream)) streams each)
 
 -- one more change

@@ -3,6 +3,7 @@ use Rattle.std.proofs.Common.{◌≡◌, ◌≤◌, Bool, true, false, not, ◌&
 use Rattle.std.specs.Prelude.{Some, None, filter}
 use Rattle.std.specs.List.{AllByRecursion, find, list_any}
 use Rattle.std.proofs.lemmas.List.Folds.{list_any-append}
+use Rattle.std.proofs.lemmas.Bool.{and_parts, and_from, or_parts, or_from, not-true}
 use Rattle.client_set.specs.Members.{Stands}
 use Rattle.client_set.specs.Rising.{put, without}
 use Rattle.ais_values.specs.Codes.{all_differ}
@@ -96,30 +97,6 @@ none-each test (x ∷ xs) none = let two = find-none test x xs none in (two.0, n
 
 -- every two elements of a list differ
 
-pub both-is : (a b : Bool) → (a && b) ≡ true → (a ≡ true) × (b ≡ true)
-both-is true b both = (refl, both)
-both-is false b both = cc
-
-pub both-so : (a b : Bool) → a ≡ true → b ≡ true → (a && b) ≡ true
-both-so true b one other = other
-both-so false b one other = cc
-
-pub either-not : (a b : Bool) → (a || b) ≡ false → (a ≡ false) × (b ≡ false)
-either-not true b e = cc
-either-not false b e = (refl, e)
-
-pub neither : (a b : Bool) → a ≡ false → b ≡ false → (a || b) ≡ false
-neither true b one other = cc
-neither false b one other = other
-
-pub or-second : (a b : Bool) → b ≡ true → (a || b) ≡ true
-or-second true b e = refl
-or-second false b e = e
-
-pub not-so : (a : Bool) → not a ≡ true → a ≡ false
-not-so true e = cc
-not-so false e = refl
-
 module _ {X : Type 0} where
   any-same : (test other : X → Bool) → ((x : X) → test x ≡ other x) → (xs : List X) → list_any test xs ≡ list_any other xs
   any-same test other same [] = refl
@@ -136,9 +113,9 @@ module _ {X : Type 0} where
   any-filtered : (test keep : X → Bool) (xs : List X) → list_any test xs ≡ false → list_any test (filter keep xs) ≡ false
   any-filtered test keep [] none = refl
   any-filtered test keep (x ∷ xs) none =
-      let two = either-not (test x) (list_any test xs) none in by_case two.0 (keep x) (any-filtered test keep xs two.1) where
+      let two = or_parts (test x) (list_any test xs) none in by_case two.0 (keep x) (any-filtered test keep xs two.1) where
         by_case : test x ≡ false → (b : Bool) → list_any test (filter keep xs) ≡ false → list_any test (cond b (x ∷ filter keep xs) (filter keep xs)) ≡ false
-        by_case first true rest = neither (test x) (list_any test (filter keep xs)) first rest
+        by_case first true rest = or_from (test x) (list_any test (filter keep xs)) first rest
         by_case first false rest = rest
 
 module _ {X : Type 0} (same : X → X → Bool) where
@@ -155,20 +132,20 @@ module _ {X : Type 0} (same : X → X → Bool) where
   pub differ-filtered : (keep : X → Bool) (xs : List X) → all_differ same xs ≡ true → all_differ same (filter keep xs) ≡ true
   differ-filtered keep [] differ = refl
   differ-filtered keep (x ∷ xs) differ =
-      let two = both-is (not (list_any (same x) xs)) (all_differ same xs) differ in
+      let two = and_parts (not (list_any (same x) xs)) (all_differ same xs) differ in
       by_case two.0 (keep x) (differ-filtered keep xs two.1) where
         by_case : not (list_any (same x) xs) ≡ true → (b : Bool) → all_differ same (filter keep xs) ≡ true → all_differ same (cond b (x ∷ filter keep xs) (filter keep xs)) ≡ true
         by_case first true rest =
-            both-so (not (list_any (same x) (filter keep xs))) (all_differ same (filter keep xs)) (ap not (any-filtered (same x) keep xs (not-so (list_any (same x) xs) first))) rest
+            and_from (not (list_any (same x) (filter keep xs))) (all_differ same (filter keep xs)) (ap not (any-filtered (same x) keep xs (not-true (list_any (same x) xs) first))) rest
         by_case first false rest = rest
 
   pub differ-pushed : (xs : List X) (x : X) → all_differ same xs ≡ true → list_any (λ y. same y x) xs ≡ false → all_differ same (xs ++ x ∷ []) ≡ true
   differ-pushed [] x differ none = refl
   differ-pushed (y ∷ ys) x differ none =
-      let two = both-is (not (list_any (same y) ys)) (all_differ same ys) differ in
-      let parts = either-not (same y x) (list_any (λ z. same z x) ys) none in
-      both-so (not (list_any (same y) (ys ++ x ∷ []))) (all_differ same (ys ++ x ∷ []))
-      (ap not (list_any-append (same y) ys (x ∷ []) ∙ neither (list_any (same y) ys) (same y x || false) (not-so (list_any (same y) ys) two.0) (neither (same y x) false parts.0 refl)))
+      let two = and_parts (not (list_any (same y) ys)) (all_differ same ys) differ in
+      let parts = or_parts (same y x) (list_any (λ z. same z x) ys) none in
+      and_from (not (list_any (same y) (ys ++ x ∷ []))) (all_differ same (ys ++ x ∷ []))
+      (ap not (list_any-append (same y) ys (x ∷ []) ∙ or_from (list_any (same y) ys) (same y x || false) (not-true (list_any (same y) ys) two.0) (or_from (same y x) false parts.0 refl)))
       (differ-pushed ys x two.1 parts.1)
 
 pub differ-mapped : {X Y : Type 0} (f : X → Y) (same : Y → Y → Bool) (other : X → X → Bool) → ((x y : X) → same (f x) (f y) ≡ other x y) → (xs : List X) → all_differ same (map f xs) ≡ all_differ other xs

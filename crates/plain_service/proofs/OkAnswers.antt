@@ -61,10 +61,3 @@ start-ok true false false true true true full found ok = cc
 start-ok true false false true true false true found ok = cc
 start-ok true false false true true false false true ok = cc
 start-ok true false false true true false false false ok = (refl, refl, refl, refl, refl, refl)
-
-pub read-ok : (using missing wrong none : Bool) → answer ((not using, status.BadHandle) ∷ (missing, status.BadHandle) ∷ (wrong, status.InvalidParam) ∷ (none, status.NotExist) ∷ []) ≡ status.Ok → (using ≡ true) × (missing ≡ false) × (none ≡ false)
-read-ok false missing wrong none ok = cc
-read-ok true true wrong none ok = cc
-read-ok true false true none ok = cc
-read-ok true false false true ok = cc
-read-ok true false false false ok = (refl, refl, refl)

@@ -44,6 +44,7 @@ use Rattle.plain_service.specs.Replies.{calls_of, next_number}
 use Rattle.plain_service.specs.Legal.{IsHistory}
 use Rattle.plain_service.proofs.WellKnown.{stored_in, stored_in-bound, living-alarm, living-notification, taken-alarm, taken-notification}
 use Rattle.plain_service.proofs.OkAnswers.{begin-ok, end-ok, close-ok, write-ok, open-ok, create-ok, send-ok, subscribe-ok}
+use Rattle.ntf_history.proofs.KeyLaws.{keys_same}
 
 -- a call that is refused changes nothing
 pub past_after-by : (P : Past → Type 0) (setup : Setup) (past : Past) (client seq : ℕ) (now : ℤ) (call : Call) (answered : Status) → P past → (answered ≡ status.Ok → P (past_after setup past client seq now call status.Ok)) → P (past_after setup past client seq now call answered)
@@ -152,9 +153,6 @@ alarms-below setup past client seq now _ below = below
 abbrev pub KeysBelow : List NtfChange → List Entry → Type 0
 KeysBelow past entries = (client key : ℕ) → is_known past client key ≡ true → key < next_number client entries
 
-same-key : (client seq other key : ℕ) → (client == other && seq == key) ≡ true → (client ≡ other) × (seq ≡ key)
-same-key client seq other key same = (grind (arith, nat_tests), grind (arith, nat_tests))
-
 next-number : (client other seq : ℕ) (now : ℤ) (call : Call) (entries : List Entry) → next_number other entries ≤ next_number other (Called client seq now call ∷ entries)
 next-number client other seq now call entries = by_case (client == other) where
   by_case : (mine : Bool) → length (calls_of other entries) + 1 ≤ length (cond mine (call ∷ calls_of other entries) (calls_of other entries)) + 1
@@ -172,7 +170,7 @@ keys-called : (setup : Setup) (past : Past) (client seq : ℕ) (now : ℤ) (call
 keys-called setup past client seq now (NtfSubscribe id filters) entries next before other key known = by_case (client == other && seq == key) refl known where
   by_case : (mine : Bool) → (client == other && seq == key) ≡ mine → (mine || is_known past.ntf other key) ≡ true → key < next_number other (Called client seq now (NtfSubscribe id filters) ∷ entries)
   by_case true is known_now =
-      let same = same-key client seq other key is in
+      let same = keys_same client seq other key is in
       let own : next_number other (Called client seq now (NtfSubscribe id filters) ∷ entries) ≡ next_number client entries + 1 =
       ap (λ c. next_number c (Called client seq now (NtfSubscribe id filters) ∷ entries)) (sym same.0) ∙ next-own client seq now (NtfSubscribe id filters) entries in
       omega (arith, own, same.1, next)

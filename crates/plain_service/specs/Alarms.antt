@@ -1,5 +1,5 @@
 -- Words of public clauses: notifications as they are accepted and stored, and which stored alarms stand.
-use Rattle.std.specs.Prelude.{ℕ, ◌+◌, ◌-◌, ◌*◌, ◌/◌, ℤ, if◌then◌else◌, List, length}
+use Rattle.std.specs.Prelude.{ℕ, ℤ, if◌then◌else◌, List, length}
 use Rattle.std.specs.Option.{option_map_or}
 use Rattle.stream_config.specs.declared.attrs.StreamName.{StreamName}
 use Rattle.stream_config.specs.declared.attrs.StreamName.TheVariants as name

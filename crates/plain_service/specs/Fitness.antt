@@ -1,5 +1,6 @@
 -- Words of public clauses: which values can be handed on, a record for each group of rules.
-use Rattle.std.specs.Prelude.{◌≡◌, ◌≢◌, ℕ, ◌+◌, ◌*◌, ◌<◌, ◌≤◌, ◌⊎◌, pos, ◌≤ℤ◌, unsigned_abs, nat_lt, ◌==◌, Bool, true, ◌&&◌, List, [], ◌∷◌, length, take, drop, map, find, MatchOption, slice_get}
+use Rattle.std.specs.Prelude.{◌≡◌, ◌≢◌, ℕ, ◌+◌, ◌*◌, ◌<◌, ◌≤◌, ◌⊎◌, pos, ◌≤ℤ◌, unsigned_abs, nat_lt, ◌==◌, Bool, true}
+use Rattle.std.specs.Prelude.{◌&&◌, List, [], ◌∷◌, length, take, drop, map, find, MatchOption, slice_get}
 use Rattle.std.specs.List.{AllByRecursion}
 use Rattle.client_set.specs.Members.{has}
 use Rattle.client_set.specs.Rising.{IsRising}

@@ -1,12 +1,11 @@
 -- A list rises exactly where each element comes before the next.
 use Rattle.std.proofs.Common.{◌≡◌, ℕ, nat_lt, Bool, true, ◌&&◌, List, [], ◌∷◌, map, refl, ap, sym, ◌∙◌}
 use Rattle.std.specs.Prelude.{Option, Some, None, ⊤, IsTrue, ◌↔◌}
-use Rattle.std.proofs.lemmas.Bool.{and_parts}
+use Rattle.std.proofs.lemmas.Bool.{and_parts, and_from}
 use Rattle.calls.specs.declared.saved.SavedAlarm.{SavedAlarm}
 use Rattle.client_set.specs.Rising.{ComesFirst, IsRising}
 use Rattle.client_set.proofs.RisingLaws.{IsOrder-nat_lt}
 use Rattle.plain_service.specs.Fitness.{is_id_before}
-use Rattle.plain_service.proofs.ListLaws.{both-so}
 use Rattle.saved_fit.specs.Rising.{by_number, follows, rises_behind, is_above, rises_by_id}
 
 -- the last element, if there is one, comes before all of these
@@ -42,7 +41,7 @@ module _ {X : Type 0} (before : X → X → Bool) (onward : (x y z : X) → befo
   from-rising : (last : Option X) (items : List X) → IsRising before items → Behind before last items → rises_behind before last items ≡ true
   from-rising last [] rising behind = refl
   from-rising last (item ∷ items) rising behind =
-      both-so (follows before last item) (rises_behind before (Some item) items) (first-follows last item items behind)
+      and_from (follows before last item) (rises_behind before (Some item) items) (first-follows last item items behind)
       (from-rising (Some item) items rising.1 rising.0)
 
   pub rising-decided : (items : List X) (result : Bool) → result ≡ rises_behind before None items → IsTrue result ↔ IsRising before items
