@@ -1,5 +1,5 @@
 -- `==` of calls, replies and entries decides whether they are equal.
-use Rattle.std.proofs.Common.{◌≡◌, refl, ap}
+use Rattle.std.proofs.Common.{◌≡◌, refl}
 use Rattle.std.specs.Bool.{Decides}
 use Rattle.std.proofs.lemmas.Bool.Decides.{Decides-eqb, Decides-int_eq, Decides-and, Decides-like}
 use Rattle.std.proofs.lemmas.Slice.Eq.{bytes_eq-Decides}
@@ -7,17 +7,10 @@ use Rattle.ais_values.proofs.Equality.{eq-decides_through, option_eq-decides}
 use Rattle.ntf_types.proofs.Equality.{notification_eq-decides}
 use Rattle.ntf_filters.proofs.Equality.{filter_set_eq-decides}
 use Rattle.record_print.proofs.Equality.{header_eq-decides}
+use Rattle.stream_config.proofs.Equality.{name_eq-decides, attrs_eq-decides}
 use Rattle.ais_values.specs.declared.status.Status.{Status}
 use Rattle.ais_values.specs.declared.status.Status.TheVariants as status
 use Rattle.ais_values.specs.contracts.status.StatusPartialEq.TheImpl as status_impl
-use Rattle.stream_config.specs.declared.attrs.FullAction.{FullAction}
-use Rattle.stream_config.specs.declared.attrs.FullAction.TheVariants as action
-use Rattle.stream_config.specs.contracts.attrs.FullActionPartialEq.TheImpl as action_impl
-use Rattle.stream_config.specs.declared.attrs.StreamName.{StreamName}
-use Rattle.stream_config.specs.declared.attrs.StreamName.TheVariants as stream_name
-use Rattle.stream_config.specs.contracts.attrs.StreamNamePartialEq.TheImpl as stream_name_impl
-use Rattle.stream_config.specs.declared.attrs.StreamAttrs.{StreamAttrs}
-use Rattle.stream_config.specs.contracts.attrs.StreamAttrsPartialEq.TheImpl as attrs_impl
 use Rattle.calls.specs.declared.call.Call.{Call}
 use Rattle.calls.specs.declared.call.Call.TheVariants as call
 use Rattle.calls.specs.contracts.call.CallPartialEq.TheImpl as call_impl
@@ -41,41 +34,20 @@ status_eq-decides status.NoResources status.NoResources = (λ _. refl, λ _. ref
 status_eq-decides status.BadFlags status.BadFlags = (λ _. refl, λ _. refl)
 status_eq-decides one other = (λ e. absurd (cc), λ e. absurd (cc))
 
-pub action_eq-decides : (one other : FullAction) → Decides ((action_impl.ghosts).eq one other) (one ≡ other)
-action_eq-decides action.Wrap action.Wrap = (λ _. refl, λ _. refl)
-action_eq-decides action.Halt action.Halt = (λ _. refl, λ _. refl)
-action_eq-decides action.Rotate action.Rotate = (λ _. refl, λ _. refl)
-action_eq-decides one other = (λ e. absurd (cc), λ e. absurd (cc))
-
-pub stream_name_eq-decides : (one other : StreamName) → Decides ((stream_name_impl.ghosts).eq one other) (one ≡ other)
-stream_name_eq-decides stream_name.Alarm stream_name.Alarm = (λ _. refl, λ _. refl)
-stream_name_eq-decides stream_name.Notification stream_name.Notification = (λ _. refl, λ _. refl)
-stream_name_eq-decides stream_name.System stream_name.System = (λ _. refl, λ _. refl)
-stream_name_eq-decides (stream_name.App one) (stream_name.App other) =
-    eq-decides_through stream_name.App _ one other (λ e. cc) (bytes_eq-Decides one other)
-stream_name_eq-decides one other = (λ e. absurd (cc), λ e. absurd (cc))
-
-pub attrs_eq-decides : (one other : StreamAttrs) → Decides ((attrs_impl.ghosts).eq one other) (one ≡ other)
-attrs_eq-decides one other =
-    Decides-like _
-    (λ e. λ i. record { file = e.0 i; path = (e.1).0 i; max_file = (e.1).1.0 i; record_size = (e.1).1.1.0 i; ha = (e.1).1.1.1.0 i; action = (e.1).1.1.1.1.0 i; rotated = (e.1).1.1.1.1.1.0 i; expr = (e.1).1.1.1.1.1.1 i })
-    (λ e. (ap (λ (x : StreamAttrs). x.file) e, (ap (λ (x : StreamAttrs). x.path) e, (ap (λ (x : StreamAttrs). x.max_file) e, (ap (λ (x : StreamAttrs). x.record_size) e, (ap (λ (x : StreamAttrs). x.ha) e, (ap (λ (x : StreamAttrs). x.action) e, (ap (λ (x : StreamAttrs). x.rotated) e, ap (λ (x : StreamAttrs). x.expr) e))))))))
-    (Decides-and _ _ (bytes_eq-Decides one.file other.file) (Decides-and _ _ (bytes_eq-Decides one.path other.path) (Decides-and _ _ (Decides-eqb one.max_file other.max_file) (Decides-and _ _ (Decides-eqb one.record_size other.record_size) (Decides-and _ _ (Decides-eqb one.ha other.ha) (Decides-and _ _ (action_eq-decides one.action other.action) (Decides-and _ _ (Decides-eqb one.rotated other.rotated) (bytes_eq-Decides one.expr other.expr))))))))
-
 pub call_eq-decides : (one other : Call) → Decides ((call_impl.ghosts).eq one other) (one ≡ other)
 call_eq-decides call.LogInit call.LogInit = (λ _. refl, λ _. refl)
 call_eq-decides (call.LogOpen stream1 create1) (call.LogOpen stream2 create2) =
     Decides-like _
     (λ e. λ i. call.LogOpen (e.0 i) ((e.1) i))
     (λ e. (cc, cc))
-    (Decides-and _ _ (stream_name_eq-decides stream1 stream2) (option_eq-decides _ attrs_eq-decides create1 create2))
+    (Decides-and _ _ (name_eq-decides stream1 stream2) (option_eq-decides _ attrs_eq-decides create1 create2))
 call_eq-decides (call.LogWrite stream1 invocation1 flags1 time1 header1 body1) (call.LogWrite stream2 invocation2 flags2 time2 header2 body2) =
     Decides-like _
     (λ e. λ i. call.LogWrite (e.0 i) ((e.1).0 i) ((e.1).1.0 i) ((e.1).1.1.0 i) ((e.1).1.1.1.0 i) ((e.1).1.1.1.1 i))
     (λ e. (cc, (cc, (cc, (cc, (cc, cc))))))
-    (Decides-and _ _ (stream_name_eq-decides stream1 stream2) (Decides-and _ _ (Decides-eqb invocation1 invocation2) (Decides-and _ _ (Decides-eqb flags1 flags2) (Decides-and _ _ (Decides-int_eq time1 time2) (Decides-and _ _ (header_eq-decides header1 header2) (bytes_eq-Decides body1 body2))))))
+    (Decides-and _ _ (name_eq-decides stream1 stream2) (Decides-and _ _ (Decides-eqb invocation1 invocation2) (Decides-and _ _ (Decides-eqb flags1 flags2) (Decides-and _ _ (Decides-int_eq time1 time2) (Decides-and _ _ (header_eq-decides header1 header2) (bytes_eq-Decides body1 body2))))))
 call_eq-decides (call.LogClose one) (call.LogClose other) =
-    eq-decides_through call.LogClose _ one other (λ e. cc) (stream_name_eq-decides one other)
+    eq-decides_through call.LogClose _ one other (λ e. cc) (name_eq-decides one other)
 call_eq-decides call.LogFini call.LogFini = (λ _. refl, λ _. refl)
 call_eq-decides call.NtfInit call.NtfInit = (λ _. refl, λ _. refl)
 call_eq-decides (call.NtfSend one) (call.NtfSend other) =

@@ -4,15 +4,11 @@ use Rattle.std.specs.Bool.{Decides}
 use Rattle.std.specs.Cmp.Lexicographic.{pointwise_decides}
 use Rattle.std.specs.Cmp.{booleans_Decides}
 use Rattle.std.proofs.lemmas.Bool.Decides.{Decides-eqb, Decides-int_eq, Decides-and, Decides-like}
-use Rattle.ais_values.proofs.Equality.{option_eq-decides}
 use Rattle.ntf_types.proofs.Equality.{notification_eq-decides}
 use Rattle.ntf_filters.proofs.Equality.{filter_set_eq-decides}
 use Rattle.sub_queue.proofs.Equality.{content_eq-decides, lost_eq-decides}
-use Rattle.calls.proofs.Equality.{stream_name_eq-decides, attrs_eq-decides, reply_eq-decides}
-use Rattle.stream_config.specs.declared.state.LogFile.{LogFile}
-use Rattle.stream_config.specs.contracts.state.LogFilePartialEq.TheImpl as log_file_impl
-use Rattle.stream_config.specs.declared.state.StreamState.{StreamState}
-use Rattle.stream_config.specs.contracts.state.StreamStatePartialEq.TheImpl as state_impl
+use Rattle.stream_config.proofs.Equality.{state_eq-decides}
+use Rattle.calls.proofs.Equality.{reply_eq-decides}
 use Rattle.calls.specs.declared.saved.SavedWindow.{SavedWindow}
 use Rattle.calls.specs.contracts.saved.SavedWindowPartialEq.TheImpl as saved_window_impl
 use Rattle.calls.specs.declared.saved.SavedStream.{SavedStream}
@@ -25,20 +21,6 @@ use Rattle.calls.specs.declared.saved.SavedReader.{SavedReader}
 use Rattle.calls.specs.contracts.saved.SavedReaderPartialEq.TheImpl as saved_reader_impl
 use Rattle.calls.specs.declared.saved.Saved.{Saved}
 use Rattle.calls.specs.contracts.saved.SavedPartialEq.TheImpl as saved_impl
-
-pub log_file_eq-decides : (one other : LogFile) → Decides ((log_file_impl.ghosts).eq one other) (one ≡ other)
-log_file_eq-decides one other =
-    Decides-like _
-    (λ e. λ i. record { created = e.0 i; closed = (e.1) i })
-    (λ e. (ap (λ (x : LogFile). x.created) e, ap (λ (x : LogFile). x.closed) e))
-    (Decides-and _ _ (Decides-int_eq one.created other.created) (option_eq-decides _ Decides-int_eq one.closed other.closed))
-
-pub state_eq-decides : (one other : StreamState) → Decides ((state_impl.ghosts).eq one other) (one ≡ other)
-state_eq-decides one other =
-    Decides-like _
-    (λ e. λ i. record { name = e.0 i; attrs = (e.1).0 i; taken = (e.1).1.0 i; files = (e.1).1.1 i })
-    (λ e. (ap (λ (x : StreamState). x.name) e, (ap (λ (x : StreamState). x.attrs) e, (ap (λ (x : StreamState). x.taken) e, ap (λ (x : StreamState). x.files) e))))
-    (Decides-and _ _ (stream_name_eq-decides one.name other.name) (Decides-and _ _ (attrs_eq-decides one.attrs other.attrs) (Decides-and _ _ (Decides-eqb one.taken other.taken) (pointwise_decides log_file_eq-decides one.files other.files))))
 
 pub saved_window_eq-decides : (one other : SavedWindow) → Decides ((saved_window_impl.ghosts).eq one other) (one ≡ other)
 saved_window_eq-decides one other =

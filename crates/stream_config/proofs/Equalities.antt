@@ -13,32 +13,16 @@ use Rattle.stream_config.specs.Equality.{action_code, name_code, own_name, same_
 -- an action with its number, and a name with its parts, are told apart by them
 actions_equal : (one other : FullAction) → action_code one ≡ action_code other → one ≡ other
 actions_equal Wrap Wrap is = refl
-actions_equal Wrap Halt is = cc
-actions_equal Wrap Rotate is = cc
-actions_equal Halt Wrap is = cc
 actions_equal Halt Halt is = refl
-actions_equal Halt Rotate is = cc
-actions_equal Rotate Wrap is = cc
-actions_equal Rotate Halt is = cc
 actions_equal Rotate Rotate is = refl
+actions_equal one other is = cc
 
 names_equal : (one other : StreamName) → name_code one ≡ name_code other → own_name one ≡ own_name other → one ≡ other
 names_equal Alarm Alarm code own = refl
-names_equal Alarm Notification code own = cc
-names_equal Alarm System code own = cc
-names_equal Alarm (App name) code own = cc
-names_equal Notification Alarm code own = cc
 names_equal Notification Notification code own = refl
-names_equal Notification System code own = cc
-names_equal Notification (App name) code own = cc
-names_equal System Alarm code own = cc
-names_equal System Notification code own = cc
 names_equal System System code own = refl
-names_equal System (App name) code own = cc
-names_equal (App one) Alarm code own = cc
-names_equal (App one) Notification code own = cc
-names_equal (App one) System code own = cc
 names_equal (App one) (App other) code own = ap App own
+names_equal one other code own = cc
 
 pub decides_action : (one other : FullAction) → Decides (same_action one other) (one ≡ other)
 decides_action one other =

@@ -1,3 +1,3 @@
 pub mod AttributeLaws
-pub mod Comparisons
 pub mod Equalities
+pub mod Equality

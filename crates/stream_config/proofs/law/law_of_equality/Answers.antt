@@ -1,4 +1,4 @@
-use Rattle.stream_config.proofs.Comparisons.{name_eq-decides, attrs_eq-decides, state_eq-decides, event_eq-decides}
+use Rattle.stream_config.proofs.Equality.{name_eq-decides, attrs_eq-decides, state_eq-decides, event_eq-decides}
 use Rattle.stream_config.proofs.law.law_of_equality.Goals as goal
 
 pub returns : goal.returns

@@ -3,7 +3,7 @@ use Rattle.std.proofs.Common.{◌≡◌, refl, ap}
 use Rattle.std.specs.Bool.{Decides}
 use Rattle.std.specs.Ordering.{int_eq}
 use Rattle.std.specs.Cmp.Lexicographic.{pointwise_decides}
-use Rattle.std.proofs.lemmas.Bool.Decides.{Decides-eqb, Decides-int_eq, Decides-and, Decides-like, Decides-at}
+use Rattle.std.proofs.lemmas.Bool.Decides.{Decides-eqb, Decides-int_eq, Decides-and, Decides-like}
 use Rattle.std.proofs.lemmas.Slice.Eq.{bytes_eq-Decides}
 use Rattle.ais_values.proofs.Equality.{option_eq-decides, eq-decides_through}
 use Rattle.stream_config.specs.declared.attrs.FullAction.{FullAction}
@@ -23,43 +23,19 @@ use Rattle.stream_config.specs.contracts.state.LogFilePartialEq.TheImpl as file_
 use Rattle.stream_config.specs.contracts.state.StreamStatePartialEq.TheImpl as state_impl
 use Rattle.stream_config.specs.contracts.event.StampsPartialEq.TheImpl as stamps_impl
 use Rattle.stream_config.specs.contracts.event.StreamEventPartialEq.TheImpl as event_impl
-use Rattle.stream_config.specs.Equality.{same_name, same_action}
-use Rattle.stream_config.proofs.Equalities.{decides_name, decides_action}
-
-action_eq-same : (one other : FullAction) → (action_impl.ghosts).eq one other ≡ same_action one other
-action_eq-same Wrap Wrap = refl
-action_eq-same Wrap Halt = refl
-action_eq-same Wrap Rotate = refl
-action_eq-same Halt Wrap = refl
-action_eq-same Halt Halt = refl
-action_eq-same Halt Rotate = refl
-action_eq-same Rotate Wrap = refl
-action_eq-same Rotate Halt = refl
-action_eq-same Rotate Rotate = refl
 
 action_eq-decides : (one other : FullAction) → Decides ((action_impl.ghosts).eq one other) (one ≡ other)
-action_eq-decides one other = Decides-at _ _ (action_eq-same one other) (decides_action one other)
-
-name_eq-same : (one other : StreamName) → (name_impl.ghosts).eq one other ≡ same_name one other
-name_eq-same Alarm Alarm = refl
-name_eq-same Alarm Notification = refl
-name_eq-same Alarm System = refl
-name_eq-same Alarm (App other) = refl
-name_eq-same Notification Alarm = refl
-name_eq-same Notification Notification = refl
-name_eq-same Notification System = refl
-name_eq-same Notification (App other) = refl
-name_eq-same System Alarm = refl
-name_eq-same System Notification = refl
-name_eq-same System System = refl
-name_eq-same System (App other) = refl
-name_eq-same (App one) Alarm = refl
-name_eq-same (App one) Notification = refl
-name_eq-same (App one) System = refl
-name_eq-same (App one) (App other) = refl
+action_eq-decides Wrap Wrap = (λ _. refl, λ _. refl)
+action_eq-decides Halt Halt = (λ _. refl, λ _. refl)
+action_eq-decides Rotate Rotate = (λ _. refl, λ _. refl)
+action_eq-decides one other = (λ e. absurd (cc), λ e. absurd (cc))
 
 pub name_eq-decides : (one other : StreamName) → Decides ((name_impl.ghosts).eq one other) (one ≡ other)
-name_eq-decides one other = Decides-at _ _ (name_eq-same one other) (decides_name one other)
+name_eq-decides Alarm Alarm = (λ _. refl, λ _. refl)
+name_eq-decides Notification Notification = (λ _. refl, λ _. refl)
+name_eq-decides System System = (λ _. refl, λ _. refl)
+name_eq-decides (App one) (App other) = eq-decides_through App _ one other (λ e. cc) (bytes_eq-Decides one other)
+name_eq-decides one other = (λ e. absurd (cc), λ e. absurd (cc))
 
 pub attrs_eq-decides : (one other : StreamAttrs) → Decides ((attrs_impl.ghosts).eq one other) (one ≡ other)
 attrs_eq-decides one other =
@@ -96,9 +72,4 @@ event_eq-decides (Stored s1 b1 t1) (Stored s2 b2 t2) =
     (Decides-and _ _ (state_eq-decides s1 s2) (Decides-and _ _ (bytes_eq-Decides b1 b2) (option_eq-decides (stamps_impl.ghosts).eq stamps_eq-decides t1 t2)))
 event_eq-decides (Ended s1 c1) (Ended s2 c2) =
     Decides-like _ (λ e. λ i. Ended (e.0 i) (e.1 i)) (λ e. (cc, cc)) (Decides-and _ _ (state_eq-decides s1 s2) (Decides-int_eq c1 c2))
-event_eq-decides (Made x1) (Stored y1 y2 y3) = (λ e. absurd (cc), λ e. absurd (cc))
-event_eq-decides (Made x1) (Ended y1 y2) = (λ e. absurd (cc), λ e. absurd (cc))
-event_eq-decides (Stored x1 x2 x3) (Made y1) = (λ e. absurd (cc), λ e. absurd (cc))
-event_eq-decides (Stored x1 x2 x3) (Ended y1 y2) = (λ e. absurd (cc), λ e. absurd (cc))
-event_eq-decides (Ended x1 x2) (Made y1) = (λ e. absurd (cc), λ e. absurd (cc))
-event_eq-decides (Ended x1 x2) (Stored y1 y2 y3) = (λ e. absurd (cc), λ e. absurd (cc))
+event_eq-decides one other = (λ e. absurd (cc), λ e. absurd (cc))
