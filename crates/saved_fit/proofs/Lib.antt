@@ -1,3 +1,3 @@
 pub mod RisingLaws
 pub mod FileLaws
-pub mod StreamLaws
+pub mod SubLaws

@@ -1,6 +1,6 @@
 use Rattle.plain_service.specs.Fitness.{is_sub_before}
 use Rattle.saved_fit.proofs.RisingLaws.{rising-decided}
-use Rattle.saved_fit.proofs.StreamLaws.{sub-onward}
+use Rattle.saved_fit.proofs.SubLaws.{sub-onward}
 use Rattle.saved_fit.proofs.asking.stand_in_order.Goals as goal
 
 pub returns : goal.returns
