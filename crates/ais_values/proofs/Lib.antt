@@ -1,3 +1,4 @@
+pub mod Basics
 pub mod CodeTables
 pub mod Comparing
 pub mod Equality

@@ -19,6 +19,7 @@ use Rattle.format_expr.specs.Language.{is_plain, is_digit, is_class_of, width_di
 use Rattle.format_expr.specs.Scan.{plain_step, field_step, width_step, step_of, end_of, after, run, may_end, is_expression}
 use Rattle.format_expr.proofs.TokenLaws.{row_of, part_with-letters}
 use Rattle.format_expr.proofs.Steps.{after_ok, plain_ok, plain_on, class_ok, class_on, field_ok, width_ok, width_of, digits_more, past_width, behind_width, run_width}
+use Rattle.ais_values.proofs.Basics.{none_from}
 
 -- one more plain byte at the front of pieces
 cons_plain : ℕ → List Piece → List Piece
@@ -236,10 +237,6 @@ complete kind (Field token ∷ pieces) valid =
 pub expression_is_accepted : (kind : StreamKind) (text : List ℕ) → IsExpression kind text → IsAccepted kind Between text
 expression_is_accepted kind text (pieces, spells) =
     subst (IsAccepted kind Between) (sym spells.spelled) (complete kind pieces spells.valid)
-
-none_from : {A : Type 0} (o : Option A) → is_none o ≡ true → o ≡ None
-none_from None is = refl
-none_from (Some value) is = cc
 
 accepted_from : (kind : StreamKind) (text : List ℕ) (end : Result Stand ExprWhy) → run kind Between text ≡ end → may_end end ≡ true → IsAccepted kind Between text
 accepted_from kind text (Ok stand) at ends = record { last = stand; reached = at; ends = none_from (end_of stand) ends }

@@ -14,6 +14,7 @@ use Rattle.ais_values.specs.declared.kind.StreamKind.{StreamKind}
 use Rattle.format_expr.specs.Tokens.{part_with}
 use Rattle.format_expr.specs.Language.{is_plain, is_digit, is_class, is_class_of, width_digits, is_width}
 use Rattle.format_expr.specs.Scan.{plain_step, class_step, field_step, width_step, step_of, after, run}
+use Rattle.ais_values.proofs.Basics.{some_of}
 
 -- which way a choice went, by what it gave
 pub chosen : {A : Type 0} (b : Bool) (x y z : A) → cond b x y ≡ z → ((b ≡ true) × (x ≡ z)) ⊎ ((b ≡ false) × (y ≡ z))
@@ -24,11 +25,6 @@ chosen false x y z e = inr (refl, e)
 pub after_ok : {A B E : Type 0} (r : Result A E) (f : A → Result B E) (y : B) → after r f ≡ Ok y → (x : A) × (r ≡ Ok x) × (f x ≡ Ok y)
 after_ok (Ok x) f y e = (x, refl, e)
 after_ok (Err error) f y e = absurd cc
-
--- an option is there
-pub some_of : {A : Type 0} (o : Option A) → is_some o ≡ true → (x : A) × (o ≡ Some x)
-some_of None e = absurd cc
-some_of (Some x) e = (x, refl)
 
 -- the steps that a plain piece's byte or an `@` makes
 pub plain_ok : (byte : ℕ) (next : Stand) → plain_step byte ≡ Ok next → ((byte ≡ 64) × (next ≡ At)) ⊎ ((is_plain byte ≡ true) × (next ≡ Between))

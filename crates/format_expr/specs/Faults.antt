@@ -1,5 +1,6 @@
 -- Words of public clauses: where and why a text is no expression; the place is the length of its longest front with which some expression begins.
-use Rattle.std.specs.Prelude.{◌≡◌, ℕ, ◌+◌, ◌-◌, ◌*◌, ◌<◌, ◌≤◌, ◌∷◌, [], ◌++◌, ◌⊎◌, List, length, take, Bool, not, false, ◌&&◌, ◌||◌, ◌==◌, nat_lt, codes, Option, Some, None, IsTrue, slice_get}
+use Rattle.std.specs.Prelude.{◌≡◌, ℕ, ◌+◌, ◌-◌, ◌*◌, ◌<◌, ◌≤◌, ◌∷◌, [], ◌++◌, ◌⊎◌, List, length, take, Bool, not, false, ◌&&◌, ◌||◌, ◌==◌, nat_lt, codes}
+use Rattle.std.specs.Prelude.{Option, Some, None, IsTrue, slice_get}
 use Rattle.format_expr.specs.declared.token.Part.{Part}
 use Rattle.format_expr.specs.declared.token.Token.{Token}
 use Rattle.format_expr.specs.declared.fault.ExprWhy.{ExprWhy}

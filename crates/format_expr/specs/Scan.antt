@@ -1,5 +1,6 @@
 -- Words of bodies, and of definitions above this crate: the automaton that reads expressions, where it stands after each byte, and why it stops.
-use Rattle.std.specs.Prelude.{◌≡◌, ℕ, ◌+◌, ◌-◌, ◌*◌, ◌≤◌, ◌∷◌, [], List, length, take, ◌&&◌, ◌||◌, ◌==◌, nat_lt, if◌then◌else◌, Option, Some, None, Result, Ok, Err, Bool, false, is_some, is_none, slice_get}
+use Rattle.std.specs.Prelude.{◌≡◌, ℕ, ◌+◌, ◌-◌, ◌*◌, ◌≤◌, ◌∷◌, [], List, length, take, ◌&&◌, ◌||◌, ◌==◌, nat_lt, if◌then◌else◌, Option, Some, None, Result, Ok}
+use Rattle.std.specs.Prelude.{Err, Bool, false, is_some, is_none, slice_get}
 use Rattle.std.specs.Result.{result_err}
 use Rattle.format_expr.specs.declared.check.Stand.{Stand}
 use Rattle.format_expr.specs.declared.check.Stand.TheVariants.{Between, At, Class, Width}

@@ -1,11 +1,12 @@
--- Words of public clauses: the table of tokens, with class C for every stream, class N for alarms and notifications, class S for system and application streams.
+-- Words of public clauses: the table of tokens. Class C is for every stream, N for alarms and notifications, S for system and application streams.
 use Rattle.std.specs.Prelude.{ℕ, ◌∷◌, [], ◌++◌, List, ◌&&◌, ◌==◌, if◌then◌else◌, codes, Option, Some, None, slice_index}
 use Rattle.format_expr.specs.declared.token.Moment.{Moment}
 use Rattle.format_expr.specs.declared.token.Moment.TheVariants.{Record, Event}
 use Rattle.format_expr.specs.declared.token.TimePart.{TimePart}
 use Rattle.format_expr.specs.declared.token.TimePart.TheVariants.{Nanoseconds, Hour, Minute, Second, HalfDay, Month, MonthName, Day, DayName, ShortYear, Year}
 use Rattle.format_expr.specs.declared.token.Part.{Part}
-use Rattle.format_expr.specs.declared.token.Part.TheVariants.{Number, Time, ClassId, Cut, Body, BodyBytes, NotificationId, EventType, Object, Notifier, User, Severity}
+use Rattle.format_expr.specs.declared.token.Part.TheVariants.{Number, Time, ClassId, Cut, Body, BodyBytes, NotificationId, EventType, Object, Notifier, User}
+use Rattle.format_expr.specs.declared.token.Part.TheVariants.{Severity}
 
 -- the class letter of a time
 abbrev pub moment_letter : Moment → List ℕ
