@@ -2,8 +2,8 @@
 #![tactic(auto)]
 
 #[cfg(test)]
+mod laws_tests;
+#[cfg(test)]
 mod mirror_tests;
 #[cfg(test)]
 mod saved_fit_tests;
-#[cfg(test)]
-mod service_laws_tests;

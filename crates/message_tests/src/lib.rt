@@ -6,6 +6,8 @@ mod client_agent_tests;
 #[cfg(test)]
 mod event_text_tests;
 #[cfg(test)]
+mod laws_tests;
+#[cfg(test)]
 mod script_tests;
 #[cfg(test)]
 mod wire_tests;

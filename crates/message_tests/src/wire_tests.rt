@@ -8,7 +8,7 @@ use std::process::Abort;
 use std::test::Fail;
 use stream_config::StreamName;
 use sub_queue::{Content, Item, Lost};
-use wire::{Message, WireAnswer, WireWhy, decode, encode, law_of_equality, law_of_spellings};
+use wire::{Message, WireAnswer, WireWhy, decode, encode};
 
 /// The bytes are refused at this place for this reason.
 fn refused(rt: &impl Abort, alloc: Global, bytes: &[u8], place: u32, why: WireWhy) {
@@ -225,8 +225,6 @@ fn wrong_bytes_have_a_place(rt: HostRuntime) -> Result<(), Fail> {
     for (bytes, place, why) in table {
         refused(&rt, rt.alloc(), bytes, place, why);
     }
-    law_of_spellings();
-    law_of_equality();
     Ok(())
 }
 

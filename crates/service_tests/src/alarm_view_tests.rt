@@ -1,8 +1,8 @@
 ghost use Rattle.std.specs.Prelude.{◌≡◌, ◌+◌, ◌<◌, IfOk, OnOk};
 ghost use Rattle.alarm_view.specs.Alarms.{IsAlarm, IsAboveAll};
 
-use ais_values::{ClassId, Name, Seq, Text};
-use alarm_view::{AlarmView, Cursor, Direction, SearchMode, law_of_nearest, law_of_order};
+use ais_values::{ClassId, Duplicate, Name, Seq, Text};
+use alarm_view::{AlarmView, Cursor, Direction, SearchMode};
 use ntf_filters::{Filter, FilterSet};
 use ntf_types::{Body, Notification};
 use std::alloc::{AllocError, Global};
@@ -125,8 +125,6 @@ fn starts_by_each_mode(rt: HostRuntime) -> Result<(), Fail> {
             "{code} {value}"
         );
     }
-    law_of_order();
-    law_of_nearest();
     Ok(())
 }
 
@@ -188,6 +186,12 @@ fn drops_early_records(rt: HostRuntime) -> Result<(), Fail> {
             .is_some_and(|found| found.0 == 5 && found.1.id == 2)
     );
     assert!(rt; view.alarm_at(2).is_none());
+    let cursor = Cursor {
+        time: 100,
+        id: 2,
+        fresh: false,
+    };
+    assert_eq!(rt; cursor.copy(alloc)?, cursor);
     walk(&rt, &view, 1, 1, &filters, [0, 0, 0]);
     walk(&rt, &view, 1, 2, &filters, [2, 3, 0]);
     Ok(())

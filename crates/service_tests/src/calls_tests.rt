@@ -208,9 +208,3 @@ fn a_saved_value_is_copied(rt: HostRuntime) -> Result<(), Fail> {
     )?;
     Ok(())
 }
-
-/// The law is a call that does nothing.
-#[test]
-fn calls_the_law() {
-    law_of_equality();
-}

@@ -6,19 +6,15 @@ mod alarm_view_tests;
 #[cfg(test)]
 mod calls_tests;
 #[cfg(test)]
-mod log_history_tests;
+mod laws_tests;
 #[cfg(test)]
 mod log_service_tests;
 #[cfg(test)]
 mod ntf_filters_tests;
 #[cfg(test)]
-mod ntf_history_tests;
-#[cfg(test)]
 mod ntf_service_tests;
 #[cfg(test)]
 mod ntf_types_tests;
-#[cfg(test)]
-mod plain_service_tests;
 #[cfg(test)]
 mod service_parts_tests;
 #[cfg(test)]

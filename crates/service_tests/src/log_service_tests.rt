@@ -6,7 +6,7 @@ ghost use Rattle.stream_config.specs.WellKnown.{default_file};
 ghost use Rattle.log_service.specs.State.{IsNotified};
 
 use ais_values::{ClassId, Name, Seq, Status, StreamKind, Text};
-use log_service::{LogState, Step, law_of_history};
+use log_service::{LogState, Step};
 use record_print::{Header, LogRecord};
 use std::alloc::Global;
 use std::process::Abort;
@@ -310,7 +310,6 @@ fn application_streams(rt: HostRuntime) -> Result<(), Fail> {
     assert!(rt; closes_all(&rt, alloc, &mut state, 1)? == (SECOND + 6, 2));
     assert!(rt; state.count() == 3 && state.users() == [2].as_slice());
     assert!(rt; state.last_stamp() == SECOND + 6);
-    law_of_history();
     Ok(())
 }
 

@@ -199,9 +199,3 @@ fn asks_by_type(rt: HostRuntime) -> Result<(), Fail> {
     }
     Ok(())
 }
-
-/// Laws are calls that do nothing.
-#[test]
-fn calls_laws() {
-    ntf_filters::law_of_equality();
-}

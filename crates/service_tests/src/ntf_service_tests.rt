@@ -1,6 +1,6 @@
 use ais_values::{ClassId, Duplicate, Name, Seq, Status, Text};
 use ntf_filters::{Filter, FilterSet};
-use ntf_service::{NtfState, law_of_history};
+use ntf_service::NtfState;
 use ntf_types::{Body, Notification};
 use std::alloc::{AllocError, Global};
 use std::mem;
@@ -152,7 +152,6 @@ fn offers_to_each_that_asks(rt: HostRuntime) -> Result<(), Fail> {
     assert!(rt; told(&state, 1) == (3, 0, 0));
     assert!(rt; told(&state, 2) == (7, 2, 3));
     assert_eq!(rt; state.last_id(), 5);
-    law_of_history();
     Ok(())
 }
 

@@ -276,9 +276,3 @@ fn knows_types(rt: HostRuntime) -> Result<(), Fail> {
     }
     Ok(())
 }
-
-/// Laws are calls that do nothing.
-#[test]
-fn calls_laws() {
-    ntf_types::law_of_equality();
-}

@@ -3,9 +3,7 @@ use ntf_types::{Body, Notification};
 use std::alloc::{AllocError, Global};
 use std::process::Abort;
 use std::test::Fail;
-use sub_queue::{
-    Content, Item, Lost, SubQueue, law_of_calls, law_of_counts, law_of_equality, law_of_marks,
-};
+use sub_queue::{Content, Item, Lost, SubQueue};
 
 fn alarm(alloc: Global, id: u64) -> Result<Notification, Fail> {
     Ok(Notification {
@@ -118,10 +116,6 @@ fn rebuilds(rt: HostRuntime) -> Result<(), Fail> {
         [41, 42].as_slice()
     );
     assert!(rt; queue.lost().is_empty());
-    law_of_marks();
-    law_of_calls();
-    law_of_counts();
-    law_of_equality();
     Ok(())
 }
 

@@ -26,10 +26,3 @@ fn stamps_of_an_almanac(rt: HostRuntime) {
         assert_eq!(rt; civil_at(second).weekday, weekday, "at {second}");
     }
 }
-
-/// Laws are calls that do nothing.
-#[test]
-fn calls_laws() {
-    civil_time::stamps_tell_seconds();
-    civil_time::law_of_civil_times();
-}

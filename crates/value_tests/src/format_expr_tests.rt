@@ -124,10 +124,3 @@ fn parsed_texts(rt: HostRuntime) -> Result<(), Fail> {
     );
     Ok(())
 }
-
-/// Laws are calls that do nothing.
-#[test]
-fn calls_laws() {
-    format_expr::law_of_pieces();
-    format_expr::law_of_tokens();
-}

@@ -16,6 +16,8 @@ mod format_expr_tests;
 #[cfg(test)]
 mod io_edge_tests;
 #[cfg(test)]
+mod laws_tests;
+#[cfg(test)]
 mod message_net_tests;
 #[cfg(test)]
 mod record_print_tests;

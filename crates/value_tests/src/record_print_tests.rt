@@ -244,10 +244,3 @@ fn tested_writes(rt: HostRuntime) -> Result<(), Fail> {
     }
     Ok(())
 }
-
-/// Laws are calls that do nothing.
-#[test]
-fn calls_laws() {
-    record_print::law_of_cut_marks();
-    record_print::law_of_equality();
-}

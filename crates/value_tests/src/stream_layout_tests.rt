@@ -5,7 +5,7 @@ ghost use Rattle.stream_layout.specs.Carrying.{IsStamp, IsFitStream, IsFitEvent}
 ghost use Rattle.ais_values.specs.declared.kind.StreamKind.TheVariants as kinds;
 ghost use Rattle.stream_config.specs.declared.attrs.FullAction.TheVariants as actions;
 
-use ais_values::{Seq, StreamKind, Text};
+use ais_values::{Duplicate, Seq, StreamKind, Text};
 use std::alloc::{AllocError, Global};
 use std::process::Abort;
 use std::test::Fail;
@@ -42,6 +42,8 @@ fn places_of_records(rt: HostRuntime) -> Result<(), Fail> {
     is_at(&rt, &wrap, 4, 0, 0);
     is_at(&rt, &attrs_of(alloc, b".", FullAction::Halt)?, 1, 0, 32);
     is_at(&rt, &attrs_of(alloc, b".", FullAction::Rotate)?, 5, 2, 32);
+    let spot = Spot { file: 2, at: 32 };
+    assert_eq!(rt; spot.copy(alloc)?, spot);
     Ok(())
 }
 
