@@ -1,4 +1,5 @@
-//! What no clause says: that calls are sent, messages taken and callbacks handed out while there is memory.
+//! What no clause says: that calls are sent, messages taken and callbacks handed out while there is memory. Each helper
+//! lets its large values go, so that the tests hold none.
 use ais_values::{ClassId, Name, Seq, Status, Text, Version, Which};
 use calls::{Ask, Call, Callback, Reply};
 use client_agent::*;
@@ -6,13 +7,21 @@ use ntf_filters::FilterSet;
 use record_print::Header;
 use std::alloc::Global;
 use std::process::Abort;
-use std::test::Fail;
 use stream_config::StreamName;
 use sub_queue::{Content, Item, Lost};
 use wire::Message;
 
-/// A write to the system stream that asks for a callback.
-fn write(alloc: Global, invocation: u64) -> Result<Ask, Fail> {
+/// A call of a client.
+#[derive(Clone, Copy)]
+enum Asked {
+    Start { service: Which, major: u8 },
+    /// A write to the system stream that asks for a callback.
+    Write { invocation: u64 },
+    Subscribe,
+    EndLog,
+}
+
+fn write(rt: &impl Abort, alloc: Global, invocation: u64) -> Call {
     let class = ClassId {
         vendor: 0,
         major: 0,
@@ -20,21 +29,20 @@ fn write(alloc: Global, invocation: u64) -> Result<Ask, Fail> {
     };
     let header = Header::Generic {
         class,
-        user: Name::new(alloc, b"u")?,
+        user: Name::new(alloc, b"u").expect(rt, "memory"),
         severity: 6,
     };
-    let call = Call::LogWrite {
+    Call::LogWrite {
         stream: StreamName::System,
         invocation,
         flags: 1,
         time: 0,
         header,
-        body: Text::new(alloc, b"x")?,
-    };
-    Ok(Ask::Plain { call })
+        body: Text::new(alloc, b"x").expect(rt, "memory"),
+    }
 }
 
-fn subscribe(id: u32) -> Ask {
+fn subscribe() -> Call {
     let filters = FilterSet {
         objects: None,
         attributes: None,
@@ -42,36 +50,55 @@ fn subscribe(id: u32) -> Ask {
         alarms: None,
         security: None,
     };
-    let call = Call::NtfSubscribe { id, filters };
-    Ask::Plain { call }
+    Call::NtfSubscribe { id: 9, filters }
 }
 
-fn start(service: Which, major: u8) -> Ask {
-    let version = Version {
-        release: b'A',
-        major,
-        minor: 1,
-    };
-    Ask::Start { service, version }
-}
-
-/// What a call comes to: the number of its request, or 1,000 and the code of the refusal.
-fn sent(rt: &impl Abort, alloc: Global, agent: &mut Agent, ask: Ask) -> Result<u32, Fail> {
-    assert!(rt; agent.next() < 1000);
-    match agent.call(alloc, &ask)? {
-        Sent::Posted {
-            message: Message::Request { seq, .. },
-        } => Ok(seq),
-        Sent::Posted { .. } => Ok(0),
-        Sent::Refused { status } => Ok(1000 + u32::from(status.code())),
+fn ask_of(rt: &impl Abort, alloc: Global, asked: Asked) -> Ask {
+    match asked {
+        Asked::Start { service, major } => Ask::Start {
+            service,
+            version: Version {
+                release: b'A',
+                major,
+                minor: 1,
+            },
+        },
+        Asked::Write { invocation } => Ask::Plain {
+            call: write(rt, alloc, invocation),
+        },
+        Asked::Subscribe => Ask::Plain { call: subscribe() },
+        Asked::EndLog => Ask::Plain {
+            call: Call::LogFini,
+        },
     }
 }
 
-/// What a reply or an item comes to: the number of the answered call, 100 and the number of the receipt, or 1,000
-/// and why it was missed.
-fn number_of(taken: Taken) -> u32 {
+/// The number of the request, or 1,000 and the code of the refusal.
+fn number_sent(sent: &Sent) -> u32 {
+    match sent {
+        Sent::Posted {
+            message: Message::Request { seq, .. },
+        } => *seq,
+        Sent::Posted { .. } => 0,
+        Sent::Refused { status } => 1000 + u32::from(status.code()),
+    }
+}
+
+/// What a call comes to.
+fn sent(rt: &impl Abort, alloc: Global, agent: &mut Agent, asked: Asked) -> u32 {
+    assert!(rt; agent.next() < 1000);
+    let ask = ask_of(rt, alloc, asked);
+    let answer = agent.call(alloc, &ask).expect(rt, "memory");
+    drop(ask);
+    let number = number_sent(&answer);
+    drop(answer);
+    number
+}
+
+/// The number of the answered call, 100 and the number of the receipt, or 1,000 and why the message was missed.
+fn number_taken(taken: &Taken) -> u32 {
     match taken {
-        Taken::Answered { seq, .. } => seq,
+        Taken::Answered { seq, .. } => *seq,
         Taken::Item {
             receipt: Message::Receipt { through, .. },
         } => through.saturating_add(100),
@@ -86,96 +113,124 @@ fn number_of(taken: Taken) -> u32 {
     }
 }
 
-fn replied(
-    rt: &impl Abort,
-    alloc: Global,
-    agent: &mut Agent,
-    seq: u32,
-    reply: Reply,
-) -> Result<u32, Fail> {
+/// What a reply comes to.
+fn replied(rt: &impl Abort, alloc: Global, agent: &mut Agent, seq: u32, reply: Reply) -> u32 {
     assert!(rt; agent.client() == 7);
     let message = Message::Reply {
         client: 7,
         seq,
         reply,
     };
-    Ok(number_of(agent.receive(alloc, &message)?))
+    let taken = agent.receive(alloc, &message).expect(rt, "memory");
+    drop(message);
+    let number = number_taken(&taken);
+    drop(taken);
+    number
 }
 
-fn delivered(
-    rt: &impl Abort,
-    alloc: Global,
-    agent: &mut Agent,
-    key: u32,
-    number: u32,
-) -> Result<u32, Fail> {
+/// What an item comes to.
+fn delivered(rt: &impl Abort, alloc: Global, agent: &mut Agent, key: u32, number: u32) -> u32 {
     assert!(rt; agent.client() == 7);
     let mut lost = Seq::new(alloc);
-    lost.push(Lost {
+    let one = Lost {
         kind: 4,
         id: u64::from(number),
-    })?;
+    };
+    lost.push(one).expect(rt, "memory");
     let content = Content::Discarded { lost };
     let message = Message::Item {
         client: 7,
         key,
         item: Item { number, content },
     };
-    Ok(number_of(agent.receive(alloc, &message)?))
+    let taken = agent.receive(alloc, &message).expect(rt, "memory");
+    drop(message);
+    let number = number_taken(&taken);
+    drop(taken);
+    number
 }
 
-/// The numbers of the callbacks that a dispatch hands out, as digits, or 99 where it is refused.
-fn handed(alloc: Global, agent: &mut Agent, how: How) -> Result<u64, Fail> {
-    match agent.dispatch(alloc, how)? {
-        Dispatched::Refused { .. } => Ok(99),
+/// The numbers of the callbacks, as digits, or 99 where they are refused.
+fn digits_of(dispatched: &Dispatched) -> u64 {
+    match dispatched {
+        Dispatched::Refused { .. } => 99,
         Dispatched::Given { taken } => {
             let mut digits: u64 = 0;
             for numbered in taken.as_slice() {
                 digits = digits.saturating_mul(10).saturating_add(numbered.number);
             }
-            Ok(digits)
+            digits
         }
     }
 }
 
-#[test]
-fn numbers_calls_and_refuses_by_itself(rt: HostRuntime) -> Result<(), Fail> {
-    let alloc = rt.alloc();
-    let mut agent = Agent::new(alloc, 7, 8)?;
-    for (ask, want) in [
-        (write(alloc, 1)?, 1009),
-        (start(Which::Log, 3), 1003),
-        (start(Which::Log, 2), 1),
-        (subscribe(9), 1009),
-        (
-            Ask::Plain {
-                call: Call::LogFini,
-            },
-            2,
-        ),
-        (write(alloc, 1)?, 1009),
-        (start(Which::Log, 1), 3),
-    ] {
-        assert_eq!(rt; sent(&rt, alloc, &mut agent, ask)?, want);
-    }
-    for number in 4..33 {
-        assert_eq!(rt; sent(&rt, alloc, &mut agent, write(alloc, 1)?)?, number);
-    }
-    assert_eq!(rt; sent(&rt, alloc, &mut agent, write(alloc, 1)?)?, 1006);
-    assert_eq!(rt; replied(&rt, alloc, &mut agent, 1, Reply::Done)?, 1);
-    assert_eq!(rt; sent(&rt, alloc, &mut agent, write(alloc, 1)?)?, 33);
-    assert_eq!(rt; agent.resend(alloc)?.as_slice().len(), 32);
-    Ok(())
+/// What a dispatch hands out.
+fn handed(rt: &impl Abort, alloc: Global, agent: &mut Agent, how: How) -> u64 {
+    let dispatched = agent.dispatch(alloc, how).expect(rt, "memory");
+    let digits = digits_of(&dispatched);
+    drop(dispatched);
+    digits
+}
+
+/// How many messages are sent again.
+fn count_resent(rt: &impl Abort, alloc: Global, agent: &Agent) -> usize {
+    let messages = agent.resend(alloc).expect(rt, "memory");
+    let count = messages.as_slice().len();
+    drop(messages);
+    count
 }
 
 #[test]
-fn takes_each_reply_and_item_once(rt: HostRuntime) -> Result<(), Fail> {
+fn numbers_calls_and_refuses_by_itself(rt: HostRuntime) {
     let alloc = rt.alloc();
-    let mut agent = Agent::new(alloc, 7, 2)?;
-    assert_eq!(rt; sent(&rt, alloc, &mut agent, start(Which::Ntf, 1))?, 1);
-    assert_eq!(rt; sent(&rt, alloc, &mut agent, subscribe(9))?, 2);
-    assert_eq!(rt; replied(&rt, alloc, &mut agent, 2, Reply::Done)?, 2);
-    assert_eq!(rt; replied(&rt, alloc, &mut agent, 2, Reply::Done)?, 1001);
+    let service = Which::Log;
+    let mut agent = Agent::new(alloc, 7, 8).expect(&rt, "memory");
+    for (asked, want) in [
+        (Asked::Write { invocation: 1 }, 1009),
+        (Asked::Start { service, major: 3 }, 1003),
+        (Asked::Start { service, major: 2 }, 1),
+        (Asked::Subscribe, 1009),
+        (Asked::EndLog, 2),
+        (Asked::Write { invocation: 1 }, 1009),
+        (Asked::Start { service, major: 1 }, 3),
+    ] {
+        assert!(rt; sent(&rt, alloc, &mut agent, asked) == want, "{want}");
+    }
+    drop(agent);
+}
+
+#[test]
+fn has_32_calls_without_a_reply(rt: HostRuntime) {
+    let alloc = rt.alloc();
+    let service = Which::Log;
+    let mut agent = Agent::new(alloc, 7, 8).expect(&rt, "memory");
+    let start = Asked::Start { service, major: 2 };
+    assert!(rt; sent(&rt, alloc, &mut agent, start) == 1);
+    let write = Asked::Write { invocation: 1 };
+    for number in 2..33 {
+        assert!(rt; sent(&rt, alloc, &mut agent, write) == number, "{number}");
+    }
+    assert!(rt; sent(&rt, alloc, &mut agent, write) == 1006);
+    assert!(rt; replied(&rt, alloc, &mut agent, 1, Reply::Done) == 1);
+    assert!(rt; sent(&rt, alloc, &mut agent, write) == 33);
+    assert!(rt; count_resent(&rt, alloc, &agent) == 32);
+    drop(agent);
+}
+
+/// The agent of a client with one subscription, its first call, and a queue of two.
+fn subscribed(rt: &impl Abort, alloc: Global) -> Agent {
+    let mut agent = Agent::new(alloc, 7, 2).expect(rt, "memory");
+    let start = Asked::Start {
+        service: Which::Ntf,
+        major: 1,
+    };
+    assert!(rt; sent(rt, alloc, &mut agent, start) == 1);
+    assert!(rt; sent(rt, alloc, &mut agent, Asked::Subscribe) == 2);
+    agent
+}
+
+/// Items of the subscription and of another one come, some of them ahead, again or where the queue is full.
+fn takes_items(rt: &impl Abort, alloc: Global, agent: &mut Agent) {
     for (key, number, want) in [
         (2, 2, 1004),
         (2, 1, 101),
@@ -184,53 +239,92 @@ fn takes_each_reply_and_item_once(rt: HostRuntime) -> Result<(), Fail> {
         (2, 2, 102),
         (2, 3, 1002),
     ] {
-        assert_eq!(rt; delivered(&rt, alloc, &mut agent, key, number)?, want);
+        assert!(rt; delivered(rt, alloc, agent, key, number) == want, "{want}");
     }
-    assert_eq!(rt; handed(alloc, &mut agent, How::One)?, 1);
-    assert_eq!(rt; delivered(&rt, alloc, &mut agent, 2, 3)?, 103);
-    assert_eq!(rt; agent.resend(alloc)?.as_slice().len(), 2);
-    assert_eq!(rt; handed(alloc, &mut agent, How::All { workers: 4 })?, 23);
-    assert_eq!(rt; handed(alloc, &mut agent, How::All { workers: 1 })?, 0);
-    let mut other = Agent::new(alloc, 8, 2)?;
-    assert_eq!(rt; handed(alloc, &mut other, How::One)?, 99);
-    Ok(())
 }
 
 #[test]
-fn calls_back_for_writes_in_order(rt: HostRuntime) -> Result<(), Fail> {
+fn takes_each_reply_and_item_once(rt: HostRuntime) {
     let alloc = rt.alloc();
-    let mut agent = Agent::new(alloc, 7, 2)?;
-    assert_eq!(rt; sent(&rt, alloc, &mut agent, start(Which::Log, 2))?, 1);
-    for invocation in 2..5 {
-        let number = sent(&rt, alloc, &mut agent, write(alloc, invocation)?)?;
-        assert_eq!(rt; u64::from(number), invocation);
+    let mut agent = subscribed(&rt, alloc);
+    assert!(rt; replied(&rt, alloc, &mut agent, 2, Reply::Done) == 2);
+    assert!(rt; replied(&rt, alloc, &mut agent, 2, Reply::Done) == 1001);
+    takes_items(&rt, alloc, &mut agent);
+    assert!(rt; handed(&rt, alloc, &mut agent, How::One) == 1);
+    assert!(rt; delivered(&rt, alloc, &mut agent, 2, 3) == 103);
+    assert!(rt; count_resent(&rt, alloc, &agent) == 2);
+    drop(agent);
+}
+
+#[test]
+fn hands_out_all_or_nothing(rt: HostRuntime) {
+    let alloc = rt.alloc();
+    let mut agent = subscribed(&rt, alloc);
+    assert!(rt; delivered(&rt, alloc, &mut agent, 2, 1) == 101);
+    assert!(rt; delivered(&rt, alloc, &mut agent, 2, 2) == 102);
+    let all = How::All { workers: 4 };
+    assert!(rt; handed(&rt, alloc, &mut agent, all) == 12);
+    assert!(rt; handed(&rt, alloc, &mut agent, all) == 0);
+    drop(agent);
+    let mut other = Agent::new(alloc, 8, 2).expect(&rt, "memory");
+    assert!(rt; handed(&rt, alloc, &mut other, How::One) == 99);
+    drop(other);
+}
+
+/// Whether the callback of this number tells of this write.
+fn is_written(numbered: &Numbered, number: u64, invocation: u64, status: Status) -> bool {
+    match &numbered.callback {
+        Callback::Written {
+            invocation: found,
+            status: told,
+        } => numbered.number == number && *found == invocation && *told == status,
+        _ => false,
     }
+}
+
+/// Whether the callbacks of the write 3, which had no room, and of the write 2 are handed out, and no others.
+fn tells_of_both(dispatched: &Dispatched) -> bool {
+    match dispatched {
+        Dispatched::Given { taken } => match taken.as_slice() {
+            [first, second] => {
+                is_written(first, 1, 3, Status::NoSpace) && is_written(second, 2, 2, Status::Ok)
+            }
+            _ => false,
+        },
+        Dispatched::Refused { .. } => false,
+    }
+}
+
+/// The agent of a client that has written three records, under the invocations 2, 3 and 4, and a queue of two.
+fn written(rt: &impl Abort, alloc: Global) -> Agent {
+    let mut agent = Agent::new(alloc, 7, 2).expect(rt, "memory");
+    let start = Asked::Start {
+        service: Which::Log,
+        major: 2,
+    };
+    assert!(rt; sent(rt, alloc, &mut agent, start) == 1);
+    for number in 2..5u32 {
+        let invocation = u64::from(number);
+        let told = sent(rt, alloc, &mut agent, Asked::Write { invocation });
+        assert!(rt; told == number, "{number}");
+    }
+    agent
+}
+
+#[test]
+fn calls_back_for_writes_in_order(rt: HostRuntime) {
+    let alloc = rt.alloc();
+    let mut agent = written(&rt, alloc);
     let status = Status::NoSpace;
-    assert_eq!(rt;
-        replied(&rt, alloc, &mut agent, 3, Reply::Refused { status })?,
-        3
-    );
-    assert_eq!(rt; replied(&rt, alloc, &mut agent, 2, Reply::Done)?, 2);
-    assert_eq!(rt; replied(&rt, alloc, &mut agent, 4, Reply::Done)?, 1002);
-    let mut told = Seq::new(alloc);
-    let first = Callback::Written {
-        invocation: 3,
-        status,
-    };
-    let second = Callback::Written {
-        invocation: 2,
-        status: Status::Ok,
-    };
-    told.push(Numbered {
-        number: 1,
-        callback: first,
-    })?;
-    told.push(Numbered {
-        number: 2,
-        callback: second,
-    })?;
-    let given = agent.dispatch(alloc, How::All { workers: 1 })?;
-    assert!(rt; given == Dispatched::Given { taken: told });
-    assert_eq!(rt; replied(&rt, alloc, &mut agent, 4, Reply::Done)?, 4);
-    Ok(())
+    let refused = Reply::Refused { status };
+    assert!(rt; replied(&rt, alloc, &mut agent, 3, refused) == 3);
+    assert!(rt; replied(&rt, alloc, &mut agent, 2, Reply::Done) == 2);
+    assert!(rt; replied(&rt, alloc, &mut agent, 4, Reply::Done) == 1002);
+    let given = agent
+        .dispatch(alloc, How::All { workers: 1 })
+        .expect(&rt, "memory");
+    assert!(rt; tells_of_both(&given));
+    drop(given);
+    assert!(rt; replied(&rt, alloc, &mut agent, 4, Reply::Done) == 4);
+    drop(agent);
 }

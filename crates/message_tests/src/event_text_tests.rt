@@ -1,3 +1,4 @@
+//! The lines of events, against the written rules.
 use ais_values::{ClassId, Name, Seq, Status, Text};
 use calls::{Call, Callback, Entry, Reply};
 use cluster_events::{ServerRole, Standing, Why};
@@ -7,55 +8,41 @@ use event_text::{
 };
 use ntf_types::{Body, Notification};
 use script_lines::{Line, Server};
-use std::alloc::{AllocError, Global};
-use std::mem;
+use std::alloc::Global;
 use std::process::Abort;
-use std::test::Fail;
 use sub_queue::{Content, Item, Lost};
 use wire::Message;
 
 const T: i64 = 1_704_067_200_000_000_000;
 
 /// The lines, one after another, are this text.
-fn are(rt: &impl Abort, alloc: Global, lines: Vec<Seq<u8>>, want: &[u8]) -> Result<(), AllocError> {
+fn are(rt: &impl Abort, alloc: Global, lines: Vec<Seq<u8>>, want: &[u8]) {
     let mut text = Vec::new(alloc);
     for line in lines.as_slice() {
-        text.extend_from_slice(line.as_slice())?;
+        text.extend_from_slice(line.as_slice()).expect(rt, "memory");
     }
-    assert_eq!(rt; text.as_slice(), want);
-    Ok(())
+    drop(lines);
+    assert!(rt; text.as_slice() == want, "{text:?}");
 }
 
 /// Each of these compares the lines on its value and lets it go, so that the tests hold no large one.
-fn post(
-    rt: &impl Abort,
-    alloc: Global,
-    place: u64,
-    message: Message,
-    want: &[u8],
-) -> Result<(), AllocError> {
+fn post(rt: &impl Abort, alloc: Global, place: u64, message: Message, want: &[u8]) {
     let mut lines = Vec::new(alloc);
     let done = put_post(alloc, &mut lines, place, &message);
-    mem::drop(message);
-    done?;
-    are(rt, alloc, lines, want)
+    drop(message);
+    done.expect(rt, "memory");
+    are(rt, alloc, lines, want);
 }
 
-fn accept(
-    rt: &impl Abort,
-    alloc: Global,
-    number: u64,
-    entry: Entry,
-    want: &[u8],
-) -> Result<(), AllocError> {
+fn accept(rt: &impl Abort, alloc: Global, number: u64, entry: Entry, want: &[u8]) {
     let mut lines = Vec::new(alloc);
     let done = put_entry(alloc, &mut lines, number, &entry);
-    mem::drop(entry);
-    done?;
-    are(rt, alloc, lines, want)
+    drop(entry);
+    done.expect(rt, "memory");
+    are(rt, alloc, lines, want);
 }
 
-fn refuse(rt: &impl Abort, alloc: Global, line: Line, want: &[u8]) -> Result<(), AllocError> {
+fn refuse(rt: &impl Abort, alloc: Global, line: Line, want: &[u8]) {
     let standing = Standing {
         role_of_a: ServerRole::Armed,
         role_of_b: ServerRole::Standby,
@@ -66,37 +53,25 @@ fn refuse(rt: &impl Abort, alloc: Global, line: Line, want: &[u8]) -> Result<(),
     };
     let mut lines = Vec::new(alloc);
     let done = put_refused(alloc, &mut lines, &line, &standing);
-    mem::drop(line);
-    done?;
-    are(rt, alloc, lines, want)
+    drop(line);
+    done.expect(rt, "memory");
+    are(rt, alloc, lines, want);
 }
 
-fn answer(
-    rt: &impl Abort,
-    alloc: Global,
-    seq: u32,
-    reply: Reply,
-    want: &[u8],
-) -> Result<(), AllocError> {
+fn answer(rt: &impl Abort, alloc: Global, seq: u32, reply: Reply, want: &[u8]) {
     let mut lines = Vec::new(alloc);
     let done = put_reply(alloc, &mut lines, 1, seq, &reply);
-    mem::drop(reply);
-    done?;
-    are(rt, alloc, lines, want)
+    drop(reply);
+    done.expect(rt, "memory");
+    are(rt, alloc, lines, want);
 }
 
-fn hand_out(
-    rt: &impl Abort,
-    alloc: Global,
-    number: u64,
-    callback: Callback,
-    want: &[u8],
-) -> Result<(), AllocError> {
+fn hand_out(rt: &impl Abort, alloc: Global, number: u64, callback: Callback, want: &[u8]) {
     let mut lines = Vec::new(alloc);
     let done = put_callback(alloc, &mut lines, 1, number, &callback);
-    mem::drop(callback);
-    done?;
-    are(rt, alloc, lines, want)
+    drop(callback);
+    done.expect(rt, "memory");
+    are(rt, alloc, lines, want);
 }
 
 /// Call 3 of client 1.
@@ -140,13 +115,12 @@ fn receipt() -> Message {
 }
 
 #[test]
-fn tells_of_the_net(rt: HostRuntime) -> Result<(), Fail> {
+fn tells_of_the_net(rt: HostRuntime) {
     let alloc = rt.alloc();
-    post(&rt, alloc, 5, request(), b"post 5 req 1 3\n")?;
-    post(&rt, alloc, 6, reply(), b"post 6 rep 1 3\n")?;
-    post(&rt, alloc, 21, item(alloc), b"post 21 item 1 2 3\n")?;
-    post(&rt, alloc, 22, receipt(), b"post 22 rcpt 1 2 3\n")?;
-    Ok(())
+    post(&rt, alloc, 5, request(), b"post 5 req 1 3\n");
+    post(&rt, alloc, 6, reply(), b"post 6 rep 1 3\n");
+    post(&rt, alloc, 21, item(alloc), b"post 21 item 1 2 3\n");
+    post(&rt, alloc, 22, receipt(), b"post 22 rcpt 1 2 3\n");
 }
 
 /// Call 3 of client 1, as accepted.
@@ -170,83 +144,78 @@ fn receipted() -> Entry {
 }
 
 #[test]
-fn tells_of_the_history(rt: HostRuntime) -> Result<(), Fail> {
+fn tells_of_the_history(rt: HostRuntime) {
     let alloc = rt.alloc();
     let call = b"acc 3 call 1 3 1704067200000000000\n".as_slice();
-    accept(&rt, alloc, 3, called(), call)?;
+    accept(&rt, alloc, 3, called(), call);
     let receipt = b"acc 9 rcpt 1 2 2 1704067200000000000\n".as_slice();
-    accept(&rt, alloc, 9, receipted(), receipt)?;
-    Ok(())
+    accept(&rt, alloc, 9, receipted(), receipt);
 }
 
 #[test]
-fn tells_of_what_has_no_effect(rt: HostRuntime) -> Result<(), Fail> {
+fn tells_of_what_has_no_effect(rt: HostRuntime) {
     let alloc = rt.alloc();
     let mut lines = Vec::new(alloc);
-    put_ignored(alloc, &mut lines, 7, Why::TakenItem)?;
-    put_ignored(alloc, &mut lines, 8, Why::Busy { number: 12 })?;
-    are(&rt, alloc, lines, b"ignored 7 taken\nignored 8 busy 12\n")?;
+    put_ignored(alloc, &mut lines, 7, Why::TakenItem).expect(&rt, "memory");
+    put_ignored(alloc, &mut lines, 8, Why::Busy { number: 12 }).expect(&rt, "memory");
+    are(&rt, alloc, lines, b"ignored 7 taken\nignored 8 busy 12\n");
     let crash = Line::Crash { server: Server::B };
     let told = b"refused crash b a=armed b=standby net=0 link=0 back=0 hand=-\n".as_slice();
-    refuse(&rt, alloc, crash, told)?;
-    Ok(())
+    refuse(&rt, alloc, crash, told);
 }
 
 #[test]
-fn tells_of_servers_and_files(rt: HostRuntime) -> Result<(), Fail> {
+fn tells_of_servers_and_files(rt: HostRuntime) {
     let alloc = rt.alloc();
     let mut lines = Vec::new(alloc);
-    put_server(alloc, &mut lines, Server::A, ServerRole::Armed)?;
-    put_file(alloc, &mut lines, b"saLogSystem.cfg", 164)?;
+    put_server(alloc, &mut lines, Server::A, ServerRole::Armed).expect(&rt, "memory");
+    put_file(alloc, &mut lines, b"saLogSystem.cfg", 164).expect(&rt, "memory");
     are(
         &rt,
         alloc,
         lines,
         b"server a armed\nfile saLogSystem.cfg 164\n",
-    )?;
-    Ok(())
+    );
 }
 
 #[test]
-fn tells_of_texts(rt: HostRuntime) -> Result<(), Fail> {
+fn tells_of_texts(rt: HostRuntime) {
     let alloc = rt.alloc();
     let mut lines = Vec::new(alloc);
-    put_text(alloc, &mut lines, b"         5 e")?;
-    put_shown(alloc, &mut lines, b"  5 e   \n\n    \nrest")?;
+    put_text(alloc, &mut lines, b"         5 e").expect(&rt, "memory");
+    put_shown(alloc, &mut lines, b"  5 e   \n\n    \nrest").expect(&rt, "memory");
     are(
         &rt,
         alloc,
         lines,
         b"text          5 e\ntext   5 e\ntext \ntext \ntext rest\n",
-    )?;
-    Ok(())
+    );
 }
 
 #[test]
-fn tells_of_replies(rt: HostRuntime) -> Result<(), Fail> {
+fn tells_of_replies(rt: HostRuntime) {
     let alloc = rt.alloc();
     let status = Status::NoSpace;
     let refused = Reply::Refused { status };
-    answer(&rt, alloc, 5, refused, b"reply 1 5 NO_SPACE\n")?;
-    answer(&rt, alloc, 6, Reply::Sent { id: 1 }, b"reply 1 6 ok id=1\n")?;
+    answer(&rt, alloc, 5, refused, b"reply 1 5 NO_SPACE\n");
+    answer(&rt, alloc, 6, Reply::Sent { id: 1 }, b"reply 1 6 ok id=1\n");
     let mut lines = Vec::new(alloc);
-    put_declined(alloc, &mut lines, 1, Status::BadHandle)?;
-    put_dispatched(alloc, &mut lines, 1, 8)?;
+    put_declined(alloc, &mut lines, 1, Status::BadHandle).expect(&rt, "memory");
+    put_dispatched(alloc, &mut lines, 1, 8).expect(&rt, "memory");
     are(
         &rt,
         alloc,
         lines,
         b"reply 1 - BAD_HANDLE\nreply 1 - ok dispatched=8\n",
-    )?;
-    Ok(())
+    );
 }
 
-fn alarm(alloc: Global) -> Result<Notification, Fail> {
-    Ok(Notification {
+fn alarm(rt: &impl Abort, alloc: Global) -> Notification {
+    Notification {
         id: 1,
         event_type: 0x4001,
-        object: Name::new(alloc, b"node1")?,
-        notifier: Name::new(alloc, b"hw")?,
+        object: Name::new(alloc, b"node1").expect(rt, "memory"),
+        notifier: Name::new(alloc, b"hw").expect(rt, "memory"),
         class: ClassId {
             vendor: 1,
             major: 2,
@@ -254,28 +223,28 @@ fn alarm(alloc: Global) -> Result<Notification, Fail> {
         },
         event_time: T,
         correlated: Seq::new(alloc),
-        text: Text::new(alloc, b"f")?,
+        text: Text::new(alloc, b"f").expect(rt, "memory"),
         info: Seq::new(alloc),
         body: Body::Alarm {
             cause: 5,
             severity: 4,
         },
-    })
+    }
 }
 
 /// Ids 6 of a security alarm, 3 and 4 of alarms.
-fn losses(alloc: Global) -> Result<Seq<Lost>, AllocError> {
+fn losses(rt: &impl Abort, alloc: Global) -> Seq<Lost> {
     let mut lost = Seq::new(alloc);
     for (kind, id) in [(0x5000, 6), (0x4000, 3), (0x4000, 4)] {
-        lost.push(Lost { kind, id })?;
+        lost.push(Lost { kind, id }).expect(rt, "memory");
     }
-    Ok(lost)
+    lost
 }
 
 #[test]
-fn tells_of_callbacks(rt: HostRuntime) -> Result<(), Fail> {
+fn tells_of_callbacks(rt: HostRuntime) {
     let alloc = rt.alloc();
-    let notification = alarm(alloc)?;
+    let notification = alarm(&rt, alloc);
     let shown =
         b"callback 1 1 ntf 9 alarm id=1 type=0x4001 obj=\"node1\" by=\"hw\" class=1.2.3 time=1704067200000000000 text=\"f\" cause=5 sev=4\n".as_slice();
     hand_out(
@@ -287,10 +256,9 @@ fn tells_of_callbacks(rt: HostRuntime) -> Result<(), Fail> {
             notification,
         },
         shown,
-    )?;
-    let lost = losses(alloc)?;
+    );
+    let lost = losses(&rt, alloc);
     let told =
         b"callback 1 3 lost 9 alarm count=2 ids=3,4\ncallback 1 3 lost 9 security count=1 ids=6\n".as_slice();
-    hand_out(&rt, alloc, 3, Callback::Discarded { id: 9, lost }, told)?;
-    Ok(())
+    hand_out(&rt, alloc, 3, Callback::Discarded { id: 9, lost }, told);
 }

@@ -4,7 +4,6 @@ use calls::{Ask, Call};
 use script::*;
 use std::alloc::{AllocError, Global};
 use std::process::Abort;
-use std::test::Fail;
 
 const CLUSTER: &str = "cluster start=10 queue=1 callbacks=256\n";
 
@@ -149,186 +148,184 @@ fn parsed(rt: &impl Abort, alloc: Global, text: &[u8]) -> Result<Seq<Line>, Scri
     parse_script(alloc, text)
 }
 
+/// The bad line and why.
+fn told_by(rt: &impl Abort, alloc: Global, answer: ScriptAnswer) -> String {
+    let told = match answer {
+        ScriptAnswer::Memory => Err(AllocError),
+        ScriptAnswer::Bad { line, why } => format!(in alloc; "{line} {why}"),
+    };
+    told.expect(rt, "memory")
+}
+
 /// What is told of these bytes: the number of their lines, or the bad one and why.
-fn told(rt: &impl Abort, alloc: Global, text: &[u8]) -> Result<String, AllocError> {
+fn told(rt: &impl Abort, alloc: Global, text: &[u8]) -> String {
     assert!(rt; text.len() <= 1_000_000);
     match count_lines(alloc, text) {
-        Ok(count) => format!(in alloc; "{count}"),
-        Err(ScriptAnswer::Memory) => Err(AllocError),
-        Err(ScriptAnswer::Bad { line, why }) => format!(in alloc; "{line} {why}"),
+        Ok(count) => format!(in alloc; "{count}").expect(rt, "memory"),
+        Err(answer) => told_by(rt, alloc, answer),
     }
 }
 
 #[test]
-fn each_form_is_written_and_read(rt: HostRuntime) -> Result<(), Fail> {
+fn each_form_is_written_and_read(rt: HostRuntime) {
     let alloc = rt.alloc();
     match parsed(&rt, alloc, FORMS.as_bytes()) {
         Ok(lines) => {
-            let written = print_script(alloc, &lines)?;
+            let written = print_script(alloc, &lines).expect(&rt, "memory");
+            drop(lines);
             assert!(rt; written.as_slice() == FORMS.as_bytes());
         }
         Err(answer) => assert!(rt; false, "{answer:?}"),
     }
-    assert!(rt; told(&rt, alloc, FORMS.as_bytes())?.as_str() == "43");
-    Ok(())
+    assert!(rt; told(&rt, alloc, FORMS.as_bytes()).as_str() == "43");
+}
+
+/// The second of two lines as it is written, or nothing where there are not two.
+fn second_written(rt: &impl Abort, alloc: Global, lines: &Seq<Line>) -> Vec<u8> {
+    match lines.as_slice() {
+        [_, read] => print_line(alloc, read).expect(rt, "memory"),
+        _ => Vec::new(alloc),
+    }
 }
 
 // The line of a row is read, and written as the row says.
-fn written_so(rt: &impl Abort, alloc: Global, row: &str) -> Result<(), Fail> {
-    let (line, written) = row.split_once('>').ok_or("a row has two lines")?;
-    let text = format!(in alloc; "{CLUSTER}{line}")?;
+fn written_so(rt: &impl Abort, alloc: Global, row: &str) {
+    let (line, written) = row.split_once('>').expect(rt, "a row has two lines");
+    let text = format!(in alloc; "{CLUSTER}{line}").expect(rt, "memory");
     match parsed(rt, alloc, text.as_bytes()) {
-        Ok(lines) => match lines.as_slice() {
-            [_, read] => {
-                let again = print_line(alloc, read)?;
-                assert!(rt; again.as_slice() == written.as_bytes(), "{line}");
-            }
-            _ => assert!(rt; false, "{line}"),
-        },
+        Ok(lines) => {
+            let again = second_written(rt, alloc, &lines);
+            drop(lines);
+            assert!(rt; again.as_slice() == written.as_bytes(), "{line}");
+        }
         Err(answer) => assert!(rt; false, "{line}: {answer:?}"),
     }
-    Ok(())
 }
 
 #[test]
-fn other_spellings_are_read(rt: HostRuntime) -> Result<(), Fail> {
+fn other_spellings_are_read(rt: HostRuntime) {
     let alloc = rt.alloc();
     for row in SPELLINGS.split('\n') {
-        written_so(&rt, alloc, row)?;
+        written_so(&rt, alloc, row);
     }
-    Ok(())
 }
 
 // Of the line with this number behind a cluster line this is told.
-fn tells(
-    rt: &impl Abort,
-    alloc: Global,
-    line: &str,
-    number: &str,
-    wanted: &str,
-) -> Result<(), Fail> {
-    let (front, rest) = line.split_once('#').ok_or("a line has a place")?;
-    let text = format!(in alloc; "{CLUSTER}{front}{number}{rest}")?;
+fn tells(rt: &impl Abort, alloc: Global, line: &str, number: &str, wanted: &str) {
+    let (front, rest) = line.split_once('#').expect(rt, "a line has a place");
+    let text = format!(in alloc; "{CLUSTER}{front}{number}{rest}").expect(rt, "memory");
     assert!(rt;
-        told(rt, alloc, text.as_bytes())?.as_str() == wanted,
+        told(rt, alloc, text.as_bytes()).as_str() == wanted,
         "{line} {number}"
     );
-    Ok(())
 }
 
 #[test]
-fn numbers_up_to_the_greatest_are_read(rt: HostRuntime) -> Result<(), Fail> {
+fn numbers_up_to_the_greatest_are_read(rt: HostRuntime) {
     let alloc = rt.alloc();
     for row in GREATEST.split('\n') {
-        let (line, numbers) = row.split_once('|').ok_or("a row has a line")?;
-        let (greatest, above) = numbers.split_once('|').ok_or("a row has two numbers")?;
-        tells(&rt, alloc, line, greatest, "2")?;
-        tells(&rt, alloc, line, above, "2 grammar")?;
+        let (line, numbers) = row.split_once('|').expect(&rt, "a row has a line");
+        let (greatest, above) = numbers.split_once('|').expect(&rt, "a row has two numbers");
+        tells(&rt, alloc, line, greatest, "2");
+        tells(&rt, alloc, line, above, "2 grammar");
     }
-    Ok(())
 }
 
 // The line is refused behind a cluster line.
-fn refused(rt: &impl Abort, alloc: Global, line: &str) -> Result<(), Fail> {
-    let text = format!(in alloc; "{CLUSTER}{line}")?;
+fn refused(rt: &impl Abort, alloc: Global, line: &str) {
+    let text = format!(in alloc; "{CLUSTER}{line}").expect(rt, "memory");
     assert!(rt;
-        told(rt, alloc, text.as_bytes())?.as_str() == "2 grammar",
+        told(rt, alloc, text.as_bytes()).as_str() == "2 grammar",
         "{line}"
     );
-    Ok(())
 }
 
 #[test]
-fn lines_of_no_form_are_refused(rt: HostRuntime) -> Result<(), Fail> {
+fn lines_of_no_form_are_refused(rt: HostRuntime) {
     let alloc = rt.alloc();
     for line in FORMLESS.split('\n') {
-        refused(&rt, alloc, line)?;
+        refused(&rt, alloc, line);
     }
-    Ok(())
 }
 
 // The script of a row is refused as the row says, by both readers.
-fn refused_so(rt: &impl Abort, alloc: Global, row: &str) -> Result<(), Fail> {
-    let (text, wanted) = row.split_once('>').ok_or("a row has a reason")?;
+fn refused_so(rt: &impl Abort, alloc: Global, row: &str) {
+    let (text, wanted) = row.split_once('>').expect(rt, "a row has a reason");
     assert!(rt;
-        told(rt, alloc, text.as_bytes())?.as_str() == wanted,
+        told(rt, alloc, text.as_bytes()).as_str() == wanted,
         "{text}"
     );
     match parsed(rt, alloc, text.as_bytes()) {
-        Err(ScriptAnswer::Bad { line, why }) => {
-            let found = format!(in alloc; "{line} {why}")?;
-            assert!(rt; found.as_str() == wanted, "{text}");
+        Ok(lines) => {
+            drop(lines);
+            assert!(rt; false, "{text}");
         }
-        _ => assert!(rt; false, "{text}"),
+        Err(answer) => assert!(rt; told_by(rt, alloc, answer).as_str() == wanted, "{text}"),
     }
-    Ok(())
 }
 
 #[test]
-fn the_least_bad_line_is_told(rt: HostRuntime) -> Result<(), Fail> {
+fn the_least_bad_line_is_told(rt: HostRuntime) {
     let alloc = rt.alloc();
     for row in BAD_SCRIPTS.split(';') {
-        refused_so(&rt, alloc, row)?;
+        refused_so(&rt, alloc, row);
     }
-    Ok(())
 }
 
 // A text of so many bytes is read, or refused.
-fn text_of(rt: &impl Abort, alloc: Global, length: usize, wanted: &str) -> Result<(), Fail> {
-    let mut text = CLUSTER.as_bytes().to_vec(alloc)?;
-    text.extend_from_slice(b"cat \"\\xff")?;
+fn text_of(rt: &impl Abort, alloc: Global, length: usize, wanted: &str) {
+    let mut text = CLUSTER.as_bytes().to_vec(alloc).expect(rt, "memory");
+    text.extend_from_slice(b"cat \"\\xff").expect(rt, "memory");
     for _ in 1..length {
-        text.push(b'x')?;
+        text.push(b'x').expect(rt, "memory");
     }
-    text.push(b'"')?;
-    assert!(rt; told(rt, alloc, text.as_slice())?.as_str() == wanted);
-    Ok(())
+    text.push(b'"').expect(rt, "memory");
+    assert!(rt; told(rt, alloc, text.as_slice()).as_str() == wanted);
 }
 
 #[test]
-fn a_text_has_at_most_16384_bytes(rt: HostRuntime) -> Result<(), Fail> {
+fn a_text_has_at_most_16384_bytes(rt: HostRuntime) {
     let alloc = rt.alloc();
-    text_of(&rt, alloc, 16_384, "2")?;
-    text_of(&rt, alloc, 16_385, "2 grammar")?;
-    Ok(())
+    text_of(&rt, alloc, 16_384, "2");
+    text_of(&rt, alloc, 16_385, "2 grammar");
 }
 
-// The notification that a line sends, as it is shown.
-fn shown(alloc: Global, line: &Line) -> Result<Vec<u8>, AllocError> {
-    match line {
-        Line::Ntf {
-            ask: Ask::Plain {
-                call: Call::NtfSend { notification },
+/// The notification that the second of two lines sends, as it is shown, or nothing where there is none.
+fn second_shown(rt: &impl Abort, alloc: Global, lines: &Seq<Line>) -> Vec<u8> {
+    match lines.as_slice() {
+        [
+            _,
+            Line::Ntf {
+                ask: Ask::Plain {
+                    call: Call::NtfSend { notification },
+                },
+                ..
             },
-            ..
-        } => print_note(alloc, notification),
-        _ => Ok(Vec::new(alloc)),
+        ] => print_note(alloc, notification).expect(rt, "memory"),
+        _ => Vec::new(alloc),
     }
 }
 
 #[test]
-fn a_notification_is_shown_with_its_id_and_time(rt: HostRuntime) -> Result<(), Fail> {
+fn a_notification_is_shown_with_its_id_and_time(rt: HostRuntime) {
     let alloc = rt.alloc();
     let sent = b"cluster start=10 queue=1 callbacks=256\n\
         ntf 1 send states type=0x3001 obj=\"o\" by=\"n\" class=1.2.3 text=\"t\" source=3 changes=1:2<3";
     match parsed(&rt, alloc, sent) {
-        Ok(lines) => match lines.as_slice() {
-            [_, line] => {
-                let words = shown(alloc, line)?;
-                let wanted =
-                    b"states id=0 type=0x3001 obj=\"o\" by=\"n\" class=1.2.3 time=-9223372036854775808 \
-                    text=\"t\" source=3 changes=1:2<3";
-                assert!(rt; words.as_slice() == wanted.as_slice());
-            }
-            _ => assert!(rt; false),
-        },
+        Ok(lines) => {
+            let words = second_shown(&rt, alloc, &lines);
+            drop(lines);
+            let wanted =
+                b"states id=0 type=0x3001 obj=\"o\" by=\"n\" class=1.2.3 time=-9223372036854775808 \
+                text=\"t\" source=3 changes=1:2<3";
+            assert!(rt; words.as_slice() == wanted.as_slice());
+        }
         Err(answer) => assert!(rt; false, "{answer:?}"),
     }
-    Ok(())
 }
 
 #[test]
-fn options_stand_before_defaults(rt: HostRuntime) -> Result<(), Fail> {
+fn options_stand_before_defaults(rt: HostRuntime) {
     let alloc = rt.alloc();
     let options = WellOptions {
         fmt: None,
@@ -337,10 +334,8 @@ fn options_stand_before_defaults(rt: HostRuntime) -> Result<(), Fail> {
         full: None,
         rot: Some(9),
     };
-    let attrs = well_attrs(alloc, StreamKind::Alarm, &options)?;
-    assert_eq!(rt; attrs.record_size, 64);
-    assert_eq!(rt; attrs.rotated, 9);
-    assert_eq!(rt; attrs.max_file, 262_144);
+    let attrs = well_attrs(alloc, StreamKind::Alarm, &options).expect(&rt, "memory");
+    assert!(rt; attrs.record_size == 64 && attrs.rotated == 9 && attrs.max_file == 262_144);
     assert!(rt; attrs.file.as_slice() == b"saLogAlarm".as_slice());
-    Ok(())
+    drop(attrs);
 }

@@ -3,9 +3,8 @@ ghost use Rattle.wire.specs.MessageSpelling.{MessageInRange};
 
 use ais_values::{Duplicate, Name, Seq};
 use calls::{Call, Entry, Reply, Saved};
-use std::alloc::{AllocError, Global};
+use std::alloc::Global;
 use std::process::Abort;
-use std::test::Fail;
 use stream_config::StreamName;
 use sub_queue::{Content, Item, Lost};
 use wire::{Message, WireAnswer, WireWhy, decode, encode};
@@ -37,61 +36,53 @@ fn read(rt: &impl Abort, alloc: Global, bytes: &[u8], message: &Message) {
 }
 
 /// The message has this spelling and is read from it.
-fn is_spelled(
-    rt: &impl Abort,
-    alloc: Global,
-    message: &Message,
-    want: &[u8],
-) -> Result<(), AllocError>
+fn is_spelled(rt: &impl Abort, alloc: Global, message: &Message, want: &[u8])
     requires { MessageInRange message.now }
 {
-    let bytes = encode(alloc, message)?;
+    let bytes = encode(alloc, message).expect(rt, "memory");
     assert!(rt; bytes.as_slice() == want);
-    let copy = message.copy(alloc)?;
+    let copy = message.copy(alloc).expect(rt, "memory");
     read(rt, alloc, bytes.as_slice(), &copy);
     drop(copy);
-    Ok(())
 }
 
 /// The message has this spelling, is read from it, and each proper front of it is short.
-fn spelled(rt: &impl Abort, alloc: Global, message: Message, want: &[u8]) -> Result<(), AllocError>
+fn spelled(rt: &impl Abort, alloc: Global, message: Message, want: &[u8])
     requires { MessageInRange message }
 {
-    let spelled = is_spelled(rt, alloc, &message, want);
+    is_spelled(rt, alloc, &message, want);
     drop(message);
     assert!(rt; want.len() <= 1000);
     for end in 0..want.len() {
         refused(rt, alloc, &want[..end], end as u32, WireWhy::Short);
     }
-    spelled
 }
 
 #[test]
-fn requests_replies_and_receipts(rt: HostRuntime) -> Result<(), Fail> {
+fn requests_replies_and_receipts(rt: HostRuntime) {
     let alloc = rt.alloc();
     let request = Message::Request {
         client: 1,
         seq: 1,
         call: Call::LogInit,
     };
-    spelled(&rt, alloc, request, &[1, 0, 1, 0, 0, 0, 1, 1])?;
+    spelled(&rt, alloc, request, &[1, 0, 1, 0, 0, 0, 1, 1]);
     let reply = Message::Reply {
         client: 1,
         seq: 1,
         reply: Reply::Done,
     };
-    spelled(&rt, alloc, reply, &[2, 0, 1, 0, 0, 0, 1, 2])?;
+    spelled(&rt, alloc, reply, &[2, 0, 1, 0, 0, 0, 1, 2]);
     let receipt = Message::Receipt {
         client: 1,
         key: 2,
         through: 2,
     };
-    spelled(&rt, alloc, receipt, &[4, 0, 1, 0, 0, 0, 2, 0, 0, 0, 2])?;
-    Ok(())
+    spelled(&rt, alloc, receipt, &[4, 0, 1, 0, 0, 0, 2, 0, 0, 0, 2]);
 }
 
 #[test]
-fn messages_of_servers(rt: HostRuntime) -> Result<(), Fail> {
+fn messages_of_servers(rt: HostRuntime) {
     let alloc = rt.alloc();
     let entry = Entry::Called {
         client: 4096,
@@ -108,22 +99,22 @@ fn messages_of_servers(rt: HostRuntime) -> Result<(), Fail> {
             5, 0, 0, 0, 0, 0, 0, 0, 2, 1, 16, 0, 0, 0, 0, 1, 255, 255, 255, 255, 255, 255, 255,
             255, 12,
         ],
-    )?;
+    );
     let ack = Message::MirrorAck { number: 3 };
-    spelled(&rt, alloc, ack, &[6, 0, 0, 0, 0, 0, 0, 0, 3])?;
+    spelled(&rt, alloc, ack, &[6, 0, 0, 0, 0, 0, 0, 0, 3]);
     let joined = Message::JoinAck { number: 258 };
-    spelled(&rt, alloc, joined, &[8, 0, 0, 0, 0, 0, 0, 1, 2])?;
-    Ok(())
+    spelled(&rt, alloc, joined, &[8, 0, 0, 0, 0, 0, 0, 1, 2]);
 }
 
 #[test]
-fn an_item(rt: HostRuntime) -> Result<(), Fail> {
+fn an_item(rt: HostRuntime) {
     let alloc = rt.alloc();
     let mut lost = Seq::new(alloc);
-    lost.push(Lost {
+    let one = Lost {
         kind: 0x4000,
         id: 5,
-    })?;
+    };
+    lost.push(one).expect(&rt, "memory");
     let content = Content::Discarded { lost };
     let item = Item { number: 3, content };
     let message = Message::Item {
@@ -138,15 +129,14 @@ fn an_item(rt: HostRuntime) -> Result<(), Fail> {
         &[
             3, 0, 1, 0, 0, 0, 2, 0, 0, 0, 3, 2, 0, 0, 0, 1, 64, 0, 0, 0, 0, 0, 0, 0, 0, 5,
         ],
-    )?;
-    Ok(())
+    );
 }
 
 #[test]
-fn a_snapshot(rt: HostRuntime) -> Result<(), Fail> {
+fn a_snapshot(rt: HostRuntime) {
     let alloc = rt.alloc();
     let mut log_users = Seq::new(alloc);
-    log_users.push(0)?;
+    log_users.push(0).expect(&rt, "memory");
     let saved = Saved {
         number: 1,
         last_stamp: 2,
@@ -169,27 +159,25 @@ fn a_snapshot(rt: HostRuntime) -> Result<(), Fail> {
             0, 0, 0, 1, 0, 0, 0, 0, 0, 0, 0, 0, 0, 0, 0, 0, 0, 0, 0, 0, 0, 0, 0, 0, 0, 0, 0, 0, 0,
             0,
         ],
-    )?;
-    Ok(())
+    );
 }
 
 #[test]
-fn a_name_and_a_text(rt: HostRuntime) -> Result<(), Fail> {
+fn a_name_and_a_text(rt: HostRuntime) {
     let alloc = rt.alloc();
     let stream = StreamName::App {
-        name: Name::new(alloc, b"w")?,
+        name: Name::new(alloc, b"w").expect(&rt, "memory"),
     };
     let request = Message::Request {
         client: 1,
         seq: 1,
         call: Call::LogClose { stream },
     };
-    spelled(&rt, alloc, request, &[1, 0, 1, 0, 0, 0, 1, 4, 4, 0, 1, 119])?;
-    Ok(())
+    spelled(&rt, alloc, request, &[1, 0, 1, 0, 0, 0, 1, 4, 4, 0, 1, 119]);
 }
 
 #[test]
-fn wrong_bytes_have_a_place(rt: HostRuntime) -> Result<(), Fail> {
+fn wrong_bytes_have_a_place(rt: HostRuntime) {
     let table: [(&[u8], u32, WireWhy); 13] = [
         (b"", 0, WireWhy::Short),
         (b"\x01\0\x01\0\0\0\x01\x01\0", 8, WireWhy::Trailing),
@@ -225,7 +213,6 @@ fn wrong_bytes_have_a_place(rt: HostRuntime) -> Result<(), Fail> {
     for (bytes, place, why) in table {
         refused(&rt, rt.alloc(), bytes, place, why);
     }
-    Ok(())
 }
 
 /// The request of client 1, number 1, `LogInit`, with one byte in place of another.
@@ -239,7 +226,7 @@ fn changed(at: usize, byte: u8) -> [u8; 8] {
 
 /// Each byte of a request changed: the client and the number that are read then.
 #[test]
-fn other_bytes_are_other_requests(rt: HostRuntime) -> Result<(), Fail> {
+fn other_bytes_are_other_requests(rt: HostRuntime) {
     let table = [
         (1, 1, 257, 1),
         (2, 2, 2, 1),
@@ -255,12 +242,11 @@ fn other_bytes_are_other_requests(rt: HostRuntime) -> Result<(), Fail> {
         read(&rt, rt.alloc(), &bytes, &message);
         drop(message);
     }
-    Ok(())
 }
 
 /// Each byte of a request changed: where and why it is no message.
 #[test]
-fn other_bytes_are_no_message(rt: HostRuntime) -> Result<(), Fail> {
+fn other_bytes_are_no_message(rt: HostRuntime) {
     let table = [
         (0, 0, 0, WireWhy::BadValue),
         (0, 2, 8, WireWhy::Short),
@@ -278,5 +264,4 @@ fn other_bytes_are_no_message(rt: HostRuntime) -> Result<(), Fail> {
     for (at, byte, place, why) in table {
         refused(&rt, rt.alloc(), &changed(at, byte), place, why);
     }
-    Ok(())
 }

@@ -1,76 +1,31 @@
-ghost use Rattle.std.specs.Prelude.{◌≡◌, ◌+◌, ◌<◌, IfOk, OnOk};
-ghost use Rattle.alarm_view.specs.Alarms.{IsAlarm, IsAboveAll};
+//! Searches of stored alarms by each mode and in both directions, against the written rules.
+ghost use Rattle.std.specs.Prelude.{◌+◌, ◌<◌};
+ghost use Rattle.alarm_view.specs.Alarms.{IsAboveAll};
 
-use ais_values::{ClassId, Duplicate, Name, Seq, Text};
+use crate::fixtures::{alarm, alarms_by};
+use ais_values::Duplicate;
 use alarm_view::{AlarmView, Cursor, Direction, SearchMode};
-use ntf_filters::{Filter, FilterSet};
-use ntf_types::{Body, Notification};
-use std::alloc::{AllocError, Global};
+use ntf_filters::FilterSet;
+use std::alloc::Global;
 use std::process::Abort;
-use std::test::Fail;
 
-/// An alarm of severity `id`, by its event time.
-fn alarm(alloc: Global, id: u8, event_time: i64) -> Result<Notification, Fail>
-    ensures id { IfOk result (λ alarm. alarm.id ≡ id) }
-    ensures alarm { IfOk result (λ alarm. IsAlarm alarm.body) }
-{
-    Ok(Notification {
-        id: u64::from(id),
-        event_type: 0x4001,
-        object: Name::new(alloc, b"object")?,
-        notifier: Name::new(alloc, b"notifier")?,
-        class: ClassId {
-            vendor: 1,
-            major: 2,
-            minor: 3,
-        },
-        event_time,
-        correlated: Seq::new(alloc),
-        text: Text::new(alloc, b"")?,
-        info: Seq::new(alloc),
-        body: Body::Alarm {
-            cause: 1,
-            severity: u16::from(id),
-        },
-    })
-}
-
-/// Filters that ask for alarms of these severities, or of all where the list is empty.
-fn alarms_of(alloc: Global, severities: &[u16]) -> Result<FilterSet, AllocError> {
-    Ok(FilterSet {
-        objects: None,
-        attributes: None,
-        states: None,
-        alarms: Some(Filter {
-            types: Seq::new(alloc),
-            objects: Seq::new(alloc),
-            notifiers: Seq::new(alloc),
-            classes: Seq::new(alloc),
-            sources: Seq::new(alloc),
-            causes: Seq::new(alloc),
-            severities: Seq::from_vec(severities.to_vec(alloc)?),
-        }),
-        security: None,
-    })
-}
-
-fn add(alloc: Global, view: &mut AlarmView, number: u32, id: u8, time: i64) -> Result<(), Fail>
+/// Keeps an alarm whose severity is its id.
+fn add(rt: &impl Abort, alloc: Global, view: &mut AlarmView, number: u32, id: u8, time: i64)
     requires bound { number < 1000 }
     requires above { IsAboveAll number id view.old }
-    ensures { OnOk result (IsAboveAll (number + 1) (id + 1) view.new) }
+    ensures { IsAboveAll (number + 1) (id + 1) view.new }
 {
-    let alarm = alarm(alloc, id, time)?;
-    view.add(number, alarm)?;
-    Ok(())
+    let alarm = alarm(rt, alloc, u64::from(id), time, u16::from(id));
+    view.add(number, alarm).expect(rt, "memory");
 }
 
 /// The alarms 1, 2 and 3 of the times 100, 100 and 200, in records 4, 5 and 6.
-fn three_alarms(alloc: Global) -> Result<AlarmView, Fail> {
+fn three_alarms(rt: &impl Abort, alloc: Global) -> AlarmView {
     let mut view = AlarmView::new(alloc);
-    add(alloc, &mut view, 4, 1, 100)?;
-    add(alloc, &mut view, 5, 2, 100)?;
-    add(alloc, &mut view, 6, 3, 200)?;
-    Ok(view)
+    add(rt, alloc, &mut view, 4, 1, 100);
+    add(rt, alloc, &mut view, 5, 2, 100);
+    add(rt, alloc, &mut view, 6, 3, 200);
+    view
 }
 
 /// The id of the alarm at which a search of this code starts, or 0 where there is none.
@@ -101,10 +56,10 @@ fn read(view: &AlarmView, cursor: &mut Cursor, code: u32, filters: &FilterSet) -
 
 /// The starting alarms of all modes, and of codes that are none.
 #[test]
-fn starts_by_each_mode(rt: HostRuntime) -> Result<(), Fail> {
+fn starts_by_each_mode(rt: HostRuntime) {
     let alloc = rt.alloc();
-    let view = three_alarms(alloc)?;
-    let filters = alarms_of(alloc, &[])?;
+    let view = three_alarms(&rt, alloc);
+    let filters = alarms_by(&rt, alloc, &[]);
     // code, value, id of the starting alarm
     let cases = [
         (0, 100, 0),
@@ -119,13 +74,13 @@ fn starts_by_each_mode(rt: HostRuntime) -> Result<(), Fail> {
         (8, 100, 0),
     ];
     for (code, value, id) in cases {
-        assert_eq!(rt;
-            start_of(&view, code, value, &filters),
-            id,
+        assert!(rt;
+            start_of(&view, code, value, &filters) == id,
             "{code} {value}"
         );
     }
-    Ok(())
+    drop(view);
+    drop(filters);
 }
 
 fn walk(
@@ -143,9 +98,8 @@ fn walk(
         fresh: true,
     };
     for id in ids {
-        assert_eq!(rt;
-            read(view, &mut cursor, code, filters),
-            id,
+        assert!(rt;
+            read(view, &mut cursor, code, filters) == id,
             "{start} {code}"
         );
     }
@@ -153,10 +107,10 @@ fn walk(
 
 /// Walks from each alarm in both directions, of which the middle one does not match.
 #[test]
-fn walks_past_what_is_not_asked_for(rt: HostRuntime) -> Result<(), Fail> {
+fn walks_past_what_is_not_asked_for(rt: HostRuntime) {
     let alloc = rt.alloc();
-    let view = three_alarms(alloc)?;
-    let filters = alarms_of(alloc, &[1, 3])?;
+    let view = three_alarms(&rt, alloc);
+    let filters = alarms_by(&rt, alloc, &[1, 3]);
     // id of the starting alarm, code of the direction, ids that are read
     let cases = [
         (1, 1, [1, 0, 0]),
@@ -170,29 +124,33 @@ fn walks_past_what_is_not_asked_for(rt: HostRuntime) -> Result<(), Fail> {
     for (start, code, ids) in cases {
         walk(&rt, &view, start, code, &filters, ids);
     }
-    Ok(())
+    drop(view);
+    drop(filters);
 }
 
 /// An alarm goes under a cursor, which keeps its point and stays fresh.
 #[test]
-fn drops_early_records(rt: HostRuntime) -> Result<(), Fail> {
+fn drops_early_records(rt: HostRuntime) {
     let alloc = rt.alloc();
-    let mut view = three_alarms(alloc)?;
-    let filters = alarms_of(alloc, &[])?;
+    let mut view = three_alarms(&rt, alloc);
+    let filters = alarms_by(&rt, alloc, &[]);
     view.keep_from(5);
-    assert_eq!(rt; view.count(), 2);
-    assert!(rt;
-        view.alarm_at(0)
-            .is_some_and(|found| found.0 == 5 && found.1.id == 2)
-    );
-    assert!(rt; view.alarm_at(2).is_none());
+    let first = view
+        .alarm_at(0)
+        .is_some_and(|found| found.0 == 5 && found.1.id == 2);
+    assert!(rt; first && view.count() == 2 && view.alarm_at(2).is_none());
+    walk(&rt, &view, 1, 1, &filters, [0, 0, 0]);
+    walk(&rt, &view, 1, 2, &filters, [2, 3, 0]);
+    drop(view);
+    drop(filters);
+}
+
+#[test]
+fn cursors_are_copied(rt: HostRuntime) {
     let cursor = Cursor {
         time: 100,
         id: 2,
         fresh: false,
     };
-    assert_eq!(rt; cursor.copy(alloc)?, cursor);
-    walk(&rt, &view, 1, 1, &filters, [0, 0, 0]);
-    walk(&rt, &view, 1, 2, &filters, [2, 3, 0]);
-    Ok(())
+    assert!(rt; cursor.copy(rt.alloc()).expect(&rt, "memory") == cursor);
 }

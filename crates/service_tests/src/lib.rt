@@ -6,6 +6,8 @@ mod alarm_view_tests;
 #[cfg(test)]
 mod calls_tests;
 #[cfg(test)]
+mod fixtures;
+#[cfg(test)]
 mod laws_tests;
 #[cfg(test)]
 mod log_service_tests;

@@ -1,59 +1,20 @@
-use ais_values::{ClassId, Duplicate, Name, Seq, Status, Text};
-use ntf_filters::{Filter, FilterSet};
+//! Users, subscriptions and notifications that are sent to them, against the written rules.
+use crate::fixtures::{alarm, alarms_by, filter_by, no_filters};
+use ais_values::{Duplicate, Status};
+use ntf_filters::FilterSet;
 use ntf_service::NtfState;
-use ntf_types::{Body, Notification};
-use std::alloc::{AllocError, Global};
-use std::mem;
+use std::alloc::Global;
 use std::process::Abort;
-use std::test::Fail;
 
-fn alarm(alloc: Global) -> Result<Notification, Fail> {
-    Ok(Notification {
-        id: 0,
-        event_type: 0x4001,
-        object: Name::new(alloc, b"object")?,
-        notifier: Name::new(alloc, b"notifier")?,
-        class: ClassId {
-            vendor: 1,
-            major: 2,
-            minor: 3,
-        },
-        event_time: 100,
-        correlated: Seq::new(alloc),
-        text: Text::new(alloc, b"")?,
-        info: Seq::new(alloc),
-        body: Body::Alarm {
-            cause: 1,
-            severity: 2,
-        },
-    })
-}
-
-/// Filters that ask for all alarms, or for all changes of states.
-fn filters(alloc: Global, alarms: bool) -> FilterSet {
-    let filter = Filter {
-        types: Seq::new(alloc),
-        objects: Seq::new(alloc),
-        notifiers: Seq::new(alloc),
-        classes: Seq::new(alloc),
-        sources: Seq::new(alloc),
-        causes: Seq::new(alloc),
-        severities: Seq::new(alloc),
-    };
-    let (states, alarms) = if alarms {
-        (None, Some(filter))
-    } else {
-        (Some(filter), None)
-    };
+/// Filters that ask for all changes of states.
+fn all_states(rt: &impl Abort, alloc: Global) -> FilterSet {
     FilterSet {
-        objects: None,
-        attributes: None,
-        states,
-        alarms,
-        security: None,
+        states: Some(filter_by(rt, alloc, &[])),
+        ..no_filters()
     }
 }
 
+/// The client 3 asks for changes of states, and others for alarms.
 fn subscribe(
     rt: &impl Abort,
     alloc: Global,
@@ -61,14 +22,23 @@ fn subscribe(
     client: u16,
     key: u32,
     id: u32,
-) -> Result<Status, AllocError> {
+) -> Status {
+    let filters = if client == 3 {
+        all_states(rt, alloc)
+    } else {
+        alarms_by(rt, alloc, &[])
+    };
     assert!(rt; state.is_key_above(client, key));
-    state.subscribe(alloc, client, key, id, &filters(alloc, client != 3))
+    let answer = state.subscribe(alloc, client, key, id, &filters);
+    drop(filters);
+    answer.expect(rt, "memory")
 }
 
-fn send(rt: &impl Abort, alloc: Global, state: &mut NtfState) -> Result<u64, Fail> {
+/// Sends an alarm, and tells its id.
+fn send(rt: &impl Abort, alloc: Global, state: &mut NtfState) -> u64 {
+    let alarm = alarm(rt, alloc, 0, 100, 2);
     assert!(rt; state.can_send());
-    Ok(state.send(alloc, alarm(alloc)?)?)
+    state.send(alloc, alarm).expect(rt, "memory")
 }
 
 /// The client, the number of held items and of lost ones of the subscription at a place.
@@ -85,103 +55,97 @@ fn told(state: &NtfState, place: u32) -> (u16, usize, usize) {
 
 /// A state with three users: 2 and 7 with a subscription to alarms, and 3 with one to changes of
 /// states.
-fn three_users(rt: &impl Abort, alloc: Global) -> Result<NtfState, AllocError> {
+fn three_users(rt: &impl Abort, alloc: Global) -> NtfState {
     let mut state = NtfState::new(alloc, 2);
     for client in [7, 2, 3] {
-        let _ = state.init(client)?;
-        let _ = subscribe(rt, alloc, &mut state, client, 9, 5)?;
+        let _ = state.init(client).expect(rt, "memory");
+        let _ = subscribe(rt, alloc, &mut state, client, 9, 5);
     }
-    Ok(state)
+    state
 }
 
 /// Users begin and end, and an id is used by one subscription of a client at a time.
 #[test]
-fn answers_by_rows(rt: HostRuntime) -> Result<(), Fail> {
+fn answers_by_rows(rt: HostRuntime) {
     let alloc = rt.alloc();
-    let mut state = three_users(&rt, alloc)?;
-    assert_eq!(rt; state.init(2)?, Status::NoResources);
-    assert_eq!(rt; subscribe(&rt, alloc, &mut state, 7, 10, 5)?, Status::Exist);
-    assert_eq!(rt;
-        subscribe(&rt, alloc, &mut state, 8, 10, 5)?,
-        Status::BadHandle
-    );
-    assert_eq!(rt; subscribe(&rt, alloc, &mut state, 7, 11, 6)?, Status::Ok);
-    assert_eq!(rt; state.unsubscribe(7, 7), Status::NotExist);
-    assert_eq!(rt; state.fini(7), Status::Ok);
-    assert_eq!(rt; state.fini(7), Status::BadHandle);
-    assert_eq!(rt; state.unsubscribe(2, 5), Status::Ok);
+    let mut state = three_users(&rt, alloc);
+    assert!(rt; state.init(2).expect(&rt, "memory") == Status::NoResources);
+    for (client, key, id, want) in [
+        (7, 10, 5, Status::Exist),
+        (8, 10, 5, Status::BadHandle),
+        (7, 11, 6, Status::Ok),
+    ] {
+        assert!(rt;
+            subscribe(&rt, alloc, &mut state, client, key, id) == want,
+            "{client}"
+        );
+    }
+    assert!(rt; state.unsubscribe(7, 7) == Status::NotExist);
+    assert!(rt; state.fini(7) == Status::Ok && state.fini(7) == Status::BadHandle);
+    assert!(rt; state.unsubscribe(2, 5) == Status::Ok);
     assert!(rt; state.users() == [2, 3].as_slice() && !state.is_user(7));
-    assert_eq!(rt; state.count(), 1);
-    assert_eq!(rt; told(&state, 0).0, 3);
-    Ok(())
+    assert!(rt; state.count() == 1 && told(&state, 0).0 == 3);
+    drop(state);
 }
 
 /// The 65th subscription is refused.
 #[test]
-fn holds_64_subscriptions(rt: HostRuntime) -> Result<(), Fail> {
+fn holds_64_subscriptions(rt: HostRuntime) {
     let alloc = rt.alloc();
     let mut state = NtfState::new(alloc, 1);
-    assert_eq!(rt; state.init(1)?, Status::Ok);
-    for key in 1..65u32 {
-        assert_eq!(rt; subscribe(&rt, alloc, &mut state, 1, key, key)?, Status::Ok);
+    assert!(rt; state.init(1).expect(&rt, "memory") == Status::Ok);
+    for key in 1..66u32 {
+        let answer = subscribe(&rt, alloc, &mut state, 1, key, key);
+        assert!(rt; (answer == Status::Ok) == (key < 65), "{key}");
+        assert!(rt; (answer == Status::NoResources) == (key == 65), "{key}");
     }
-    assert_eq!(rt;
-        subscribe(&rt, alloc, &mut state, 1, 65, 65)?,
-        Status::NoResources
-    );
-    assert_eq!(rt; state.count(), 64);
-    Ok(())
+    assert!(rt; state.count() == 64);
+    drop(state);
 }
 
 /// Five alarms to two subscriptions with room for two, with a receipt of one of them between.
 #[test]
-fn offers_to_each_that_asks(rt: HostRuntime) -> Result<(), Fail> {
+fn offers_to_each_that_asks(rt: HostRuntime) {
     let alloc = rt.alloc();
-    let mut state = three_users(&rt, alloc)?;
+    let mut state = three_users(&rt, alloc);
     for id in 1..4u64 {
-        assert_eq!(rt; send(&rt, alloc, &mut state)?, id);
+        assert!(rt; send(&rt, alloc, &mut state) == id, "{id}");
     }
     assert!(rt; !state.is_new(2, 9, 3) && !state.is_new(3, 9, 1) && !state.is_new(2, 8, 1));
     assert!(rt; state.can_send());
     assert!(rt; state.is_new(2, 9, 1));
     state.acked(2, 9, 1);
     for id in 4..6u64 {
-        assert_eq!(rt; send(&rt, alloc, &mut state)?, id);
+        assert!(rt; send(&rt, alloc, &mut state) == id, "{id}");
     }
-    assert!(rt; told(&state, 0) == (2, 2, 2));
-    assert!(rt; told(&state, 1) == (3, 0, 0));
-    assert!(rt; told(&state, 2) == (7, 2, 3));
-    assert_eq!(rt; state.last_id(), 5);
-    Ok(())
+    assert!(rt; told(&state, 0) == (2, 2, 2) && told(&state, 1) == (3, 0, 0));
+    assert!(rt; told(&state, 2) == (7, 2, 3) && state.last_id() == 5);
+    drop(state);
 }
 
 /// Sends an alarm and takes it back.
-fn send_in_vain(rt: &impl Abort, alloc: Global, state: &mut NtfState) -> Result<(), Fail> {
+fn send_in_vain(rt: &impl Abort, alloc: Global, state: &mut NtfState) {
+    let alarm = alarm(rt, alloc, 0, 100, 2);
+    let mut sent = alarm.copy(alloc).expect(rt, "memory");
     assert!(rt; state.can_send());
-    let notification = alarm(alloc)?;
-    let mut sent = notification.copy(alloc)?;
-    let id = state.send(alloc, notification)?;
-    sent.id = id;
+    sent.id = state.send(alloc, alarm).expect(rt, "memory");
     state.take_back(&sent);
-    mem::drop(sent);
-    Ok(())
+    drop(sent);
 }
 
 /// The third of three alarms to queues of two is lost; taken back, it leaves two held and none lost,
 /// and its id is given again.
 #[test]
-fn takes_a_send_back(rt: HostRuntime) -> Result<(), Fail> {
+fn takes_a_send_back(rt: HostRuntime) {
     let alloc = rt.alloc();
-    let mut state = three_users(&rt, alloc)?;
-    send_in_vain(&rt, alloc, &mut state)?;
+    let mut state = three_users(&rt, alloc);
+    send_in_vain(&rt, alloc, &mut state);
     assert!(rt; told(&state, 0) == (2, 0, 0));
     for id in 1..3u64 {
-        assert_eq!(rt; send(&rt, alloc, &mut state)?, id);
+        assert!(rt; send(&rt, alloc, &mut state) == id, "{id}");
     }
-    send_in_vain(&rt, alloc, &mut state)?;
-    assert!(rt; told(&state, 0) == (2, 2, 0));
-    assert!(rt; told(&state, 2) == (7, 2, 0));
-    assert_eq!(rt; send(&rt, alloc, &mut state)?, 3);
-    assert!(rt; told(&state, 0) == (2, 2, 1));
-    Ok(())
+    send_in_vain(&rt, alloc, &mut state);
+    assert!(rt; told(&state, 0) == (2, 2, 0) && told(&state, 2) == (7, 2, 0));
+    assert!(rt; send(&rt, alloc, &mut state) == 3 && told(&state, 0) == (2, 2, 1));
+    drop(state);
 }

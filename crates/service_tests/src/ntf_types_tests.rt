@@ -1,278 +1,336 @@
-use ais_values::{ClassId, Duplicate, Name, Seq, Text};
+//! The edges of what notifications may hold, against the written rules.
+use crate::fixtures::notification;
+use ais_values::{Duplicate, Name, Seq, Text};
 use ntf_types::{
     Body, Change, Notification, Pair, StateChange, Value, check_notification, kind_of,
 };
-use std::alloc::{AllocError, Global};
-use std::test::Fail;
+use std::alloc::Global;
+use std::process::Abort;
 
-fn text_of(alloc: Global, length: u16) -> Result<Text, Fail> {
-    let bytes = vec![in alloc; 120; length as usize]?;
-    Ok(Text::new(alloc, bytes.as_slice())?)
+fn text_of(rt: &impl Abort, alloc: Global, length: u16) -> Text {
+    let bytes = vec![in alloc; 120; length as usize].expect(rt, "memory");
+    Text::new(alloc, bytes.as_slice()).expect(rt, "a text")
 }
 
-fn list_of<T: Duplicate + Drop>(
-    alloc: Global,
-    count: u16,
-    element: T,
-) -> Result<Seq<T>, AllocError> {
+fn list_of<T: Duplicate + Drop>(rt: &impl Abort, alloc: Global, count: u16, element: T) -> Seq<T> {
     let mut elements = Seq::new(alloc);
     for _ in 0..count {
-        elements.push(element.copy(alloc)?)?;
+        let copy = element.copy(alloc).expect(rt, "memory");
+        elements.push(copy).expect(rt, "memory");
     }
-    Ok(elements)
+    drop(element);
+    elements
 }
 
-fn pairs_of(alloc: Global, count: u16, length: u16) -> Result<Seq<Pair>, Fail> {
+fn pairs_of(rt: &impl Abort, alloc: Global, count: u16, length: u16) -> Seq<Pair> {
     let value = Value::TextOf {
-        text: text_of(alloc, length)?,
+        text: text_of(rt, alloc, length),
     };
-    Ok(list_of(alloc, count, Pair { id: 1, value })?)
+    list_of(rt, alloc, count, Pair { id: 1, value })
 }
 
-fn changes_of(alloc: Global, count: u16, after: u16, before: u16) -> Result<Seq<Change>, Fail> {
+fn changes_of(rt: &impl Abort, alloc: Global, count: u16, after: u16, before: u16) -> Seq<Change> {
     let after = Value::Binary {
-        bytes: text_of(alloc, after)?,
+        bytes: text_of(rt, alloc, after),
     };
-    let before = Some(Value::TextOf {
-        text: text_of(alloc, before)?,
-    });
-    Ok(list_of(
-        alloc,
-        count,
-        Change {
-            id: 1,
-            after,
-            before,
-        },
-    )?)
+    let before = Value::TextOf {
+        text: text_of(rt, alloc, before),
+    };
+    let change = Change {
+        id: 1,
+        after,
+        before: Some(before),
+    };
+    list_of(rt, alloc, count, change)
 }
 
-fn notification_of(alloc: Global, event_type: u16, body: Body) -> Result<Notification, Fail> {
-    Ok(Notification {
-        id: 0,
-        event_type,
-        object: Name::new(alloc, b"object")?,
-        notifier: Name::new(alloc, b"notifier")?,
-        class: ClassId {
-            vendor: 1,
-            major: 2,
-            minor: 3,
-        },
-        event_time: 0,
-        correlated: Seq::new(alloc),
-        text: text_of(alloc, 0)?,
-        info: Seq::new(alloc),
-        body,
+fn is_sound(notification: Notification) -> bool {
+    let sound = check_notification(&notification).is_ok();
+    drop(notification);
+    sound
+}
+
+/// Whether a notification with this body is accepted.
+fn is_accepted(rt: &impl Abort, alloc: Global, event_type: u16, body: Body) -> bool {
+    is_sound(notification(rt, alloc, event_type, body))
+}
+
+/// The parts that every notification has: its time, and how long its text and its lists are.
+#[derive(Clone, Copy)]
+struct Common {
+    time: i64,
+    text: u16,
+    correlated: u16,
+    info: u16,
+    bytes: u16,
+}
+
+const LEAST: Common = Common {
+    time: 0,
+    text: 0,
+    correlated: 0,
+    info: 0,
+    bytes: 0,
+};
+
+/// Whether an alarm with these parts is accepted.
+fn has_common(rt: &impl Abort, alloc: Global, common: Common) -> bool {
+    let body = Body::Alarm {
+        cause: 65_535,
+        severity: 0,
+    };
+    is_sound(Notification {
+        event_time: common.time,
+        text: text_of(rt, alloc, common.text),
+        correlated: list_of(rt, alloc, common.correlated, 7),
+        info: pairs_of(rt, alloc, common.info, common.bytes),
+        ..notification(rt, alloc, 0x4001, body)
     })
 }
 
 /// Each edge of the parts that every notification has.
 #[test]
-fn checks_common_parts(rt: HostRuntime) -> Result<(), Fail> {
-    let alloc = rt.alloc();
-    // event time, bytes of text, correlated ids, elements of information, bytes of each, accepted
-    let cases = [
-        (0, 0, 0, 0, 0, true),
-        (i64::MAX, 1024, 16, 16, 1024, true),
-        (i64::MIN, 0, 0, 0, 0, true),
-        (-1, 0, 0, 0, 0, false),
-        (i64::MIN + 1, 0, 0, 0, 0, false),
-        (0, 1025, 0, 0, 0, false),
-        (0, 0, 17, 0, 0, false),
-        (0, 0, 0, 17, 0, false),
-        (0, 0, 0, 1, 1025, false),
-    ];
-    for (time, text, correlated, info, bytes, accepted) in cases {
-        let body = Body::Alarm {
-            cause: 65_535,
-            severity: 0,
-        };
-        let mut notification = notification_of(alloc, 0x4001, body)?;
-        notification.event_time = time;
-        notification.text = text_of(alloc, text)?;
-        notification.correlated = list_of(alloc, correlated, 7)?;
-        notification.info = pairs_of(alloc, info, bytes)?;
-        let answer = check_notification(&notification);
-        assert_eq!(rt;
-            answer.is_ok(),
-            accepted,
-            "{time} {text} {correlated} {info} {bytes}"
+fn checks_common_parts(rt: HostRuntime) {
+    let greatest = Common {
+        time: i64::MAX,
+        text: 1024,
+        correlated: 16,
+        info: 16,
+        bytes: 1024,
+    };
+    assert!(rt; has_common(&rt, rt.alloc(), LEAST) && has_common(&rt, rt.alloc(), greatest));
+    for time in [-1, i64::MIN + 1] {
+        assert!(rt;
+            !has_common(&rt, rt.alloc(), Common { time, ..LEAST }),
+            "{time}"
         );
     }
-    Ok(())
+    let unknown = Common {
+        time: i64::MIN,
+        ..LEAST
+    };
+    assert!(rt; has_common(&rt, rt.alloc(), unknown));
 }
 
-fn is_accepted(alloc: Global, event_type: u16, body: Body) -> Result<bool, Fail> {
-    let notification = notification_of(alloc, event_type, body)?;
-    Ok(check_notification(&notification).is_ok())
+/// One more byte or element than the greatest notification has.
+#[test]
+fn checks_common_lengths(rt: HostRuntime) {
+    // bytes of text, correlated ids, elements of information, bytes of each
+    for (text, correlated, info, bytes) in [
+        (1025, 0, 0, 0),
+        (0, 17, 0, 0),
+        (0, 0, 17, 0),
+        (0, 0, 1, 1025),
+    ] {
+        let common = Common {
+            time: 0,
+            text,
+            correlated,
+            info,
+            bytes,
+        };
+        assert!(rt;
+            !has_common(&rt, rt.alloc(), common),
+            "{text} {correlated} {info} {bytes}"
+        );
+    }
+}
+
+fn objects(rt: &impl Abort, alloc: Global, source: u16, count: u16, bytes: u16) -> Body {
+    Body::Objects {
+        source,
+        attrs: pairs_of(rt, alloc, count, bytes),
+    }
+}
+
+/// Changes of attributes from values of so many bytes to others.
+fn attributes(
+    rt: &impl Abort,
+    alloc: Global,
+    source: u16,
+    count: u16,
+    after: u16,
+    before: u16,
+) -> Body {
+    Body::Attributes {
+        source,
+        changes: changes_of(rt, alloc, count, after, before),
+    }
 }
 
 /// Source indicators, and the elements of lists.
 #[test]
-fn checks_changes(rt: HostRuntime) -> Result<(), Fail> {
+fn checks_changes(rt: HostRuntime) {
     let alloc = rt.alloc();
     // source, elements, bytes of each value, accepted
-    let cases = [
+    for (source, count, bytes, accepted) in [
         (0, 0, 0, false),
         (1, 16, 1024, true),
         (3, 1, 0, true),
         (4, 0, 0, false),
         (2, 17, 0, false),
         (2, 1, 1025, false),
-    ];
-    for (source, count, bytes, accepted) in cases {
-        let attrs = pairs_of(alloc, count, bytes)?;
-        let objects = Body::Objects { source, attrs };
-        assert_eq!(rt;
-            is_accepted(alloc, 0x1001, objects)?,
-            accepted,
-            "{source} {count} {bytes}"
+    ] {
+        let made = objects(&rt, alloc, source, count, bytes);
+        assert!(rt;
+            is_accepted(&rt, alloc, 0x1001, made) == accepted,
+            "{source} {count}"
         );
-        let changes = changes_of(alloc, count, bytes, 1024)?;
-        let attributes = Body::Attributes { source, changes };
-        assert_eq!(rt;
-            is_accepted(alloc, 0x2004, attributes)?,
-            accepted,
-            "{source} {count} {bytes}"
+        let later = attributes(&rt, alloc, source, count, bytes, 1024);
+        assert!(rt;
+            is_accepted(&rt, alloc, 0x2004, later) == accepted,
+            "{source} {count}"
         );
-        let changes = changes_of(alloc, count, 1024, bytes)?;
-        let attributes = Body::Attributes { source, changes };
-        assert_eq!(rt;
-            is_accepted(alloc, 0x2001, attributes)?,
-            accepted,
-            "{source} {count} {bytes}"
+        let earlier = attributes(&rt, alloc, source, count, 1024, bytes);
+        assert!(rt;
+            is_accepted(&rt, alloc, 0x2001, earlier) == accepted,
+            "{source} {count}"
         );
     }
-    Ok(())
 }
 
 /// Changes of states, which carry no texts.
 #[test]
-fn checks_states(rt: HostRuntime) -> Result<(), Fail> {
+fn checks_states(rt: HostRuntime) {
     let alloc = rt.alloc();
-    // source, elements, accepted
-    let cases = [
-        (0, 0, false),
-        (1, 16, true),
-        (3, 0, true),
-        (4, 0, false),
-        (2, 17, false),
-    ];
     let change = StateChange {
         id: 1,
         after: 2,
         before: None,
     };
-    for (source, count, accepted) in cases {
-        let changes = list_of(alloc, count, change)?;
+    // source, elements, accepted
+    for (source, count, accepted) in [
+        (0, 0, false),
+        (1, 16, true),
+        (3, 0, true),
+        (4, 0, false),
+        (2, 17, false),
+    ] {
+        let changes = list_of(&rt, alloc, count, change);
         let states = Body::States { source, changes };
-        assert_eq!(rt;
-            is_accepted(alloc, 0x3001, states)?,
-            accepted,
+        assert!(rt;
+            is_accepted(&rt, alloc, 0x3001, states) == accepted,
             "{source} {count}"
         );
     }
-    Ok(())
+}
+
+/// A security alarm with values of so many bytes.
+fn security(
+    rt: &impl Abort,
+    alloc: Global,
+    severity: u16,
+    detector: u16,
+    user: u16,
+    provider: u16,
+) -> Body {
+    Body::Security {
+        cause: 0,
+        severity,
+        detector: Value::TextOf {
+            text: text_of(rt, alloc, detector),
+        },
+        user: Value::Binary {
+            bytes: text_of(rt, alloc, user),
+        },
+        provider: Value::TextOf {
+            text: text_of(rt, alloc, provider),
+        },
+    }
 }
 
 /// Perceived severities, and the values of security alarms.
 #[test]
-fn checks_alarms(rt: HostRuntime) -> Result<(), Fail> {
+fn checks_alarms(rt: HostRuntime) {
     let alloc = rt.alloc();
+    for (severity, accepted) in [(0, true), (5, true), (6, false)] {
+        let alarm = Body::Alarm { cause: 0, severity };
+        assert!(rt;
+            is_accepted(&rt, alloc, 0x4005, alarm) == accepted,
+            "{severity}"
+        );
+    }
     // severity, bytes of detector, user and provider, accepted
-    let cases = [
+    for (severity, detector, user, provider, accepted) in [
         (0, 0, 0, 0, true),
         (5, 1024, 1024, 1024, true),
         (6, 0, 0, 0, false),
         (5, 1025, 0, 0, false),
         (5, 0, 1025, 0, false),
         (5, 0, 0, 1025, false),
-    ];
-    for (severity, detector, user, provider, accepted) in cases {
-        let short = detector.max(user).max(provider) <= 1024;
-        let alarm = Body::Alarm { cause: 0, severity };
-        assert_eq!(rt;
-            is_accepted(alloc, 0x4005, alarm)?,
-            accepted || !short,
-            "{severity}"
-        );
-        let security = Body::Security {
-            cause: 0,
-            severity,
-            detector: Value::TextOf {
-                text: text_of(alloc, detector)?,
-            },
-            user: Value::Binary {
-                bytes: text_of(alloc, user)?,
-            },
-            provider: Value::TextOf {
-                text: text_of(alloc, provider)?,
-            },
-        };
-        assert_eq!(rt;
-            is_accepted(alloc, 0x5005, security)?,
-            accepted,
-            "{severity}"
+    ] {
+        let alarm = security(&rt, alloc, severity, detector, user, provider);
+        assert!(rt;
+            is_accepted(&rt, alloc, 0x5005, alarm) == accepted,
+            "{detector} {user}"
         );
     }
-    Ok(())
 }
 
-fn body_of(alloc: Global, kind: u16) -> Result<Body, Fail> {
+fn body_of(rt: &impl Abort, alloc: Global, kind: u16) -> Body {
     match kind {
-        0x1000 => Ok(Body::Objects {
-            source: 1,
-            attrs: pairs_of(alloc, 2, 3)?,
-        }),
-        0x2000 => Ok(Body::Attributes {
-            source: 2,
-            changes: changes_of(alloc, 2, 3, 4)?,
-        }),
-        0x3000 => Ok(Body::States {
+        0x1000 => objects(rt, alloc, 1, 2, 3),
+        0x2000 => attributes(rt, alloc, 2, 2, 3, 4),
+        0x3000 => Body::States {
             source: 3,
             changes: Seq::new(alloc),
-        }),
-        0x4000 => Ok(Body::Alarm {
+        },
+        0x4000 => Body::Alarm {
             cause: 1,
             severity: 5,
-        }),
-        _ => Ok(Body::Security {
+        },
+        _ => Body::Security {
             cause: 1,
             severity: 5,
             detector: Value::Int { value: -1 },
             user: Value::NameOf {
-                name: Name::new(alloc, b"user")?,
+                name: Name::new(alloc, b"user").expect(rt, "memory"),
             },
             provider: Value::Int { value: 1 },
-        }),
+        },
     }
 }
 
-/// The event types of each type, and those just outside; copies are equal.
+/// Whether a notification is of this type, and its copy is equal to it.
+fn is_of(rt: &impl Abort, alloc: Global, kind: u16, notification: Notification) -> bool {
+    let copy = notification.copy(alloc).expect(rt, "memory");
+    let equal = copy == notification;
+    drop(copy);
+    let found = kind_of(&notification);
+    drop(notification);
+    equal && found == kind
+}
+
+/// The types, and the first and the last event type of each.
+const KINDS: [(u16, u16, u16); 5] = [
+    (0x1000, 0x1001, 0x1002),
+    (0x2000, 0x2001, 0x2004),
+    (0x3000, 0x3001, 0x3001),
+    (0x4000, 0x4001, 0x4005),
+    (0x5000, 0x5001, 0x5005),
+];
+
+/// The event types of each type, and those just outside.
 #[test]
-fn knows_types(rt: HostRuntime) -> Result<(), Fail> {
-    let alloc = rt.alloc();
-    let event_types = [
-        0u16, 0x1000, 0x1001, 0x1002, 0x1003, 0x2000, 0x2001, 0x2004, 0x2005, 0x3000, 0x3001,
-        0x3002, 0x4000, 0x4001, 0x4005, 0x4006, 0x5000, 0x5001, 0x5005, 0x5006, 0x6001,
-    ];
-    // type, its first and its last event type
-    let kinds = [
-        (0x1000, 0x1001, 0x1002),
-        (0x2000, 0x2001, 0x2004),
-        (0x3000, 0x3001, 0x3001),
-        (0x4000, 0x4001, 0x4005),
-        (0x5000, 0x5001, 0x5005),
-    ];
-    for (kind, first, last) in kinds {
-        for event_type in event_types {
-            let accepted = is_accepted(alloc, event_type, body_of(alloc, kind)?)?;
+fn knows_event_types(rt: HostRuntime) {
+    for (kind, first, last) in KINDS {
+        for event_type in [
+            0u16, 0x1000, 0x1001, 0x1002, 0x1003, 0x2000, 0x2001, 0x2004, 0x2005, 0x3000, 0x3001,
+            0x3002, 0x4000, 0x4001, 0x4005, 0x4006, 0x5000, 0x5001, 0x5005, 0x5006, 0x6001,
+        ] {
+            let body = body_of(&rt, rt.alloc(), kind);
+            let accepted = is_accepted(&rt, rt.alloc(), event_type, body);
             let within = first <= event_type && event_type <= last;
-            assert_eq!(rt; accepted, within, "{kind} {event_type}");
+            assert!(rt; accepted == within, "{kind} {event_type}");
         }
-        let notification = notification_of(alloc, first, body_of(alloc, kind)?)?;
-        assert_eq!(rt; kind_of(&notification), kind);
-        assert!(rt; notification.copy(alloc)? == notification);
     }
-    Ok(())
+}
+
+#[test]
+fn notifications_are_copied(rt: HostRuntime) {
+    for (kind, first, _) in KINDS {
+        let body = body_of(&rt, rt.alloc(), kind);
+        let notification = notification(&rt, rt.alloc(), first, body);
+        assert!(rt; is_of(&rt, rt.alloc(), kind, notification), "{kind}");
+    }
 }

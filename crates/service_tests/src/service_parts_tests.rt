@@ -1,14 +1,12 @@
 //! That calls succeed while there is memory, with what the rules say of a few values.
 ghost use Rattle.std.specs.Prelude.{IsTrue};
-ghost use Rattle.alarm_view.specs.Alarms.{IsAlarm};
 ghost use Rattle.stream_config.specs.Attributes.{kind_of, PassesAttrs};
 
-use ais_values::{ClassId, Name, Seq, Status, StreamKind, Text, UNKNOWN_TIME};
+use crate::fixtures::{alarm, alarms_by};
+use ais_values::{Seq, Status, StreamKind, UNKNOWN_TIME};
 use alarm_view::AlarmView;
 use calls::{Reply, SavedReader};
 use client_window::Judged;
-use ntf_filters::{Filter, FilterSet};
-use ntf_types::{Body, Notification};
 use service_parts::{
     Told, accepted, answer_call, end_reading, first_standing, is_alarm, judge_call, next_call,
     read_on, record_for, room_for, start_reading, stop_reader,
@@ -17,55 +15,12 @@ use std::alloc::Global;
 use std::process::Abort;
 use stream_config::{LogFile, StreamName, StreamState, well_known};
 
-/// An alarm as a client sends it.
-fn alarm(rt: &impl Abort, alloc: Global, event_time: i64) -> Notification
-    ensures { IsAlarm result.body }
-{
-    Notification {
-        id: 1,
-        event_type: 0x4001,
-        object: Name::new(alloc, b"node1").expect(rt, "a name"),
-        notifier: Name::new(alloc, b"hw").expect(rt, "a name"),
-        class: ClassId {
-            vendor: 1,
-            major: 2,
-            minor: 3,
-        },
-        event_time,
-        correlated: Seq::new(alloc),
-        text: Text::new(alloc, b"fan").expect(rt, "a text"),
-        info: Seq::new(alloc),
-        body: Body::Alarm {
-            cause: 5,
-            severity: 4,
-        },
-    }
-}
-
 /// The stored alarms are one of id 1, at the time 100.
 fn one_alarm(rt: &impl Abort, alloc: Global) -> AlarmView {
     let mut view = AlarmView::new(alloc);
-    let alarm = alarm(rt, alloc, 100);
+    let alarm = alarm(rt, alloc, 1, 100, 4);
     view.add(0, alarm).expect(rt, "memory");
     view
-}
-
-fn all_alarms(alloc: Global) -> FilterSet {
-    FilterSet {
-        objects: None,
-        attributes: None,
-        states: None,
-        alarms: Some(Filter {
-            types: Seq::new(alloc),
-            objects: Seq::new(alloc),
-            notifiers: Seq::new(alloc),
-            classes: Seq::new(alloc),
-            sources: Seq::new(alloc),
-            causes: Seq::new(alloc),
-            severities: Seq::new(alloc),
-        }),
-        security: None,
-    }
 }
 
 /// What client 5, which uses the service, is answered where it starts a reader.
@@ -77,7 +32,7 @@ fn start(
     code: u32,
     value: i64,
 ) -> Status {
-    let filters = all_alarms(alloc);
+    let filters = alarms_by(rt, alloc, &[]);
     let started = start_reading(alloc, view, readers, true, 5, code, value, &filters);
     drop(filters);
     started.expect(rt, "memory")
@@ -136,7 +91,7 @@ fn a_reader_stops_with_its_client(rt: HostRuntime) {
 fn the_moment_of_acceptance_is_filled_in(rt: HostRuntime) {
     let alloc = rt.alloc();
     for (time, want) in [(UNKNOWN_TIME, 50), (0, 0), (70, 70)] {
-        let given = alarm(&rt, alloc, time);
+        let given = alarm(&rt, alloc, 1, time, 4);
         let taken = accepted(alloc, 7, 50, &given).expect(&rt, "memory");
         let rec = record_for(alloc, 50, &taken).expect(&rt, "memory");
         let told = (taken.id, taken.event_time, rec.time, is_alarm(&taken.body));

@@ -1,36 +1,19 @@
-use ais_values::{ClassId, Duplicate, Name, Seq, Text};
-use ntf_types::{Body, Notification};
-use std::alloc::{AllocError, Global};
+//! What no clause says: that a queue takes and gives while there is memory; worked cases of losses and receipts.
+use crate::fixtures::alarm;
+use ais_values::{Duplicate, Seq};
+use ntf_types::Notification;
+use std::alloc::Global;
 use std::process::Abort;
-use std::test::Fail;
 use sub_queue::{Content, Item, Lost, SubQueue};
 
-fn alarm(alloc: Global, id: u64) -> Result<Notification, Fail> {
-    Ok(Notification {
-        id,
-        event_type: 0x4001,
-        object: Name::new(alloc, b"object")?,
-        notifier: Name::new(alloc, b"notifier")?,
-        class: ClassId {
-            vendor: 1,
-            major: 2,
-            minor: 3,
-        },
-        event_time: 0,
-        correlated: Seq::new(alloc),
-        text: Text::new(alloc, b"")?,
-        info: Seq::new(alloc),
-        body: Body::Alarm {
-            cause: 1,
-            severity: 2,
-        },
-    })
+fn numbered(rt: &impl Abort, alloc: Global, id: u64) -> Notification {
+    alarm(rt, alloc, id, 0, 2)
 }
 
-fn offer(rt: &impl Abort, queue: &mut SubQueue, alarm: Notification) -> Result<(), AllocError> {
+fn offer(rt: &impl Abort, alloc: Global, queue: &mut SubQueue, id: u64) {
     let _held = queue.items();
     assert!(rt; queue.first() < 1000);
-    queue.offer(alarm)
+    queue.offer(numbered(rt, alloc, id)).expect(rt, "memory");
 }
 
 fn receive(rt: &impl Abort, queue: &mut SubQueue, through: u32) {
@@ -40,83 +23,104 @@ fn receive(rt: &impl Abort, queue: &mut SubQueue, through: u32) {
     queue.acked(through);
 }
 
-fn alarms_lost(alloc: Global, ids: &[u64]) -> Result<Seq<Lost>, AllocError> {
+fn alarms_lost(rt: &impl Abort, alloc: Global, ids: &[u64]) -> Seq<Lost> {
     let mut lost = Seq::new(alloc);
     for id in ids {
-        lost.push(Lost {
+        let one = Lost {
             kind: 0x4000,
             id: *id,
-        })?;
+        };
+        lost.push(one).expect(rt, "memory");
     }
-    Ok(lost)
+    lost
+}
+
+/// Whether the queue has lost these alarms.
+fn has_lost(rt: &impl Abort, alloc: Global, queue: &SubQueue, ids: &[u64]) -> bool {
+    let lost = alarms_lost(rt, alloc, ids);
+    let same = queue.lost() == lost.as_slice();
+    drop(lost);
+    same
+}
+
+/// Whether the queue holds this item in front, of which a copy is equal to it.
+fn has_in_front(rt: &impl Abort, alloc: Global, queue: &SubQueue, item: Item) -> bool {
+    let copy = item.copy(alloc).expect(rt, "memory");
+    let equal = copy == item;
+    drop(copy);
+    let found = queue.items().first() == Some(&item);
+    drop(item);
+    equal && found
 }
 
 /// Capacity 2, five offers and a receipt through 2 leave one item, number 3, with the ids 3, 4 and 5.
 #[test]
-fn holds_what_was_lost(rt: HostRuntime) -> Result<(), Fail> {
+fn holds_what_was_lost(rt: HostRuntime) {
     let alloc = rt.alloc();
-    let mut queue = SubQueue::new(alloc, 2)?;
+    let mut queue = SubQueue::new(alloc, 2).expect(&rt, "memory");
     for id in 1..6u64 {
-        offer(&rt, &mut queue, alarm(alloc, id)?)?;
+        offer(&rt, alloc, &mut queue, id);
     }
-    assert_eq!(rt; queue.items().len(), 2);
-    assert!(rt; queue.lost() == alarms_lost(alloc, &[3, 4, 5])?.as_slice());
+    assert!(rt; queue.items().len() == 2 && has_lost(&rt, alloc, &queue, &[3, 4, 5]));
     receive(&rt, &mut queue, 2);
-    let lost = alarms_lost(alloc, &[3, 4, 5])?;
-    let content = Content::Discarded { lost };
+    let content = Content::Discarded {
+        lost: alarms_lost(&rt, alloc, &[3, 4, 5]),
+    };
     let last = Item { number: 3, content };
-    assert_eq!(rt; queue.items().len(), 1);
-    assert!(rt; queue.items().first() == Some(&last));
-    assert!(rt; last.copy(alloc)? == last);
-    assert!(rt; queue.lost().is_empty());
-    Ok(())
+    assert!(rt; has_in_front(&rt, alloc, &queue, last));
+    assert!(rt; queue.items().len() == 1 && queue.lost().is_empty());
+    drop(queue);
 }
 
 /// Which receipts are new, and what they leave, with nothing lost.
 #[test]
-fn takes_new_receipts(rt: HostRuntime) -> Result<(), Fail> {
+fn takes_new_receipts(rt: HostRuntime) {
     let alloc = rt.alloc();
-    let mut queue = SubQueue::new(alloc, 256)?;
+    let mut queue = SubQueue::new(alloc, 256).expect(&rt, "memory");
     assert!(rt; !queue.is_new(0) && !queue.is_new(1));
     for id in 1..5u64 {
-        offer(&rt, &mut queue, alarm(alloc, id)?)?;
+        offer(&rt, alloc, &mut queue, id);
     }
     receive(&rt, &mut queue, 2);
     // a receipt, whether it is new
     for (through, new) in [(0, false), (2, false), (3, true), (4, true), (5, false)] {
-        assert_eq!(rt; queue.is_new(through), new, "{through}");
+        assert!(rt; queue.is_new(through) == new, "{through}");
     }
-    assert_eq!(rt; queue.first(), 3);
-    let notification = alarm(alloc, 3)?;
-    let content = Content::Notified { notification };
+    let content = Content::Notified {
+        notification: numbered(&rt, alloc, 3),
+    };
     let next = Item { number: 3, content };
-    assert!(rt; queue.items().first() == Some(&next));
+    assert!(rt; queue.first() == 3 && has_in_front(&rt, alloc, &queue, next));
     receive(&rt, &mut queue, 4);
     assert!(rt; queue.items().is_empty() && queue.first() == 5);
-    Ok(())
+    drop(queue);
+}
+
+/// A queue of two that holds the items 40 and 41, and has lost the alarm 10.
+fn rebuilt(rt: &impl Abort, alloc: Global) -> SubQueue {
+    let mut held = Seq::new(alloc);
+    let notification = numbered(rt, alloc, 7);
+    let first = Content::Notified { notification };
+    held.push(first).expect(rt, "memory");
+    let lost = alarms_lost(rt, alloc, &[8, 9]);
+    let second = Content::Discarded { lost };
+    held.push(second).expect(rt, "memory");
+    let lost = alarms_lost(rt, alloc, &[10]);
+    SubQueue::rebuild(alloc, 2, 40, held, lost).expect(rt, "memory")
 }
 
 /// A queue made of parts numbers its items from the first on, and goes on from there.
 #[test]
-fn rebuilds(rt: HostRuntime) -> Result<(), Fail> {
+fn rebuilds(rt: HostRuntime) {
     let alloc = rt.alloc();
-    let mut held = Seq::new(alloc);
-    held.push(Content::Notified {
-        notification: alarm(alloc, 7)?,
-    })?;
-    held.push(Content::Discarded {
-        lost: alarms_lost(alloc, &[8, 9])?,
-    })?;
-    let mut queue = SubQueue::rebuild(alloc, 2, 40, held, alarms_lost(alloc, &[10])?)?;
-    offer(&rt, &mut queue, alarm(alloc, 11)?)?;
+    let mut queue = rebuilt(&rt, alloc);
+    offer(&rt, alloc, &mut queue, 11);
     receive(&rt, &mut queue, 40);
     let numbers = queue.items().iter().map(|item| item.number);
-    assert_eq!(rt;
-        numbers.collect::<Vec<u32>>(alloc)?.as_slice(),
-        [41, 42].as_slice()
-    );
+    let numbers = numbers.collect::<Vec<u32>>(alloc).expect(&rt, "memory");
+    assert!(rt; numbers.as_slice() == [41, 42].as_slice());
     assert!(rt; queue.lost().is_empty());
-    Ok(())
+    drop(queue);
 }
 
 /// What is held and what is lost once the last offer is taken back.
@@ -127,15 +131,13 @@ fn taken_back(queue: &mut SubQueue) -> (usize, usize) {
 
 /// An offer that is taken back leaves what was before it, whether it was held or lost.
 #[test]
-fn takes_offers_back(rt: HostRuntime) -> Result<(), Fail> {
+fn takes_offers_back(rt: HostRuntime) {
     let alloc = rt.alloc();
-    let mut queue = SubQueue::new(alloc, 1)?;
+    let mut queue = SubQueue::new(alloc, 1).expect(&rt, "memory");
     for id in 1..4u64 {
-        offer(&rt, &mut queue, alarm(alloc, id)?)?;
+        offer(&rt, alloc, &mut queue, id);
     }
-    assert!(rt; taken_back(&mut queue) == (1, 1));
-    assert!(rt; queue.lost() == alarms_lost(alloc, &[2])?.as_slice());
-    assert!(rt; taken_back(&mut queue) == (1, 0));
-    assert!(rt; taken_back(&mut queue) == (0, 0));
-    Ok(())
+    assert!(rt; taken_back(&mut queue) == (1, 1) && has_lost(&rt, alloc, &queue, &[2]));
+    assert!(rt; taken_back(&mut queue) == (1, 0) && taken_back(&mut queue) == (0, 0));
+    drop(queue);
 }
