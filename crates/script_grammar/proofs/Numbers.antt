@@ -8,7 +8,7 @@ use Rattle.std.specs.List.{prefix_len}
 use Rattle.std.specs.Str.{all_ascii_digits}
 use Rattle.std.specs.Str.Parse.{digits_value}
 use Rattle.std.proofs.lemmas.Bool.Decides.{Decides-eqb, nat_tests}
-use Rattle.std.proofs.lemmas.Bool.{not-true, ltb-true, lt-ltb, leb-true, le-leb}
+use Rattle.std.proofs.lemmas.Bool.{not-true, ltb-true, lt-ltb, leb-true, le-leb, and_parts}
 use Rattle.std.proofs.lemmas.List.{take-append-drop}
 use Rattle.std.proofs.lemmas.Option.{cond_some}
 use Rattle.std.proofs.Math.Numerals.{one-add}
@@ -19,14 +19,14 @@ use Rattle.script_grammar.specs.Reading.{skipped}
 use Rattle.script_grammar.specs.ValueReading.{is_plain, magnitude_of, magnitude_at, in_range, number_at, in_signed_range, signed_at}
 use Rattle.script_grammar.specs.Values.{IsNumber, IsSigned}
 use Rattle.script_grammar.proofs.Digits.{own, front_digits}
-use Rattle.script_grammar.proofs.Rules.{ValueRule, stops, and_true, and_then_some, skipped-sound, one_line}
+use Rattle.script_grammar.proofs.Rules.{ValueRule, stops, and_then_some, skipped-sound, one_line}
 
 -- digits before a text that does not begin with one are the whole front of digits
 prefix-digits : (digits rest : List ℕ) → all_ascii_digits digits ≡ true → stops is_ascii_digit rest ≡ true → prefix_len is_ascii_digit (digits ++ rest) ≡ length digits
 prefix-digits [] [] h stop = refl
 prefix-digits [] (b ∷ rest) h stop = let no = not-true (is_ascii_digit b) stop in rw no refl
 prefix-digits (d ∷ digits) rest h stop =
-    let parts = and_true (is_ascii_digit d) (all_ascii_digits digits) h in
+    let parts = and_parts (is_ascii_digit d) (all_ascii_digits digits) h in
     rw parts.0 (one-add (prefix_len is_ascii_digit (digits ++ rest)) ∙ ap suc (prefix-digits digits rest parts.1 stop))
 
 -- what the test of a leading zero says
@@ -59,7 +59,7 @@ digit-clean b h = grind (arith, nat_tests)
 digits-clean : (ds : List ℕ) → all_ascii_digits ds ≡ true → one_line ds ≡ true
 digits-clean [] h = refl
 digits-clean (d ∷ ds) h =
-    let parts = and_true (is_ascii_digit d) (all_ascii_digits ds) h in
+    let parts = and_parts (is_ascii_digit d) (all_ascii_digits ds) h in
     rw (digit-clean d parts.0) (digits-clean ds parts.1)
 
 decimal-clean : (n : ℕ) → n < 2 ^ 64 → one_line (decimal n) ≡ true
@@ -76,7 +76,7 @@ magnitude_rule = record {
       let k = prefix_len is_ascii_digit bytes in
       let digits = take (prefix_len is_ascii_digit bytes) bytes in
       let parts = cond_some (is_plain digits && nat_lt (digits_value 10 digits) (2 ^ 64)) (digits_value 10 digits, drop k bytes) (n, rest) h in
-      let tests = and_true (is_plain digits) (nat_lt (digits_value 10 digits) (2 ^ 64)) parts.0 in
+      let tests = and_parts (is_plain digits) (nat_lt (digits_value 10 digits) (2 ^ 64)) parts.0 in
       let plain = plain-parts digits tests.0 in
       let small = ltb-true (digits_value 10 digits) (2 ^ 64) tests.1 in
       let value : digits_value 10 digits ≡ n = ap (λ (x : ℕ × List ℕ). x.0) parts.1 in
@@ -99,7 +99,7 @@ number_rule low high fits = record {
   sound = λ bytes n rest h.
       let found = and_then_some (in_range low high) (magnitude_at bytes) (n, rest) h in
       let parts = cond_some (nat_le low found.0.0 && nat_le found.0.0 high) found.0 (n, rest) found.2 in
-      let tests = and_true (nat_le low found.0.0) (nat_le found.0.0 high) parts.0 in
+      let tests = and_parts (nat_le low found.0.0) (nat_le found.0.0 high) parts.0 in
       let value : found.0.0 ≡ n = ap (λ (x : ℕ × List ℕ). x.0) parts.1 in
       let text = magnitude_rule.sound bytes n rest (found.1 ∙ ap (λ x. Some x) parts.1) in
       (text.0, text.1, (rw (← value) (leb-true low found.0.0 tests.0), rw (← value) (leb-true found.0.0 high tests.1), text.2.1));
@@ -114,7 +114,7 @@ number_rule low high fits = record {
 no_minus : (digits rest : List ℕ) → all_ascii_digits digits ≡ true → 0 < length digits → skipped (codes "-") (digits ++ rest) ≡ None
 no_minus [] rest h some = absurd (omega arith)
 no_minus (d ∷ digits) rest h some =
-    let first = and_true (is_ascii_digit d) (all_ascii_digits digits) h in
+    let first = and_parts (is_ascii_digit d) (all_ascii_digits digits) h in
     let at : (t : Bool) → (d == 45) ≡ t → cond t (skipped [] (digits ++ rest)) None ≡ None = elim [
       | true ↦ λ test. let same = (Decides-eqb d 45).0 test in let no : true ≡ false = sym first.0 ∙ ap is_ascii_digit same in absurd (cc)
       | false ↦ λ test. refl
@@ -139,7 +139,7 @@ small_pos (negsuc m) n h le = omega (arith, ints)
 ranged : (low high z y : ℤ) (rest after : List ℕ) → in_signed_range low high z rest ≡ Some (y, after) → (low ≤ℤ y) × (y ≤ℤ high) × (z ≡ y) × (rest ≡ after)
 ranged low high z y rest after h =
     let parts = cond_some (int_le low z && int_le z high) (z, rest) (y, after) h in
-    let tests = and_true (int_le low z) (int_le z high) parts.0 in
+    let tests = and_parts (int_le low z) (int_le z high) parts.0 in
     let same : z ≡ y = ap (λ (x : ℤ × List ℕ). x.0) parts.1 in
     (subst (λ x. low ≤ℤ x) same (int_le-true low z tests.0), subst (λ x. x ≤ℤ high) same (int_le-true z high tests.1), same, ap (λ (x : ℤ × List ℕ). x.1) parts.1)
 

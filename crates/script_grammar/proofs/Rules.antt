@@ -7,6 +7,7 @@ use Rattle.std.specs.List.{list_any, list_all}
 use Rattle.std.proofs.lemmas.Bool.Decides.{Decides-eqb}
 use Rattle.std.proofs.lemmas.List.{append-nil}
 use Rattle.std.proofs.lemmas.Option.{cond_some}
+use Rattle.std.proofs.lemmas.Bool.{and_parts, or_cases, or_right}
 use Rattle.script_grammar.specs.Grammar.{Known, Word, Part, OneOf, Optional, Such, BehindCommas, Listed, Maybe, Unless, MaybeList}
 use Rattle.script_grammar.specs.Reading.{skipped, known, word, part, one_of, with_made, optional, passing, such, with_first, behind_commas, listed, maybe, unless, maybe_list, alone, whole}
 
@@ -60,10 +61,6 @@ start_stops goes_on Ends = true
 start_stops goes_on (Begins []) = false
 start_stops goes_on (Begins (w ∷ front)) = not (goes_on w)
 
-pub and_true : (a b : Bool) → (a && b) ≡ true → (a ≡ true) × (b ≡ true)
-and_true true b h = (refl, h)
-and_true false b h = cc
-
 -- bytes without LF
 abbrev pub one_line : List ℕ → Bool
 one_line bytes = list_all (λ byte. not (byte == 10)) bytes
@@ -71,7 +68,7 @@ one_line bytes = list_all (λ byte. not (byte == 10)) bytes
 pub one_line-append : (xs ys : List ℕ) → one_line xs ≡ true → one_line ys ≡ true → one_line (xs ++ ys) ≡ true
 one_line-append [] ys h k = k
 one_line-append (x ∷ xs) ys h k =
-    let parts = and_true (not (x == 10)) (one_line xs) h in
+    let parts = and_parts (not (x == 10)) (one_line xs) h in
     rw parts.0 (one_line-append xs ys parts.1 k)
 
 -- Reading gives a value at the front exactly where a text of it stands there, where what follows begins in one of the ways
@@ -141,18 +138,10 @@ apart-begins (Begins (v ∷ other)) Ends (b ∷ bytes) h p q = cc
 apart-begins (Begins []) (Begins front) bytes h p q = cc
 apart-begins (Begins (v ∷ other)) (Begins front) bytes h p q = clash-skipped (v ∷ other) front bytes h p q
 
-pub or_cases : (a b : Bool) → (a || b) ≡ true → (a ≡ true) ⊎ (b ≡ true)
-or_cases true b h = inl refl
-or_cases false b h = inr h
-
-pub or_right : (a b : Bool) → b ≡ true → (a || b) ≡ true
-or_right true b h = refl
-or_right false b h = h
-
 apart-begins_by : (start : Beginning) (others : List Beginning) (bytes : List ℕ) → list_all (apart start) others ≡ true → begins start bytes ≡ true → begins_by others bytes ≡ true → ⊥
 apart-begins_by start [] bytes h p q = cc
 apart-begins_by start (other ∷ others) bytes h p q =
-    let parts = and_true (apart start other) (list_all (apart start) others) h in
+    let parts = and_parts (apart start other) (list_all (apart start) others) h in
     ⊎_elim (λ here. apart-begins start other bytes parts.0 p here) (λ later. apart-begins_by start others bytes parts.1 p later) (or_cases (begins other bytes) (begins_by others bytes) q)
 
 start_stops-stops : (goes_on : ℕ → Bool) (start : Beginning) (bytes : List ℕ) → start_stops goes_on start ≡ true → begins start bytes ≡ true → stops goes_on bytes ≡ true
@@ -170,7 +159,7 @@ start_stops-stops goes_on (Begins (w ∷ front)) (b ∷ bytes) h p =
 all_stop-stops : (goes_on : ℕ → Bool) (starts : List Beginning) (bytes : List ℕ) → list_all (start_stops goes_on) starts ≡ true → begins_by starts bytes ≡ true → stops goes_on bytes ≡ true
 all_stop-stops goes_on [] bytes h p = cc
 all_stop-stops goes_on (start ∷ starts) bytes h p =
-    let parts = and_true (start_stops goes_on start) (list_all (start_stops goes_on) starts) h in
+    let parts = and_parts (start_stops goes_on start) (list_all (start_stops goes_on) starts) h in
     ⊎_elim (λ here. start_stops-stops goes_on start bytes parts.0 here) (λ later. all_stop-stops goes_on starts bytes parts.1 later) (or_cases (begins start bytes) (begins_by starts bytes) p)
 
 -- what the second of two steps read
@@ -205,7 +194,7 @@ any_meets-begins start (other ∷ others) bytes h p =
 within-begins : (starts others : List Beginning) (bytes : List ℕ) → within starts others ≡ true → begins_by starts bytes ≡ true → begins_by others bytes ≡ true
 within-begins [] others bytes h p = cc
 within-begins (start ∷ starts) others bytes h p =
-    let parts = and_true (list_any (meets start) others) (within starts others) h in
+    let parts = and_parts (list_any (meets start) others) (within starts others) h in
     ⊎_elim (λ here. any_meets-begins start others bytes parts.0 here) (λ later. within-begins starts others bytes parts.1 later) (or_cases (begins start bytes) (begins_by starts bytes) p)
 
 -- a word that is apart from what stands there is not skipped
@@ -224,7 +213,7 @@ same_parts {X} {Y} {a} {c} {b} {d} h =
     (ap (λ (p : X × Y). p.0) same, ap (λ (p : X × Y). p.1) same)
 
 -- what was read of a mapped reading
-map_some : {A X : Type 0} (f : A → X) (o : Option A) (x : X) → option_map f o ≡ Some x → (a : A) × (o ≡ Some a) × (f a ≡ x)
+pub map_some : {A X : Type 0} (f : A → X) (o : Option A) (x : X) → option_map f o ≡ Some x → (a : A) × (o ≡ Some a) × (f a ≡ x)
 map_some f None x h = cc
 map_some {A} {X} f (Some a) x h = (a, refl, (cond_some true (f a) x h).1)
 
@@ -308,7 +297,7 @@ pub form_rule : {X : Type 0} {at : List ℕ → Option (X × List ℕ)} {P : X �
     → TableRule ((front, at) ∷ ats) ((front, P) ∷ Ps) after (Begins front ∷ others)
 form_rule {X} {at} {P} {after} {starts} {others} {ats} {Ps} front rule table tests =
     let more = table.rule in
-    let test = and_true (one_line front) (list_all (apart (Begins front)) others) tests in
+    let test = and_parts (one_line front) (list_all (apart (Begins front)) others) tests in
     let sound_at : (bytes : List ℕ) (x : X) (rest : List ℕ) (o : Option (List ℕ)) → skipped front bytes ≡ o → option_map_or at o (one_of ats bytes) ≡ Some (x, rest)
     → (text : List ℕ) × (bytes ≡ text ++ rest) × OneOf ((front, P) ∷ Ps) x text = λ bytes x rest. elim [
       | None ↦ λ was h. (let found = more.sound bytes x rest h in (found.0, found.1, inr found.2))
@@ -338,8 +327,8 @@ pub optional_rule : {A X : Type 0} {at : List ℕ → Option (A × List ℕ)} {S
     → (front : List ℕ) → Rule at S outer starts → (within after outer && (one_line front && list_all (apart (Begins front)) after)) ≡ true
     → Rule (optional absent made front at) (Optional absent made front S) after (Begins front ∷ after)
 optional_rule {A} {X} {at} {S} {outer} {starts} {after} {absent} {made} front rule tests =
-    let one = and_true (within after outer) (one_line front && list_all (apart (Begins front)) after) tests in
-    let two = and_true (one_line front) (list_all (apart (Begins front)) after) one.1 in
+    let one = and_parts (within after outer) (one_line front && list_all (apart (Begins front)) after) tests in
+    let two = and_parts (one_line front) (list_all (apart (Begins front)) after) one.1 in
     let sound_at : (bytes : List ℕ) (x : X) (rest : List ℕ) (o : Option (List ℕ)) → skipped front bytes ≡ o
     → option_map_or (λ behind. option_map (with_made made) (at behind)) o (Some (absent, bytes)) ≡ Some (x, rest)
     → (text : List ℕ) × (bytes ≡ text ++ rest) × Optional absent made front S x text = λ bytes x rest. elim [
@@ -457,7 +446,7 @@ commas-complete {X} {at} {S} {outer} {starts} after rule inside off (suc n) (x �
 pub list_rule : {X : Type 0} {at : List ℕ → Option (X × List ℕ)} {S : X → List ℕ → Type 0} {outer starts after : List Beginning}
     → Rule at S outer starts → (within (comma ∷ after) outer && list_all (apart comma) after) ≡ true → Rule (listed at) (Listed S) after (Begins [] ∷ [])
 list_rule {X} {at} {S} {outer} {starts} {after} rule tests =
-    let test = and_true (within (comma ∷ after) outer) (list_all (apart comma) after) tests in
+    let test = and_parts (within (comma ∷ after) outer) (list_all (apart comma) after) tests in
     let clean_at : (xs : List X) (text : List ℕ) → Listed S xs text → one_line text ≡ true = elim [
       | [] ↦ λ text p. absurd p
       | (x ∷ xs) ↦ λ text p. rw p.2 (one_line-append p.0 p.1 (rule.clean x p.0 p.3) (commas-clean rule xs p.1 p.4))
@@ -510,7 +499,7 @@ pub list_part_rule : {X Y : Type 0} {at : List ℕ → Option (X × List ℕ)} {
     → (within (comma ∷ spaced) outer && (within middle spaced && (one_line front && list_all (apart (Begins front)) middle))) ≡ true
     → Rule (part (maybe_list front at) next) (Part (MaybeList front S) P) after (Begins front ∷ middle)
 list_part_rule {X} {Y} {at} {S} {next} {P} {outer} {starts} {middle} {after} front rule behind tests =
-    let one = and_true (within (comma ∷ spaced) outer) (within middle spaced && (one_line front && list_all (apart (Begins front)) middle)) tests in
+    let one = and_parts (within (comma ∷ spaced) outer) (within middle spaced && (one_line front && list_all (apart (Begins front)) middle)) tests in
     optional_part_rule front (spaced_list_rule rule one.0) behind one.1
 
 -- a whole text

@@ -2,7 +2,7 @@
 use Rattle.std.proofs.Common.{◌≡◌, ◌≢◌, ◌<◌, ◌≤◌, ◌+◌, ◌*◌, ◌/◌, ◌%◌, ℕ, zero, suc, Bool, true, false, not, cond, ◌&&◌, ◌||◌, ◌==◌, List, [], ◌∷◌, ◌++◌, length, Option, Some, None, refl, sym, ap, subst, ◌∙◌, ⊎_elim, arith, append_assoc, length-append}
 use Rattle.std.specs.Prelude.{option_and_then, option_map, nat_le, codes}
 use Rattle.std.specs.Option.{option_map_or}
-use Rattle.std.proofs.lemmas.Bool.{not-true, leb-true, le-leb}
+use Rattle.std.proofs.lemmas.Bool.{not-true, leb-true, le-leb, and_parts, cond_both, or_cases}
 use Rattle.std.proofs.lemmas.Bool.Decides.{Decides-eqb, nat_tests}
 use Rattle.std.proofs.lemmas.Option.{cond_some}
 use Rattle.script_grammar.specs.Reading.{skipped, known, part}
@@ -10,17 +10,13 @@ use Rattle.script_grammar.specs.ValueReading.{is_hex, hex_value, hex_at, hex_wor
 use Rattle.ais_values.specs.Texts.{hex_digit}
 use Rattle.script_grammar.specs.Values.{hex_pair, hex_word, IsHexWord, Stands, StandAll, IsQuoted}
 use Rattle.script_grammar.specs.Values.Stands.{plain, quote, backslash, hex}
-use Rattle.script_grammar.proofs.Rules.{ValueRule, same_parts, and_true, or_cases, and_then_some, skipped-sound, one_line, one_line-append}
+use Rattle.script_grammar.proofs.Rules.{ValueRule, same_parts, map_some, and_then_some, skipped-sound, one_line, one_line-append}
 
 -- any byte may follow
 abbrev pub nothing : ℕ → Bool
 nothing b = false
 
 -- a choice whose first test did not pass
-pub by_test : {X : Type 0} (t : Bool) (a b : X) (P : X → Type 0) → (t ≡ true → P a) → (t ≡ false → P b) → P (cond t a b)
-by_test true a b P passed failed = passed refl
-by_test false a b P passed failed = failed refl
-
 cons_same : {b c : ℕ} {bs cs : List ℕ} → b ≡ c → bs ≡ cs → b ∷ bs ≡ c ∷ cs
 cons_same e f = cc
 
@@ -44,7 +40,7 @@ hex-sound [] byte rest h = cc
 hex-sound (high ∷ []) byte rest h = cc
 hex-sound (high ∷ low ∷ bytes) byte rest h =
     let parts = cond_some (is_hex high && is_hex low) (16 * hex_value high + hex_value low, bytes) (byte, rest) h in
-    let tests = and_true (is_hex high) (is_hex low) parts.0 in
+    let tests = and_parts (is_hex high) (is_hex low) parts.0 in
     let one = hex_digit-value high tests.0 in
     let two = hex_digit-value low tests.1 in
     let split = sixteens (hex_value high) (hex_value low) two.1 in
@@ -68,14 +64,14 @@ escape-sound [] byte rest = λ h. cc
 escape-sound (c ∷ bytes) byte rest =
     let Q : Type 0 = (part : List ℕ) × (92 ∷ c ∷ bytes ≡ part ++ rest) × Stands byte part in
     let P : Option (ℕ × List ℕ) → Type 0 = λ o. o ≡ Some (byte, rest) → Q in
-    by_test (c == 34 || c == 92) (Some (c, bytes)) (cond (c == 120) (hex_at bytes) None) P
+    cond_both (c == 34 || c == 92) (Some (c, bytes)) (cond (c == 120) (hex_at bytes) None) P
     (λ test h.
     let same = same_parts h in
     ⊎_elim
     (λ it. let is = (Decides-eqb c 34).0 it in (92 ∷ 34 ∷ [], cons_same refl (cons_same is same.1), subst (λ x. Stands x (92 ∷ 34 ∷ [])) (sym is ∙ same.0) quote))
     (λ it. let is = (Decides-eqb c 92).0 it in (92 ∷ 92 ∷ [], cons_same refl (cons_same is same.1), subst (λ x. Stands x (92 ∷ 92 ∷ [])) (sym is ∙ same.0) backslash))
     (or_cases (c == 34) (c == 92) test))
-    (λ _. by_test (c == 120) (hex_at bytes) None P
+    (λ _. cond_both (c == 120) (hex_at bytes) None P
     (λ test h.
     let digits = hex-sound bytes byte rest h in
     (92 ∷ 120 ∷ hex_digit (byte / 16) ∷ hex_digit (byte % 16) ∷ [], cons_same refl (cons_same ((Decides-eqb c 120).0 test) digits.0), hex digits.1))
@@ -87,13 +83,13 @@ part-sound [] byte rest = λ h. cc
 part-sound (b ∷ bytes) byte rest =
     let Q : Type 0 = (part : List ℕ) × (b ∷ bytes ≡ part ++ rest) × Stands byte part in
     let P : Option (ℕ × List ℕ) → Type 0 = λ o. o ≡ Some (byte, rest) → Q in
-    by_test (b == 92) (escape_at bytes) (cond (nat_le 32 b && nat_le b 126 && not (b == 34)) (Some (b, bytes)) None) P
+    cond_both (b == 92) (escape_at bytes) (cond (nat_le 32 b && nat_le b 126 && not (b == 34)) (Some (b, bytes)) None) P
     (λ test h. let it = escape-sound bytes byte rest h in (it.0, cons_same ((Decides-eqb b 92).0 test) refl ∙ it.1, it.2))
-    (λ other. by_test (nat_le 32 b && nat_le b 126 && not (b == 34)) (Some (b, bytes)) None P
+    (λ other. cond_both (nat_le 32 b && nat_le b 126 && not (b == 34)) (Some (b, bytes)) None P
     (λ test h.
     let same = same_parts h in
-    let tests = and_true (nat_le 32 b && nat_le b 126) (not (b == 34)) test in
-    let bounds = and_true (nat_le 32 b) (nat_le b 126) tests.0 in
+    let tests = and_parts (nat_le 32 b && nat_le b 126) (not (b == 34)) test in
+    let bounds = and_parts (nat_le 32 b) (nat_le b 126) tests.0 in
     let shown : Stands b (b ∷ []) = plain (leb-true 32 b bounds.0) (leb-true b 126 bounds.1) (λ is. let yes = (Decides-eqb b 34).1 is in let not_it = not-true (b == 34) tests.1 in cc) (λ is. let yes = (Decides-eqb b 92).1 is in cc) in
     (b ∷ [], cons_same refl same.1, subst (λ x. Stands x (b ∷ [])) same.0 shown))
     (λ _ h. cc))
@@ -126,10 +122,6 @@ part-length byte part (plain low high not_quote not_slash) = omega arith
 part-length byte part quote = omega arith
 part-length byte part backslash = omega arith
 part-length byte part (hex small) = omega arith
-
-map_some : {X Y : Type 0} (f : X → Y) (o : Option X) (y : Y) → option_map f o ≡ Some y → (x : X) × (o ≡ Some x) × (f x ≡ y)
-map_some f None y h = cc
-map_some f (Some x) y h = (x, refl, (cond_some true (f x) y h).1)
 
 inner-sound : (n : ℕ) (bytes content rest : List ℕ) → inner_at n bytes ≡ Some (content, rest) → (inner : List ℕ) × (bytes ≡ inner ++ 34 ∷ rest) × StandAll content inner
 unfolding inner_at
@@ -213,10 +205,6 @@ quoted_rule =
           rw (h.1.1, regrouped, inner-complete (length (inner ++ 34 ∷ rest)) content inner rest h.1.2 below, le-leb (length content) 16384 h.0) refl;
       clean = λ content text h. rw h.1.1 (one_line-append h.1.0 (34 ∷ []) (all-clean content h.1.0 h.1.2) refl);
     }
-
--- the two digits of a byte
-abbrev IsHexPair : ℕ → List ℕ → Type 0
-IsHexPair byte text = (byte < 256) × (text ≡ hex_pair byte)
 
 bytes_of_word : (high low : ℕ) → low < 256 → ((256 * high + low) / 256 ≡ high) × ((256 * high + low) % 256 ≡ low)
 bytes_of_word high low h = (omega arith, omega arith)

@@ -4,14 +4,12 @@ use Rattle.std.specs.Prelude.{ℤ, pos, negsuc, nat_le}
 use Rattle.std.specs.Fmt.{decimal, signed_decimal}
 use Rattle.std.specs.Bool.{Decides}
 use Rattle.std.specs.List.{flat_map}
-use Rattle.std.proofs.lemmas.Bool.{leb-true}
+use Rattle.std.proofs.lemmas.Bool.{leb-true, and_parts, cond_both, or_cases, or_right}
 use Rattle.std.proofs.lemmas.Bool.Decides.{Decides-eqb}
 use Rattle.script_grammar.specs.Grammar.{Known, Word, Part, OneOf, Optional, Such, BehindCommas, Listed, Maybe, Unless, MaybeList}
 use Rattle.script_grammar.specs.Values.{IsNumber, IsSigned, IsHexWord, hex_pair, hex_word, Stands, StandAll, IsQuoted}
 use Rattle.script_grammar.specs.Values.Stands.{plain, quote, backslash, hex}
 use Rattle.script_grammar.specs.Writing.{byte_text, quoted_text, commas_text, list_text, maybe_text, unless_text, listed_text}
-use Rattle.script_grammar.proofs.Rules.{and_true, or_cases, or_right}
-use Rattle.script_grammar.proofs.Texts.{by_test}
 
 -- what has a spelling is written by one
 pub record Writes {X : Type 0} (S : X → List ℕ → Type 0) (write : X → List ℕ) : Type 0 where
@@ -38,14 +36,14 @@ byte_small byte part (hex small) = small
 
 byte_written : (byte : ℕ) → byte < 256 → Stands byte (byte_text byte)
 byte_written byte small =
-    by_test (byte == 34 || byte == 92) (92 ∷ byte ∷ []) (cond (nat_le 32 byte && nat_le byte 126) (byte ∷ []) (92 ∷ 120 ∷ hex_pair byte)) (Stands byte)
+    cond_both (byte == 34 || byte == 92) (92 ∷ byte ∷ []) (cond (nat_le 32 byte && nat_le byte 126) (byte ∷ []) (92 ∷ 120 ∷ hex_pair byte)) (Stands byte)
     (λ test. ⊎_elim
     (λ it. subst (λ b. Stands b (92 ∷ b ∷ [])) (sym ((Decides-eqb byte 34).0 it)) quote)
     (λ it. subst (λ b. Stands b (92 ∷ b ∷ [])) (sym ((Decides-eqb byte 92).0 it)) backslash)
     (or_cases (byte == 34) (byte == 92) test))
-    (λ other. by_test (nat_le 32 byte && nat_le byte 126) (byte ∷ []) (92 ∷ 120 ∷ hex_pair byte) (Stands byte)
+    (λ other. cond_both (nat_le 32 byte && nat_le byte 126) (byte ∷ []) (92 ∷ 120 ∷ hex_pair byte) (Stands byte)
     (λ test.
-    let bounds = and_true (nat_le 32 byte) (nat_le byte 126) test in
+    let bounds = and_parts (nat_le 32 byte) (nat_le byte 126) test in
     plain (leb-true 32 byte bounds.0) (leb-true byte 126 bounds.1)
     (λ is. let yes = (Decides-eqb byte 34).1 is in let both = ap (λ t. t || byte == 92) yes in cc)
     (λ is. let yes = (Decides-eqb byte 92).1 is in let both = or_right (byte == 34) (byte == 92) yes in cc))

@@ -1,11 +1,11 @@
 -- That what is written of a script's lines spells them again.
 use Rattle.std.proofs.Common.{◌≡◌, ℕ, true, not, ◌==◌, List, [], ◌∷◌, ◌++◌, refl, sym, ap, subst, ◌∙◌, append_assoc}
-use Rattle.std.proofs.lemmas.Bool.{not-true}
+use Rattle.std.proofs.lemmas.Bool.{not-true, and_parts}
 use Rattle.script_lines.specs.declared.line.Line.{Line}
 use Rattle.script_language.specs.Printing.{line_text, script_text}
 use Rattle.script_language.specs.Scripts.{SpellAll, raw_lines, IsScriptOf}
 use Rattle.script_language.specs.Scripts.SpellAll.{done, skipped, spelled}
-use Rattle.script_grammar.proofs.Rules.{one_line, and_true}
+use Rattle.script_grammar.proofs.Rules.{one_line}
 use Rattle.script_language.proofs.Judging.{spelling_rule}
 use Rattle.script_language.proofs.LineWriting.{line_written}
 
@@ -13,7 +13,7 @@ use Rattle.script_language.proofs.LineWriting.{line_written}
 raw_lines-line : (text rest : List ℕ) → one_line text ≡ true → raw_lines (text ++ 10 ∷ rest) ≡ text ∷ raw_lines rest
 raw_lines-line [] rest h = refl
 raw_lines-line (b ∷ text) rest h =
-    let parts = and_true (not (b == 10)) (one_line text) h in
+    let parts = and_parts (not (b == 10)) (one_line text) h in
     rw (not-true (b == 10) parts.0, raw_lines-line text rest parts.1) refl
 
 written_again : {lines : List Line} {raws : List (List ℕ)} → SpellAll lines raws → SpellAll lines (raw_lines (script_text lines))

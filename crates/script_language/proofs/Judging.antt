@@ -2,7 +2,7 @@
 use Rattle.std.proofs.Common.{◌≡◌, ◌⊎◌, ℕ, suc, ◌+◌, ◌<◌, Bool, true, false, not, cond, ◌==◌, List, [], ◌∷◌, ◌++◌, length, Option, Some, None, Result, Ok, Err, refl, sym, ap, subst, ◌∙◌, inl, inr, ⊎_elim, arith, append_assoc, add-zero}
 use Rattle.std.specs.Prelude.{ℤ, is_some}
 use Rattle.std.specs.List.{list_all}
-use Rattle.std.proofs.lemmas.Bool.{not-true}
+use Rattle.std.proofs.lemmas.Bool.{not-true, and_parts, or_cases}
 use Rattle.std.proofs.lemmas.Bool.Decides.{Decides-eqb}
 use Rattle.std.proofs.lemmas.List.{append-nil}
 use Rattle.script_lines.specs.declared.line.Line.{Line}
@@ -16,7 +16,7 @@ use Rattle.script_language.specs.Scripts.SpellAll.{done, skipped, spelled}
 use Rattle.script_language.specs.Scripts.IsReason.{formless, out_of_place}
 use Rattle.script_language.specs.ScriptReading.{line_at, is_skipped, behind, ending, judged}
 use Rattle.script_grammar.proofs.Rules.Beginning.{Ends, Begins}
-use Rattle.script_grammar.proofs.Rules.{Beginning, LineRule, line_rule, begins, begins_by, or_cases, and_true}
+use Rattle.script_grammar.proofs.Rules.{Beginning, LineRule, line_rule, begins, begins_by}
 use Rattle.script_language.proofs.LineRules.{line_table, line_starts}
 
 pub spelling_rule : LineRule line_at Spells line_starts
@@ -43,7 +43,7 @@ shows-shown (Begins (w ∷ word)) (b ∷ raw) h p =
 all_show-shown : (starts : List Beginning) (raw : List ℕ) → list_all shows starts ≡ true → begins_by starts raw ≡ true → is_skipped raw ≡ false
 all_show-shown [] raw h p = cc
 all_show-shown (start ∷ starts) raw h p =
-    let parts = and_true (shows start) (list_all shows starts) h in
+    let parts = and_parts (shows start) (list_all shows starts) h in
     ⊎_elim (λ here. shows-shown start raw parts.0 here) (λ later. all_show-shown starts raw parts.1 later) (or_cases (begins start raw) (begins_by starts raw) p)
 
 -- no line's spelling is skipped
@@ -69,7 +69,7 @@ not-skipped raw h =
 abbrev Outcome : Type 0
 Outcome = Result (List Line) (ℕ × ScriptWhy)
 
-behind-none : (outcome : Outcome) → behind [] outcome ≡ outcome
+pub behind-none : (outcome : Outcome) → behind [] outcome ≡ outcome
 behind-none (Ok lines) = refl
 behind-none (Err bad) = refl
 

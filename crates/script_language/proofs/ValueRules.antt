@@ -9,10 +9,10 @@ use Rattle.script_language.specs.ValueReading.{number8_at, number16_at, number32
 use Rattle.script_grammar.specs.ValueReading.{number_at, hex_word_at, quoted_at}
 use Rattle.script_grammar.specs.Values.{IsNumber, IsQuoted, IsHexWord}
 use Rattle.script_grammar.proofs.Rules.Beginning.{Begins}
-use Rattle.script_grammar.proofs.Rules.{Beginning, Rule, ValueRule, TableRule, known_rule, word_rule, part_rule, no_form_rule, form_rule, maybe_part_rule, such_rule, plain_rule, and_true, separators, anything, spaced, comma}
+use Rattle.script_grammar.proofs.Rules.{Beginning, Rule, ValueRule, TableRule, known_rule, word_rule, part_rule, no_form_rule, form_rule, maybe_part_rule, such_rule, plain_rule, separators, anything, spaced, comma}
 use Rattle.std.specs.Bool.{Decides}
 use Rattle.std.specs.List.{list_all, All}
-use Rattle.std.proofs.lemmas.Bool.{leb-true, le-leb}
+use Rattle.std.proofs.lemmas.Bool.{leb-true, le-leb, and_parts}
 use Rattle.std.proofs.lemmas.Bool.Decides.{Decides-like, Decides-and, Decides-by_and, nat_tests}
 use Rattle.std.proofs.lemmas.Option.{cond_some}
 use Rattle.script_grammar.proofs.Numbers.{number_rule, signed_rule}
@@ -85,7 +85,7 @@ release_value =
       | [] ↦ λ letter rest h. cc
       | (b ∷ bytes) ↦ λ letter rest h.
           let parts = cond_some (nat_le 65 b && nat_le b 90) (b, bytes) (letter, rest) h in
-          let tests = and_true (nat_le 65 b) (nat_le b 90) parts.0 in
+          let tests = and_parts (nat_le 65 b) (nat_le b 90) parts.0 in
           let same : b ≡ letter = ap (λ (p : ℕ × List ℕ). p.0) parts.1 in
           let after : bytes ≡ rest = ap (λ (p : ℕ × List ℕ). p.1) parts.1 in
           (letter ∷ [], cc, (subst (λ n. 65 ≤ n) same (leb-true 65 b tests.0), subst (λ n. n ≤ 90) same (leb-true b 90 tests.1), refl))

@@ -4,7 +4,8 @@ use Rattle.ais_values.specs.Times.{unknown_time}
 use Rattle.ais_values.specs.declared.kind.Which.{Which}
 use Rattle.calls.specs.declared.call.Ask.{Ask}
 use Rattle.calls.specs.declared.call.Ask.TheVariants.{Start, Plain}
-use Rattle.calls.specs.declared.call.Call.TheVariants.{LogOpen, LogWrite, LogClose, LogFini, NtfSend, NtfSubscribe, NtfUnsubscribe, ReaderStart, ReaderRead, ReaderEnd, NtfFini}
+use Rattle.calls.specs.declared.call.Call.TheVariants.{LogOpen, LogWrite, LogClose, LogFini, NtfSend, NtfSubscribe}
+use Rattle.calls.specs.declared.call.Call.TheVariants.{NtfUnsubscribe, ReaderStart, ReaderRead, ReaderEnd, NtfFini}
 use Rattle.script_grammar.specs.Reading.{known, word, part, maybe, unless}
 use Rattle.script_grammar.specs.ValueReading.{quoted_at}
 use Rattle.script_language.specs.ValueReading.{number32_at, number64_at, signed64_at, version_at}
@@ -51,7 +52,9 @@ unfoldable pub unsubscribe_at : List ℕ → Option (Ask × List ℕ)
 unsubscribe_at = part number32_at (λ id. known (Plain (NtfUnsubscribe id)))
 
 unfoldable pub reader_at : List ℕ → Option (Ask × List ℕ)
-reader_at = part number32_at (λ mode. word (codes " value=") (part signed64_at (λ value. part filters_at (λ filters. known (Plain (ReaderStart mode value filters))))))
+reader_at =
+    part number32_at (λ mode. word (codes " value=") (part signed64_at (λ value. part filters_at
+    (λ filters. known (Plain (ReaderStart mode value filters))))))
 
 unfoldable pub read_at : List ℕ → Option (Ask × List ℕ)
 read_at = part number32_at (λ direction. known (Plain (ReaderRead direction)))

@@ -5,7 +5,8 @@ use Rattle.ais_values.specs.declared.kind.Which.{Which}
 use Rattle.ais_values.specs.declared.kind.Which.TheVariants as service
 use Rattle.calls.specs.declared.call.Ask.{Ask}
 use Rattle.calls.specs.declared.call.Ask.TheVariants.{Start, Plain}
-use Rattle.calls.specs.declared.call.Call.TheVariants.{LogOpen, LogWrite, LogClose, LogFini, NtfSend, NtfSubscribe, NtfUnsubscribe, ReaderStart, ReaderRead, ReaderEnd, NtfFini}
+use Rattle.calls.specs.declared.call.Call.TheVariants.{LogOpen, LogWrite, LogClose, LogFini, NtfSend, NtfSubscribe}
+use Rattle.calls.specs.declared.call.Call.TheVariants.{NtfUnsubscribe, ReaderStart, ReaderRead, ReaderEnd, NtfFini}
 use Rattle.script_grammar.specs.Grammar.{Known, Word, Part, Maybe, Unless}
 use Rattle.script_grammar.specs.Values.{IsQuoted}
 use Rattle.script_language.specs.Values.{IsNumber32, IsNumber64, IsSigned64, IsVersion}
@@ -60,7 +61,9 @@ IsUnsubscribe = Part IsNumber32 (λ id. Known (Plain (NtfUnsubscribe id)))
 
 -- reader mode=N value=N FILTERS
 unfoldable pub IsReader : Ask → List ℕ → Type 0
-IsReader = Part IsNumber32 (λ mode. Word (codes " value=") (Part IsSigned64 (λ value. Part IsFilters (λ filters. Known (Plain (ReaderStart mode value filters))))))
+IsReader =
+    Part IsNumber32 (λ mode. Word (codes " value=") (Part IsSigned64 (λ value. Part IsFilters
+    (λ filters. Known (Plain (ReaderStart mode value filters))))))
 
 -- read N
 unfoldable pub IsRead : Ask → List ℕ → Type 0

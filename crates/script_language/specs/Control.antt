@@ -3,7 +3,8 @@ use Rattle.std.specs.Prelude.{ℕ, List, [], ◌∷◌, codes}
 use Rattle.ais_values.specs.declared.kind.StreamKind.TheVariants as kinds
 use Rattle.stream_config.specs.Attributes.{PassesAttrs}
 use Rattle.script_lines.specs.declared.line.Line.{Line}
-use Rattle.script_lines.specs.declared.line.Line.TheVariants.{Cluster, Time, Deliver, Resend, Mirror, Ack, Work, Push, Settle, Crash, Arm, Disarm, Restart, DispatchOne, DispatchAll, Servers, Files, Cat}
+use Rattle.script_lines.specs.declared.line.Line.TheVariants.{Cluster, Time, Deliver, Resend, Mirror, Ack, Work, Push, Settle}
+use Rattle.script_lines.specs.declared.line.Line.TheVariants.{Crash, Arm, Disarm, Restart, DispatchOne, DispatchAll, Servers, Files, Cat}
 use Rattle.script_grammar.specs.Grammar.{Known, Word, Part, OneOf, Such}
 use Rattle.script_grammar.specs.Values.{IsNumber, IsQuoted}
 use Rattle.script_language.specs.Values.{IsScriptTime, IsClient, IsQueueLength, IsCount, IsServer}

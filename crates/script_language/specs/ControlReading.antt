@@ -1,7 +1,8 @@
 -- Words of bodies alone: reading of the control lines on lists of bytes.
 use Rattle.std.specs.Prelude.{ℕ, List, [], ◌∷◌, codes, Bool, true, ◌&&◌, Option}
 use Rattle.script_lines.specs.declared.line.Line.{Line}
-use Rattle.script_lines.specs.declared.line.Line.TheVariants.{Cluster, Time, Deliver, Resend, Mirror, Ack, Work, Push, Settle, Crash, Arm, Disarm, Restart, DispatchOne, DispatchAll, Servers, Files, Cat}
+use Rattle.script_lines.specs.declared.line.Line.TheVariants.{Cluster, Time, Deliver, Resend, Mirror, Ack, Work, Push, Settle}
+use Rattle.script_lines.specs.declared.line.Line.TheVariants.{Crash, Arm, Disarm, Restart, DispatchOne, DispatchAll, Servers, Files, Cat}
 use Rattle.script_grammar.specs.Reading.{known, word, part, one_of, such}
 use Rattle.script_grammar.specs.ValueReading.{number_at, quoted_at}
 use Rattle.script_language.specs.ValueReading.{script_time_at, client_at, queue_length_at, count_at, server_at}

@@ -40,10 +40,14 @@ unfoldable pub objects_at : List ℕ → Option (Body × List ℕ)
 objects_at = word (codes " source=") (part number16_at (λ source. part (maybe_list (codes " attrs=") pair_at) (λ attrs. known (body.Objects source attrs))))
 
 unfoldable pub attributes_at : List ℕ → Option (Body × List ℕ)
-attributes_at = word (codes " source=") (part number16_at (λ source. part (maybe_list (codes " changes=") change_at) (λ changes. known (body.Attributes source changes))))
+attributes_at =
+    word (codes " source=") (part number16_at (λ source. part (maybe_list (codes " changes=") change_at)
+    (λ changes. known (body.Attributes source changes))))
 
 unfoldable pub states_at : List ℕ → Option (Body × List ℕ)
-states_at = word (codes " source=") (part number16_at (λ source. part (maybe_list (codes " changes=") state_change_at) (λ changes. known (body.States source changes))))
+states_at =
+    word (codes " source=") (part number16_at (λ source. part (maybe_list (codes " changes=") state_change_at)
+    (λ changes. known (body.States source changes))))
 
 unfoldable pub alarm_at : List ℕ → Option (Body × List ℕ)
 alarm_at = word (codes " cause=") (part number16_at (λ cause. word (codes " sev=") (part number16_at (λ severity. known (body.Alarm cause severity)))))

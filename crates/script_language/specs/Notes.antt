@@ -56,10 +56,14 @@ unfoldable pub IsObjects : Body → List ℕ → Type 0
 IsObjects = Word (codes " source=") (Part IsNumber16 (λ source. Part (MaybeList (codes " attrs=") IsPair) (λ attrs. Known (body.Objects source attrs))))
 
 unfoldable pub IsAttributes : Body → List ℕ → Type 0
-IsAttributes = Word (codes " source=") (Part IsNumber16 (λ source. Part (MaybeList (codes " changes=") IsChange) (λ changes. Known (body.Attributes source changes))))
+IsAttributes =
+    Word (codes " source=") (Part IsNumber16 (λ source. Part (MaybeList (codes " changes=") IsChange)
+    (λ changes. Known (body.Attributes source changes))))
 
 unfoldable pub IsStates : Body → List ℕ → Type 0
-IsStates = Word (codes " source=") (Part IsNumber16 (λ source. Part (MaybeList (codes " changes=") IsStateChange) (λ changes. Known (body.States source changes))))
+IsStates =
+    Word (codes " source=") (Part IsNumber16 (λ source. Part (MaybeList (codes " changes=") IsStateChange)
+    (λ changes. Known (body.States source changes))))
 
 unfoldable pub IsAlarm : Body → List ℕ → Type 0
 IsAlarm = Word (codes " cause=") (Part IsNumber16 (λ cause. Word (codes " sev=") (Part IsNumber16 (λ severity. Known (body.Alarm cause severity)))))

@@ -37,7 +37,8 @@ use Rattle.script_lines.specs.declared.note.NoteKind.{NoteKind}
 use Rattle.script_lines.specs.declared.note.NoteKind.TheVariants as kind
 use Rattle.script_lines.specs.declared.note.Heading.{Heading}
 use Rattle.script_lines.specs.declared.line.Line.{Line}
-use Rattle.script_lines.specs.declared.line.Line.TheVariants.{Cluster, Time, Log, Ntf, Deliver, Resend, Mirror, Ack, Work, Push, Settle, Crash, Arm, Disarm, Restart, DispatchOne, DispatchAll, Servers, Files, Cat}
+use Rattle.script_lines.specs.declared.line.Line.TheVariants.{Cluster, Time, Log, Ntf, Deliver, Resend, Mirror, Ack, Work, Push}
+use Rattle.script_lines.specs.declared.line.Line.TheVariants.{Settle, Crash, Arm, Disarm, Restart, DispatchOne, DispatchAll, Servers, Files, Cat}
 use Rattle.script_grammar.specs.Values.{hex_word}
 use Rattle.script_grammar.specs.Writing.{joined, quoted_text, maybe_text, unless_text, listed_text}
 use Rattle.script_language.specs.Notes.{heading_of}
@@ -185,7 +186,9 @@ attrs_text attrs = joined (
     )
 
 unfoldable pub header_text : Header → List ℕ
-header_text (header.Generic class user severity) = joined (codes " gen sev=" ∷ decimal severity ∷ codes " class=" ∷ class_text class ∷ codes " user=" ∷ quoted_text user ∷ [])
+header_text (header.Generic class user severity) =
+    joined (codes " gen sev=" ∷ decimal severity ∷ codes " class=" ∷ class_text class ∷ codes " user="
+    ∷ quoted_text user ∷ [])
 header_text (header.Ntf id event_type object notifier class event_time) = joined (
     codes " ntfh id=" ∷ decimal id
     ∷ codes " type=" ∷ hex_word event_type
@@ -225,7 +228,8 @@ call_text call.NtfInit = codes "init"
 call_text (call.NtfSend note) = joined (codes "send " ∷ note_text note ∷ [])
 call_text (call.NtfSubscribe id filters) = joined (codes "subscribe " ∷ decimal id ∷ filters_text filters ∷ [])
 call_text (call.NtfUnsubscribe id) = joined (codes "unsubscribe " ∷ decimal id ∷ [])
-call_text (call.ReaderStart mode value filters) = joined (codes "reader mode=" ∷ decimal mode ∷ codes " value=" ∷ signed_decimal value ∷ filters_text filters ∷ [])
+call_text (call.ReaderStart mode value filters) =
+    joined (codes "reader mode=" ∷ decimal mode ∷ codes " value=" ∷ signed_decimal value ∷ filters_text filters ∷ [])
 call_text (call.ReaderRead direction) = joined (codes "read " ∷ decimal direction ∷ [])
 call_text call.ReaderEnd = codes "endread"
 call_text call.NtfFini = codes "fini"

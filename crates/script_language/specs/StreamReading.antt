@@ -47,7 +47,8 @@ attrs_at =
 
 unfoldable pub generic_at : List ℕ → Option (Header × List ℕ)
 generic_at =
-    part number16_at (λ severity. word (codes " class=") (part class_at (λ class. word (codes " user=") (part quoted_name_at (λ user. known (Generic class user severity))))))
+    part number16_at (λ severity. word (codes " class=") (part class_at (λ class. word (codes " user=")
+    (part quoted_name_at (λ user. known (Generic class user severity))))))
 
 unfoldable pub notified_at : List ℕ → Option (Header × List ℕ)
 notified_at =

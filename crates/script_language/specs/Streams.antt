@@ -56,7 +56,8 @@ IsAttrs =
 -- sev=N class=V.M.N user="U", without its first word
 unfoldable pub IsGeneric : Header → List ℕ → Type 0
 IsGeneric =
-    Part IsNumber16 (λ severity. Word (codes " class=") (Part IsClass (λ class. Word (codes " user=") (Part IsQuotedName (λ user. Known (Generic class user severity))))))
+    Part IsNumber16 (λ severity. Word (codes " class=") (Part IsClass (λ class. Word (codes " user=") (Part IsQuotedName
+    (λ user. Known (Generic class user severity))))))
 
 -- id=N type=TYPE obj="O" by="O" class=V.M.N [evtime=NS], without its first word
 unfoldable pub IsNotified : Header → List ℕ → Type 0

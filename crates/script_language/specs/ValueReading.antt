@@ -63,11 +63,13 @@ server_at = one_of server_readers
 
 unfoldable pub version_at : List ℕ → Option (Version × List ℕ)
 version_at =
-    part release_at (λ release. word (codes ".") (part number8_at (λ major. word (codes ".") (part number8_at (λ minor. known (version_of release major minor))))))
+    part release_at (λ release. word (codes ".") (part number8_at (λ major. word (codes ".") (part number8_at
+    (λ minor. known (version_of release major minor))))))
 
 unfoldable pub class_at : List ℕ → Option (ClassId × List ℕ)
 class_at =
-    part number32_at (λ vendor. word (codes ".") (part number16_at (λ major. word (codes ".") (part number16_at (λ minor. known (class_of vendor major minor))))))
+    part number32_at (λ vendor. word (codes ".") (part number16_at (λ major. word (codes ".") (part number16_at
+    (λ minor. known (class_of vendor major minor))))))
 
 abbrev pub value_readers : List (List ℕ × (List ℕ → Option (Value × List ℕ)))
 value_readers =
@@ -89,4 +91,5 @@ change_at =
 
 unfoldable pub state_change_at : List ℕ → Option (StateChange × List ℕ)
 state_change_at =
-    part number16_at (λ id. word (codes ":") (part number16_at (λ after. part (maybe (codes "<") number16_at) (λ before. known (state_change_of id after before)))))
+    part number16_at (λ id. word (codes ":") (part number16_at (λ after. part (maybe (codes "<") number16_at)
+    (λ before. known (state_change_of id after before)))))

@@ -112,4 +112,5 @@ state_change_of id after before = record { id = id; after = after; before = befo
 -- ID:N or ID:N<N
 unfoldable pub IsStateChange : StateChange → List ℕ → Type 0
 IsStateChange =
-    Part IsNumber16 (λ id. Word (codes ":") (Part IsNumber16 (λ after. Part (Maybe (codes "<") IsNumber16) (λ before. Known (state_change_of id after before)))))
+    Part IsNumber16 (λ id. Word (codes ":") (Part IsNumber16 (λ after. Part (Maybe (codes "<") IsNumber16)
+    (λ before. Known (state_change_of id after before)))))

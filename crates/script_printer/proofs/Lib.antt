@@ -1,2 +1,2 @@
-mod Chain
+pub mod Chain
 mod ListTexts

@@ -25,23 +25,23 @@ pub(crate) enum Piece<'a> {
     Class(ClassId),
 }
 
-/// Adds bytes at the end.
-pub(crate) fn put(out: &mut Vec<u8>, bytes: &[u8]) -> Result<(), AllocError>
+/// Adds bytes at the end. Where memory runs out a front of it may have been added.
+pub fn put(out: &mut Vec<u8>, bytes: &[u8]) -> Result<(), AllocError>
     ensures { OnOk result (out.new.items ≡ out.old.items ++ bytes.now) }
 {
     out.extend_from_slice(bytes)
 }
 
-/// Adds a number in decimal.
-pub(crate) fn put_number(alloc: Global, out: &mut Vec<u8>, number: u64) -> Result<(), AllocError>
+/// Adds a number in decimal. Where memory runs out a front of it may have been added.
+pub fn put_number(alloc: Global, out: &mut Vec<u8>, number: u64) -> Result<(), AllocError>
     ensures { OnOk result (out.new.items ≡ out.old.items ++ decimal number) }
 {
     let text = number.to_string(alloc)?;
     put(out, text.as_bytes())
 }
 
-/// Adds a signed number in decimal.
-pub(crate) fn put_signed(alloc: Global, out: &mut Vec<u8>, number: i64) -> Result<(), AllocError>
+/// Adds a signed number in decimal. Where memory runs out a front of it may have been added.
+pub fn put_signed(alloc: Global, out: &mut Vec<u8>, number: i64) -> Result<(), AllocError>
     ensures { OnOk result (out.new.items ≡ out.old.items ++ signed_decimal number) }
 {
     let text = number.to_string(alloc)?;
@@ -160,6 +160,42 @@ pub(crate) fn put_labelled(
     Ok(())
 }
 
+/// A piece of a line, of which text is made.
+pub trait Printable {
+    ghost use Rattle.std.specs.Prelude.{ℕ, List};
+
+    /// The text.
+    ghost text: { Self → List ℕ };
+
+    /// Adds the text. Where memory runs out a front of it may have been added.
+    fn print(&self, alloc: Global, out: &mut Vec<u8>) -> Result<(), AllocError>
+        ensures { OnOk result (out.new.items ≡ out.old.items ++ text self.now) };
+}
+
+impl Printable for Piece<'_> {
+    ghost use Rattle.script_printer.specs.Pieces.{piece_text};
+
+    ghost text = { piece_text };
+
+    fn print(&self, alloc: Global, out: &mut Vec<u8>) -> Result<(), AllocError> {
+        put_piece(alloc, out, self)
+    }
+}
+
+/// Adds the texts of pieces, one behind the other. Where memory runs out a front of them may have been added.
+pub fn put_all<P: Printable>(
+    alloc: Global,
+    out: &mut Vec<u8>,
+    pieces: &[P],
+) -> Result<(), AllocError>
+    ensures { OnOk result (out.new.items ≡ out.old.items ++ flat_map P.text pieces.now) }
+{
+    for piece in pieces {
+        piece.print(alloc, out)?;
+    }
+    Ok(())
+}
+
 /// Adds pieces.
 pub(crate) fn put_pieces(
     alloc: Global,
@@ -168,8 +204,5 @@ pub(crate) fn put_pieces(
 ) -> Result<(), AllocError>
     ensures { OnOk result (out.new.items ≡ out.old.items ++ flat_map piece_text pieces.now) }
 {
-    for piece in pieces {
-        put_piece(alloc, out, piece)?;
-    }
-    Ok(())
+    put_all(alloc, out, pieces)
 }
