@@ -1,5 +1,5 @@
 -- The subscriptions that live, as the list of them with the newest first.
-use Rattle.std.proofs.Common.{◌≡◌, ℕ, suc, zero, ◌+◌, ◌<◌, ◌≤◌, ◌==◌, Bool, true, false, cond, if◌then◌else◌, Option, Some, None, List, [], ◌∷◌, ◌++◌, length, map, take, drop, get_or, set, option_map, refl, ap, sym, ◌∙◌, append_assoc, add-one, arith}
+use Rattle.std.proofs.Common.{◌≡◌, ℕ, suc, ◌+◌, ◌<◌, ◌≤◌, ◌==◌, Bool, true, false, cond, if◌then◌else◌, Option, Some, None, List, [], ◌∷◌, ◌++◌, length, map, take, get_or, option_map, refl, ap, sym, ◌∙◌, append_assoc, arith}
 use Rattle.std.specs.List.{find}
 use Rattle.std.proofs.lemmas.List.{take_more, append-nil}
 use Rattle.cluster_facts.specs.Types.{Call, NtfSubscribe, NtfUnsubscribe, NtfFini, Reply, Refused, Message}
@@ -89,17 +89,6 @@ moved-item key number bound found (it ∷ living) below is next =
 
     is_apart : (one other : ℕ) → (one ≡ other → ⊥) → (one == other) ≡ false
     is_apart one other different = by_test (λ b. b ≡ false) one other (λ same. absurd (different same)) (λ d. refl)
-
--- one element more is mapped
-pub map-step : {X : Type 0} (f : X → X) (xs : List X) (i : ℕ) (d : X) → i < length xs → set (map f (take i xs) ++ drop i xs) i (f (get_or (map f (take i xs) ++ drop i xs) i d)) ≡ map f (take (suc i) xs) ++ drop (suc i) xs
-map-step f [] i d within = absurd (omega arith)
-map-step f (x ∷ xs) zero d within = refl
-map-step f (x ∷ xs) (suc i) d within = ap (λ ys. f x ∷ ys) (map-step f xs i d (omega arith))
-
--- the subscription at a place is mapped
-pub moved_on : {X : Type 0} (f : X → X) (xs now : List X) (i : ℕ) (x y : X) → i < length xs → now ≡ map f (take i xs) ++ drop i xs → x ≡ get_or now i x → y ≡ f x → set now i y ≡ map f (take (i + 1) xs) ++ drop (i + 1) xs
-moved_on f xs now i x y within so_far is mapped =
-    ap (λ z. set now i z) (mapped ∙ ap f is) ∙ ap (λ ys. set ys i (f (get_or ys i x))) so_far ∙ map-step f xs i x within ∙ ap (λ n. map f (take n xs) ++ drop n xs) (sym (add-one i))
 
 -- Receipts.
 

@@ -2,7 +2,7 @@
 use Rattle.std.proofs.Common.{◌≡◌, ℕ, ◌<◌, ◌≤◌, ◌+◌, Bool, true, false, ◌||◌, nat_lt, if◌then◌else◌, Option, Some, None, List, [], ◌∷◌, ◌++◌, length, reverse, refl, ap, sym, subst, ◌∙◌, arith, length-append}
 use Rattle.std.proofs.lemmas.List.{length-reverse}
 use Rattle.std.specs.Prelude.{nat_le}
-use Rattle.std.proofs.lemmas.Bool.Decides.{nat_tests}
+use Rattle.std.proofs.lemmas.Bool.{lt-ltb, le-ltb, le-leb, lt-leb}
 use Rattle.cluster_facts.specs.Types.{Item, Callback, Receipt, BadHandle}
 use Rattle.cluster_facts.specs.Agents.{Living, Agent, find_living, after_item, oldest}
 use Rattle.client_agent.specs.declared.answers.MissedWhy.TheVariants.{Left, Taken as TakenBefore, Ahead, Gone}
@@ -17,18 +17,6 @@ use Rattle.client_agent.specs.Steps.{IsItem, IsItemBy, IsDispatched, numbered, h
 use Rattle.client_agent.specs.Inside.{agent_of, left_over}
 use Rattle.client_agent.proofs.Known.{known, same_seen}
 use Rattle.client_agent.proofs.Handing.{length-numbered}
-
-is_below : (one other : ℕ) → one < other → nat_lt one other ≡ true
-is_below one other below = grind (arith, nat_tests)
-
-not_below : (one other : ℕ) → other ≤ one → nat_lt one other ≡ false
-not_below one other above = grind (arith, nat_tests)
-
-is_within : (one other : ℕ) → one ≤ other → nat_le one other ≡ true
-is_within one other within = grind (arith, nat_tests)
-
-not_within : (one other : ℕ) → other < one → nat_le one other ≡ false
-not_within one other above = grind (arith, nat_tests)
 
 -- an item of a subscription that lives, by the tests of its number and of the queue
 item_by : (seen : Seen) (key : ℕ) (item : Item) (found : Living) (taken : Taken) (new : Seen) (handed : List Callback) (before ahead full : Bool) → find_living key seen.living ≡ Some found → nat_lt item.number found.next ≡ before → nat_lt found.next item.number ≡ ahead → nat_le seen.places (length seen.queue) ≡ full → IsItemBy seen.client seen.places key item (agent_of seen handed) found before ahead full taken new → IsItem seen.client seen.places key item (agent_of seen handed) (find_living key seen.living) taken new
@@ -46,19 +34,19 @@ item_gone seen key item none handed given =
 
 pub item_before : (seen : Seen) (key : ℕ) (item : Item) (found : Living) → find_living key seen.living ≡ Some found → item.number < found.next → (handed : List Callback) → seen.given ≡ length handed → IsItem seen.client seen.places key item (agent_of seen handed) (find_living key seen.living) (Missed TakenBefore) seen
 item_before seen key item found is below handed given =
-    item_by seen key item found (Missed TakenBefore) seen handed true (nat_lt found.next item.number) (nat_le seen.places (length seen.queue)) is (is_below item.number found.next below) refl refl (refl, same_seen seen handed given)
+    item_by seen key item found (Missed TakenBefore) seen handed true (nat_lt found.next item.number) (nat_le seen.places (length seen.queue)) is (lt-ltb item.number found.next below) refl refl (refl, same_seen seen handed given)
 
 pub item_ahead : (seen : Seen) (key : ℕ) (item : Item) (found : Living) → find_living key seen.living ≡ Some found → found.next < item.number → (handed : List Callback) → seen.given ≡ length handed → IsItem seen.client seen.places key item (agent_of seen handed) (find_living key seen.living) (Missed Ahead) seen
 item_ahead seen key item found is above handed given =
-    item_by seen key item found (Missed Ahead) seen handed false true (nat_le seen.places (length seen.queue)) is (not_below item.number found.next (omega arith)) (is_below found.next item.number above) refl (refl, same_seen seen handed given)
+    item_by seen key item found (Missed Ahead) seen handed false true (nat_le seen.places (length seen.queue)) is (le-ltb item.number found.next (omega arith)) (lt-ltb found.next item.number above) refl (refl, same_seen seen handed given)
 
 pub item_left : (seen : Seen) (key : ℕ) (item : Item) (found : Living) → find_living key seen.living ≡ Some found → item.number ≡ found.next → seen.places ≤ length seen.queue → (handed : List Callback) → seen.given ≡ length handed → IsItem seen.client seen.places key item (agent_of seen handed) (find_living key seen.living) (Missed Left) seen
 item_left seen key item found is next full handed given =
-    item_by seen key item found (Missed Left) seen handed false false true is (not_below item.number found.next (omega arith)) (not_below found.next item.number (omega arith)) (is_within seen.places (length seen.queue) full) (refl, same_seen seen handed given)
+    item_by seen key item found (Missed Left) seen handed false false true is (le-ltb item.number found.next (omega arith)) (le-ltb found.next item.number (omega arith)) (le-leb seen.places (length seen.queue) full) (refl, same_seen seen handed given)
 
 pub item_taken : (seen : Seen) (key : ℕ) (item : Item) (found : Living) (client number : ℕ) (new : Seen) → find_living key seen.living ≡ Some found → item.number ≡ found.next → length seen.queue < seen.places → client ≡ seen.client → number ≡ item.number → ((handed : List Callback) → seen.given ≡ length handed → new ≡ seen_of seen.client seen.places (after_item key found.id item.content (agent_of seen handed))) → (handed : List Callback) → seen.given ≡ length handed → IsItem seen.client seen.places key item (agent_of seen handed) (find_living key seen.living) (TakenItem (Receipt client key number)) new
 item_taken seen key item found client number new is next free its numbered after handed given =
-    item_by seen key item found (TakenItem (Receipt client key number)) new handed false false false is (not_below item.number found.next (omega arith)) (not_below found.next item.number (omega arith)) (not_within seen.places (length seen.queue) free) ((λ i. TakenItem (Receipt (its i) key (numbered i))), after handed given)
+    item_by seen key item found (TakenItem (Receipt client key number)) new handed false false false is (le-ltb item.number found.next (omega arith)) (le-ltb found.next item.number (omega arith)) (lt-leb seen.places (length seen.queue) free) ((λ i. TakenItem (Receipt (its i) key (numbered i))), after handed given)
 
 -- Callbacks are handed out.
 

@@ -1,7 +1,8 @@
 -- Words of public clauses: what each call of an agent answers, and what is seen of the agent after it.
 use Rattle.std.specs.Prelude.{◌≡◌, ℕ, suc, ◌+◌, Bool, true, false, nat_lt, nat_le, Option, Some, None, List, [], ◌∷◌, length, reverse}
 use Rattle.cluster_facts.specs.Types.{Ask, Call, Reply, Item, Callback, Message, Request, Answer, Delivery, Receipt}
-use Rattle.cluster_facts.specs.Agents.{Living, Agent, call_of, refusal, dispatch_refusal, after_call, kept_call, callbacks_of, lacks_place, after_reply, find_living, after_item, oldest, after_dispatch_all, after_dispatch_one}
+use Rattle.cluster_facts.specs.Agents.{Living, Agent, call_of, refusal, dispatch_refusal, after_call, kept_call, callbacks_of, lacks_place, after_reply}
+use Rattle.cluster_facts.specs.Agents.{find_living, after_item, oldest, after_dispatch_all, after_dispatch_one}
 use Rattle.client_agent.specs.declared.answers.Sent.{Sent}
 use Rattle.client_agent.specs.declared.answers.Sent.TheVariants.{Posted, Refused}
 use Rattle.client_agent.specs.declared.answers.MissedWhy.TheVariants.{Answered as AnsweredBefore, Left, Taken as TakenBefore, Ahead, Gone}
@@ -86,6 +87,7 @@ after_dispatch (All workers) agent = after_dispatch_all agent
 
 abbrev pub IsDispatched : ℕ → ℕ → How → Agent → Dispatched → Seen → Type 0
 IsDispatched client places how agent (Given taken) seen =
-    (dispatch_refusal agent ≡ None) × (taken ≡ reverse (numbered (length agent.handed) (handed_out how agent.queue))) × (seen ≡ seen_of client places (after_dispatch how agent))
+    (dispatch_refusal agent ≡ None) × (taken ≡ reverse (numbered (length agent.handed) (handed_out how agent.queue)))
+    × (seen ≡ seen_of client places (after_dispatch how agent))
 IsDispatched client places how agent (RefusedDispatch status) seen =
     (dispatch_refusal agent ≡ Some status) × (seen ≡ seen_of client places agent)

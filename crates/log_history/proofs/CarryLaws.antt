@@ -1,12 +1,12 @@
 -- The deeds of what happens to one stream carry the files of all streams on.
-use Rattle.std.proofs.Common.{◌≡◌, ℕ, suc, ◌+◌, ◌-◌, ◌<◌, ◌≤◌, Bool, true, false, cond, List, [], ◌∷◌, ◌++◌, length, drop, map, refl, ap, sym, ◌∙◌, subst, arith, append_assoc}
+use Rattle.std.proofs.Common.{◌≡◌, ℕ, suc, ◌+◌, ◌-◌, ◌<◌, ◌≤◌, Bool, true, false, cond, List, [], ◌∷◌, ◌++◌, length, drop, map, refl, ap, sym, ◌∙◌, subst, arith}
 use Rattle.std.specs.Prelude.{Option, Some, None, option_map, is_some, if◌then◌else◌, pos, All}
 use Rattle.std.specs.Option.{option_map_or}
 use Rattle.std.specs.FinMap.{get}
 use Rattle.std.specs.Str.{bytes_eq}
 use Rattle.std.proofs.lemmas.List.Elements.{All-nil, All-cons}
 use Rattle.disk_model.specs.Disk.{Files, settled_file}
-use Rattle.disk_model.specs.DeviceCalls.{DeviceCall, applied, all_applied}
+use Rattle.disk_model.specs.DeviceCalls.{all_applied}
 use Rattle.format_expr.specs.Reading.{pieces_of}
 use Rattle.record_print.specs.declared.record.LogRecord.{LogRecord}
 use Rattle.record_print.specs.Printing.{printed_record}
@@ -20,8 +20,7 @@ use Rattle.stream_config.specs.Events.{open_file, file_closed, last_closed, most
 use Rattle.stream_config.specs.Stamps.{stamp_after}
 use Rattle.stream_layout.specs.Names.{log_name, cfg_name}
 use Rattle.stream_layout.specs.LogFiles.{log_entries, cfg_entry}
-use Rattle.stream_layout.specs.declared.deed.Deed.{Deed}
-use Rattle.stream_layout.specs.Deeds.{calls_of, calls_of_all, current_file, deeds_of}
+use Rattle.stream_layout.specs.Deeds.{calls_of_all, current_file, deeds_of}
 use Rattle.stream_layout.specs.Carrying.{IsFitEvent, state_before, AreRecordsOf, entries_before, entries_after, entry_at, IsFree}
 use Rattle.stream_layout.proofs.CarryLaws.{carry_on}
 use Rattle.log_history.specs.Chronicle.{Stream, new_stream, is_due, with_record, last_with_record, with_end, closed_file}
@@ -35,6 +34,8 @@ use Rattle.log_history.proofs.TableLaws.{state-recorded}
 use Rattle.log_history.proofs.OnceLaws.{AreStamps}
 use Rattle.log_history.proofs.NamedLaws.{IsNamedBy}
 use Rattle.log_history.proofs.FoundLaws.{either_of, found_in, whole, found-around, found-push, absent, IsAlone, Holds}
+use Rattle.stream_layout.proofs.DeedLaws.{calls_of_all-append}
+use Rattle.disk_model.proofs.Breaking.{all_applied-append}
 
 -- records as they are printed
 
@@ -203,16 +204,7 @@ free-storing streams last second rec stream files low room are holds = by_case (
 
 -- deeds one after another
 
-pub calls-append : (deeds more : List Deed) → calls_of_all (deeds ++ more) ≡ calls_of_all deeds ++ calls_of_all more
-calls-append [] more = refl
-calls-append (deed ∷ deeds) more =
-    ap (λ rest. calls_of deed ++ rest) (calls-append deeds more) ∙ sym (append_assoc (calls_of deed) (calls_of_all deeds) (calls_of_all more))
-
-pub applied-append : (calls more : List DeviceCall) (files : Files) → all_applied (calls ++ more) files ≡ all_applied more (all_applied calls files)
-applied-append [] more files = refl
-applied-append (call ∷ calls) more files = applied-append calls more (applied call files)
-
 pub applied-first : (happening : StreamEvent) (happenings : List StreamEvent) (files : Files) → all_applied (calls_of_all (deeds_of_all (happening ∷ happenings))) files ≡ all_applied (calls_of_all (deeds_of_all happenings)) (all_applied (calls_of_all (deeds_of happening)) files)
 applied-first happening happenings files =
-    ap (λ calls. all_applied calls files) (calls-append (deeds_of happening) (deeds_of_all happenings))
-    ∙ applied-append (calls_of_all (deeds_of happening)) (calls_of_all (deeds_of_all happenings)) files
+    ap (λ calls. all_applied calls files) (calls_of_all-append (deeds_of happening) (deeds_of_all happenings))
+    ∙ all_applied-append (calls_of_all (deeds_of happening)) (calls_of_all (deeds_of_all happenings)) files

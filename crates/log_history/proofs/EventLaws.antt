@@ -1,9 +1,11 @@
 -- Each event that an entry brings to a stream can happen to it, so that its deeds are defined.
-use Rattle.std.proofs.Common.{◌≡◌, ℕ, suc, ◌+◌, ◌<◌, ◌≤◌, Bool, true, false, ◌&&◌, cond, List, [], ◌∷◌, length, map, refl, ap, sym, subst, arith, le→leb, leb→le}
-use Rattle.std.specs.Prelude.{Option, Some, None, option_map, is_some, is_none, filter, ℤ, pos, negsuc, IfSome, All}
+use Rattle.std.proofs.Common.{◌≡◌, ℕ, suc, ◌+◌, ◌<◌, ◌≤◌, Bool, true, false, cond, List, [], ◌∷◌, length, map, refl, ap, sym, subst, arith, leb→le}
+use Rattle.std.specs.Prelude.{Option, Some, None, option_map, is_some, filter, ℤ, pos, negsuc, IfSome, All}
 use Rattle.std.specs.Option.{option_map_or}
 use Rattle.std.specs.List.{AllByRecursion}
 use Rattle.std.proofs.lemmas.List.Elements.{All-nil, All-cons}
+use Rattle.std.proofs.lemmas.Bool.{and_parts}
+use Rattle.std.proofs.lemmas.List.{length-map}
 use Rattle.stream_config.specs.declared.attrs.FullAction.{FullAction}
 use Rattle.stream_config.specs.declared.attrs.FullAction.TheVariants.{Wrap, Halt, Rotate}
 use Rattle.stream_config.specs.declared.attrs.StreamAttrs.{StreamAttrs}
@@ -29,30 +31,20 @@ use Rattle.log_history.proofs.AnswerLaws.{makes-stream}
 use Rattle.log_history.proofs.Reaching.{Passes, reached}
 use Rattle.log_history.proofs.TableLaws.{find-living}
 use Rattle.log_history.specs.Stamps.{IsStampUpTo, second_in, CanStamp}
-use Rattle.log_history.proofs.StreamLaws.{IsSoundStream, fit-files, fit-stamps}
+use Rattle.log_history.proofs.StreamLaws.{IsSoundStream, fit-files, fit-stamps, stamp-is}
 use Rattle.log_history.proofs.SoundStreams.{Each-both, room-left, sound}
+use Rattle.ais_values.proofs.Basics.{none_from}
 
 -- stamps that names can show
 
-stamp-is : (stamp : ℕ) → stamp ≤ 20000000100 → IsStamp (pos stamp)
-stamp-is stamp le = (record { le = le→leb 0 stamp (omega arith) }, record { le = le→leb stamp 20000000100 le })
-
-up-to-is : (last : ℕ) → last ≤ 20000000100 → (stamp : ℤ) → IsStampUpTo (pos last) stamp → IsStamp stamp
+pub up-to-is : (last : ℕ) → last ≤ 20000000100 → (stamp : ℤ) → IsStampUpTo (pos last) stamp → IsStamp stamp
 up-to-is last le (pos n) is = stamp-is n (omega (arith, leb→le n last is.to.le, le))
 up-to-is last le (negsuc n) is = absurd is.from.le
 
-stamps-are : (last : ℕ) → last ≤ 20000000100 → (stamps : List ℤ) → AllByRecursion (IsStampUpTo (pos last)) stamps → All IsStamp stamps
+pub stamps-are : (last : ℕ) → last ≤ 20000000100 → (stamps : List ℤ) → AllByRecursion (IsStampUpTo (pos last)) stamps → All IsStamp stamps
 stamps-are last le [] each = All-nil IsStamp
 stamps-are last le (stamp ∷ stamps) each =
     All-cons IsStamp stamp stamps (up-to-is last le stamp each.0) (stamps-are last le stamps each.1)
-
-none-ended : (ended : Option ℕ) → is_none ended ≡ true → ended ≡ None
-none-ended None is = refl
-none-ended (Some closed) is = cc
-
-first-true : (a b : Bool) → (a && b) ≡ true → a ≡ true
-first-true true b both = refl
-first-true false b both = cc
 
 -- a living stream of a history
 pub fit-state : (last : ℕ) (stream : Stream) → last ≤ 20000000100 → Passes stream → stream.ended ≡ None → IsSoundStream last stream → IsFitStream (state_of stream)
@@ -74,15 +66,15 @@ found setup past legal name stream is =
     let last = (chronicle setup past).last in
     let each = Each-both Passes (IsSoundStream last) streams (reached setup past legal).passing (sound setup past legal) in
     let here = Each-find (λ s. Passes s × IsSoundStream last s) (is_living name) streams stream each is in
-    record { passes = here.0.0; sound = here.0.1; living = none-ended stream.ended (first-true (lives stream) _ here.1) }
+    record { passes = here.0.0; sound = here.0.1; living = none_from stream.ended (and_parts (lives stream) _ here.1).0 }
 
 -- a record that is stored
 
-due-is : (b : Bool) (stamps : Stamps) → is_some (cond b (Some stamps) None) ≡ b
+pub due-is : (b : Bool) (stamps : Stamps) → is_some (cond b (Some stamps) None) ≡ b
 due-is true stamps = refl
 due-is false stamps = refl
 
-due-stamps : (b : Bool) (last second : ℕ) → last + 2 ≤ 20000000100 → second < 20000000100 → IfSome (cond b (Some (record { closed = pos (stamp_after last second); created = pos (stamp_after (stamp_after last second) second) })) None) (λ (two : Stamps). IsStamp two.closed × IsStamp two.created)
+pub due-stamps : (b : Bool) (last second : ℕ) → last + 2 ≤ 20000000100 → second < 20000000100 → IfSome (cond b (Some (record { closed = pos (stamp_after last second); created = pos (stamp_after (stamp_after last second) second) })) None) (λ (two : Stamps). IsStamp two.closed × IsStamp two.created)
 due-stamps true last second le early = (stamp-is (stamp_after last second) (omega (arith, le, early)), stamp-is (stamp_after (stamp_after last second) second) (omega (arith, le, early)))
 due-stamps false last second le early = tt
 
@@ -130,16 +122,12 @@ fit-ends last second (stream ∷ streams) le early each =
           (record { stream = each.0; stamp = stamp-is (stamp_after last second) (omega (arith, le, early)) }, behind (stamp_after last second) (omega (arith, le, early)))
       by_case false behind = behind last (omega (arith, le))
 
-length-changed : {X : Type 0} (test : X → Bool) (change : X → X) (xs : List X) → length (change_first test change xs) ≡ length xs
+pub length-changed : {X : Type 0} (test : X → Bool) (change : X → X) (xs : List X) → length (change_first test change xs) ≡ length xs
 length-changed test change [] = refl
 length-changed {X} test change (x ∷ xs) = by_case (test x) (length-changed test change xs) where
   by_case : (b : Bool) → length (change_first test change xs) ≡ length xs → length (cond b (change x ∷ xs) (x ∷ change_first test change xs)) ≡ length (x ∷ xs)
   by_case true rest = refl
   by_case false rest = ap suc rest
-
-length-mapped : {X Y : Type 0} (f : X → Y) (xs : List X) → length (map f xs) ≡ length xs
-length-mapped f [] = refl
-length-mapped f (x ∷ xs) = ap suc (length-mapped f xs)
 
 Each-mapped : {X Y : Type 0} (P : Y → Type 0) (f : X → Y) (xs : List X) → Each (λ x. P (f x)) xs → Each P (map f xs)
 Each-mapped P f [] each = tt
@@ -153,7 +141,7 @@ fit-kept setup past legal le =
     let each = Each-both Passes (IsSoundStream last) streams (reached setup past legal).passing (sound setup past legal) in
     Each-mapped HasFitState (open_stream past) (filter lives streams)
     (Each-weaker (λ s. (Passes s × IsSoundStream last s) × (lives s ≡ true)) (λ s. HasFitState (open_stream past s))
-    (λ stream is. fit-state last stream le is.0.0 (none-ended stream.ended is.1) is.0.1) (filter lives streams)
+    (λ stream is. fit-state last stream le is.0.0 (none_from stream.ended is.1) is.0.1) (filter lives streams)
     (Each-filter (λ s. Passes s × IsSoundStream last s) lives streams each))
 
 stored-fit : (setup : LogSetup) (past : List LogChange) → IsLogHistory setup past → (name : StreamName) (rec : LogRecord) (second : ℕ) → CanStamp setup past second → (living : Option Stream) → living_stream setup past name ≡ living → option_map_or (λ (s : Stream). holds_all s.attrs (length s.records)) living false ≡ false → AllByRecursion IsFitEvent (option_map_or (λ (stream : OpenStream). storing (chronicle setup past).last second rec stream.state ∷ []) (option_map (open_stream past) living) [])
@@ -180,6 +168,6 @@ events-fit setup past (Closed client name at) legal can =
 events-fit setup past (Ended client at) legal can =
     let streams = (table setup past).streams in
     let kept = fit-kept setup past legal.1 (omega (arith, can.last)) in
-    let count = length-mapped (without_opener client) streams in
+    let count = length-map streams (without_opener client) in
     fit-ends (chronicle setup past).last at (left_streams client streams) (omega (arith, count, can.last)) (omega (arith, count, can.early))
     (Each-mapped HasFitState (without_opener client) streams kept)

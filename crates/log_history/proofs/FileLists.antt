@@ -45,7 +45,7 @@ last_ones-changed rotated closed files file new some =
     ∙ ap (last_ones rotated) (sym whole)
     ∙ last_ones-kept rotated k all (omega arith)
 
-some-most : (action : FullAction) (rotated : ℕ) → 1 ≤ rotated → 1 ≤ most_files action rotated
+pub some-most : (action : FullAction) (rotated : ℕ) → 1 ≤ rotated → 1 ≤ most_files action rotated
 some-most Wrap rotated some = omega arith
 some-most Halt rotated some = omega arith
 some-most Rotate rotated some = some

@@ -7,6 +7,7 @@ use Rattle.std.specs.Cmp.Lexicographic.{nat_list_cmp_total}
 use Rattle.std.specs.FinMap.{get-empty, same_map}
 use Rattle.std.specs.Ordering.{nat_cmp}
 use Rattle.std.specs.Cmp.Lexicographic.{slice_cmp}
+use Rattle.std.proofs.lemmas.Bool.{and_parts}
 use Rattle.disk_model.specs.Disk.{Files, no_files}
 use Rattle.disk_model.specs.DeviceCalls.{all_applied}
 use Rattle.disk_model.proofs.Shelving.{names_differ}
@@ -34,9 +35,10 @@ use Rattle.log_history.proofs.Reaching.{Passes, reached}
 use Rattle.log_history.proofs.TableLaws.{living, find-living, closed-streams, left-streams}
 use Rattle.log_history.proofs.EventLaws.{events-fit, fit-making}
 use Rattle.log_history.proofs.OnceLaws.{AreStamps, one-new}
-use Rattle.log_history.proofs.StampedLaws.{none-ended, first-true, amid, none-amid, one-more, changed, stamps-recorded, new-by-record, stamps_by_record, stamps-ended, stamped}
+use Rattle.log_history.proofs.StampedLaws.{amid, none-amid, one-more, changed, stamps-recorded, new-by-record, stamps_by_record, stamps-ended, stamped}
 use Rattle.log_history.proofs.FoundLaws.{alone, Holds, disk-holds}
 use Rattle.log_history.proofs.CarryLaws.{Happens, are-records, carry-amid, carry-made, entries-ended, entries-stored, free-storing, applied-first}
+use Rattle.ais_values.proofs.Basics.{none_from}
 
 -- what holds of one of some streams
 pub Each-amid : {X : Type 0} (P : X → Type 0) (front behind : List X) (x : X) → Each P (front ++ x ∷ behind) → P x
@@ -103,7 +105,7 @@ ends-carry past second last front (stream ∷ streams) files low are passing fit
           let happening = event.Ended (state_of stream) (pos later) in
           let happenings = ends_in later second (map (open_stream past) (living streams)) in
           let between = all_applied (calls_of_all (deeds_of happening)) files in
-          let unended = none-ended stream.ended is in
+          let unended = none_from stream.ended is in
           let low' : later ≤ 20000000100 = stamp_bound (pos later) one.stamp in
           let after = changed last later front streams stream now (later ∷ []) (stamps-ended later stream unended) (one-new last later (omega arith)) are in
           let first : Holds (front ++ now ∷ streams) between =
@@ -129,7 +131,7 @@ stored-carry name last second rec past streams None files none room low are pass
 stored-carry name last second rec past streams (Some stream) files found room low are passing fit holds =
     let there = amid (is_living name) streams stream found in
     let happening = storing last second rec (state_of stream) in
-    let unended = none-ended stream.ended (first-true (lives stream) _ there.passes) in
+    let unended = none_from stream.ended (and_parts (lives stream) _ there.passes).0 in
     let passes = Each-amid Passes there.front there.behind stream (subst (Each Passes) there.whole passing) in
     let now_are = subst (λ these. AreStamps last (stamps_of_all these)) there.whole are in
     subst (λ these. Holds these (all_applied (calls_of_all (deeds_of_all (happening ∷ []))) files)) (sym (there.changed (with_record last second rec)))

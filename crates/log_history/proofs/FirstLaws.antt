@@ -18,10 +18,6 @@ pub none_is : {X : Type 0} (option : Option X) → is_some option ≡ false → 
 none_is None is = refl
 none_is (Some x) is = cc
 
-pub some_is : {X : Type 0} (option : Option X) → is_some option ≡ true → (x : X) × (option ≡ Some x)
-some_is None is = cc
-some_is (Some x) is = (x, refl)
-
 module _ {X : Type 0} (P Q : X → Type 0) where
   pub Each-weaker : ((x : X) → P x → Q x) → (xs : List X) → Each P xs → Each Q xs
   Each-weaker weaker [] each = tt

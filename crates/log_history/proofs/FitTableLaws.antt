@@ -1,10 +1,10 @@
 -- What is kept of a history is fit: it can be kept on.
-use Rattle.std.proofs.Common.{◌≡◌, ℕ, suc, ◌<◌, ◌≤◌, ◌==◌, nat_lt, nat_le, Bool, true, false, not, ◌&&◌, ◌||◌, cond, List, [], ◌∷◌, length, map, refl, ap, sym, ◌∙◌, subst, arith, length-append}
+use Rattle.std.proofs.Common.{◌≡◌, ℕ, suc, ◌≤◌, ◌==◌, nat_lt, nat_le, Bool, true, false, not, ◌&&◌, ◌||◌, cond, List, [], ◌∷◌, length, map, refl, ap, sym, ◌∙◌, subst, arith, length-append}
 use Rattle.std.specs.Prelude.{Option, Some, None, filter}
 use Rattle.std.specs.List.{find, AllByRecursion, list_any, count_by}
-use Rattle.std.proofs.lemmas.Bool.Decides.{nat_tests}
 use Rattle.std.proofs.lemmas.List.Elements.{filter-append}
 use Rattle.std.proofs.lemmas.List.Sums.{length-filter}
+use Rattle.std.proofs.lemmas.Bool.{and_right, not-true, and_from, leb-false}
 use Rattle.client_set.specs.Rising.{put, without, IsRising}
 use Rattle.client_set.proofs.RisingLaws.{IsOrder-nat_lt, IsRising-put, IsRising-without}
 use Rattle.ais_values.specs.Codes.{all_differ}
@@ -67,7 +67,7 @@ openers-rise (Stored stored rec second ∷ past) name = openers-rise past name
 abbrev HasSome : List LogChange → Stream → Type 0
 HasSome past stream = is_idle past stream ≡ false
 
-some-put : (client : ℕ) (clients : List ℕ) → is_empty (put nat_lt client clients) ≡ false
+pub some-put : (client : ℕ) (clients : List ℕ) → is_empty (put nat_lt client clients) ≡ false
 some-put client [] = refl
 some-put client (first ∷ clients) =
     elim (nat_lt client first) as (λ b. is_empty (cond b (client ∷ first ∷ clients) (cond (nat_lt first client) (first ∷ put nat_lt client clients) (client ∷ clients))) ≡ false) [
@@ -75,29 +75,21 @@ some-put client (first ∷ clients) =
       | false ↦ elim (nat_lt first client) as (λ b. is_empty (cond b (first ∷ put nat_lt client clients) (client ∷ clients)) ≡ false) [ true ↦ refl | false ↦ refl ]
     ]
 
-and-false : (app : Bool) (empty : Bool) → empty ≡ false → (app && empty) ≡ false
-and-false true empty is = is
-and-false false empty is = refl
-
 some-opened : (past : List LogChange) (client : ℕ) (name : StreamName) (making : Option StreamAttrs) (second : ℕ) (stream : Stream) → HasSome past stream → HasSome (Opened client name making second ∷ past) stream
 some-opened past client name making second stream some = by_case (same_name stream.name name) where
   by_case : (b : Bool) → (is_application stream.name && is_empty (cond b (put nat_lt client (openers past stream.name)) (openers past stream.name))) ≡ false
-  by_case true = and-false (is_application stream.name) (is_empty (put nat_lt client (openers past stream.name))) (some-put client (openers past stream.name))
+  by_case true = and_right (is_application stream.name) (is_empty (put nat_lt client (openers past stream.name))) (some-put client (openers past stream.name))
   by_case false = some
 
 some-made : (past : List LogChange) (client : ℕ) (name : StreamName) (attrs : StreamAttrs) (second created : ℕ) → HasSome (Opened client name (Some attrs) second ∷ past) (new_stream name attrs created)
 some-made past client name attrs second created =
     ap (λ b. is_application name && is_empty (cond b (put nat_lt client (openers past name)) (openers past name))) ((decides_name name name).1 refl)
-    ∙ and-false (is_application name) (is_empty (put nat_lt client (openers past name))) (some-put client (openers past name))
-
-not-idle : (b : Bool) → not b ≡ true → b ≡ false
-not-idle true is = cc
-not-idle false is = refl
+    ∙ and_right (is_application name) (is_empty (put nat_lt client (openers past name))) (some-put client (openers past name))
 
 left-some : (past : List LogChange) (last second : ℕ) (streams : List Stream) → Each (HasSome past) (living (all_ended (is_ending past) last second streams))
 left-some past last second streams =
     subst (Each (HasSome past)) (sym (filter-all_ended (is_idle past) last second streams))
-    (Each-weaker (λ s. Unit {0} × (not (is_idle past s) ≡ true)) (HasSome past) (λ s is. not-idle (is_idle past s) is.1) (filter (λ s. not (is_idle past s)) (living streams))
+    (Each-weaker (λ s. Unit {0} × (not (is_idle past s) ≡ true)) (HasSome past) (λ s is. not-true (is_idle past s) is.1) (filter (λ s. not (is_idle past s)) (living streams))
     (Each-filter (λ s. Unit {0}) (λ s. not (is_idle past s)) (living streams) (anything (living streams)))) where
       anything : (these : List Stream) → Each (λ (s : Stream). Unit {0}) these
       anything [] = tt
@@ -167,9 +159,6 @@ few-left past last second streams few =
     let less = fewer (λ s. not (is_idle past s)) (living streams) in
     omega (arith, same, less, few)
 
-room-is : (count : ℕ) → nat_le 64 count ≡ false → count < 64
-room-is count is = grind (arith, nat_tests)
-
 pub few-living : (setup : LogSetup) (past : List LogChange) → IsLogHistory setup past → length (filter is_app (living (chronicle setup past).streams)) ≤ 64
 few-living setup [] legal = omega arith
 few-living setup (Began client ∷ past) legal = few-living setup past legal.1
@@ -179,7 +168,7 @@ few-living setup (Opened client name (Some attrs) second ∷ past) legal =
     let made = new_stream name attrs (stamp_after (chronicle setup past).last second) in
     let crowd = (makes-stream setup past client name attrs legal.0.0 legal.0.1).room in
     let counted = sym (count_by-filter lives is_app streams) ∙ count-is streams in
-    let room = room-is (length (filter is_app (living streams))) (ap (nat_le 64) (sym counted) ∙ crowd) in
+    let room = leb-false 64 (length (filter is_app (living streams))) (ap (nat_le 64) (sym counted) ∙ crowd) in
     let parts = ap (λ these. length (filter is_app these)) (filter-append lives streams (made ∷ []))
     ∙ ap length (filter-append is_app (living streams) (made ∷ []))
     ∙ length-append (filter is_app (living streams)) (filter is_app (made ∷ [])) in
@@ -216,14 +205,10 @@ none-same past name first (stream ∷ streams) is none = by_case (same_name stre
             let contradiction : true ≡ false = sym e ∙ other in cc
         other-way false is_not = is_not
 
-both-true : (a b : Bool) → a ≡ true → b ≡ true → (a && b) ≡ true
-both-true true b one two = two
-both-true false b one two = cc
-
 names-differ : (past : List LogChange) (streams : List Stream) → ((name : StreamName) → AtMostOne (λ (stream : Stream). same_name stream.name name) streams) → all_differ have_one_name (map (open_stream past) streams) ≡ true
 names-differ past [] single = refl
 names-differ past (stream ∷ streams) single =
-    both-true (not (list_any (have_one_name (open_stream past stream)) (map (open_stream past) streams))) (all_differ have_one_name (map (open_stream past) streams))
+    and_from (not (list_any (have_one_name (open_stream past stream)) (map (open_stream past) streams))) (all_differ have_one_name (map (open_stream past) streams))
     (ap not (none-same past stream.name (open_stream past stream) streams refl ((single stream.name).0 ((decides_name stream.name stream.name).1 refl))))
     (names-differ past streams (λ name. (single name).1))
 

@@ -2,6 +2,7 @@
 use Rattle.std.proofs.Common.{◌≡◌, ℕ, ◌==◌, nat_lt, nat_le, true, false, not, ◌&&◌, ◌||◌, cond, List, [], ◌∷◌, length, refl, ap, sym, ◌∙◌}
 use Rattle.std.specs.Prelude.{Option, Some, None, option_map, ℤ}
 use Rattle.std.specs.Option.{option_map_or}
+use Rattle.std.proofs.lemmas.Bool.{and_parts}
 use Rattle.client_set.specs.Members.{has}
 use Rattle.client_set.specs.Rising.{put, without}
 use Rattle.client_set.proofs.RisingLaws.{has-put, has-without}
@@ -21,7 +22,7 @@ use Rattle.log_history.specs.Table.{OpenStream, open_stream, table}
 use Rattle.log_history.specs.KeptAnswers.{kept_attrs, has_place, is_of_application, is_crowd, has_opener, is_filled, begin_status, open_status, write_status, close_status, end_status, store_status, making_in}
 use Rattle.stream_config.proofs.Equalities.{decides_name}
 use Rattle.log_history.proofs.FirstLaws.{Each, Each-find, list_any-map, list_any-filter, count_by-map, count_by-filter}
-use Rattle.log_history.proofs.Reaching.{both-true, reached}
+use Rattle.log_history.proofs.Reaching.{reached}
 use Rattle.log_history.proofs.TableLaws.{living, find-living}
 
 -- the list of users has those who use the service
@@ -100,7 +101,7 @@ module _ (setup : LogSetup) (past : List LogChange) where
             ap (has client) (sym ((reached setup past legal).unopened name none)) ∙ has-openers past name client
         by_case (Some stream) found =
             let named = (Each-find (λ (_ : Stream). Unit {0}) (is_living name) (chronicle setup past).streams stream (Each-all (chronicle setup past).streams) found).1 in
-            let same : stream.name ≡ name = (decides_name stream.name name).0 (both-true (lives stream) (same_name stream.name name) named).1 in
+            let same : stream.name ≡ name = (decides_name stream.name name).0 (and_parts (lives stream) (same_name stream.name name) named).1 in
             ap (λ (n : StreamName). has client (openers past n)) same ∙ has-openers past name client
 
   -- the answers

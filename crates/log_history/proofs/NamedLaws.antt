@@ -1,5 +1,5 @@
 -- All names that files of records ever had differ, since their last stamps do.
-use Rattle.std.proofs.Common.{◌≡◌, ◌≢◌, ◌⊎◌, inl, inr, ℕ, suc, zero, ◌+◌, ◌≤◌, Bool, true, false, cond, List, [], ◌∷◌, ◌++◌, drop, map, refl, ap, sym, ◌∙◌, subst, arith, le→leb}
+use Rattle.std.proofs.Common.{◌≡◌, ◌≢◌, ◌⊎◌, inl, inr, ℕ, suc, zero, ◌+◌, ◌≤◌, Bool, true, false, cond, List, [], ◌∷◌, ◌++◌, drop, map, refl, ap, sym, ◌∙◌, subst, arith}
 use Rattle.std.specs.Prelude.{Option, Some, None, option_map, pos, ⊤}
 use Rattle.std.specs.Option.{option_to_list}
 use Rattle.std.proofs.lemmas.Bool.{cases_eq}
@@ -21,6 +21,7 @@ use Rattle.log_history.specs.Stamps.{stamps_of_full, stamps_in, stamps_of_all}
 use Rattle.log_history.specs.AllNames.{NoneTwice, names_of_full, last_names, names_in, names_of_all, names_ever}
 use Rattle.log_history.specs.Files.{log_entries_of}
 use Rattle.log_history.proofs.StampedLaws.{stamped}
+use Rattle.log_history.proofs.StreamLaws.{stamp-is}
 
 -- a name of a file whose last stamp is this one
 pub record IsNamedBy (name : List ℕ) (stamp : ℕ) : Type 0 where
@@ -29,10 +30,7 @@ pub record IsNamedBy (name : List ℕ) (stamp : ℕ) : Type 0 where
   pub last : last_stamp file ≡ pos stamp
   pub is : name ≡ log_name attrs file
 
-pub stamp-is : (stamp : ℕ) → stamp ≤ 20000000100 → IsStamp (pos stamp)
-stamp-is stamp le = (record { le = le→leb 0 stamp (omega arith) }, record { le = le→leb stamp 20000000100 le })
-
-pos-tells : (one other : ℕ) → pos one ≡ pos other → one ≡ other
+pub pos-tells : (one other : ℕ) → pos one ≡ pos other → one ≡ other
 pos-tells one other same = cc
 
 -- a name tells its last stamp

@@ -27,7 +27,8 @@ use Rattle.log_history.proofs.CarryLaws.{length-printed, sizes-printed}
 use Rattle.log_history.proofs.NamedLaws.{file-named}
 use Rattle.log_history.proofs.Reaching.{Passes}
 use Rattle.log_history.proofs.SpotLaws.{concat-slice, index_in, at-index, among-own, sizes-in}
-use Rattle.log_history.proofs.StreamLaws.{full_count, some-records, IsSoundStream}
+use Rattle.log_history.proofs.StreamLaws.{full_count, IsSoundStream}
+use Rattle.stream_layout.proofs.EventLaws.{some_records}
 
 -- the names of a stream's files as they are now
 
@@ -118,7 +119,7 @@ standing-record last stream number file passes sound once first within is =
     let n = records_per_file attrs in
     let records = records_of stream in
     let taken = length-printed attrs 1 stream.records in
-    let some = some-records attrs passes.sizes in
+    let some = some_records attrs passes.sizes in
     let all = all_files stream in
     let index = (spot_of attrs number).file in
     let dropped : ℕ = length all - most_files attrs.action attrs.rotated in

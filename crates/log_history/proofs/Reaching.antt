@@ -1,7 +1,8 @@
 -- What holds of every history: at most one living stream has a name, who has a stream open keeps it living, and attributes pass.
-use Rattle.std.proofs.Common.{◌≡◌, ℕ, ◌==◌, nat_lt, Bool, true, false, ◌&&◌, cond, List, [], ◌∷◌, ◌++◌, refl, ap, sym, ◌∙◌}
+use Rattle.std.proofs.Common.{◌≡◌, ℕ, ◌==◌, nat_lt, Bool, true, false, cond, List, [], ◌∷◌, ◌++◌, refl, ap, sym, ◌∙◌}
 use Rattle.std.specs.Prelude.{Option, Some, None, is_some}
 use Rattle.std.specs.List.{find}
+use Rattle.std.proofs.lemmas.Bool.{and_parts}
 use Rattle.client_set.specs.Rising.{put, without}
 use Rattle.stream_config.specs.Attributes.{kind_of, PassesAttrs}
 use Rattle.stream_config.specs.declared.attrs.StreamAttrs.{StreamAttrs}
@@ -33,10 +34,6 @@ pub record Reached (past : List LogChange) (streams : List Stream) : Type 0 wher
   pub unopened : IsUnopened past streams
   pub passing : Each Passes streams
 
-pub both-true : (a b : Bool) → (a && b) ≡ true → (a ≡ true) × (b ≡ true)
-both-true true b both = (refl, both)
-both-true false b both = cc
-
 empty-is : (clients : List ℕ) → is_empty clients ≡ true → clients ≡ []
 empty-is [] is = refl
 empty-is (client ∷ clients) is = cc
@@ -53,9 +50,9 @@ IsUnopened-ends past second before unopened name none = by_case (find (is_living
   by_case None none_before = unopened name none_before
   by_case (Some stream) was =
       let ended = find-all_ended name (is_ending past) before.last second before.streams stream was none in
-      let idle = both-true (lives stream) (is_idle past stream) ended.0 in
-      let empty = both-true (is_application stream.name) (is_empty (openers past stream.name)) idle.1 in
-      let living = both-true (lives stream) (same_name stream.name name) ended.1 in
+      let idle = and_parts (lives stream) (is_idle past stream) ended.0 in
+      let empty = and_parts (is_application stream.name) (is_empty (openers past stream.name)) idle.1 in
+      let living = and_parts (lives stream) (same_name stream.name name) ended.1 in
       ap (openers past) (sym ((decides_name stream.name name).0 living.1)) ∙ empty-is (openers past stream.name) empty.1
 
 Reached-ends : (past : List LogChange) (second : ℕ) (before : Chronicle) → ((name : StreamName) → AtMostOne (is_living name) before.streams) → IsUnopened past before.streams → Each Passes before.streams → Reached past (after_ends past second before).streams

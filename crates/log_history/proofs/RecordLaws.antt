@@ -34,7 +34,7 @@ use Rattle.log_history.specs.Places.{first_in, is_standing, place_of, place_in, 
 use Rattle.log_history.proofs.FirstLaws.{Each}
 use Rattle.log_history.proofs.Reaching.{Passes, reached}
 use Rattle.log_history.proofs.SoundStreams.{sound}
-use Rattle.log_history.proofs.StreamLaws.{IsSoundStream, some-records}
+use Rattle.log_history.proofs.StreamLaws.{IsSoundStream}
 use Rattle.log_history.proofs.OnceLaws.{AreStamps, middle-alone}
 use Rattle.log_history.proofs.StampedLaws.{stamps-around, stamped}
 use Rattle.log_history.proofs.NamedLaws.{named-in, once-named, names-once, file-named}
@@ -42,6 +42,8 @@ use Rattle.log_history.proofs.FoundLaws.{found_in, found-around, stamps-within, 
 use Rattle.log_history.proofs.CarryLaws.{printed-push, length-printed, sizes-printed, records-pushed, settled-whole, only-of}
 use Rattle.log_history.proofs.FilesLaws.{Each-amid}
 use Rattle.log_history.proofs.PlaceLaws.{names_now, now-once, stands-at, place-stands}
+use Rattle.ais_values.proofs.Basics.{slice_get-append}
+use Rattle.stream_layout.proofs.EventLaws.{some_records}
 
 -- an element of a list, between others
 pub record StandsAmid {X : Type 0} (xs : List X) (index : ℕ) (x : X) : Type 0 where
@@ -89,7 +91,7 @@ found-whole front behind stream last name bytes low are found =
     ∙ settled-whole (found_in behind name) (found_in front name) (entry_at (log_entries_of stream) name) _ _ bytes found
     (only-of front behind stream name (alone front behind stream last low are name bytes found))
 
-length-record : (stream : Stream) (number : ℕ) (bytes : List ℕ) → Passes stream → slice_get (records_of stream) number ≡ Some bytes → length bytes ≡ stream.attrs.record_size
+pub length-record : (stream : Stream) (number : ℕ) (bytes : List ℕ) → Passes stream → slice_get (records_of stream) number ≡ Some bytes → length bytes ≡ stream.attrs.record_size
 length-record stream number bytes passes is =
     let records = records_of stream in
     let sizes = sizes-printed stream.attrs 1 stream.records (omega (arith, passes.sizes.least_record)) in
@@ -125,11 +127,6 @@ abbrev pub HaveGrown : List Stream → List Stream → Type 0
 HaveGrown streams now =
     (index number : ℕ) (bytes : List ℕ) → option_map_or (λ (one : Stream). slice_get (records_of one) number) (slice_get streams index) None ≡ Some bytes → option_map_or (λ (one : Stream). slice_get (records_of one) number) (slice_get now index) None ≡ Some bytes
 
-slice_get-more : {X : Type 0} (xs more : List X) (index : ℕ) (x : X) → slice_get xs index ≡ Some x → slice_get (xs ++ more) index ≡ Some x
-slice_get-more [] more index x is = cc
-slice_get-more (y ∷ xs) more zero x is = is
-slice_get-more (y ∷ xs) more (suc index) x is = slice_get-more xs more index x is
-
 grown-pushed : (streams : List Stream) (stream : Stream) → HaveGrown streams (streams ++ stream ∷ [])
 grown-pushed [] stream index number bytes is = cc
 grown-pushed (first ∷ streams) stream zero number bytes is = is
@@ -140,7 +137,7 @@ grown-record name last second rec [] index number bytes is = cc
 grown-record name last second rec (first ∷ streams) index number bytes is = by_case (is_living name first) index is (grown-record name last second rec streams) where
   by_case : (b : Bool) (at : ℕ) → option_map_or (λ (one : Stream). slice_get (records_of one) number) (slice_get (first ∷ streams) at) None ≡ Some bytes → HaveGrown streams (change_first (is_living name) (with_record last second rec) streams) → option_map_or (λ (one : Stream). slice_get (records_of one) number) (slice_get (cond b (with_record last second rec first ∷ streams) (first ∷ change_first (is_living name) (with_record last second rec) streams)) at) None ≡ Some bytes
   by_case true zero here behind =
-      ap (λ records. slice_get records number) (printed-push first.attrs 1 first.records rec) ∙ slice_get-more (records_of first) _ number bytes here
+      ap (λ records. slice_get records number) (printed-push first.attrs 1 first.records rec) ∙ slice_get-append (records_of first) _ number bytes here
   by_case true (suc at) here behind = here
   by_case false zero here behind = here
   by_case false (suc at) here behind = behind at number bytes here
@@ -267,11 +264,11 @@ stands-in [] index x is = cc
 stands-in (y ∷ xs) zero x is = let same : y ≡ x = cc in inl (sym same)
 stands-in (y ∷ xs) (suc index) x is = inr (stands-in xs index x is)
 
-once-behind : {X : Type 0} (xs ys : List X) → NoneTwice (xs ++ ys) → NoneTwice ys
+pub once-behind : {X : Type 0} (xs ys : List X) → NoneTwice (xs ++ ys) → NoneTwice ys
 once-behind [] ys once = once
 once-behind (x ∷ xs) ys once = once-behind xs ys once.1
 
-named-among : (streams : List Stream) (index : ℕ) (stream : Stream) (name : List ℕ) → slice_get streams index ≡ Some stream → Stands name (names_in stream) → Stands name (names_of_all streams)
+pub named-among : (streams : List Stream) (index : ℕ) (stream : Stream) (name : List ℕ) → slice_get streams index ≡ Some stream → Stands name (names_in stream) → Stands name (names_of_all streams)
 named-among [] index stream name is there = cc
 named-among (first ∷ streams) zero stream name is there =
     let same : first ≡ stream = cc in
@@ -303,7 +300,7 @@ one-number last stream one other place passes once is is' =
     let same_name : log_name attrs is.file ≡ log_name attrs is'.file = ap (λ (p : List ℕ × ℕ). p.0) (is.is ∙ sym is'.is) in
     let same_at : (spot_of attrs one).at ≡ (spot_of attrs other).at = ap (λ (p : List ℕ × ℕ). p.1) (is.is ∙ sym is'.is) in
     let files = same-index attrs (all_files stream) (spot_of attrs one).file (spot_of attrs other).file is.file is'.file (now-once attrs stream.full stream.current stream.ended once) is.at is'.at same_name in
-    numbers-same attrs.action n attrs.record_size attrs.rotated (length stream.records) one other (some-records attrs passes.sizes) (omega (arith, passes.sizes.least_record))
+    numbers-same attrs.action n attrs.record_size attrs.rotated (length stream.records) one other (some_records attrs passes.sizes) (omega (arith, passes.sizes.least_record))
     (leb-true first one parts.0) (ltb-true one (length stream.records) parts.1) (leb-true first other parts'.0) (ltb-true other (length stream.records) parts'.1) files same_at
 
 name-of-place : (stream : Stream) (number : ℕ) (place : List ℕ × ℕ) → HasPlace stream number place → Stands place.0 (names_in stream)

@@ -45,7 +45,7 @@ room-left attrs taken holds halts = less (records_per_file attrs) (ap (λ action
   less : (n : ℕ) → nat_le n taken ≡ false → taken < n
   less n is = grind (arith, nat_tests)
 
-due-grows : (due : Bool) (last second : ℕ) → last ≤ cond due (stamp_after (stamp_after last second) second) last
+pub due-grows : (due : Bool) (last second : ℕ) → last ≤ cond due (stamp_after (stamp_after last second) second) last
 due-grows true last second = omega arith
 due-grows false last second = omega arith
 

@@ -1,8 +1,9 @@
 -- All stamps of a service differ: each new one comes behind all others.
 use Rattle.std.proofs.Common.{◌≡◌, inl, inr, ℕ, ◌<◌, Bool, true, false, ◌&&◌, cond, List, [], ◌∷◌, ◌++◌, refl, ap, sym, ◌∙◌, subst, arith, append_assoc, append-nil}
-use Rattle.std.specs.Prelude.{Option, Some, None, is_none}
+use Rattle.std.specs.Prelude.{Option, Some, None}
 use Rattle.std.specs.Option.{option_map_or, option_to_list}
 use Rattle.std.specs.List.{find}
+use Rattle.std.proofs.lemmas.Bool.{and_parts}
 use Rattle.stream_config.specs.declared.attrs.StreamAttrs.{StreamAttrs}
 use Rattle.stream_config.specs.declared.attrs.StreamName.{StreamName}
 use Rattle.stream_config.specs.declared.attrs.StreamName.TheVariants as name
@@ -13,6 +14,7 @@ use Rattle.log_history.specs.Changes.{LogChange, Began, Opened, Stored, Closed, 
 use Rattle.log_history.specs.Chronicle.{LogSetup, Stream, new_stream, lives, is_living, is_due, is_idle, with_record, last_with_record, with_end, all_ended, last_of_ends, chronicle}
 use Rattle.log_history.specs.Stamps.{stamps_of_full, stamps_in, stamps_of_all}
 use Rattle.log_history.proofs.OnceLaws.{AreStamps, AreNew, inserted, none-new, one-new, two-new}
+use Rattle.ais_values.proofs.Basics.{none_from}
 
 pub stamps_of_full-append : (files more : List (ℕ × ℕ)) → stamps_of_full (files ++ more) ≡ stamps_of_full files ++ stamps_of_full more
 stamps_of_full-append [] more = refl
@@ -74,14 +76,6 @@ stamps-ended closed stream living =
     sym (append_assoc (stamps_of_full stream.full) (stream.current ∷ []) (closed ∷ []))
     ∙ ap (λ (ended : Option ℕ). (stamps_of_full stream.full ++ stream.current ∷ option_to_list ended) ++ closed ∷ []) (sym living)
 
-pub none-ended : (ended : Option ℕ) → is_none ended ≡ true → ended ≡ None
-none-ended None is = refl
-none-ended (Some closed) is = cc
-
-pub first-true : (a b : Bool) → (a && b) ≡ true → a ≡ true
-first-true true b both = refl
-first-true false b both = cc
-
 -- where a stream is found, it stands between others, and it alone is changed
 pub record IsAmid {X : Type 0} (test : X → Bool) (xs : List X) (x : X) : Type 0 where
   pub front : List X
@@ -126,7 +120,7 @@ stored-stamps name last second rec streams None none are =
     subst (λ these. AreStamps last (stamps_of_all these)) (sym (none-amid (is_living name) (with_record last second rec) streams none)) are
 stored-stamps name last second rec streams (Some stream) found are =
     let there = amid (is_living name) streams stream found in
-    let living = none-ended stream.ended (first-true (lives stream) _ there.passes) in
+    let living = none_from stream.ended (and_parts (lives stream) _ there.passes).0 in
     subst (λ these. AreStamps (last_with_record last second stream) (stamps_of_all these)) (sym (there.changed (with_record last second rec)))
     (changed last (last_with_record last second stream) there.front there.behind stream (with_record last second rec stream)
     (stamps_by_record (is_due stream) last second) (stamps-recorded last second rec stream living) (new-by-record (is_due stream) last second)
@@ -144,7 +138,7 @@ ended-stamps idle second last front (stream ∷ streams) are =
       by_case true is behind =
           let later = stamp_after last second in
           let now = with_end later stream in
-          let living = none-ended stream.ended (first-true (lives stream) (idle stream) is) in
+          let living = none_from stream.ended (and_parts (lives stream) (idle stream) is).0 in
           let here = changed last later front streams stream now (later ∷ []) (stamps-ended later stream living) (one-new last later (omega arith)) are in
           subst (λ these. AreStamps (last_of_ends (λ s. lives s && idle s) later second streams) (stamps_of_all these)) (sym (one-more front (all_ended (λ s. lives s && idle s) later second streams) now))
           (behind later (front ++ now ∷ []) (subst (λ these. AreStamps later (stamps_of_all these)) (one-more front streams now) here))

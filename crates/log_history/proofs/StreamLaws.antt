@@ -1,10 +1,10 @@
 -- What holds of every stream of a history: its stamps rise, and it has as many files as its records ask for.
-use Rattle.std.proofs.Common.{◌≡◌, ℕ, zero, suc, ◌+◌, ◌-◌, ◌/◌, ◌<◌, ◌≤◌, Bool, true, false, ◌&&◌, cond, List, [], ◌∷◌, ◌++◌, length, drop, map, refl, ap, sym, ◌∙◌, subst, arith, le→leb, length-append}
-use Rattle.std.specs.Prelude.{Option, None, option_map, pos, int_lt, ⊤}
+use Rattle.std.proofs.Common.{◌≡◌, ℕ, zero, suc, ◌+◌, ◌-◌, ◌/◌, ◌<◌, ◌≤◌, Bool, true, false, cond, List, [], ◌∷◌, ◌++◌, length, drop, map, refl, ap, sym, ◌∙◌, subst, arith, le→leb, length-append, leb→le}
+use Rattle.std.specs.Prelude.{Option, None, option_map, pos, int_lt, ⊤, ℤ, negsuc}
 use Rattle.std.specs.List.{AllByRecursion}
-use Rattle.std.proofs.lemmas.Bool.{lt-ltb}
+use Rattle.std.proofs.lemmas.Bool.{lt-ltb, and_from}
 use Rattle.std.proofs.lemmas.List.{length-map, drop-append-le, drop-map, length-drop}
-use Rattle.std.proofs.lemmas.Nat.{le-div}
+use Rattle.std.proofs.lemmas.Int.{ints}
 use Rattle.stream_config.specs.declared.attrs.FullAction.{FullAction}
 use Rattle.stream_config.specs.declared.attrs.FullAction.TheVariants.{Wrap, Halt, Rotate}
 use Rattle.stream_config.specs.declared.attrs.StreamAttrs.{StreamAttrs}
@@ -19,6 +19,9 @@ use Rattle.record_print.specs.declared.record.LogRecord.{LogRecord}
 use Rattle.log_history.specs.Chronicle.{Stream, is_due, with_record, last_with_record, with_end, last_of_ends, closed_file}
 use Rattle.log_history.specs.Table.{state_of}
 use Rattle.log_history.specs.Stamps.{IsStampUpTo}
+use Rattle.stream_layout.specs.Carrying.{IsStamp}
+use Rattle.log_history.proofs.FileLists.{some-most}
+use Rattle.stream_layout.proofs.EventLaws.{some_records}
 
 -- stamps of files that were closed, and of the one behind them
 
@@ -52,20 +55,13 @@ files_to files current = map closed_file files ++ open_file (pos current) ∷ []
 int-less : (a b : ℕ) → a < b → int_lt (pos a) (pos b) ≡ true
 int-less a b less = lt-ltb a b less
 
-three : (a b c : Bool) → a ≡ true → b ≡ true → c ≡ true → (a && (b && c)) ≡ true
-three true b c one two last = both b c two last where
-  both : (p q : Bool) → p ≡ true → q ≡ true → (p && q) ≡ true
-  both true q first second = second
-  both false q first second = cc
-three false b c one two last = cc
-
 rises-files : (files : List (ℕ × ℕ)) (current : ℕ) → RisesTo files current → rises (stamps_of (files_to files current)) ≡ true
 rises-files [] current up = refl
 rises-files (file ∷ []) current up =
-    three (int_lt (pos file.0) (pos file.1)) (int_lt (pos file.1) (pos current)) true (int-less file.0 file.1 up.0) (int-less file.1 current up.1) refl
+    and_from (int_lt (pos file.0) (pos file.1)) _ (int-less file.0 file.1 up.0) (and_from (int_lt (pos file.1) (pos current)) true (int-less file.1 current up.1) refl)
 rises-files (file ∷ next ∷ files) current up =
-    three (int_lt (pos file.0) (pos file.1)) (int_lt (pos file.1) (pos next.0)) (rises (stamps_of (files_to (next ∷ files) current))) (int-less file.0 file.1 up.0) (int-less file.1 next.0 up.1)
-    (rises-files (next ∷ files) current up.2)
+    and_from (int_lt (pos file.0) (pos file.1)) _ (int-less file.0 file.1 up.0)
+    (and_from (int_lt (pos file.1) (pos next.0)) (rises (stamps_of (files_to (next ∷ files) current))) (int-less file.1 next.0 up.1) (rises-files (next ∷ files) current up.2))
 
 last-open : (files : List (ℕ × ℕ)) (current : ℕ) → is_last_open (files_to files current) ≡ true
 last-open [] current = refl
@@ -77,8 +73,16 @@ created-below last [] current up le = le
 created-below last (file ∷ files) current up le =
     let later = created-below last files current up.2 le in omega (arith, up.0, up.1, later)
 
-stamp-up-to : (last stamp : ℕ) → stamp ≤ last → IsStampUpTo (pos last) (pos stamp)
+pub stamp-up-to : (last stamp : ℕ) → stamp ≤ last → IsStampUpTo (pos last) (pos stamp)
 stamp-up-to last stamp le = record { from = record { le = le→leb 0 stamp (omega arith) }; to = record { le = le→leb stamp last le } }
+
+pub up-to-lt : (last next : ℕ) (stamp : ℤ) → last < next → IsStampUpTo (pos last) stamp → int_lt stamp (pos next) ≡ true
+up-to-lt last next (pos n) less is =
+    let le : n ≤ last = leb→le n last is.to.le in grind (arith, ints)
+up-to-lt last next (negsuc n) less is = absurd is.from.le
+
+pub stamp-is : (stamp : ℕ) → stamp ≤ 20000000100 → IsStamp (pos stamp)
+stamp-is stamp le = (record { le = le→leb 0 stamp (omega arith) }, record { le = le→leb stamp 20000000100 le })
 
 stamps-up-to : (last : ℕ) (files : List (ℕ × ℕ)) (current : ℕ) → RisesTo files current → current ≤ last → AllByRecursion (IsStampUpTo (pos last)) (stamps_of (files_to files current))
 stamps-up-to last [] current up le = (stamp-up-to last current le, tt)
@@ -108,12 +112,6 @@ pub count-none : (action : FullAction) (n : ℕ) → 0 ≡ full_count action n 0
 count-none Wrap n = refl
 count-none Halt n = refl
 count-none Rotate n = omega arith
-
-pub some-records : (attrs : StreamAttrs) → IsSized attrs → 0 < records_per_file attrs
-some-records attrs sized =
-    let low = sized.least_record in
-    let high = sized.least_file in
-    le-div 1 attrs.max_file attrs.record_size (omega arith) (omega arith)
 
 -- what holds of a stream of a history, by the last stamp
 pub record IsSoundStream (last : ℕ) (stream : Stream) : Type 0 where
@@ -152,7 +150,7 @@ pub sound-recorded : (last second : ℕ) (rec : LogRecord) (stream : Stream) →
 sound-recorded last second rec stream sized room is =
     let n = records_per_file stream.attrs in
     let longer : length (stream.records ++ rec ∷ []) ≡ length stream.records + 1 = length-append stream.records (rec ∷ []) in
-    let now = recorded stream.attrs.action n (length stream.records) last second stream.full stream.current (is_due stream) (some-records stream.attrs sized) refl is.rising is.upto is.count in
+    let now = recorded stream.attrs.action n (length stream.records) last second stream.full stream.current (is_due stream) (some_records stream.attrs sized) refl is.rising is.upto is.count in
     record {
       rising = now.rising;
       upto = now.upto;
@@ -169,11 +167,6 @@ last-grows ends last second (stream ∷ streams) =
       by_case false ended stays = stays
 
 -- the files that stand of a stream that lives
-
-some-most : (action : FullAction) (rotated : ℕ) → 1 ≤ rotated → 1 ≤ most_files action rotated
-some-most Wrap rotated some = omega arith
-some-most Halt rotated some = omega arith
-some-most Rotate rotated some = some
 
 abbrev gone : StreamAttrs → List (ℕ × ℕ) → ℕ
 gone attrs full = length full + 1 - most_files attrs.action attrs.rotated

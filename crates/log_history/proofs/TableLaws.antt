@@ -1,6 +1,6 @@
 -- What the service keeps after one more change is what the change makes of what it kept before.
 use Rattle.std.proofs.Common.{◌≡◌, ℕ, ◌+◌, ◌≤◌, ◌==◌, nat_lt, Bool, true, false, not, ◌&&◌, cond, List, [], ◌∷◌, ◌++◌, length, map, refl, ap, sym, ◌∙◌, length-append}
-use Rattle.std.specs.Prelude.{Option, Some, None, option_map, is_none, filter, pos}
+use Rattle.std.specs.Prelude.{Option, Some, None, option_map, filter, pos}
 use Rattle.std.specs.Option.{option_map_or}
 use Rattle.std.specs.List.{find}
 use Rattle.std.proofs.lemmas.List.{map-append}
@@ -27,6 +27,7 @@ use Rattle.log_history.proofs.AnswerLaws.{makes-stream}
 use Rattle.log_history.proofs.EndLaws.{filter-all_ended}
 use Rattle.log_history.proofs.Reaching.{Passes, reached}
 use Rattle.log_history.proofs.FileLists.{standing-changed, standing-one}
+use Rattle.ais_values.proofs.Basics.{none_from}
 
 same_table : (last last' : ℕ) (users users' : List ℕ) (streams streams' : List OpenStream) → last ≡ last' → users ≡ users' → streams ≡ streams' → let kept : LogTable = record { last = last; users = users; streams = streams } in let kept' : LogTable = record { last = last'; users = users'; streams = streams' } in kept ≡ kept'
 same_table last last' users users' streams streams' one two three =
@@ -114,10 +115,6 @@ pub state-recorded : (last second : ℕ) (rec : LogRecord) (stream : Stream) →
 state-recorded last second rec stream some living =
     ap (λ (kept : OpenStream). kept.state) (stored-stream [] [] last second rec stream refl some living)
 
-none-ended : (ended : Option ℕ) → is_none ended ≡ true → ended ≡ None
-none-ended None is = refl
-none-ended (Some closed) is = cc
-
 -- the streams once a record is stored
 stored-streams : (past past' : List LogChange) (name : StreamName) (last second : ℕ) (rec : LogRecord) (streams : List Stream) → ((other : StreamName) → openers past' other ≡ openers past other) → Each Passes streams → map (open_stream past') (living (change_first (is_living name) (with_record last second rec) streams)) ≡ change_first (is_named name) (with_stored last second rec) (map (open_stream past) (living streams))
 stored-streams past past' name last second rec streams same passing =
@@ -134,7 +131,7 @@ stored-streams past past' name last second rec streams same passing =
 
       stored-again : (stream : Stream) → Passes stream × (lives stream ≡ true) → open_stream past' (with_record last second rec stream) ≡ with_stored last second rec (open_stream past' stream)
       stored-again stream holds =
-          stored-stream past' past' last second rec stream refl holds.0.some_rotated (none-ended stream.ended holds.1)
+          stored-stream past' past' last second rec stream refl holds.0.some_rotated (none_from stream.ended holds.1)
 
 -- the last stamp once a record is stored
 stored-last : (past : List LogChange) (name : StreamName) (last second : ℕ) (streams : List Stream) → option_map_or (last_with_record last second) (find (is_living name) streams) last ≡ option_map_or (λ (stream : OpenStream). last_after_due last second stream.state) (find (is_named name) (map (open_stream past) (living streams))) last

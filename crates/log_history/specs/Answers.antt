@@ -1,5 +1,6 @@
 -- Words of public clauses: the answers of the log service, each by a table whose first row that holds decides.
-use Rattle.std.specs.Prelude.{ℕ, nat_lt, nat_le, Bool, true, false, not, ◌&&◌, List, [], ◌∷◌, length, Option, Some, None, option_map, unwrap_or, is_some, is_none, ℤ}
+use Rattle.std.specs.Prelude.{ℕ, nat_lt, nat_le, Bool, true, false, not, ◌&&◌, List, [], ◌∷◌, length, Option, Some, None, option_map, unwrap_or, is_some}
+use Rattle.std.specs.Prelude.{is_none, ℤ}
 use Rattle.std.specs.Option.{option_map_or}
 use Rattle.std.specs.List.{find, list_any, count_by}
 use Rattle.ais_values.specs.FirstRow.{first_row}

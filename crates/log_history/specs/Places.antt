@@ -1,5 +1,6 @@
 -- Words of public clauses: the records of a history, and where they stand among its files.
-use Rattle.std.specs.Prelude.{◌≡◌, ℕ, ◌+◌, ◌-◌, ◌*◌, ◌/◌, nat_lt, nat_le, Bool, ◌&&◌, if◌then◌else◌, List, length, take, drop, Option, Some, None, option_map, slice_get}
+use Rattle.std.specs.Prelude.{◌≡◌, ℕ, ◌+◌, ◌-◌, ◌*◌, ◌/◌, nat_lt, nat_le, Bool, ◌&&◌, if◌then◌else◌, List, length, take, drop, Option, Some, None, option_map}
+use Rattle.std.specs.Prelude.{slice_get}
 use Rattle.std.specs.Option.{option_map_or}
 use Rattle.std.specs.FinMap.{get}
 use Rattle.disk_model.specs.Disk.{File, Files}
@@ -31,7 +32,8 @@ is_standing stream number =
 abbrev pub place_of : Stream → (number : ℕ) → Option (List ℕ × ℕ)
 place_of stream number =
     if is_standing stream number
-    then option_map (λ (file : LogFile). (log_name stream.attrs file, (spot_of stream.attrs number).at)) (slice_get (all_files stream) (spot_of stream.attrs number).file)
+    then option_map (λ (file : LogFile). (log_name stream.attrs file, (spot_of stream.attrs number).at))
+    (slice_get (all_files stream) (spot_of stream.attrs number).file)
     else None
 
 -- the same of a history, its streams numbered from 0 on in order of creation

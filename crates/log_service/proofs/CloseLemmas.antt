@@ -2,6 +2,7 @@
 use Rattle.std.proofs.Common.{◌≡◌, ℕ, Bool, true, false, cond, List, [], ◌∷◌, refl, ap, sym, ◌∙◌, subst}
 use Rattle.std.specs.Prelude.{Some, None, ℤ, pos, ◌≤ℤ◌, unsigned_abs}
 use Rattle.std.specs.List.{find, list_any}
+use Rattle.std.proofs.lemmas.Bool.{or_parts}
 use Rattle.stream_config.specs.declared.attrs.StreamName.{StreamName}
 use Rattle.stream_config.specs.declared.event.StreamEvent.{StreamEvent}
 use Rattle.stream_config.specs.declared.event.StreamEvent.TheVariants.{Ended}
@@ -9,8 +10,8 @@ use Rattle.stream_config.specs.Stamps.{stamp_after}
 use Rattle.log_history.specs.Table.{OpenStream, is_named, has_nobody, without_opener, closed_streams, last_after_ends, ends_in}
 use Rattle.log_service.specs.Moments.{second_of}
 use Rattle.log_service.specs.Changing.{AreEndsIn, last_of_end, end_of}
-use Rattle.log_service.proofs.StreamLemmas.{pos-unsigned_abs}
-use Rattle.log_service.proofs.EndLemmas.{both-false, none-last, none-ends}
+use Rattle.log_service.proofs.EndLemmas.{none-last, none-ends}
+use Rattle.ais_values.proofs.Basics.{pos-unsigned_abs}
 
 -- there is no such stream, and none ends
 nowhere-closed : (client : ℕ) (name : StreamName) (streams : List OpenStream) → find (is_named name) streams ≡ None → closed_streams client name streams ≡ streams
@@ -31,7 +32,7 @@ closes-nowhere last now client name streams stamp events from stamp_is events_ar
 found-last : (last second : ℕ) (client : ℕ) (name : StreamName) (streams : List OpenStream) (found : OpenStream) → list_any has_nobody streams ≡ false → find (is_named name) streams ≡ Some found → last_after_ends last second (closed_streams client name streams) ≡ cond (has_nobody (without_opener client found)) (stamp_after last second) last
 found-last last second client name [] found busy is = absurd cc
 found-last last second client name (stream ∷ streams) found busy is =
-    let both = both-false (has_nobody stream) (list_any has_nobody streams) busy in
+    let both = or_parts (has_nobody stream) (list_any has_nobody streams) busy in
     by_case (is_named name stream) is both (found-last last second client name streams found both.1) where
       by_case : (b : Bool) → cond b (Some stream) (find (is_named name) streams) ≡ Some found → (has_nobody stream ≡ false) × (list_any has_nobody streams ≡ false) → (find (is_named name) streams ≡ Some found → last_after_ends last second (closed_streams client name streams) ≡ cond (has_nobody (without_opener client found)) (stamp_after last second) last) → last_after_ends last second (cond b (without_opener client stream ∷ streams) (stream ∷ closed_streams client name streams)) ≡ cond (has_nobody (without_opener client found)) (stamp_after last second) last
       by_case true here both further =
@@ -45,7 +46,7 @@ found-last last second client name (stream ∷ streams) found busy is =
 found-ends : (last second : ℕ) (client : ℕ) (name : StreamName) (streams : List OpenStream) (found : OpenStream) → list_any has_nobody streams ≡ false → find (is_named name) streams ≡ Some found → ends_in last second (closed_streams client name streams) ≡ cond (has_nobody (without_opener client found)) (Ended found.state (pos (stamp_after last second)) ∷ []) []
 found-ends last second client name [] found busy is = absurd cc
 found-ends last second client name (stream ∷ streams) found busy is =
-    let both = both-false (has_nobody stream) (list_any has_nobody streams) busy in
+    let both = or_parts (has_nobody stream) (list_any has_nobody streams) busy in
     by_case (is_named name stream) is both (found-ends last second client name streams found both.1) where
       by_case : (b : Bool) → cond b (Some stream) (find (is_named name) streams) ≡ Some found → (has_nobody stream ≡ false) × (list_any has_nobody streams ≡ false) → (find (is_named name) streams ≡ Some found → ends_in last second (closed_streams client name streams) ≡ cond (has_nobody (without_opener client found)) (Ended found.state (pos (stamp_after last second)) ∷ []) []) → ends_in last second (cond b (without_opener client stream ∷ streams) (stream ∷ closed_streams client name streams)) ≡ cond (has_nobody (without_opener client found)) (Ended found.state (pos (stamp_after last second)) ∷ []) []
       by_case true here both further =

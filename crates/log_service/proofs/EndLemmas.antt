@@ -1,14 +1,13 @@
 -- Streams that end when a client leaves them.
-use Rattle.std.proofs.Common.{◌≡◌, ℕ, ◌+◌, ◌<◌, ◌≤◌, suc, Bool, true, false, ◌||◌, cond, List, [], ◌∷◌, ◌++◌, length, get_or, drop, append_assoc, append-nil, w64, subst, refl, ap, sym, ◌∙◌, arith}
+use Rattle.std.proofs.Common.{◌≡◌, ℕ, ◌+◌, ◌<◌, ◌≤◌, suc, Bool, true, false, cond, List, [], ◌∷◌, ◌++◌, length, get_or, drop, append_assoc, append-nil, w64, subst, refl, ap, sym, ◌∙◌, arith}
 use Rattle.std.proofs.Math.Seq.{drop-cons}
 use Rattle.std.proofs.Math.ListN.{drop_of_length-le}
 use Rattle.std.proofs.Math.Dec.{T}
-use Rattle.std.proofs.lemmas.Bool.{leb-true, le-leb}
+use Rattle.std.proofs.lemmas.Bool.{leb-true, le-leb, or_parts}
 use mir.Val.{SFits}
 use Rattle.stream_config.specs.declared.state.StreamState.{StreamState}
 use Rattle.stream_config.specs.Fit.{changes_file}
 use Rattle.stream_config.specs.Sizes.{records_per_file}
-use Rattle.log_service.proofs.StreamLemmas.{pos-unsigned_abs}
 use Rattle.std.specs.Prelude.{ℤ, pos, negsuc, ◌≤ℤ◌, unsigned_abs}
 use Rattle.std.specs.List.{list_any}
 use Rattle.stream_config.specs.declared.event.StreamEvent.{StreamEvent}
@@ -17,22 +16,19 @@ use Rattle.stream_config.specs.Stamps.{stamp_after}
 use Rattle.log_history.specs.Table.{OpenStream, has_nobody, without_opener, last_after_due, last_after_ends, ends_in, left_streams}
 use Rattle.log_service.specs.Moments.{IsTimeOfCall, IsMoment, second_of}
 use Rattle.log_service.specs.Changing.{last_of_end, end_of, last_of_endings, endings_of}
-
-pub both-false : (a b : Bool) → (a || b) ≡ false → (a ≡ false) × (b ≡ false)
-both-false true b is = absurd cc
-both-false false b is = (refl, is)
+use Rattle.ais_values.proofs.Basics.{true_from_T, pos-unsigned_abs}
 
 -- where nobody is missing, none ends
 pub none-last : (last second : ℕ) (streams : List OpenStream) → list_any has_nobody streams ≡ false → last_after_ends last second streams ≡ last
 none-last last second [] busy = refl
 none-last last second (stream ∷ streams) busy =
-    let both = both-false (has_nobody stream) (list_any has_nobody streams) busy in
+    let both = or_parts (has_nobody stream) (list_any has_nobody streams) busy in
     ap (λ b. last_after_ends (cond b (stamp_after last second) last) second streams) both.0 ∙ none-last last second streams both.1
 
 pub none-ends : (last second : ℕ) (streams : List OpenStream) → list_any has_nobody streams ≡ false → ends_in last second streams ≡ []
 none-ends last second [] busy = refl
 none-ends last second (stream ∷ streams) busy =
-    let both = both-false (has_nobody stream) (list_any has_nobody streams) busy in
+    let both = or_parts (has_nobody stream) (list_any has_nobody streams) busy in
     ap (λ b. cond b (Ended stream.state (pos (stamp_after last second)) ∷ ends_in (stamp_after last second) second streams) (ends_in last second streams)) both.0
     ∙ none-ends last second streams both.1
 
@@ -52,10 +48,6 @@ pub record AreEndings (last now : ℤ) (client : ℕ) (streams : List OpenStream
   pub stamp : last_of_endings stamped now client (drop left streams) ≡ last_of_endings last now client streams
   pub ends : events ++ endings_of stamped now client (drop left streams) ≡ endings_of last now client streams
 
-passed : (b : Bool) → T b → b ≡ true
-passed true h = refl
-passed false h = absurd h
-
 pub pos-from : (n : ℕ) → pos 0 ≤ℤ pos n
 pos-from n = record { le = subst (λ (b : Bool). T b) (sym (le-leb 0 n (omega arith))) tt }
 
@@ -63,7 +55,7 @@ pub pos-below : (n most : ℕ) → n ≤ most → pos n ≤ℤ pos most
 pos-below n most le = record { le = subst (λ (b : Bool). T b) (sym (le-leb n most le)) tt }
 
 pub abs-bound : (z : ℤ) (most : ℕ) → pos 0 ≤ℤ z → z ≤ℤ pos most → unsigned_abs z ≤ most
-abs-bound (pos n) most from to = leb-true n most (passed _ to.le)
+abs-bound (pos n) most from to = leb-true n most (true_from_T _ to.le)
 abs-bound (negsuc n) most from to = absurd from.le
 
 pub stamp-bound : (last second most : ℕ) (b : Bool) → last ≤ most → second ≤ 9000000000 → 9000000000 ≤ most → cond b (stamp_after last second) last ≤ most + 1
@@ -71,7 +63,7 @@ stamp-bound last second most true low early far = omega arith
 stamp-bound last second most false low early far = omega arith
 
 pub second-bound : (now : ℤ) → IsTimeOfCall now → second_of now ≤ 9000000000
-second-bound (pos n) time = let most : n ≤ 9000000000000000000 = leb-true n 9000000000000000000 (passed _ time.to.le) in omega arith
+second-bound (pos n) time = let most : n ≤ 9000000000000000000 = leb-true n 9000000000000000000 (true_from_T _ time.to.le) in omega arith
 second-bound (negsuc n) time = absurd time.from.le
 
 pub AreEndings-more : (last now : ℤ) (client : ℕ) (streams : List OpenStream) (left : ℕ) (stream : OpenStream) (stamped new : ℤ) (events more : List StreamEvent) → IsTimeOfCall now → left < length streams → stream ≡ get_or streams left stream → AreEndings last now client streams left stamped events → new ≡ pos (last_of_end stamped now client stream) → more ≡ events ++ end_of stamped now client stream → AreEndings last now client streams (left + 1) new more

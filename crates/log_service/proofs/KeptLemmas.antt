@@ -4,6 +4,7 @@ use Rattle.std.specs.Prelude.{ℤ, pos, negsuc, ◌≤ℤ◌, unsigned_abs, nat_
 use Rattle.std.specs.List.{list_any, count_by, fold}
 use mir.Val.{SFits}
 use Rattle.std.proofs.lemmas.Bool.Decides.{nat_tests}
+use Rattle.std.proofs.lemmas.Bool.{or_parts}
 use Rattle.stream_config.specs.Stamps.{stamp_after}
 use Rattle.stream_config.specs.declared.event.StreamEvent.{StreamEvent}
 use Rattle.log_history.specs.Firsts.{change_first}
@@ -12,7 +13,7 @@ use Rattle.log_history.specs.KeptAnswers.{is_of_application}
 use Rattle.log_service.specs.Moments.{IsTimeOfCall, IsMoment, second_of}
 use Rattle.log_service.specs.Changing.{EndsIn}
 use Rattle.log_service.specs.State.{IsCallTime, applications_in, others_in, AreFew}
-use Rattle.log_service.proofs.EndLemmas.{both-false, pos-from, pos-below, abs-bound, second-bound, stamp-bound}
+use Rattle.log_service.proofs.EndLemmas.{pos-from, pos-below, abs-bound, second-bound, stamp-bound}
 
 -- a change that leaves a stream an application's or not leaves the numbers
 module _ (change : OpenStream → OpenStream) (keeps : (stream : OpenStream) → is_of_application (change stream) ≡ is_of_application stream) where
@@ -131,7 +132,7 @@ busy-kept (stream ∷ streams) =
 pub busy-changed : (change : OpenStream → OpenStream) → ((stream : OpenStream) → has_nobody stream ≡ false → has_nobody (change stream) ≡ false) → (test : OpenStream → Bool) (streams : List OpenStream) → list_any has_nobody streams ≡ false → list_any has_nobody (change_first test change streams) ≡ false
 busy-changed change keeps test [] busy = refl
 busy-changed change keeps test (stream ∷ streams) busy =
-    let both = both-false (has_nobody stream) (list_any has_nobody streams) busy in
+    let both = or_parts (has_nobody stream) (list_any has_nobody streams) busy in
     elim (test stream) as (λ b. list_any has_nobody (cond b (change stream ∷ streams) (stream ∷ change_first test change streams)) ≡ false) [
       | true ↦ ap (λ b. b || list_any has_nobody streams) (keeps stream both.0) ∙ both.1
       | false ↦ ap (λ b. b || list_any has_nobody (change_first test change streams)) both.0 ∙ busy-changed change keeps test streams both.1
@@ -188,7 +189,7 @@ AreFew-pushed streams stream is room few =
 pub busy-pushed : (streams : List OpenStream) (stream : OpenStream) → list_any has_nobody streams ≡ false → has_nobody stream ≡ false → list_any has_nobody (streams ++ stream ∷ []) ≡ false
 busy-pushed [] stream busy opened = ap (λ b. b || false) opened
 busy-pushed (one ∷ streams) stream busy opened =
-    let both = both-false (has_nobody one) (list_any has_nobody streams) busy in
+    let both = or_parts (has_nobody one) (list_any has_nobody streams) busy in
     ap (λ b. b || list_any has_nobody (streams ++ stream ∷ [])) both.0 ∙ busy-pushed streams stream both.1 opened
 
 -- a call can come at this moment

@@ -4,7 +4,7 @@ mod EndLemmas
 mod StoreLemmas
 mod CloseLemmas
 mod KeptLemmas
-mod WriteLemmas
+pub mod WriteLemmas
 mod OpenLemmas
 mod BeginLemmas
 pub mod FewLemmas

@@ -1,11 +1,11 @@
 -- What an ok open tells, and what it makes of the state.
-use Rattle.std.proofs.Common.{◌≡◌, ℕ, nat_lt, nat_le, Bool, true, false, not, ◌&&◌, cond, List, [], ◌∷◌, w64, refl, ap, sym, ◌∙◌, subst, arith}
+use Rattle.std.proofs.Common.{◌≡◌, ℕ, nat_le, Bool, true, false, not, ◌&&◌, List, [], ◌∷◌, w64, refl, ap, sym, ◌∙◌, subst, arith}
 use Rattle.std.specs.Prelude.{Option, Some, None, option_map, ℤ, pos, ◌≤ℤ◌, unsigned_abs}
 use Rattle.std.specs.Option.{option_map_or, ForSome}
 use Rattle.std.specs.List.{list_any}
+use Rattle.std.proofs.lemmas.Bool.{and_right}
 use mir.Val.{SFits}
 use Rattle.client_set.specs.Members.{has}
-use Rattle.client_set.specs.Rising.{put}
 use Rattle.ais_values.specs.declared.status.Status.TheVariants as status
 use Rattle.stream_config.specs.Attributes.{kind_of, PassesAttrs}
 use Rattle.stream_config.specs.AttributeTests.{passes_attrs}
@@ -17,7 +17,6 @@ use Rattle.stream_config.proofs.AttributeLaws.{decides_attrs}
 use Rattle.log_history.specs.Names.{is_application}
 use Rattle.log_history.specs.Answers.{answer, open_rows}
 use Rattle.log_history.specs.Changes.{Opened}
-use Rattle.log_history.specs.Chronicle.{is_empty}
 use Rattle.log_history.specs.Table.{OpenStream, LogTable, is_named, with_opener, has_nobody, opened_stream}
 use Rattle.log_history.specs.KeptAnswers.{kept_stream, has_place, is_crowd, open_status, making_in}
 use Rattle.log_service.specs.Moments.{IsTimeOfCall, IsMoment, second_of}
@@ -25,6 +24,7 @@ use Rattle.log_service.specs.State.{Made, AreFew, table_with}
 use Rattle.log_service.specs.Changing.{OpensIn}
 use Rattle.log_service.proofs.EndLemmas.{pos-from, abs-bound, second-bound, stamp-bound}
 use Rattle.log_service.proofs.KeptLemmas.{AreFew-changed, AreFew-pushed, busy-changed, busy-pushed, count-applications, moment-fits}
+use Rattle.log_history.proofs.FitTableLaws.{some-put}
 
 -- an ok open that makes a stream: it is an application's, its attributes pass, and fewer than 64 live
 pub record MakesNew (streams : List OpenStream) (name : StreamName) (attrs : StreamAttrs) : Type 0 where
@@ -70,22 +70,9 @@ made-opened last now client name (Some attrs) old new users kept opened stamp ev
       done = events_are ∙ opens.events;
     })
 
--- who was put into a list is there
-full-put : (client : ℕ) (clients : List ℕ) → is_empty (put nat_lt client clients) ≡ false
-full-put client [] = refl
-full-put client (other ∷ others) =
-    elim (nat_lt client other) as (λ b. is_empty (cond b (client ∷ other ∷ others) (cond (nat_lt other client) (other ∷ put nat_lt client others) (client ∷ others))) ≡ false) [
-      | true ↦ refl
-      | false ↦ elim (nat_lt other client) as (λ b. is_empty (cond b (other ∷ put nat_lt client others) (client ∷ others)) ≡ false) [ true ↦ refl | false ↦ refl ]
-    ]
-
-not-both : (b : Bool) → (b && false) ≡ false
-not-both true = refl
-not-both false = refl
-
 joined-busy : (client : ℕ) (stream : OpenStream) → has_nobody (with_opener client stream) ≡ false
 joined-busy client stream =
-    ap (λ b. is_application stream.state.name && b) (full-put client stream.openers) ∙ not-both (is_application stream.state.name)
+    ap (λ b. is_application stream.state.name && b) (some-put client stream.openers) ∙ and_right (is_application stream.state.name) false refl
 
 -- the state stays as it is kept
 pub record IsKeptOpen (stamp : ℤ) (new : List OpenStream) : Type 0 where
@@ -117,5 +104,5 @@ kept-open last now client name (Some attrs) old new opened moment few busy makes
       fits = made-fits last now opened.0 moment stamp_is;
       from = subst (λ (z : ℤ). pos 0 ≤ℤ z) (sym stamp_is) (pos-from _);
       few = subst (λ (streams : List OpenStream). AreFew streams) (sym opens.streams) (AreFew-pushed old stream told.application (sym (ap (nat_le 64) (count-applications old)) ∙ told.room) few);
-      busy = ap (list_any has_nobody) opens.streams ∙ busy-pushed old stream busy (not-both (is_application name));
+      busy = ap (list_any has_nobody) opens.streams ∙ busy-pushed old stream busy (and_right (is_application name) false refl);
     }

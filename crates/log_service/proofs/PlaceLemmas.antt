@@ -1,6 +1,6 @@
 -- The first element that passes a test, by its place.
 use Rattle.std.proofs.Common.{◌≡◌, ℕ, ◌+◌, ◌<◌, ◌≤◌, suc, zero, Bool, true, false, not, cond, ltb, List, [], ◌∷◌, ◌++◌, length, get_or, set, take, drop, map, append-nil, subst, refl, ap, sym, ◌∙◌, arith}
-use Rattle.std.specs.Prelude.{Some, None, Result, Ok, Err, OnOk, OnErr}
+use Rattle.std.specs.Prelude.{Some, None}
 use Rattle.std.proofs.Math.ListN.{drop_of_length-le}
 use Rattle.std.proofs.lemmas.List.{take_all}
 use Rattle.std.specs.List.{find, position, position_or_len}
@@ -73,33 +73,11 @@ module _ {X : Type 0} (test : X → Bool) where
   pub found-at : (xs : List X) (place : ℕ) (read : X) → IsFirst test xs place → read ≡ get_or xs place read → find test xs ≡ Some read
   found-at xs place read first is = first.found read ∙ ap Some (sym is)
 
--- what holds with an `Ok` also holds where it follows
-pub on-ok : {T E : Type 0} {P Q : Type 0} (result : Result T E) → (P → Q) → OnOk result P → OnOk result Q
-on-ok (Ok value) leads holds = leads holds
-on-ok (Err error) leads holds = tt
-
-pub on-err : {T E : Type 0} {P : Type 0} (result : Result T E) → P → OnErr result P
-on-err (Ok value) holds = tt
-on-err (Err error) holds = holds
-
 -- what was read written again
 pub set-read : {X : Type 0} (xs : List X) (place : ℕ) (read : X) → read ≡ get_or xs place read → place < length xs → set xs place read ≡ xs
 set-read [] place read is within = refl
 set-read (x ∷ xs) zero read is within = ap (λ y. y ∷ xs) is
 set-read (x ∷ xs) (suc place) read is within = ap (λ rest. x ∷ rest) (set-read xs place read is (omega arith))
-
--- one more of a list is mapped
-mapped : {X : Type 0} (f : X → X) (xs : List X) (place : ℕ) (read : X) → place < length xs → read ≡ get_or (map f (take place xs) ++ drop place xs) place read → set (map f (take place xs) ++ drop place xs) place (f read) ≡ map f (take (suc place) xs) ++ drop (suc place) xs
-mapped f [] place read within is = absurd (omega arith)
-mapped f (x ∷ xs) zero read within is = ap (λ y. f y ∷ xs) is
-mapped f (x ∷ xs) (suc place) read within is = ap (λ rest. f x ∷ rest) (mapped f xs place read (omega arith) is)
-
-pub map-more : {X : Type 0} (f : X → X) (xs now : List X) (place : ℕ) (read new : X) → place < length xs → now ≡ map f (take place xs) ++ drop place xs → read ≡ get_or now place read → new ≡ f read → set now place new ≡ map f (take (place + 1) xs) ++ drop (place + 1) xs
-map-more f xs now place read new within now_is is new_is =
-    let one : place + 1 ≡ suc place = omega arith in
-    ap (set now place) new_is ∙ ap (λ list. set list place (f read)) now_is
-    ∙ mapped f xs place read within (is ∙ ap (λ list. get_or list place read) now_is)
-    ∙ ap (λ k. map f (take k xs) ++ drop k xs) (sym one)
 
 pub map-whole : {X : Type 0} (f : X → X) (xs now : List X) (place : ℕ) → length xs ≤ place → now ≡ map f (take place xs) ++ drop place xs → now ≡ map f xs
 map-whole f xs now place past is =

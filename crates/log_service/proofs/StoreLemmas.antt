@@ -8,8 +8,8 @@ use Rattle.record_print.specs.declared.record.LogRecord.{LogRecord}
 use Rattle.log_history.specs.Table.{OpenStream, is_named, last_after_due, storing, with_stored}
 use Rattle.log_service.specs.Moments.{second_of, HasStored}
 use Rattle.log_service.specs.Changing.{StoresIn}
-use Rattle.log_service.proofs.StreamLemmas.{pos-unsigned_abs}
 use Rattle.log_service.proofs.PlaceLemmas.{IsFirst, IsNowhere, changed-at, found-at}
+use Rattle.ais_values.proofs.Basics.{pos-unsigned_abs}
 
 abbrev last_of : (last second : ℕ) → Option OpenStream → ℕ
 last_of last second found = option_map_or (λ (stream : OpenStream). last_after_due last second stream.state) found last

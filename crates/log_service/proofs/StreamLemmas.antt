@@ -1,6 +1,6 @@
 -- Facts of one stream: who is left when a client leaves, the last file closed, an expression read.
 use Rattle.std.proofs.Common.{◌≡◌, ℕ, ◌+◌, ◌-◌, ◌<◌, ◌==◌, suc, true, false, ◌&&◌, cond, List, [], ◌∷◌, length, get_or, set, refl, ap, sym, ◌∙◌, arith}
-use Rattle.std.specs.Prelude.{Option, Some, None, ℤ, pos, negsuc, ◌≤ℤ◌, unsigned_abs, Ok, Err, Result}
+use Rattle.std.specs.Prelude.{Option, Some, None, ℤ, pos, ◌≤ℤ◌, unsigned_abs, Ok, Err, Result}
 use Rattle.std.specs.List.{list_all}
 use Rattle.client_set.specs.Rising.{without}
 use Rattle.ais_values.specs.declared.kind.StreamKind.{StreamKind}
@@ -26,6 +26,7 @@ use Rattle.log_service.specs.declared.live.LiveStream.TheInside.{Inside}
 use Rattle.log_service.specs.Moments.{second_of, HasStored}
 use Rattle.log_service.specs.Changing.{last_with}
 use Rattle.log_service.specs.Inside.{stream_of, IsKeptStream}
+use Rattle.ais_values.proofs.Basics.{pos-unsigned_abs}
 
 -- nobody is left exactly where every one was the client
 pub list_all-only : (client : ℕ) (clients : List ℕ) → list_all (λ other. other == client) clients ≡ is_empty (without (λ other. other == client) clients)
@@ -54,11 +55,6 @@ no-fault kind text fault is faulty =
     let checked = checked_ok kind text accepted.last (tt {0}) accepted.reached accepted.ends is.bound in
     let answer : Result (Unit {0}) ExprFault = Ok tt in
     let none : answer ≡ Err fault = (checked.refused fault).1 faulty in absurd cc
-
--- a number that is not negative is its size
-pub pos-unsigned_abs : (z : ℤ) → pos 0 ≤ℤ z → pos (unsigned_abs z) ≡ z
-pos-unsigned_abs (pos n) from = refl
-pos-unsigned_abs (negsuc n) from = absurd from.le
 
 -- the last stamp after a record
 pub last-due : (last : ℤ) (second : ℕ) (state : StreamState) → pos 0 ≤ℤ last → last_with last (due_stamps (unsigned_abs last) second state) ≡ pos (last_after_due (unsigned_abs last) second state)

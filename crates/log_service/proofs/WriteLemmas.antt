@@ -7,6 +7,7 @@ use Rattle.std.specs.Int.{is_negative}
 use Rattle.std.specs.Ordering.{int_eq}
 use mir.Val.{SFits}
 use Rattle.std.proofs.lemmas.Bool.Decides.{nat_tests}
+use Rattle.std.proofs.lemmas.Bool.{and_parts}
 use Rattle.ais_values.specs.Times.{unknown_time}
 use Rattle.ais_values.specs.TimeTests.{is_time}
 use Rattle.ais_values.specs.Events.{is_event_type}
@@ -42,15 +43,11 @@ write-rows using opened full kind flags time header ok =
       told true true false false l is = absurd cc
       told true true false true l is = refl
 
-both-true : (a b : Bool) → (a && b) ≡ true → (a ≡ true) × (b ≡ true)
-both-true true b both = (refl, both)
-both-true false b both = absurd cc
-
-not-negative : (z : ℤ) → pos 0 ≤ℤ z → is_negative z ≡ false
+pub not-negative : (z : ℤ) → pos 0 ≤ℤ z → is_negative z ≡ false
 not-negative (pos n) from = grind (arith, nat_tests)
 not-negative (negsuc n) from = absurd from.le
 
-filled-time : (time now : ℤ) → pos 0 ≤ℤ now → is_time time ≡ true → is_negative (filled_time time now) ≡ false
+pub filled-time : (time now : ℤ) → pos 0 ≤ℤ now → is_time time ≡ true → is_negative (filled_time time now) ≡ false
 filled-time time now from is = by_case (int_eq time unknown_time) (is_negative time) refl is where
   by_case : (unknown negative : Bool) → is_negative time ≡ negative → (not negative || unknown) ≡ true → is_negative (cond unknown now time) ≡ false
   by_case true negative was known = not-negative now from
@@ -59,15 +56,15 @@ filled-time time now from is = by_case (int_eq time unknown_time) (is_negative t
 
 filled-codes : (kind : StreamKind) (header : Header) (now : ℤ) → pos 0 ≤ℤ now → can_have kind header ≡ true → has_codes (filled_header header now) ≡ true
 filled-codes kind (Ntf id event_type object notifier class event_time) now from can =
-    let first = both-true (is_notified kind && is_time event_time) (is_event_type event_type) can in
-    let second = both-true (is_notified kind) (is_time event_time) first.0 in
+    let first = and_parts (is_notified kind && is_time event_time) (is_event_type event_type) can in
+    let second = and_parts (is_notified kind) (is_time event_time) first.0 in
     ap not (filled-time event_time now from second.1)
-filled-codes kind (Generic class user severity) now from can = (both-true (not (is_notified kind)) (nat_le severity 6) can).1
+filled-codes kind (Generic class user severity) now from can = (and_parts (not (is_notified kind)) (nat_le severity 6) can).1
 
 -- the record of an ok write can be printed
 pub printable : (kind : StreamKind) (time : ℤ) (header : Header) (body : List ℕ) (now : ℤ) → pos 0 ≤ℤ now → can_write kind time header ≡ true → can_print (record_at time header body now) ≡ true
 printable kind time header body now from can =
-    let both = both-true (is_time time) (can_have kind header) can in
+    let both = and_parts (is_time time) (can_have kind header) can in
     ap (λ b. not b && has_codes (filled_header header now)) (filled-time time now from both.0) ∙ filled-codes kind header now from both.1
 
 -- the stamp of a record fits its type

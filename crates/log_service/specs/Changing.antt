@@ -12,7 +12,8 @@ use Rattle.ais_values.specs.declared.status.Status.{Status}
 use Rattle.log_history.specs.Answers.{answer, open_rows}
 use Rattle.log_history.specs.KeptAnswers.{kept_attrs, has_place, is_crowd}
 use Rattle.log_history.specs.Firsts.{change_first}
-use Rattle.log_history.specs.Table.{OpenStream, is_named, with_opener, last_after_due, storing, with_stored, last_after_ends, ends_in, left_streams, kept_streams, has_nobody, without_opener, new_state, opened_stream}
+use Rattle.log_history.specs.Table.{OpenStream, is_named, with_opener, last_after_due, storing, with_stored, last_after_ends, ends_in, left_streams}
+use Rattle.log_history.specs.Table.{kept_streams, has_nobody, without_opener, new_state, opened_stream}
 use Rattle.stream_config.specs.Stamps.{stamp_after}
 use Rattle.stream_config.specs.declared.event.StreamEvent.TheVariants.{Made, Ended}
 use Rattle.log_service.specs.Moments.{second_of}
@@ -23,7 +24,8 @@ last_with last None = last
 last_with last (Some stamps) = stamps.created
 
 -- the streams once a client has made one, with the last stamp then and the events
-pub record MakesIn (last now : ℤ) (client : ℕ) (name : StreamName) (attrs : StreamAttrs) (old new : List OpenStream) (made : ℤ × List StreamEvent) : Type 0 where
+pub record MakesIn (last now : ℤ) (client : ℕ) (name : StreamName) (attrs : StreamAttrs)
+    (old new : List OpenStream) (made : ℤ × List StreamEvent) : Type 0 where
   pub stamp : made.0 ≡ pos (stamp_after (unsigned_abs last) (second_of now))
   pub events : made.1 ≡ Made (new_state name attrs (stamp_after (unsigned_abs last) (second_of now))) ∷ []
   pub streams : new ≡ old ++ opened_stream client name attrs (stamp_after (unsigned_abs last) (second_of now)) ∷ []
@@ -41,8 +43,12 @@ OpensIn last now client name None old new opened = JoinsIn last client name old 
 
 -- the streams once a record is stored in the one of this name, with the last stamp then and the events
 pub record StoresIn (last now : ℤ) (name : StreamName) (rec : LogRecord) (old new : List OpenStream) (stored : ℤ × List StreamEvent) : Type 0 where
-  pub stamp : stored.0 ≡ pos (option_map_or (λ (stream : OpenStream). last_after_due (unsigned_abs last) (second_of now) stream.state) (find (is_named name) old) (unsigned_abs last))
-  pub events : stored.1 ≡ option_map_or (λ (stream : OpenStream). storing (unsigned_abs last) (second_of now) rec stream.state ∷ []) (find (is_named name) old) []
+  pub stamp :
+      stored.0 ≡ pos (option_map_or (λ (stream : OpenStream). last_after_due (unsigned_abs last) (second_of now) stream.state)
+      (find (is_named name) old) (unsigned_abs last))
+  pub events :
+      stored.1 ≡ option_map_or (λ (stream : OpenStream). storing (unsigned_abs last) (second_of now) rec stream.state ∷ [])
+      (find (is_named name) old) []
   pub streams : new ≡ change_first (is_named name) (with_stored (unsigned_abs last) (second_of now) rec) old
 
 -- what an open does to streams: it makes one or not

@@ -5,7 +5,7 @@ use Rattle.record_print.specs.declared.record.Header.{Header}
 use Rattle.record_print.specs.declared.record.Header.TheVariants.{Generic}
 use Rattle.ntf_types.specs.declared.notification.Notification.{Notification}
 use Rattle.ntf_filters.specs.declared.filter.FilterSet.{FilterSet}
-use Rattle.cluster_facts.specs.Types.{Ask, Start, Other, Log, Ntf, Call, LogInit, LogWrite, LogFini, LogClose, NtfInit, NtfSend, NtfSubscribe, Content, Single, Done, Success, BadHandle, VersionRefused, TryAgain, Entry, Called, Receipted, Written, Notified, Message, Request, Answer, Delivery, Receipt}
+use Rattle.cluster_facts.specs.Types.{Ask, Start, Other, Log, Ntf, Call, LogInit, LogWrite, LogFini, LogClose, NtfSend, NtfSubscribe, Content, Single, Done, Success, BadHandle, VersionRefused, TryAgain, Entry, Called, Receipted, Written, Notified, Message, Request, Answer, Delivery, Receipt}
 use Rattle.cluster_facts.specs.Service.{Plain}
 use Rattle.cluster_events.specs.Lines.{Posted, Committed, Replied, Declined, HandedOut, Dispatched, Ignored, Refused}
 use Rattle.cluster_events.specs.declared.lines.Why.TheVariants as because

@@ -1,5 +1,5 @@
 -- Runs of the lone active server.
-use Rattle.std.proofs.Common.{◌≡◌, ℕ, List, refl}
+use Rattle.std.proofs.Common.{ℕ, List, refl}
 use Rattle.cluster_facts.specs.Service.{Plain, IsPlain}
 use Rattle.cluster_facts.proofs.Keeping.{IsSound-start}
 use Rattle.cluster_events.specs.Lines.{Told, is_ignored}

@@ -1,5 +1,5 @@
 -- The active server alone serves as servers must, and its lines say what lines must.
-use Rattle.std.proofs.Common.{◌≡◌, ℕ, suc, ◌⊎◌, inl, inr, Bool, true, false, ◌||◌, ◌==◌, if◌then◌else◌, Option, Some, None, List, [], ◌∷◌, ◌++◌, length, refl, ap, sym, ◌∙◌, subst}
+use Rattle.std.proofs.Common.{◌≡◌, ℕ, suc, inl, Bool, true, false, ◌||◌, if◌then◌else◌, Some, None, List, [], ◌∷◌, ◌++◌, length, refl, ap, sym, ◌∙◌, subst}
 use Rattle.cluster_facts.specs.Types.{Call, Reply, Entry, Called, Receipted, Message, Answer}
 use Rattle.cluster_facts.specs.Lists.{Stands}
 use Rattle.cluster_facts.specs.Service.{Plain, IsPlain, answers_in}

@@ -13,7 +13,8 @@ use Rattle.lone_cluster.specs.Lone.{Alone, lone, lone_start}
 -- at the end of each line of a run all promises hold. The lines so far are themselves a run, so they hold at the end of every line
 abbrev pub RunsKeepPromises : Type 0
 RunsKeepPromises =
-    (plain : Plain) → IsPlain plain → (shelf : Shelf) (now : ℤ) (places : ℕ) (lines : List Line) (state : State Alone) (told : List Told) → Run plain shelf (lone plain) (lone_start now places) lines state told → AtEnd plain state.world told
+    (plain : Plain) → IsPlain plain → (shelf : Shelf) (now : ℤ) (places : ℕ) (lines : List Line) (state : State Alone) (told : List Told)
+    → Run plain shelf (lone plain) (lone_start now places) lines state told → AtEnd plain state.world told
 
 -- `settle` has an end wherever a run comes to it, and after it everything is settled
 pub record SettlesOnce (plain : Plain) (state : State Alone) : Type 0 where
@@ -23,8 +24,11 @@ pub record SettlesOnce (plain : Plain) (state : State Alone) : Type 0 where
 
 abbrev pub SettleEnds : Type 0
 SettleEnds =
-    (plain : Plain) → IsPlain plain → (shelf : Shelf) (now : ℤ) (places : ℕ) (lines : List Line) (state : State Alone) (told : List Told) → Run plain shelf (lone plain) (lone_start now places) lines state told → SettlesOnce plain state
+    (plain : Plain) → IsPlain plain → (shelf : Shelf) (now : ℤ) (places : ℕ) (lines : List Line) (state : State Alone) (told : List Told)
+    → Run plain shelf (lone plain) (lone_start now places) lines state told → SettlesOnce plain state
 
 abbrev pub SettleSettles : Type 0
 SettleSettles =
-    (plain : Plain) → IsPlain plain → (shelf : Shelf) (now : ℤ) (places : ℕ) (lines : List Line) (state new : State Alone) (told printed : List Told) → Run plain shelf (lone plain) (lone_start now places) lines state told → Settles plain (lone plain) state new printed → IsSettled plain new.world
+    (plain : Plain) → IsPlain plain → (shelf : Shelf) (now : ℤ) (places : ℕ) (lines : List Line) (state new : State Alone) (told printed : List Told)
+    → Run plain shelf (lone plain) (lone_start now places) lines state told
+    → Settles plain (lone plain) state new printed → IsSettled plain new.world

@@ -13,7 +13,7 @@ use Rattle.ntf_history.specs.Changes.NtfChange.{Began, Ended, Subscribed, Unsubs
 use Rattle.ntf_history.specs.StoredAlarms.{is_alarm, alarms_sent, stored_alarms}
 use Rattle.ntf_history.specs.Possible.{HaveNumbersBelow, CanSend, ArePossible}
 
-is_alarm-is : (body : Body) → is_alarm body ≡ true → IsAlarm body
+pub is_alarm-is : (body : Body) → is_alarm body ≡ true → IsAlarm body
 is_alarm-is (Objects source attrs) is = cc
 is_alarm-is (Attributes source changes) is = cc
 is_alarm-is (States source changes) is = cc

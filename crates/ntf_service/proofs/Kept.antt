@@ -1,6 +1,7 @@
 -- The state stays sound.
 use Rattle.std.proofs.Common.{◌≡◌, ℕ, suc, ◌<◌, ◌≤◌, ◌==◌, nat_lt, Bool, true, false, ◌&&◌, cond, inl, inr, List, [], ◌∷◌, ◌++◌, length, map, refl, ap, sym, subst, ◌∙◌, arith}
 use Rattle.std.proofs.lemmas.Bool.Decides.{leb_tells}
+use Rattle.std.proofs.lemmas.List.{length-map}
 use Rattle.ntf_types.specs.declared.notification.Notification.{Notification}
 use Rattle.ntf_filters.specs.Matching.{matches}
 use Rattle.sub_queue.specs.declared.item.Content.TheVariants.{Notified}
@@ -33,10 +34,6 @@ module _ (change : Subscription → Subscription) (same : (x y : Subscription) �
   IsRising-map : (xs : List Subscription) → IsRising kept_first xs → IsRising kept_first (map change xs)
   IsRising-map [] rising = tt
   IsRising-map (x ∷ xs) rising = (ComesFirst-map x xs rising.0, IsRising-map xs rising.1)
-
-length-map : {X Y : Type 0} (f : X → Y) (xs : List X) → length (map f xs) ≡ length xs
-length-map f [] = refl
-length-map f (x ∷ xs) = ap (λ n. suc n) (length-map f xs)
 
 pub sound-queues : (capacity : ℕ) (xs : List Subscription) → HaveQueues capacity xs → AreSound xs
 sound-queues capacity [] queues = tt
@@ -106,14 +103,14 @@ pub kept-offered : (capacity : ℕ) (notification : Notification) (xs : List Sub
 kept-offered capacity notification xs are left = record {
   order = IsRising-map (offered_sub notification) (λ x y. refl) xs are.order;
   queues = HaveQueues-offered capacity notification xs are.queues left;
-  few = omega (arith, are.few, length-map (offered_sub notification) xs);
+  few = omega (arith, are.few, length-map xs (offered_sub notification));
 }
 
 pub kept-received : (capacity client key through : ℕ) (xs : List Subscription) → AreKept capacity xs → HaveNumbersLeft xs → AreKept capacity (map (received_sub client key through) xs)
 kept-received capacity client key through xs are left = record {
   order = IsRising-map (received_sub client key through) (λ x y. refl) xs are.order;
   queues = HaveQueues-received capacity client key through xs are.queues left;
-  few = omega (arith, are.few, length-map (received_sub client key through) xs);
+  few = omega (arith, are.few, length-map xs (received_sub client key through));
 }
 
 pub kept-without : (capacity : ℕ) (test : Subscription → Bool) (xs : List Subscription) → AreKept capacity xs → AreKept capacity (without test xs)

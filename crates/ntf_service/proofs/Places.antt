@@ -1,5 +1,5 @@
 -- Where a subscription stands in the order, or belongs.
-use Rattle.std.proofs.Common.{◌≡◌, ℕ, suc, ◌+◌, ◌<◌, ◌≤◌, ◌==◌, Bool, true, false, not, ◌&&◌, cond, List, [], ◌∷◌, length, map, get_or, set, refl, ap, sym, subst, ◌∙◌, arith}
+use Rattle.std.proofs.Common.{◌≡◌, ℕ, ◌+◌, ◌<◌, ◌≤◌, ◌==◌, Bool, true, false, not, ◌&&◌, cond, List, [], ◌∷◌, length, map, get_or, set, refl, ap, sym, subst, ◌∙◌, arith}
 use Rattle.std.specs.Prelude.{Some, find, insert}
 use Rattle.std.specs.List.{prefix_len}
 use Rattle.std.proofs.lemmas.Bool.Decides.{nat_tests}
@@ -8,15 +8,10 @@ use Rattle.ntf_history.specs.declared.subscription.Subscription.{Subscription}
 use Rattle.ntf_history.specs.Subscriptions.{key_first}
 use Rattle.ntf_history.specs.Tables.{is_kept_at, kept_first}
 use Rattle.ntf_service.specs.State.{IsKeyAbove}
-
-one_more : (n : ℕ) → 1 + n ≡ suc n
-one_more n = omega arith
+use Rattle.ais_values.proofs.Basics.{pair_same, one_more}
 
 key_first-one_way : (c k d l : ℕ) → key_first c k d l ≡ true → key_first d l c k ≡ false
 key_first-one_way c k d l first = grind (arith, nat_tests)
-
-at_is : (c k d l : ℕ) → (c == d && k == l) ≡ true → (c ≡ d) × (k ≡ l)
-at_is c k d l same = (grind (arith, nat_tests), grind (arith, nat_tests))
 
 back : (c k d l : ℕ) → key_first c k d l ≡ true → (d == c && l == k) ≡ false
 back c k d l first = grind (arith, nat_tests)
@@ -30,7 +25,7 @@ AreApart client key (x ∷ xs) = (is_kept_at client key x ≡ false) × AreApart
 later-apart : (client key : ℕ) (x : Subscription) (xs : List Subscription) → is_kept_at client key x ≡ true → ComesFirst kept_first x xs → AreApart client key xs
 later-apart client key x [] at first = tt
 later-apart client key x (y ∷ ys) at first =
-    let is = at_is x.client x.key client key at in
+    let is = pair_same x.client x.key client key at in
     let P : ℕ → Type 0 = λ c. key_first c x.key y.client y.key ≡ true in
     let Q : ℕ → Type 0 = λ k. key_first client k y.client y.key ≡ true in
     let before : key_first client key y.client y.key ≡ true = subst Q is.1 (subst P is.0 first.0) in

@@ -34,8 +34,8 @@ use Rattle.plain_service.proofs.WellKnown.{stored_in, well_known, taken-alarm}
 use Rattle.plain_service.proofs.FitStreams.{kept-first}
 use Rattle.plain_service.proofs.FitCounts.{begins}
 use Rattle.plain_service.proofs.Possible.{past_after-by, possible}
-use Rattle.log_history.proofs.StreamLaws.{some-records}
 use Rattle.plain_service.proofs.SentLaws.{IsSentAlarm, ntf-right, alarms-right}
+use Rattle.stream_layout.proofs.EventLaws.{some_records}
 
 -- records and ids rise
 
@@ -161,7 +161,7 @@ pub first-grows : (setup : Setup) (change : LogChange) (past : List LogChange) �
 first-grows setup change past sized =
     let own = log_setup setup in
     let attrs = setup.alarm in
-    first_in-grows attrs.action (records_per_file attrs) attrs.rotated (taken_by own past name.Alarm) (taken_by own (change ∷ past) name.Alarm) (some-records attrs sized)
+    first_in-grows attrs.action (records_per_file attrs) attrs.rotated (taken_by own past name.Alarm) (taken_by own (change ∷ past) name.Alarm) (some_records attrs sized)
     (omega (arith, taken-alarm own past, taken-alarm own (change ∷ past), more-stored change past))
 
 first-option : (setup : Setup) (change : Option LogChange) (past : List LogChange) → IsSized setup.alarm → first_standing setup past ≤ first_standing setup (cons_option change past)

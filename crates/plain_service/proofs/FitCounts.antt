@@ -36,7 +36,7 @@ fit-counts setup entries history = record {
   capacity = (begins setup entries history).capacity;
 }
 
-callers-rising : (entries : List Entry) → IsRising nat_lt (callers entries)
+pub callers-rising : (entries : List Entry) → IsRising nat_lt (callers entries)
 callers-rising [] = tt
 callers-rising (Called client seq now call ∷ entries) = IsRising-put nat_lt IsOrder-nat_lt client (callers entries) (callers-rising entries)
 callers-rising (Receipted client key through now ∷ entries) = callers-rising entries

@@ -27,7 +27,7 @@ use Rattle.log_history.specs.Stamps.{second_in, CanStamp}
 use Rattle.log_history.proofs.StampLaws.{AreTimely, stamp-room}
 use Rattle.log_history.proofs.EventLaws.{events-fit}
 
-second-bound : (now : ℤ) → IsMoment now → second_of now ≤ 9000000000
+pub second-bound : (now : ℤ) → IsMoment now → second_of now ≤ 9000000000
 second-bound (pos n) is = omega (arith, leb→le n 9000000000000000000 is.to.le)
 second-bound (negsuc n) is = absurd is.from.le
 

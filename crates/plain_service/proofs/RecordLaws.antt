@@ -18,7 +18,6 @@ use Rattle.log_history.specs.Legal.{IsLogHistory}
 use Rattle.log_history.specs.Places.{record_in, stream_number}
 use Rattle.log_history.specs.Table.{state_of, bytes_in}
 use Rattle.log_history.specs.Times.{record_at}
-use Rattle.log_history.proofs.FirstLaws.{some_is}
 use Rattle.log_history.proofs.RecordLaws.{record-stands, record-kept, record-stored, record-new, record-apart}
 use Rattle.log_history.proofs.StampLaws.{stamp-room}
 use Rattle.plain_service.specs.Setups.{Setup, log_setup}
@@ -32,6 +31,7 @@ use Rattle.plain_service.specs.Storing.{files_of, log_change_by}
 use Rattle.plain_service.specs.Records.{StoredRecord, next_record, record_by, record_of, place_of, IsAt, is_stored}
 use Rattle.plain_service.proofs.HistoryEvents.{timely, starts-early}
 use Rattle.plain_service.proofs.Possible.{possible}
+use Rattle.ais_values.proofs.Basics.{some_of}
 
 -- the last stamp of a history can be shown in names
 last-shown : (setup : Setup) (entries : List Entry) → IsHistory setup entries → (chronicle (log_setup setup) (past_of setup entries).log).last ≤ 20000000100
@@ -128,11 +128,11 @@ stored-ok _ call told is = cc
 -- a call that stores makes a record
 record-made : (setup : Setup) (past : Past) (client : ℕ) (now : ℤ) (call : Call) (told : Reply) → is_stored call told ≡ true → IsLogHistory (log_setup setup) (cons_option (log_change setup past client now call) past.log) → (stored : StoredRecord) × (record_by (log_setup setup) past.log (log_change setup past client now call) ≡ Some stored)
 record-made setup past client now (LogWrite name invocation flags time header body) told is legal =
-    let living = some_is (living_stream (log_setup setup) past.log name) legal.0.0 in
+    let living = some_of (living_stream (log_setup setup) past.log name) legal.0.0 in
     (_, ap (option_map (next_record (stream_number (log_setup setup) past.log name) (λ stream. bytes_in (state_of stream) (record_at time header body now)))) living.1)
 record-made setup past client now (NtfSend notification) told is legal =
     let name = stream_for notification.body in
-    let living = some_is (living_stream (log_setup setup) past.log name) legal.0.0 in
+    let living = some_of (living_stream (log_setup setup) past.log name) legal.0.0 in
     (_, ap (option_map (next_record (stream_number (log_setup setup) past.log name) (λ stream. bytes_in (state_of stream) (record_for now (accepted_notification past now notification))))) living.1)
 record-made setup past client now call told is legal = cc
 

@@ -1,6 +1,5 @@
 -- What a call came to, by what each part answered.
-use Rattle.std.proofs.Common.{◌≡◌, ◌≢◌, ℕ, zero, suc, ◌<◌, List, [], ◌∷◌, ◌++◌, length, get_or, refl, ap, sym, subst, ◌∙◌, arith, append_assoc}
-use Rattle.std.specs.List.{AllByRecursion}
+use Rattle.std.proofs.Common.{◌≡◌, ◌≢◌, ℕ, List, [], ◌∷◌, ◌++◌, refl, ap, sym, ◌∙◌, append_assoc}
 use Rattle.std.specs.Prelude.{Some, ℤ}
 use Rattle.std.specs.Option.{option_map_or}
 use Rattle.std.proofs.lemmas.List.{append-nil}
@@ -60,9 +59,3 @@ pub deeds-more : (events : List StreamEvent) (event : StreamEvent) → deeds_of_
 deeds-more [] event = append-nil (deeds_of event)
 deeds-more (first ∷ events) event =
     ap (λ rest. deeds_of first ++ rest) (deeds-more events event) ∙ sym (append_assoc (deeds_of first) (deeds_of_all events) (deeds_of event))
-
--- what holds of all holds of the one at a place
-pub all-at : {X : Type 0} (P : X → Type 0) (xs : List X) (n : ℕ) (x : X) → n < length xs → x ≡ get_or xs n x → AllByRecursion P xs → P x
-all-at P [] n x within at each = absurd (omega arith)
-all-at P (y ∷ xs) zero x within at each = subst P (sym at) each.0
-all-at P (y ∷ xs) (suc n) x within at each = all-at P xs n x (omega arith) at each.1

@@ -30,13 +30,13 @@ use Rattle.plain_service.proofs.FitReaders.{saved-fit}
 use Rattle.service_table.specs.Tables.{ServiceTable}
 use Rattle.service_table.specs.Histories.{service_of}
 use Rattle.service_table.specs.Ready.{IsReady}
-use Rattle.service_table.proofs.CallLaws.{second-bound}
 use Rattle.service_table.proofs.FitReady.{ready-fit}
 use Rattle.service_table.proofs.FitReadyParts.{value-table}
 use Rattle.service_core.specs.declared.kept.Kept.{Kept}
 use Rattle.service_core.specs.Beginning.{BeginsAs, CanBeginAs}
 use Rattle.service_core.specs.Inside.{kept_table, IsKeptAs}
 use Rattle.service_core.specs.Opening.{unused_table, HasOpened}
+use Rattle.plain_service.proofs.HistoryEvents.{second-bound}
 
 -- a stream as it is made
 

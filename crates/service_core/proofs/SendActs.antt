@@ -1,10 +1,8 @@
 -- What a send came to.
-use Rattle.std.proofs.Common.{◌≡◌, ◌≢◌, ℕ, ◌+◌, true, false, Bool, cond, not, ◌&&◌, ◌||◌, List, [], ◌∷◌, ◌++◌, refl, ap, sym, ◌∙◌, arith}
-use Rattle.std.specs.Prelude.{ℤ, pos, negsuc, ◌≤ℤ◌, Some}
+use Rattle.std.proofs.Common.{◌≡◌, ◌≢◌, ℕ, ◌+◌, true, false, Bool, cond, List, [], ◌∷◌, ◌++◌, refl, ap, sym, ◌∙◌}
+use Rattle.std.specs.Prelude.{ℤ, pos, ◌≤ℤ◌, Some}
 use Rattle.std.specs.Int.{is_negative}
-use Rattle.std.specs.Ordering.{int_eq}
-use Rattle.std.proofs.lemmas.Bool.Decides.{nat_tests}
-use Rattle.ais_values.specs.Times.{unknown_time}
+use Rattle.std.proofs.lemmas.Bool.{and_parts}
 use Rattle.ais_values.specs.TimeTests.{is_time}
 use Rattle.ais_values.specs.declared.status.Status.{Status}
 use Rattle.ais_values.specs.declared.status.Status.TheVariants as status
@@ -36,30 +34,16 @@ use Rattle.service_parts.specs.Telling.{IsTold}
 use Rattle.service_core.specs.declared.parts.Acted.{Acted}
 use Rattle.service_core.specs.Acting.{HasActed}
 use Rattle.service_core.specs.Sending.{stored_of, sent_in, sent_events, HasSent}
+use Rattle.log_service.proofs.WriteLemmas.{filled-time}
 
 -- times of a record that is stored
 
-pub not-negative : (z : ℤ) → pos 0 ≤ℤ z → is_negative z ≡ false
-not-negative (pos n) from = grind (arith, nat_tests)
-not-negative (negsuc n) from = absurd from.le
-
-both-true : (a b : Bool) → (a && b) ≡ true → (a ≡ true) × (b ≡ true)
-both-true true b both = (refl, both)
-both-true false b both = absurd cc
-
-filled : (time now : ℤ) → pos 0 ≤ℤ now → is_time time ≡ true → is_negative (filled_time time now) ≡ false
-filled time now from is = by_case (int_eq time unknown_time) (is_negative time) refl is where
-  by_case : (unknown negative : Bool) → is_negative time ≡ negative → (not negative || unknown) ≡ true → is_negative (cond unknown now time) ≡ false
-  by_case true negative was known = not-negative now from
-  by_case false false was known = was
-  by_case false true was known = absurd cc
-
 time-of : (notification : Notification) → is_sound notification ≡ true → is_time notification.event_time ≡ true
 unfolding is_sound
-time-of notification sound = (both-true _ _ (both-true _ _ sound).1).0
+time-of notification sound = (and_parts _ _ (and_parts _ _ sound).1).0
 
 pub filled-event : (notification : Notification) (now : ℤ) → pos 0 ≤ℤ now → is_sound notification ≡ true → is_negative (filled_time notification.event_time now) ≡ false
-filled-event notification now from sound = filled notification.event_time now from (time-of notification sound)
+filled-event notification now from sound = filled-time notification.event_time now from (time-of notification sound)
 
 -- the number of the record of an alarm
 

@@ -21,4 +21,5 @@ HasSoundQueue cap sub = IsSound (kept_sub_of cap sub).queue
 -- each alarm can be added behind those before it
 abbrev pub CanAddEach : List SavedAlarm → Type 0
 CanAddEach alarms =
-    (front : List SavedAlarm) (alarm : SavedAlarm) (rest : List SavedAlarm) → alarms ≡ front ++ alarm ∷ rest → CanAdd alarm.k alarm.notification (map kept_alarm_of front)
+    (front : List SavedAlarm) (alarm : SavedAlarm) (rest : List SavedAlarm) → alarms ≡ front ++ alarm ∷ rest
+    → CanAdd alarm.k alarm.notification (map kept_alarm_of front)

@@ -47,4 +47,6 @@ sent_events answered change kept = option_map_or (λ c. events_of c kept) (if_ok
 pub record HasSent (old : ServiceTable) (moment : ℤ) (notification : Notification) (new : ServiceTable) (acted : Acted) : Type 0 where
   pub now : new ≡ where_ok (store_status old.log (stream_for notification.body)) (sent_in old moment (record_for moment notification) notification) old
   pub told : IsTold (store_status old.log (stream_for notification.body)) (Sent (old.ntf.last_id + 1)) acted.told
-  pub deeds : acted.deeds ≡ deeds_of_all (sent_events (store_status old.log (stream_for notification.body)) (stored_of moment (record_for moment notification) notification) old.log)
+  pub deeds :
+      acted.deeds ≡ deeds_of_all (sent_events (store_status old.log (stream_for notification.body))
+      (stored_of moment (record_for moment notification) notification) old.log)

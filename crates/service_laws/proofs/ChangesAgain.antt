@@ -5,6 +5,7 @@ use Rattle.std.specs.Option.{option_map_or}
 use Rattle.std.specs.List.{AllByRecursion, cons_option, find}
 use Rattle.std.specs.Str.{bytes_eq}
 use Rattle.std.proofs.lemmas.List.{append-nil}
+use Rattle.std.proofs.lemmas.Bool.{and_parts}
 use Rattle.disk_model.specs.Disk.{Files, settled_file}
 use Rattle.stream_config.specs.declared.event.Stamps.{Stamps}
 use Rattle.stream_config.specs.declared.event.StreamEvent.{StreamEvent}
@@ -33,7 +34,7 @@ use Rattle.log_history.proofs.FirstLaws.{Each}
 use Rattle.log_history.proofs.FoundLaws.{Holds, alone, disk-holds, either_of, found_in, found-around}
 use Rattle.log_history.proofs.OnceLaws.{AreStamps}
 use Rattle.log_history.proofs.Reaching.{Passes, reached}
-use Rattle.log_history.proofs.StampedLaws.{amid, first-true, none-ended, stamped}
+use Rattle.log_history.proofs.StampedLaws.{amid, stamped}
 use Rattle.log_history.proofs.SoundStreams.{sound}
 use Rattle.log_history.proofs.StampLaws.{AreTimely}
 use Rattle.log_history.proofs.StreamLaws.{IsSoundStream, fit-files, fit-stamps}
@@ -51,6 +52,7 @@ use Rattle.plain_service.proofs.ListLaws.{each-weaker, each-mapped, each-change_
 use Rattle.service_laws.proofs.Attempting.{IsRepeatable}
 use Rattle.service_laws.proofs.EventsAgain.{made-again, stored-again, changed-again, rises-behind}
 use Rattle.service_laws.proofs.EndsAgain.{ends-again, late-ends}
+use Rattle.ais_values.proofs.Basics.{none_from}
 
 nothing-again : (old : Files) → IsRepeatable [] old
 nothing-again old left Attempts.none = refl
@@ -102,7 +104,7 @@ stored-option : (past : List LogChange) (last second : ℕ) (rec : LogRecord) (t
 stored-option past last second rec test streams None files none low are passing sound_all fit holds = nothing-again files
 stored-option past last second rec test streams (Some stream) files found low are passing sound_all fit holds =
     let there = amid (λ (s : Stream). lives s && test s) streams stream found in
-    let unended = none-ended stream.ended (first-true (lives stream) (test stream) there.passes) in
+    let unended = none_from stream.ended (and_parts (lives stream) (test stream) there.passes).0 in
     alone-again (storing last second rec (state_of stream)) files
     (storing-again there.front there.behind stream last second rec files low
     (subst (λ these. AreStamps last (stamps_of_all these)) there.whole are) unended
@@ -121,7 +123,7 @@ kept-stamps setup past legal =
     let these = filter lives (chronicle setup past).streams in
     each-mapped (HaveStamps last) (open_stream past) these
     (each-weaker (IsLivingStream last (length past)) (λ stream. HaveStamps last (open_stream past stream))
-    (λ stream is. fit-stamps last stream is.0.0.1.some_rotated (none-ended stream.ended is.1) is.0.0.0) these (living-streams setup past legal))
+    (λ stream is. fit-stamps last stream is.0.0.1.some_rotated (none_from stream.ended is.1) is.0.0.0) these (living-streams setup past legal))
 
 ending-again : (last second : ℕ) (streams : List OpenStream) (files : Files) → AllByRecursion (HaveStamps last) streams → AllByRecursion IsFitEvent (ends_in last second streams) → IsRepeatable (calls_of_all (deeds_of_all (ends_in last second streams))) files
 ending-again last second streams files stamps fit =

@@ -41,7 +41,7 @@ use Rattle.log_history.proofs.NamedLaws.{names-once}
 use Rattle.log_history.proofs.Reaching.{Passes, reached}
 use Rattle.log_history.proofs.SoundStreams.{sound}
 use Rattle.log_history.proofs.StampLaws.{AreTimely}
-use Rattle.log_history.proofs.StampedLaws.{none-ended, first-true, stamped}
+use Rattle.log_history.proofs.StampedLaws.{stamped}
 use Rattle.log_history.proofs.StreamLaws.{IsSoundStream, fit-stamps}
 use Rattle.log_history.proofs.TableLaws.{living, find-living, closed-streams, left-streams}
 use Rattle.plain_service.specs.Setups.{Setup, log_setup}
@@ -65,6 +65,7 @@ use Rattle.service_laws.proofs.EndsAgain.{IsLateEnd, late-ends}
 use Rattle.service_laws.proofs.EndsKept.{EndMoves, rise-ends, kept-ends}
 use Rattle.service_laws.proofs.LogKept.{place-name, old-name, not-new, not-cfg, beside-slot, kept-nothing, kept-alone, kept-storing}
 use Rattle.service_laws.proofs.PlacesMoved.{PlaceIs, place-is, Moved, same-place, recorded-place, ended-place, current-is, changed-at, same-stream, ended-at}
+use Rattle.ais_values.proofs.Basics.{none_from}
 
 -- the stream of a place that is told
 
@@ -124,7 +125,7 @@ module _ (setup : LogSetup) (past : List LogChange) (legal : IsLogHistory setup 
       let own = Each-find Passes (is_living stored) streams found all.passing is_found in
       let sound_is = (Each-find (IsSoundStream last) (is_living stored) streams found (sound setup past legal) is_found).0 in
       let passes = own.0 in
-      let alive = none-ended found.ended (first-true (lives found) (same_name found.name stored) own.1) in
+      let alive = none_from found.ended (and_parts (lives found) (same_name found.name stored) own.1).0 in
       let older = old-name last streams s x spot.0 (stamped setup past) place.there (place-name x k spot place.is) in
       let moves : (after ≡ spot) ⊎ ((is_due found ≡ true) × Moved found (stamp_after last second) spot after) =
       elim (changed-at (is_living stored) (with_record last second rec) streams s x y place.there later.there) [
@@ -163,7 +164,7 @@ module _ (setup : LogSetup) (past : List LogChange) (legal : IsLogHistory setup 
       let older = old-name last streams s x spot.0 (stamped setup past) place.there (place-name x k spot place.is) in
       let stamps = each-mapped (HaveStamps last) (open_stream changes) these
       (each-weaker (IsLivingStream last (length past)) (λ stream. HaveStamps last (open_stream changes stream))
-      (λ stream one. fit-stamps last stream one.0.0.1.some_rotated (none-ended stream.ended one.1) one.0.0.0) these (living-streams setup past legal)) in
+      (λ stream one. fit-stamps last stream one.0.0.1.some_rotated (none_from stream.ended one.1) one.0.0.0) these (living-streams setup past legal)) in
       let late = late-ends last last second (omega arith) kept stamps fit in
       let not_new : (before : StreamState) (closed : ℤ) → IsLateEnd last before closed → spot.0 ≢ log_name before.attrs (file_closed closed (current_file before.files)) =
       λ before closed end.

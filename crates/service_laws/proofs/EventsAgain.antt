@@ -26,12 +26,13 @@ use Rattle.stream_layout.specs.LogFiles.{log_entries}
 use Rattle.stream_layout.specs.Names.{log_name, cfg_name}
 use Rattle.stream_layout.specs.Spots.{spot_of}
 use Rattle.stream_layout.proofs.CarryLaws.{begins_at_start}
-use Rattle.stream_layout.proofs.CurrentFile.{has_current, none_from, unlike, current_file-append, last_closed-append, last_made, behind_front}
+use Rattle.stream_layout.proofs.CurrentFile.{has_current, unlike, current_file-append, last_closed-append, last_made, behind_front}
 use Rattle.stream_layout.proofs.DeedLaws.{some_files, none_goes, oldest_goes, current_stamps}
 use Rattle.stream_layout.proofs.EventLaws.{IsLaidOut, laid_out, stored_stands}
 use Rattle.stream_layout.proofs.NameLaws.{created_apart, closed_apart}
 use Rattle.service_laws.proofs.Attempting.{IsRepeatable}
 use Rattle.service_laws.proofs.DoneAgain.{Reaches, made-repeatable, changed-repeatable, rotated-repeatable, written-repeatable}
+use Rattle.ais_values.proofs.Basics.{none_from}
 
 -- the current file is open, and the oldest is closed once the current one is
 pub current-open : (files : List LogFile) → is_last_open files ≡ true → (current_file files).closed ≡ None

@@ -38,12 +38,13 @@ use Rattle.log_history.proofs.NamedLaws.{IsNamedBy, stamp-of, named-all, named-s
 use Rattle.log_history.proofs.OnceLaws.{AreStamps}
 use Rattle.log_history.proofs.Reaching.{Passes}
 use Rattle.log_history.proofs.SpotLaws.{at-index}
-use Rattle.log_history.proofs.StreamLaws.{full_count, some-records, IsSoundStream}
+use Rattle.log_history.proofs.StreamLaws.{full_count, IsSoundStream}
 use Rattle.stream_layout.proofs.StoredBytes.{same_round}
 use Rattle.service_laws.proofs.BytesKept.{slots-apart}
 use Rattle.service_laws.proofs.ChangesKept.{IsKeptBy, kept-changed, kept-rotated, kept-written}
 use Rattle.service_laws.proofs.EventsAgain.{oldest-shut}
 use Rattle.service_laws.proofs.PlacesMoved.{PlaceIs, Moved, current-is, name-in}
+use Rattle.stream_layout.proofs.EventLaws.{some_records}
 
 -- the name of a file that stands is old: it tells a stamp that is not behind the last one
 
@@ -107,7 +108,7 @@ beside-slot last stream k spot bytes text passes sound living due is first sized
     let taken = length stream.records in
     let one : LogFile = record { created = pos stream.current; closed = option_map pos stream.ended } in
     let current = current-is stream living passes.some_rotated in
-    let some = some-records attrs passes.sizes in
+    let some = some_records attrs passes.sizes in
     let below = ltb-true k taken (and_parts (nat_le (first_in attrs.action n attrs.rotated taken) k) (nat_lt k taken) is.stands).1 in
     elim (shut-or-last stream.full one (spot_of attrs k).file is.file is.there) [
       | inl shut ↦

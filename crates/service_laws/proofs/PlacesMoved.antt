@@ -22,7 +22,7 @@ use Rattle.log_history.specs.Chronicle.{Stream, lives, is_due, is_idle, is_endin
 use Rattle.log_history.specs.Firsts.{change_first}
 use Rattle.log_history.specs.Places.{is_standing, place_of}
 use Rattle.log_history.specs.Table.{open_stream, state_of, ends_in}
-use Rattle.log_history.proofs.StampedLaws.{none-ended}
+use Rattle.ais_values.proofs.Basics.{none_from}
 
 -- a place that is told, by its file
 pub record PlaceIs (stream : Stream) (number : ℕ) (place : List ℕ × ℕ) : Type 0 where
@@ -208,7 +208,7 @@ ended-at past last second (z ∷ zs) zero x y is later = by_case (lives z) refl 
       inr (
         stamp_after last second,
         f ∙ ap (with_end (stamp_after last second)) (sym e),
-        subst (λ (w : Stream). w.ended ≡ None) (sym e) (none-ended z.ended living),
+        subst (λ (w : Stream). w.ended ≡ None) (sym e) (none_from z.ended living),
         subst (λ w. Stands (event.Ended (state_of w) (pos (stamp_after last second))) (ends_in last second (map (open_stream past) (filter lives (z ∷ zs))))) (sym e) here,
       )
   by_case true living false some same = inl (cc)

@@ -5,9 +5,8 @@ use Rattle.std.specs.List.{prefix_len}
 use Rattle.std.specs.List.Sorted.{IsNonDecreasingBy, IsPartitionPoint}
 use Rattle.std.proofs.lemmas.Bool.Decides.{nat_tests}
 use Rattle.client_set.specs.Rising.{put, ComesFirst, IsRising}
-
-one_more : (n : ℕ) → 1 + n ≡ suc n
-one_more n = omega arith
+use Rattle.client_set.proofs.RisingLaws.{IsOrder-nat_lt}
+use Rattle.ais_values.proofs.Basics.{one_more}
 
 below-apart : (x client : ℕ) → nat_lt x client ≡ true → (x == client) ≡ false
 below-apart x client low = grind (arith, nat_tests)
@@ -23,9 +22,6 @@ no-less x client same = grind (arith, nat_tests)
 
 lt-le : (x y : ℕ) → nat_lt x y ≡ true → x ≤ y
 lt-le x y low = grind (arith, nat_tests)
-
-lt-onward : (x y z : ℕ) → nat_lt x y ≡ true → nat_lt y z ≡ true → nat_lt x z ≡ true
-lt-onward x y z one other = grind (arith, nat_tests)
 
 lt-apart : (x y : ℕ) → nat_lt x y ≡ true → (y == x) ≡ false
 lt-apart x y low = grind (arith, nat_tests)
@@ -84,7 +80,7 @@ module _ {X : Type 0} (of : X → ℕ) where
   behind-none : (client : ℕ) (x : X) (xs : List X) → nat_lt client (of x) ≡ true → ComesFirst (λ x y. nat_lt (of x) (of y)) x xs → find (λ y. of y == client) xs ≡ None
   behind-none client x [] high first = refl
   behind-none client x (y ∷ ys) high first =
-      let apart : (of y == client) ≡ false = lt-apart client (of y) (lt-onward client (of x) (of y) high first.0) in
+      let apart : (of y == client) ≡ false = lt-apart client (of y) (IsOrder-nat_lt.onward client (of x) (of y) high first.0) in
       ap (λ b. cond b (Some y) (find (λ z. of z == client) ys)) apart ∙ behind-none client x ys high first.1
 
   pub find-none : (client : ℕ) (xs : List X) → IsRising (λ x y. nat_lt (of x) (of y)) xs → ((d : X) → place_in client xs < length xs → is_for client (get_or xs (place_in client xs) d) ≡ false) → find (λ y. of y == client) xs ≡ None

@@ -1,5 +1,5 @@
 -- What searches among stored alarms answer, in words that compute; and windows as they are kept.
-use Rattle.std.proofs.Common.{◌≡◌, ℕ, zero, suc, ◌+◌, ◌==◌, Bool, true, false, not, List, [], ◌∷◌, length, take, reverse, get_or, set, nat_le, ◌<◌, refl, ap, sym, ◌∙◌, arith}
+use Rattle.std.proofs.Common.{◌≡◌, ℕ, ◌+◌, Bool, true, false, not, List, [], ◌∷◌, length, take, reverse, get_or, set, nat_le, ◌<◌, refl, ap, sym, ◌∙◌, arith}
 use Rattle.std.specs.Prelude.{ℤ, Option, Some, None, IfSome, IfNone, option_map, is_some, is_none, find, insert}
 use Rattle.std.specs.Option.{option_map_or}
 use Rattle.ntf_types.specs.declared.notification.Notification.{Notification}
@@ -16,7 +16,8 @@ use Rattle.client_window.specs.Windows.{Kept, window_of}
 use Rattle.client_window.proofs.Keeping.{window_of-more}
 use Rattle.calls.specs.declared.reply.Reply.{Reply}
 use Rattle.service_table.specs.declared.caller.ClientWindow.{ClientWindow}
-use Rattle.std.proofs.lemmas.Bool.Decides.{nat_tests}
+use Rattle.std.proofs.lemmas.Bool.{eqb-true}
+use Rattle.std.proofs.lemmas.List.{get_or_default}
 use Rattle.ais_values.specs.declared.status.Status.{Status}
 use Rattle.alarm_view.specs.Modes.{mode_of}
 use Rattle.client_set.specs.Rising.{IsRising}
@@ -26,9 +27,6 @@ use Rattle.service_table.specs.Tables.{client_window, is_window_for, window_befo
 use Rattle.service_table.specs.Answering.{start_rows_by}
 use Rattle.service_table.specs.Steps.{window_for, with_reply, answered}
 use Rattle.service_parts.proofs.ClientPlaces.{place_in, find-here, find-none, known-place, set-put, insert-put}
-
-same-number : (x y : ℕ) → (x == y) ≡ true → x ≡ y
-same-number x y same = grind (arith, nat_tests)
 
 pub start-value : (mode : SearchMode) (value : ℤ) (filters : FilterSet) (alarms : List KeptAlarm) (result : Option Cursor) → AreInOrder alarms → IfSome result (λ cursor. IsStartAt mode value filters (notifications alarms) cursor) → IfNone result (IsNone (CanStart mode value filters) (notifications alarms)) → result ≡ option_map cursor_before (starting mode value filters (reverse (notifications alarms)))
 start-value mode value filters alarms None order found none =
@@ -99,7 +97,7 @@ module _ (client : ℕ) (reply : Reply) (xs : List ClientWindow) (place : ℕ) (
 
     pub known-answered : (new : Kept Reply) → new ≡ with_reply reply element.window → set xs place (client_window element.client new) ≡ answered client reply xs
     known-answered new is =
-        let same : element.client ≡ client = same-number element.client client own in
+        let same : element.client ≡ client = eqb-true element.client client own in
         let made : client_window element.client new ≡ client_window client (with_reply reply (window_for client xs)) =
         ap (λ c. client_window c new) same ∙ ap (client_window client) (is ∙ ap (with_reply reply) (sym known-window)) in
         ap (λ n. set xs n (client_window element.client new)) at
@@ -126,12 +124,7 @@ pub none-there : (client : ℕ) (xs : List ClientWindow) (place : ℕ) → IsRis
 none-there client xs place rising at other =
     sym (find-none (λ (c : ClientWindow). c.client) client xs rising (λ d within. ap (λ n. is_window_for client (get_or xs n d)) (sym at) ∙ other d (omega (arith, at, within))))
 
-any-default : {X : Type 0} (xs : List X) (n : ℕ) (d e : X) → n < length xs → get_or xs n d ≡ get_or xs n e
-any-default [] n d e within = absurd (omega arith)
-any-default (x ∷ xs) zero d e within = refl
-any-default (x ∷ xs) (suc n) d e within = any-default xs n d e (omega arith)
-
 pub none-at : (client : ℕ) (xs : List ClientWindow) (place : ℕ) (element : ClientWindow) → IsRising window_before xs → place ≡ place_in (λ (c : ClientWindow). c.client) client xs → element ≡ get_or xs place element → is_window_for client element ≡ false → None ≡ find (is_window_for client) xs
 none-at client xs place element rising at there other =
     none-there client xs place rising at
-    (λ d within. ap (λ (c : ClientWindow). is_window_for client c) (any-default xs place d element within ∙ sym there) ∙ other)
+    (λ d within. ap (λ (c : ClientWindow). is_window_for client c) (get_or_default xs place d element within ∙ sym there) ∙ other)

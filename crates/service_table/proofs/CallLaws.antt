@@ -1,6 +1,6 @@
 -- What the parts ask of their calls, and what each call makes of the whole.
-use Rattle.std.proofs.Common.{◌≡◌, ◌≢◌, ℕ, ◌<◌, ◌≤◌, Bool, true, false, cond, List, [], ◌∷◌, refl, ap, sym, subst, arith, leb→le}
-use Rattle.std.specs.Prelude.{Some, ℤ, pos, negsuc}
+use Rattle.std.proofs.Common.{◌≡◌, ◌≢◌, ℕ, ◌<◌, ◌≤◌, Bool, true, false, cond, List, [], ◌∷◌, refl, ap, sym, subst, arith}
+use Rattle.std.specs.Prelude.{Some, ℤ}
 use Rattle.std.specs.Option.{option_map_or}
 use Rattle.std.specs.List.{AllByRecursion}
 use Rattle.ais_values.specs.declared.status.Status.{Status}
@@ -11,7 +11,6 @@ use Rattle.stream_layout.specs.Carrying.{IsFitEvent}
 use Rattle.calls.specs.declared.call.Call.{Call}
 use Rattle.calls.specs.declared.call.Call.TheVariants.{LogInit, LogOpen, LogWrite, LogClose, LogFini, NtfInit, NtfSend, NtfSubscribe, NtfUnsubscribe, ReaderStart, ReaderRead, ReaderEnd, NtfFini}
 use Rattle.log_history.specs.Changes.{LogChange}
-use Rattle.log_history.specs.Times.{second_of}
 use Rattle.log_history.specs.Table.{OpenStream, LogTable, is_named, table_after, events_of}
 use Rattle.log_history.specs.KeptAnswers.{kept_stream}
 use Rattle.ntf_history.specs.declared.subscription.Subscription.{Subscription}
@@ -30,10 +29,6 @@ use Rattle.service_table.proofs.EventsFit.{events-fit}
 use Rattle.service_table.proofs.NtfReady.{can-send}
 
 -- conditions
-
-pub second-bound : (now : ℤ) → IsMoment now → second_of now ≤ 9000000000
-second-bound (pos n) is = omega (arith, leb→le n 9000000000000000000 is.to.le)
-second-bound (negsuc n) is = absurd is.from.le
 
 pub last-bound : (kept : LogTable) (now : ℤ) → CanCallLog kept now → kept.last ≤ 19999999000
 last-bound kept now can = omega (arith, can.ready.room, can.few)

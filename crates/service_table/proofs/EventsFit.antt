@@ -1,17 +1,15 @@
 -- Each event that a change of the log brings to a stream can happen to it, so that its deeds are defined.
-use Rattle.std.proofs.Common.{◌≡◌, ℕ, ◌+◌, ◌<◌, ◌≤◌, Bool, true, false, cond, List, [], ◌∷◌, length, refl, subst, arith, le→leb, leb→le}
-use Rattle.std.specs.Prelude.{Option, Some, None, is_some, ℤ, pos, negsuc, IfSome, All}
+use Rattle.std.proofs.Common.{◌≡◌, ℕ, ◌+◌, ◌<◌, ◌≤◌, Bool, true, false, cond, List, [], ◌∷◌, length, refl, subst, arith}
+use Rattle.std.specs.Prelude.{Option, Some, None, pos}
 use Rattle.std.specs.Option.{option_map_or}
 use Rattle.std.specs.List.{AllByRecursion}
 use Rattle.std.proofs.lemmas.List.{length-map}
-use Rattle.std.proofs.lemmas.List.Elements.{All-nil, All-cons}
 use Rattle.stream_config.specs.declared.attrs.StreamName.{StreamName}
-use Rattle.stream_config.specs.declared.event.Stamps.{Stamps}
 use Rattle.stream_config.specs.declared.event.StreamEvent.TheVariants as event
 use Rattle.stream_config.specs.Fit.{stamps_of, changes_file}
 use Rattle.stream_config.specs.Sizes.{records_per_file}
 use Rattle.stream_config.specs.Stamps.{stamp_after}
-use Rattle.stream_layout.specs.Carrying.{IsStamp, IsFitStream, IsFitEvent}
+use Rattle.stream_layout.specs.Carrying.{IsFitStream, IsFitEvent}
 use Rattle.record_print.specs.declared.record.LogRecord.{LogRecord}
 use Rattle.record_print.proofs.LineLaws.{length-printed_record}
 use Rattle.format_expr.specs.Reading.{pieces_of}
@@ -19,22 +17,12 @@ use Rattle.log_history.specs.Changes.{LogChange, Began, Opened, Stored, Closed, 
 use Rattle.log_history.specs.Answers.{holds_all}
 use Rattle.log_history.specs.Table.{OpenStream, LogTable, is_named, without_opener, storing, has_nobody, ends_in, closed_streams, left_streams, events_of, opened_stream}
 use Rattle.log_history.specs.KeptAnswers.{kept_stream}
-use Rattle.log_history.specs.Stamps.{IsStampUpTo}
 use Rattle.log_history.proofs.SoundStreams.{room-left}
 use Rattle.service_table.specs.Ready.{IsReadyStream, IsReadyLog}
-use Rattle.service_table.proofs.LogSteps.{CanChange, second_in, all-changed, all-mapped, length-first, ready-new, filled-is}
-
-stamp-is : (stamp : ℕ) → stamp ≤ 20000000100 → IsStamp (pos stamp)
-stamp-is stamp le = (record { le = le→leb 0 stamp (omega arith) }, record { le = le→leb stamp 20000000100 le })
-
-up-to-is : (last : ℕ) → last ≤ 20000000100 → (stamp : ℤ) → IsStampUpTo (pos last) stamp → IsStamp stamp
-up-to-is last le (pos n) is = stamp-is n (omega (arith, leb→le n last is.to.le, le))
-up-to-is last le (negsuc n) is = absurd is.from.le
-
-stamps-are : (last : ℕ) → last ≤ 20000000100 → (stamps : List ℤ) → AllByRecursion (IsStampUpTo (pos last)) stamps → All IsStamp stamps
-stamps-are last le [] each = All-nil IsStamp
-stamps-are last le (stamp ∷ stamps) each =
-    All-cons IsStamp stamp stamps (up-to-is last le stamp each.0) (stamps-are last le stamps each.1)
+use Rattle.service_table.proofs.LogSteps.{CanChange, second_in, all-mapped, ready-new, filled-is}
+use Rattle.log_history.proofs.EventLaws.{length-changed, stamps-are, due-is, due-stamps}
+use Rattle.log_history.proofs.StreamLaws.{stamp-is}
+use Rattle.plain_service.proofs.ListLaws.{each-change_first}
 
 fit-state : (last number : ℕ) (stream : OpenStream) → last ≤ 20000000100 → IsReadyStream last number stream → IsFitStream stream.state
 fit-state last number stream le ready = record {
@@ -42,14 +30,6 @@ fit-state last number stream le ready = record {
   standing = ready.files;
   stamps = stamps-are last le (stamps_of stream.state.files) ready.stamps;
 }
-
-due-is : (b : Bool) (stamps : Stamps) → is_some (cond b (Some stamps) None) ≡ b
-due-is true stamps = refl
-due-is false stamps = refl
-
-due-stamps : (b : Bool) (last second : ℕ) → last + 2 ≤ 20000000100 → second < 20000000100 → IfSome (cond b (Some (record { closed = pos (stamp_after last second); created = pos (stamp_after (stamp_after last second) second) })) None) (λ (two : Stamps). IsStamp two.closed × IsStamp two.created)
-due-stamps true last second le early = (stamp-is (stamp_after last second) (omega (arith, le, early)), stamp-is (stamp_after (stamp_after last second) second) (omega (arith, le, early)))
-due-stamps false last second le early = tt
 
 fit-storing : (last second number : ℕ) (rec : LogRecord) (stream : OpenStream) → last + 2 ≤ 20000000100 → second < 20000000100 → holds_all stream.state.attrs stream.state.taken ≡ false → IsReadyStream last number stream → IsFitEvent (storing last second rec stream.state)
 fit-storing last second number rec stream le early room ready =
@@ -99,9 +79,9 @@ events-fit number kept (Stored stream rec second) few early can ready =
     stored-fit number second rec kept stream few early can ready (kept_stream kept.streams stream) refl ready.each
 events-fit number kept (Closed client stream second) few early can ready =
     let left = closed_streams client stream kept.streams in
-    let same = length-first (is_named stream) (without_opener client) kept.streams in
+    let same = length-changed (is_named stream) (without_opener client) kept.streams in
     fit-ends kept.last number second kept.last left (omega (arith, ready.room, few)) (omega (arith, ready.room, few, same)) (omega (arith, ready.few, few, early, same))
-    (all-changed (IsReadyStream kept.last number) (is_named stream) (without_opener client) (unopened kept.last number client) kept.streams ready.each)
+    (each-change_first (IsReadyStream kept.last number) (is_named stream) (without_opener client) (unopened kept.last number client) kept.streams ready.each)
 events-fit number kept (Ended client second) few early can ready =
     let left = left_streams client kept.streams in
     let same : length left ≡ length kept.streams = length-map kept.streams (without_opener client) in

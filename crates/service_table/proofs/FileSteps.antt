@@ -1,9 +1,10 @@
 -- The files of a living stream stay fit as a record is stored.
-use Rattle.std.proofs.Common.{◌≡◌, ℕ, zero, suc, ◌+◌, ◌-◌, ◌/◌, ◌<◌, ◌≤◌, min, Bool, true, false, ◌&&◌, cond, List, [], ◌∷◌, ◌++◌, length, drop, refl, ap, sym, ◌∙◌, subst, arith, append_assoc, length-append, length-drop, le→leb, leb→le}
-use Rattle.std.specs.Prelude.{Option, Some, None, is_some, is_none, ℤ, pos, negsuc, int_lt}
+use Rattle.std.proofs.Common.{◌≡◌, ℕ, zero, suc, ◌+◌, ◌-◌, ◌/◌, ◌<◌, ◌≤◌, min, Bool, true, false, cond, List, [], ◌∷◌, ◌++◌, length, drop, refl, ap, sym, ◌∙◌, subst, arith, length-append, length-drop, leb→le}
+use Rattle.std.specs.Prelude.{Option, Some, None, is_some, ℤ, pos, negsuc, int_lt}
 use Rattle.std.specs.Option.{option_to_list}
 use Rattle.std.specs.List.{AllByRecursion}
 use Rattle.std.proofs.lemmas.Int.{ints}
+use Rattle.std.proofs.lemmas.Bool.{and_parts, and_from}
 use Rattle.stream_config.specs.declared.attrs.FullAction.{FullAction}
 use Rattle.stream_config.specs.declared.attrs.FullAction.TheVariants.{Wrap, Halt, Rotate}
 use Rattle.stream_config.specs.declared.attrs.StreamAttrs.{StreamAttrs}
@@ -16,26 +17,16 @@ use Rattle.record_print.specs.declared.record.LogRecord.{LogRecord}
 use Rattle.log_history.specs.Table.{OpenStream, last_after_due, with_stored}
 use Rattle.stream_layout.proofs.StoredBytes.{same_round, begins_round}
 use Rattle.log_history.specs.Stamps.{IsStampUpTo}
-use Rattle.log_history.proofs.StreamLaws.{some-records}
 use Rattle.service_table.specs.Ready.{IsReadyStream}
-
-both : (a b : Bool) → (a && b) ≡ true → (a ≡ true) × (b ≡ true)
-both true true e = (refl, refl)
-both true false e = cc
-both false b e = cc
-
-both-true : (a b : Bool) → a ≡ true → b ≡ true → (a && b) ≡ true
-both-true true true one two = refl
-both-true true false one two = cc
-both-true false b one two = cc
+use Rattle.ais_values.proofs.Basics.{AllByRecursion-append}
+use Rattle.stream_layout.proofs.EventLaws.{some_records}
+use Rattle.log_history.proofs.FileLists.{some-most}
+use Rattle.stream_layout.proofs.CurrentFile.{rises-tail, length-last_closed, stamps-closed}
+use Rattle.log_history.proofs.StreamLaws.{stamp-up-to, up-to-lt}
 
 -- lists that have a property
 
 module _ {X : Type 0} (P : X → Type 0) where
-  pub all-append : (xs ys : List X) → AllByRecursion P xs → AllByRecursion P ys → AllByRecursion P (xs ++ ys)
-  all-append [] ys each more = more
-  all-append (x ∷ xs) ys each more = (each.0, all-append xs ys each.1 more)
-
   all-behind : (xs ys : List X) → AllByRecursion P (xs ++ ys) → AllByRecursion P ys
   all-behind [] ys each = each
   all-behind (x ∷ xs) ys each = all-behind xs ys each.1
@@ -47,29 +38,17 @@ module _ {X : Type 0} (P Q : X → Type 0) (weaker : (x : X) → P x → Q x) wh
 
 -- stamps
 
-up-to-lt : (last next : ℕ) (stamp : ℤ) → last < next → IsStampUpTo (pos last) stamp → int_lt stamp (pos next) ≡ true
-up-to-lt last next (pos n) less is =
-    let le : n ≤ last = leb→le n last is.to.le in grind (arith, ints)
-up-to-lt last next (negsuc n) less is = absurd is.from.le
-
-pub stamp-up-to : (last stamp : ℕ) → stamp ≤ last → IsStampUpTo (pos last) (pos stamp)
-stamp-up-to last stamp le = record { from = record { le = le→leb 0 stamp (omega arith) }; to = record { le = le→leb stamp last le } }
-
 pub up-to-later : (last later : ℕ) → last ≤ later → (stamp : ℤ) → IsStampUpTo (pos last) stamp → IsStampUpTo (pos later) stamp
 up-to-later last later le (pos n) is = stamp-up-to later n (omega (arith, leb→le n last is.to.le, le))
 up-to-later last later le (negsuc n) is = absurd is.from.le
 
 rises-push : (last closed created : ℕ) → last < closed → closed < created → (stamps : List ℤ) → AllByRecursion (IsStampUpTo (pos last)) stamps → rises stamps ≡ true → rises (stamps ++ pos closed ∷ pos created ∷ []) ≡ true
-rises-push last closed created one two [] each up = both-true (int_lt (pos closed) (pos created)) true (grind (arith, ints)) refl
+rises-push last closed created one two [] each up = and_from (int_lt (pos closed) (pos created)) true (grind (arith, ints)) refl
 rises-push last closed created one two (stamp ∷ []) each up =
-    both-true (int_lt stamp (pos closed)) (rises (pos closed ∷ pos created ∷ [])) (up-to-lt last closed stamp one each.0) (rises-push last closed created one two [] tt refl)
+    and_from (int_lt stamp (pos closed)) (rises (pos closed ∷ pos created ∷ [])) (up-to-lt last closed stamp one each.0) (rises-push last closed created one two [] tt refl)
 rises-push last closed created one two (stamp ∷ next ∷ stamps) each up =
-    let split = both (int_lt stamp next) (rises (next ∷ stamps)) up in
-    both-true (int_lt stamp next) (rises ((next ∷ stamps) ++ pos closed ∷ pos created ∷ [])) split.0 (rises-push last closed created one two (next ∷ stamps) each.1 split.1)
-
-rises-tail : (stamp : ℤ) (stamps : List ℤ) → rises (stamp ∷ stamps) ≡ true → rises stamps ≡ true
-rises-tail stamp [] up = refl
-rises-tail stamp (next ∷ stamps) up = (both (int_lt stamp next) (rises (next ∷ stamps)) up).1
+    let split = and_parts (int_lt stamp next) (rises (next ∷ stamps)) up in
+    and_from (int_lt stamp next) (rises ((next ∷ stamps) ++ pos closed ∷ pos created ∷ [])) split.0 (rises-push last closed created one two (next ∷ stamps) each.1 split.1)
 
 rises-file : (closed : Option ℤ) (stamps : List ℤ) → rises (option_to_list closed ++ stamps) ≡ true → rises stamps ≡ true
 rises-file None stamps up = up
@@ -88,47 +67,24 @@ stamps-drop P (suc k) (file ∷ files) each = stamps-drop P k files (all-behind 
 
 -- a change of file
 
-none-is : (closed : Option ℤ) → is_none closed ≡ true → closed ≡ None
-none-is None is = refl
-none-is (Some stamp) is = cc
-
-stamps-changed : (closed created : ℤ) (files : List LogFile) → is_last_open files ≡ true → stamps_of (last_closed closed files ++ open_file created ∷ []) ≡ stamps_of files ++ closed ∷ created ∷ []
-stamps-changed closed created [] opened = cc
-stamps-changed closed created (file ∷ []) opened =
-    ap (λ stamp. file.created ∷ (option_to_list stamp ++ []) ++ closed ∷ created ∷ []) (sym (none-is file.closed opened))
-stamps-changed closed created (file ∷ next ∷ files) opened =
-    let split = both (is_some file.closed) (is_last_open (next ∷ files)) opened in
-    ap (λ stamps. file.created ∷ option_to_list file.closed ++ stamps) (stamps-changed closed created (next ∷ files) split.1)
-    ∙ ap (λ stamps. file.created ∷ stamps) (sym (append_assoc (option_to_list file.closed) (stamps_of (next ∷ files)) (closed ∷ created ∷ [])))
-
 last-open-changed : (closed created : ℤ) (files : List LogFile) → is_last_open files ≡ true → is_last_open (last_closed closed files ++ open_file created ∷ []) ≡ true
 last-open-changed closed created [] opened = cc
 last-open-changed closed created (file ∷ []) opened = refl
 last-open-changed closed created (file ∷ next ∷ []) opened =
-    let split = both (is_some file.closed) (is_last_open (next ∷ [])) opened in
-    both-true (is_some file.closed) (is_last_open (last_closed closed (next ∷ []) ++ open_file created ∷ [])) split.0 (last-open-changed closed created (next ∷ []) split.1)
+    let split = and_parts (is_some file.closed) (is_last_open (next ∷ [])) opened in
+    and_from (is_some file.closed) (is_last_open (last_closed closed (next ∷ []) ++ open_file created ∷ [])) split.0 (last-open-changed closed created (next ∷ []) split.1)
 last-open-changed closed created (file ∷ next ∷ other ∷ files) opened =
-    let split = both (is_some file.closed) (is_last_open (next ∷ other ∷ files)) opened in
-    both-true (is_some file.closed) (is_last_open (last_closed closed (next ∷ other ∷ files) ++ open_file created ∷ [])) split.0 (last-open-changed closed created (next ∷ other ∷ files) split.1)
+    let split = and_parts (is_some file.closed) (is_last_open (next ∷ other ∷ files)) opened in
+    and_from (is_some file.closed) (is_last_open (last_closed closed (next ∷ other ∷ files) ++ open_file created ∷ [])) split.0 (last-open-changed closed created (next ∷ other ∷ files) split.1)
 
 last-open-drop : (k : ℕ) (files : List LogFile) → k < length files → is_last_open files ≡ true → is_last_open (drop k files) ≡ true
 last-open-drop zero files some opened = opened
 last-open-drop (suc k) [] some opened = opened
 last-open-drop (suc k) (file ∷ []) some opened = absurd (omega (arith, some))
 last-open-drop (suc k) (file ∷ next ∷ files) some opened =
-    last-open-drop k (next ∷ files) (omega (arith, some)) (both (is_some file.closed) (is_last_open (next ∷ files)) opened).1
-
-length-closed : (closed : ℤ) (files : List LogFile) → length (last_closed closed files) ≡ length files
-length-closed closed [] = refl
-length-closed closed (file ∷ []) = refl
-length-closed closed (file ∷ next ∷ files) = ap suc (length-closed closed (next ∷ files))
+    last-open-drop k (next ∷ files) (omega (arith, some)) (and_parts (is_some file.closed) (is_last_open (next ∷ files)) opened).1
 
 -- how many files stand
-
-some-most : (action : FullAction) (rotated : ℕ) → 1 ≤ rotated → 1 ≤ most_files action rotated
-some-most Wrap rotated some = omega arith
-some-most Halt rotated some = omega arith
-some-most Rotate rotated some = some
 
 count-due : (action : FullAction) (rotated n taken count : ℕ) → 0 < n → 1 ≤ rotated → changes_file action n taken ≡ true → count ≡ file_count action rotated n taken → count + 1 - (count + 1 - most_files action rotated) ≡ file_count action rotated n (taken + 1)
 count-due Wrap rotated n taken count some one due is = cc
@@ -165,14 +121,14 @@ stay-fit last second attrs taken files true some one due fit =
     let created = stamp_after closed second in
     let all = last_closed (pos closed) files ++ open_file (pos created) ∷ [] in
     let gone = length all - most_files attrs.action attrs.rotated in
-    let count : length all ≡ length files + 1 = length-append (last_closed (pos closed) files) (open_file (pos created) ∷ []) ∙ ap (λ m. m + 1) (length-closed (pos closed) files) in
+    let count : length all ≡ length files + 1 = length-append (last_closed (pos closed) files) (open_file (pos created) ∷ []) ∙ ap (λ m. m + 1) (length-last_closed (pos closed) files) in
     let most = some-most attrs.action attrs.rotated one in
-    let same : stamps_of all ≡ stamps_of files ++ pos closed ∷ pos created ∷ [] = stamps-changed (pos closed) (pos created) files fit.last_open in
+    let same : stamps_of all ≡ stamps_of files ++ pos closed ∷ pos created ∷ [] = stamps-closed (pos closed) (pos created) files fit.last_open in
     let rising : rises (stamps_of all) ≡ true =
     ap rises same ∙ rises-push last closed created (omega arith) (omega arith) (stamps_of files) fit.stamps fit.rising in
     let stamped : AllByRecursion (IsStampUpTo (pos created)) (stamps_of all) =
     subst (AllByRecursion (IsStampUpTo (pos created))) (sym same)
-    (all-append (IsStampUpTo (pos created)) (stamps_of files) (pos closed ∷ pos created ∷ [])
+    (AllByRecursion-append (IsStampUpTo (pos created)) (stamps_of files) (pos closed ∷ pos created ∷ [])
     (all-weaker (IsStampUpTo (pos last)) (IsStampUpTo (pos created)) (up-to-later last created (omega arith)) (stamps_of files) fit.stamps)
     (stamp-up-to created closed (omega arith), (stamp-up-to created created (omega arith), tt))) in
     record {
@@ -187,7 +143,7 @@ pub ready-stored : (last second number : ℕ) (rec : LogRecord) (stream : OpenSt
 ready-stored last second number rec stream room ready =
     let attrs = stream.state.attrs in
     let due = changes_file attrs.action (records_per_file attrs) stream.state.taken in
-    let fit = stay-fit last second attrs stream.state.taken stream.state.files due (some-records attrs ready.attributes.sizes) ready.attributes.some_rotated refl
+    let fit = stay-fit last second attrs stream.state.taken stream.state.files due (some_records attrs ready.attributes.sizes) ready.attributes.some_rotated refl
     (record { rising = ready.files.rising; last_open = ready.files.last_open; count = ready.files.count; stamps = ready.stamps }) in
     record {
       attributes = ready.attributes;

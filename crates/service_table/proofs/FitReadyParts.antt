@@ -1,6 +1,6 @@
 -- Of a value that is fit both services can be made again, and its table has that value.
 use Rattle.std.proofs.Common.{◌≡◌, ℕ, ◌≤◌, nat_lt, Bool, true, false, ◌&&◌, List, [], ◌∷◌, length, take, drop, map, refl, ap, ◌∙◌, arith, length-drop}
-use Rattle.std.specs.Prelude.{◌≢◌, ℤ, pos, negsuc, unsigned_abs, ◌≤ℤ◌}
+use Rattle.std.specs.Prelude.{◌≢◌, ℤ}
 use Rattle.std.specs.List.{AllByRecursion}
 use Rattle.std.proofs.lemmas.List.{length-map, reverse-reverse}
 use Rattle.client_set.specs.Rising.{IsRising, ComesFirst}
@@ -26,6 +26,7 @@ use Rattle.service_table.specs.Tables.{kept_window, kept_stream_of, kept_alarm_o
 use Rattle.service_table.specs.Histories.{service_of}
 use Rattle.service_table.proofs.SavedLaws.{stands-table}
 use Rattle.service_table.proofs.FitReady.{ready-fit}
+use Rattle.ais_values.proofs.Basics.{pos-unsigned_abs, map-map_back}
 
 -- streams: the well-known ones need no opener, and each of the others has one
 
@@ -132,17 +133,9 @@ ntf-fit saved fit =
 
 -- the value of a value's table
 
-again : {X Y : Type 0} (there : X → Y) (here : Y → X) (same : (x : X) → here (there x) ≡ x) (xs : List X) → map here (map there xs) ≡ xs
-again there here same [] = refl
-again there here same (x ∷ xs) = ap (λ y. y ∷ map here (map there xs)) (same x) ∙ ap (λ ys. x ∷ ys) (again there here same xs)
-
 window-again : (window : SavedWindow) → saved_window (kept_window window) ≡ window
 window-again window =
     ap (λ (replies : List Reply). let saved : SavedWindow = record { client = window.client; next = window.next; replies = replies } in saved) (reverse-reverse window.replies)
-
-stamp-again : (last : ℤ) → pos 0 ≤ℤ last → pos (unsigned_abs last) ≡ last
-stamp-again (pos n) from = refl
-stamp-again (negsuc n) from = absurd from.le
 
 -- **the table of a value that is fit has this value**
 pub value-back : (saved : Saved) → IsFit saved → saved_table (table_of_saved saved) ≡ saved
@@ -165,11 +158,11 @@ value-back saved fit =
     let streams = map saved_stream (map kept_stream_of saved.streams) in
     let alarms = map saved_alarm (map kept_alarm_of saved.alarms) in
     let held = map saved_queue (map (kept_sub_of saved.capacity) saved.subs) in
-    ap (λ x. made x windows streams alarms held) (stamp-again saved.last_stamp fit.stamp.from)
-    ∙ ap (λ x. made saved.last_stamp x streams alarms held) (again kept_window saved_window window-again saved.windows)
-    ∙ ap (λ x. made saved.last_stamp saved.windows x alarms held) (again kept_stream_of saved_stream (λ _. refl) saved.streams)
-    ∙ ap (λ x. made saved.last_stamp saved.windows saved.streams x held) (again kept_alarm_of saved_alarm (λ _. refl) saved.alarms)
-    ∙ ap (made saved.last_stamp saved.windows saved.streams saved.alarms) (again (kept_sub_of saved.capacity) saved_queue (λ _. refl) saved.subs)
+    ap (λ x. made x windows streams alarms held) (pos-unsigned_abs saved.last_stamp fit.stamp.from)
+    ∙ ap (λ x. made saved.last_stamp x streams alarms held) (map-map_back kept_window saved_window window-again saved.windows)
+    ∙ ap (λ x. made saved.last_stamp saved.windows x alarms held) (map-map_back kept_stream_of saved_stream (λ _. refl) saved.streams)
+    ∙ ap (λ x. made saved.last_stamp saved.windows saved.streams x held) (map-map_back kept_alarm_of saved_alarm (λ _. refl) saved.alarms)
+    ∙ ap (made saved.last_stamp saved.windows saved.streams saved.alarms) (map-map_back (kept_sub_of saved.capacity) saved_queue (λ _. refl) saved.subs)
 
 -- **the table of a value that stands for a history is the history's**
 pub value-table : (setup : Setup) (entries : List Entry) (saved : Saved) → IsFit saved → StandsFor setup entries saved → table_of_saved saved ≡ service_of setup entries

@@ -22,10 +22,14 @@ use Rattle.log_history.specs.Changes.{LogChange, Began, Opened, Stored, Closed, 
 use Rattle.log_history.specs.Answers.{holds_all}
 use Rattle.log_history.specs.Table.{OpenStream, LogTable, is_named, with_opener, without_opener, last_after_due, with_stored, has_nobody, last_after_ends, kept_streams, closed_streams, left_streams, opened_stream, table_after}
 use Rattle.log_history.specs.KeptAnswers.{kept_stream, is_filled}
-use Rattle.log_history.proofs.SoundStreams.{room-left}
+use Rattle.log_history.proofs.SoundStreams.{room-left, due-grows}
 use Rattle.service_table.specs.Steps.{taken_in}
 use Rattle.service_table.specs.Ready.{IsReadyStream, IsAlarmFirst, alarm_count, IsReadyLog}
-use Rattle.service_table.proofs.FileSteps.{all-append, all-weaker, ready-stored, later-stream, stamp-up-to}
+use Rattle.service_table.proofs.FileSteps.{all-weaker, ready-stored, later-stream}
+use Rattle.ais_values.proofs.Basics.{AllByRecursion-append}
+use Rattle.log_history.proofs.StreamLaws.{stamp-up-to}
+use Rattle.log_history.proofs.EventLaws.{length-changed}
+use Rattle.plain_service.proofs.ListLaws.{each-change_first}
 
 -- what a change of the log needs beside what is kept
 abbrev pub CanChange : LogTable → LogChange → Type 0
@@ -53,13 +57,6 @@ module _ {X : Type 0} (P Q : X → Type 0) (test : X → Bool) (change : X → X
         (weaker x each.0, behind (λ y found. at y (ap (λ c. cond c (Some x) (find test xs)) is ∙ found)) each.1)
 
 module _ {X : Type 0} (P : X → Type 0) where
-  pub all-changed : (test : X → Bool) (change : X → X) → ((x : X) → P x → P (change x)) → (xs : List X) → AllByRecursion P xs → AllByRecursion P (change_first test change xs)
-  all-changed test change keeps [] each = tt
-  all-changed test change keeps (x ∷ xs) each = by_case (test x) (all-changed test change keeps xs each.1) where
-    by_case : (passes : Bool) → AllByRecursion P (change_first test change xs) → AllByRecursion P (cond passes (change x ∷ xs) (x ∷ change_first test change xs))
-    by_case true behind = (keeps x each.0, each.1)
-    by_case false behind = (each.0, behind)
-
   pub all-mapped : (change : X → X) → ((x : X) → P x → P (change x)) → (xs : List X) → AllByRecursion P xs → AllByRecursion P (map change xs)
   all-mapped change keeps [] each = tt
   all-mapped change keeps (x ∷ xs) each = (keeps x each.0, all-mapped change keeps xs each.1)
@@ -70,13 +67,6 @@ module _ {X : Type 0} (P : X → Type 0) where
     by_case : (stays : Bool) → AllByRecursion P (filter keep xs) → AllByRecursion P (cond stays (x ∷ filter keep xs) (filter keep xs))
     by_case true behind = (each.0, behind)
     by_case false behind = behind
-
-pub length-first : {X : Type 0} (test : X → Bool) (change : X → X) (xs : List X) → length (change_first test change xs) ≡ length xs
-length-first test change [] = refl
-length-first {X} test change (x ∷ xs) = by_case (test x) (length-first test change xs) where
-  by_case : (passes : Bool) → length (change_first test change xs) ≡ length xs → length (cond passes (change x ∷ xs) (x ∷ change_first test change xs)) ≡ length (x ∷ xs)
-  by_case true behind = refl
-  by_case false behind = ap suc behind
 
 -- the alarm stream stays first, with as many records at least
 
@@ -137,10 +127,6 @@ push-count [] s first = absurd first
 push-count (one ∷ streams) s first = refl
 
 -- the last stamp never falls
-
-due-grows : (due : Bool) (last second : ℕ) → last ≤ cond due (stamp_after (stamp_after last second) second) last
-due-grows true last second = omega arith
-due-grows false last second = omega arith
 
 due-few : (due : Bool) (last second bound : ℕ) → last + 2 ≤ bound → second + 1 ≤ bound → cond due (stamp_after (stamp_after last second) second) last ≤ bound
 due-few true last second bound low early = omega (arith, low, early)
@@ -219,10 +205,10 @@ ready-log number kept (Began client) early can ready = record {
   alarm = ready.alarm;
 }
 ready-log number kept (Opened client stream None second) early can ready = record {
-  each = all-changed (IsReadyStream kept.last (number + 1)) (is_named stream) (with_opener client) (λ s is. record { attributes = is.attributes; files = is.files; stamps = is.stamps; taken = is.taken }) kept.streams
+  each = each-change_first (IsReadyStream kept.last (number + 1)) (is_named stream) (with_opener client) (λ s is. record { attributes = is.attributes; files = is.files; stamps = is.stamps; taken = is.taken }) kept.streams
       (all-weaker (IsReadyStream kept.last number) (IsReadyStream kept.last (number + 1)) (λ s. later-stream kept.last kept.last number s (omega arith)) kept.streams ready.each);
-  few = omega (arith, ready.few, length-first (is_named stream) (with_opener client) kept.streams);
-  room = omega (arith, ready.room, length-first (is_named stream) (with_opener client) kept.streams);
+  few = omega (arith, ready.few, length-changed (is_named stream) (with_opener client) kept.streams);
+  room = omega (arith, ready.room, length-changed (is_named stream) (with_opener client) kept.streams);
   alarm = keeps-first stream (with_opener client) (λ _. refl) kept.streams ready.alarm;
 }
 ready-log number kept (Opened client stream (Some attrs) second) early can ready =
@@ -230,7 +216,7 @@ ready-log number kept (Opened client stream (Some attrs) second) early can ready
     let new = opened_stream client stream attrs last in
     let count : length (kept.streams ++ new ∷ []) ≡ length kept.streams + 1 = length-append kept.streams (new ∷ []) in
     record {
-      each = all-append (IsReadyStream last (number + 1)) kept.streams (new ∷ [])
+      each = AllByRecursion-append (IsReadyStream last (number + 1)) kept.streams (new ∷ [])
           (all-weaker (IsReadyStream kept.last number) (IsReadyStream last (number + 1)) (λ s. later-stream kept.last last number s (omega arith)) kept.streams ready.each)
           (ready-new client last (number + 1) stream attrs can, tt);
       few = omega (arith, ready.few, count);
@@ -241,7 +227,7 @@ ready-log number kept (Stored stream rec second) early can ready =
     let found = kept_stream kept.streams stream in
     let last = option_map_or (λ (s : OpenStream). last_after_due kept.last second s.state) found kept.last in
     let change = with_stored kept.last second rec in
-    let same = length-first (is_named stream) change kept.streams in
+    let same = length-changed (is_named stream) change kept.streams in
     record {
       each = all-first (IsReadyStream kept.last number) (IsReadyStream last (number + 1)) (is_named stream) change
           (λ s. later-stream kept.last last number s (stored-last kept.last second found)) kept.streams
@@ -255,9 +241,9 @@ ready-log number kept (Stored stream rec second) early can ready =
     }
 ready-log number kept (Closed client stream second) early can ready =
     let left = closed_streams client stream kept.streams in
-    let same = length-first (is_named stream) (without_opener client) kept.streams in
+    let same = length-changed (is_named stream) (without_opener client) kept.streams in
     ends-ready number second kept.last left 0 early
-    (all-changed (IsReadyStream kept.last number) (is_named stream) (without_opener client) (λ s is. record { attributes = is.attributes; files = is.files; stamps = is.stamps; taken = is.taken }) kept.streams ready.each)
+    (each-change_first (IsReadyStream kept.last number) (is_named stream) (without_opener client) (λ s is. record { attributes = is.attributes; files = is.files; stamps = is.stamps; taken = is.taken }) kept.streams ready.each)
     (keeps-first stream (without_opener client) (λ _. refl) kept.streams ready.alarm)
     (omega (arith, ready.few, same)) (omega (arith, ready.room, same)) kept.users
 ready-log number kept (Ended client second) early can ready =

@@ -4,7 +4,6 @@ use Rattle.std.specs.List.{AllByRecursion}
 use Rattle.std.proofs.lemmas.Bool.Decides.{nat_tests}
 use Rattle.ntf_types.specs.declared.notification.Notification.{Notification}
 use Rattle.ntf_filters.specs.Matching.{matches}
-use Rattle.sub_queue.specs.declared.item.Lost.{Lost}
 use Rattle.sub_queue.specs.declared.item.Content.TheVariants.{Notified}
 use Rattle.sub_queue.specs.Items.{discarded}
 use Rattle.sub_queue.specs.Queue.{Queue, next_number, empty_queue, has_room, offered, received}
@@ -17,7 +16,8 @@ use Rattle.service_table.specs.declared.caller.ClientWindow.{ClientWindow}
 use Rattle.service_table.specs.Steps.{window_for}
 use Rattle.service_table.specs.Ready.{IsReadySub, IsReadyNtf}
 use Rattle.service_table.proofs.FileSteps.{all-weaker}
-use Rattle.service_table.proofs.WindowsReady.{all-put, all-without}
+use Rattle.sub_queue.proofs.Keeping.{length-discarded}
+use Rattle.plain_service.proofs.ListLaws.{each-put, each-without}
 
 -- the next number of a queue grows by one at most
 
@@ -26,10 +26,6 @@ offered-next notification queue = by_case (has_room queue) where
   by_case : (room : Bool) → queue.first + length (cond room (queue.held ++ Notified notification ∷ []) queue.held) ≤ queue.first + length queue.held + 1
   by_case true = omega (arith, length-append queue.held (Notified notification ∷ []))
   by_case false = omega arith
-
-discarded-few : (lost : List Lost) → length (discarded lost) ≤ 1
-discarded-few [] = omega arith
-discarded-few (mark ∷ lost) = omega arith
 
 has-item : (through : ℕ) (queue : Queue) → has_item through queue ≡ true → (queue.first ≤ through) × (through < next_number queue)
 has-item through queue is = tests (nat_le queue.first through) (nat_lt through (next_number queue)) refl refl is where
@@ -42,7 +38,7 @@ received-next : (through : ℕ) (queue : Queue) → has_item through queue ≡ t
 received-next through queue is =
     let within = has-item through queue is in
     let left = drop (through + 1 - queue.first) queue.held in
-    omega (arith, length-append left (discarded queue.lost), length-drop (through + 1 - queue.first) queue.held, discarded-few queue.lost, within.0, within.1)
+    omega (arith, length-append left (discarded queue.lost), length-drop (through + 1 - queue.first) queue.held, length-discarded queue.lost, within.0, within.1)
 
 module _ (number : ℕ) (windows later : List ClientWindow) (grows : (client : ℕ) → (window_for client windows).next ≤ (window_for client later).next) where
   later-sub : (kept : Subscription) → IsReadySub number windows kept → IsReadySub (number + 1) later kept
@@ -83,13 +79,13 @@ module _ (number : ℕ) (windows later : List ClientWindow) (grows : (client : �
   pub ready-ntf : (kept : NtfTable) (change : NtfChange) → CanNotify change → IsReadyNtf number windows kept → IsReadyNtf (number + 1) later (after_change change kept)
   ready-ntf kept (Began client) can ready = record { ids = omega (arith, ready.ids); each = all-later kept.subs ready.each }
   ready-ntf kept (Ended client) can ready =
-      record { ids = omega (arith, ready.ids); each = all-without (IsReadySub (number + 1) later) (is_kept_for client) kept.subs (all-later kept.subs ready.each) }
+      record { ids = omega (arith, ready.ids); each = each-without (IsReadySub (number + 1) later) (is_kept_for client) kept.subs (all-later kept.subs ready.each) }
   ready-ntf kept (Subscribed sub) can ready = record {
     ids = omega (arith, ready.ids);
-    each = all-put (IsReadySub (number + 1) later) kept_first (sub_with sub (empty_queue kept.capacity)) kept.subs (record { items = omega arith; key = can }) (all-later kept.subs ready.each);
+    each = each-put (IsReadySub (number + 1) later) kept_first (sub_with sub (empty_queue kept.capacity)) kept.subs (record { items = omega arith; key = can }) (all-later kept.subs ready.each);
   }
   ready-ntf kept (Unsubscribed client id) can ready =
-      record { ids = omega (arith, ready.ids); each = all-without (IsReadySub (number + 1) later) (is_kept_under client id) kept.subs (all-later kept.subs ready.each) }
+      record { ids = omega (arith, ready.ids); each = each-without (IsReadySub (number + 1) later) (is_kept_under client id) kept.subs (all-later kept.subs ready.each) }
   ready-ntf kept (Sent notification record_number) can ready =
       record { ids = omega (arith, ready.ids); each = mapped (offered_sub notification) (offered-ready notification) kept.subs ready.each }
   ready-ntf kept (Receipted client key through) can ready =

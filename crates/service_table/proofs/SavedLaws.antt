@@ -22,12 +22,9 @@ use Rattle.plain_service.proofs.ReplyLaws.{length-replies}
 use Rattle.service_table.specs.declared.caller.ClientWindow.{ClientWindow}
 use Rattle.service_table.specs.Tables.{ServiceTable, saved_window, saved_queue, saved_table, kept_window, kept_stream_of, kept_alarm_of, kept_sub_of, table_of_saved}
 use Rattle.service_table.specs.Histories.{caller_of, table_with, service_of}
+use Rattle.ais_values.proofs.Basics.{map-map_back}
 
 -- the table of a value's table
-
-back : {X Y : Type 0} (there : X → Y) (here : Y → X) (same : (x : X) → here (there x) ≡ x) (xs : List X) → map here (map there xs) ≡ xs
-back there here same [] = refl
-back there here same (x ∷ xs) = ap (λ y. y ∷ map here (map there xs)) (same x) ∙ ap (λ ys. x ∷ ys) (back there here same xs)
 
 window-back : (caller : ClientWindow) → kept_window (saved_window caller) ≡ caller
 window-back caller =
@@ -54,10 +51,10 @@ table-back kept queues =
     let held = map (kept_sub_of kept.ntf.capacity) (map saved_queue kept.ntf.subs) in
     let alarms = map kept_alarm_of (map saved_alarm kept.alarms) in
     let windows = map kept_window (map saved_window kept.windows) in
-    ap (λ x. made x held alarms windows) (back saved_stream kept_stream_of (λ _. refl) kept.log.streams)
+    ap (λ x. made x held alarms windows) (map-map_back saved_stream kept_stream_of (λ _. refl) kept.log.streams)
     ∙ ap (λ x. made kept.log.streams x alarms windows) (subs-back kept.ntf.capacity kept.ntf.subs queues)
-    ∙ ap (λ x. made kept.log.streams kept.ntf.subs x windows) (back saved_alarm kept_alarm_of (λ _. refl) kept.alarms)
-    ∙ ap (made kept.log.streams kept.ntf.subs kept.alarms) (back saved_window kept_window window-back kept.windows)
+    ∙ ap (λ x. made kept.log.streams kept.ntf.subs x windows) (map-map_back saved_alarm kept_alarm_of (λ _. refl) kept.alarms)
+    ∙ ap (made kept.log.streams kept.ntf.subs kept.alarms) (map-map_back saved_window kept_window window-back kept.windows)
 
 -- the value of a history's table
 
@@ -118,10 +115,10 @@ history-back setup entries =
     let held = map (kept_sub_of setup.capacity) (map saved_queue kept.ntf.subs) in
     let alarms = map kept_alarm_of (map saved_alarm kept.alarms) in
     let windows = map kept_window (map saved_window kept.windows) in
-    ap (λ x. made x held alarms windows) (back saved_stream kept_stream_of (λ _. refl) kept.log.streams)
+    ap (λ x. made x held alarms windows) (map-map_back saved_stream kept_stream_of (λ _. refl) kept.log.streams)
     ∙ ap (λ x. made kept.log.streams x alarms windows) (same-queues setup.capacity past.ntf (subs past.ntf))
-    ∙ ap (λ x. made kept.log.streams kept.ntf.subs x windows) (back saved_alarm kept_alarm_of (λ _. refl) kept.alarms)
-    ∙ ap (made kept.log.streams kept.ntf.subs kept.alarms) (back saved_window kept_window window-back kept.windows)
+    ∙ ap (λ x. made kept.log.streams kept.ntf.subs x windows) (map-map_back saved_alarm kept_alarm_of (λ _. refl) kept.alarms)
+    ∙ ap (made kept.log.streams kept.ntf.subs kept.alarms) (map-map_back saved_window kept_window window-back kept.windows)
 
 -- **a table whose value stands for a history is the history's**
 pub stands-table : (setup : Setup) (entries : List Entry) (kept : ServiceTable) → HaveQueues kept.ntf.capacity kept.ntf.subs → StandsFor setup entries (saved_table kept) → kept ≡ service_of setup entries

@@ -3,9 +3,10 @@ use Rattle.std.proofs.Common.{◌≡◌, ℕ, ◌+◌, ◌==◌, nat_lt, Bool, t
 use Rattle.std.specs.Prelude.{Some, ℤ, find}
 use Rattle.std.specs.Option.{option_map_or}
 use Rattle.std.proofs.lemmas.Bool.Decides.{nat_tests}
+use Rattle.std.proofs.lemmas.Bool.{eqb-true, or_parts}
 use Rattle.client_set.specs.Members.{has}
 use Rattle.client_set.specs.Rising.{put, ComesFirst, IsRising}
-use Rattle.client_set.proofs.RisingLaws.{IsOrder-nat_lt, IsRising-put, has-put, map-put}
+use Rattle.client_set.proofs.RisingLaws.{has-put, map-put}
 use Rattle.client_window.specs.Windows.{Kept, window_of}
 use Rattle.client_window.proofs.Keeping.{window_of-more}
 use Rattle.calls.specs.declared.call.Call.{Call}
@@ -19,17 +20,7 @@ use Rattle.service_table.specs.declared.caller.ClientWindow.{ClientWindow}
 use Rattle.service_table.specs.Tables.{client_window, is_window_for, window_before}
 use Rattle.service_table.specs.Steps.{window_for, with_reply, answered}
 use Rattle.service_table.specs.Histories.{caller_of}
-
-same-number : (x y : ℕ) → (x == y) ≡ true → x ≡ y
-same-number x y same = grind (arith, nat_tests)
-
-or_second : (a b : Bool) → (a || b) ≡ false → b ≡ false
-or_second true b none = cc
-or_second false b none = none
-
-or_first : (a b : Bool) → (a || b) ≡ false → a ≡ false
-or_first true b none = none
-or_first false b none = refl
+use Rattle.plain_service.proofs.FitCounts.{callers-rising}
 
 -- the window that is found under a client
 found-window : (window : ℕ → Kept Reply) (client : ℕ) (clients : List ℕ) → window_for client (map (λ other. client_window other (window other)) clients) ≡ cond (has client clients) (window client) (window_of [])
@@ -39,7 +30,7 @@ found-window window client (other ∷ clients) = by_case (other == client) refl 
   others = map (λ one. client_window one (window one)) clients
 
   by_case : (mine : Bool) → (other == client) ≡ mine → window_for client (map (λ one. client_window one (window one)) clients) ≡ cond (has client clients) (window client) (window_of []) → option_map_or (λ (caller : ClientWindow). caller.window) (cond mine (Some (client_window other (window other))) (find (is_window_for client) (map (λ one. client_window one (window one)) clients))) (window_of []) ≡ cond (mine || has client clients) (window client) (window_of [])
-  by_case true is rest = ap window (same-number other client is)
+  by_case true is rest = ap window (eqb-true other client is)
   by_case false is rest = rest
 
 -- a client that made no call was given no reply
@@ -47,8 +38,8 @@ unanswered : (setup : Setup) (client : ℕ) (entries : List Entry) → has clien
 unanswered setup client [] none = refl
 unanswered setup client (Called caller seq now call ∷ entries) none =
     let beside : (caller == client || has client (callers entries)) ≡ false = sym (has-put client caller (callers entries)) ∙ none in
-    let rest = unanswered setup client entries (or_second (caller == client) (has client (callers entries)) beside) in
-    ap (λ mine. cond mine (reply_of setup entries caller call ∷ replies_to setup client entries) (replies_to setup client entries)) (or_first (caller == client) (has client (callers entries)) beside) ∙ rest
+    let rest = unanswered setup client entries (or_parts (caller == client) (has client (callers entries)) beside).1 in
+    ap (λ mine. cond mine (reply_of setup entries caller call ∷ replies_to setup client entries) (replies_to setup client entries)) (or_parts (caller == client) (has client (callers entries)) beside).0 ∙ rest
 unanswered setup client (Receipted caller key through now ∷ entries) none = unanswered setup client entries none
 
 pub window-kept : (setup : Setup) (client : ℕ) (entries : List Entry) → window_for client (map (caller_of setup entries) (callers entries)) ≡ window_of (replies_to setup client entries)
@@ -111,11 +102,6 @@ module _ (f g : ℕ → ClientWindow) (client : ℕ) (beside : (other : ℕ) →
             tests (f other) (map f others) other (f_own other)
             ∙ placed (nat_lt client other) (nat_lt other client) refl refl rest
             ∙ sym (tests (g other) (map g others) other (g_own other))
-
-callers-rising : (entries : List Entry) → IsRising nat_lt (callers entries)
-callers-rising [] = tt
-callers-rising (Called client seq now call ∷ entries) = IsRising-put nat_lt IsOrder-nat_lt client (callers entries) (callers-rising entries)
-callers-rising (Receipted client key through now ∷ entries) = callers-rising entries
 
 -- **the windows after a call**
 pub windows-called : (setup : Setup) (client seq : ℕ) (now : ℤ) (call : Call) (entries : List Entry) → map (caller_of setup (Called client seq now call ∷ entries)) (callers (Called client seq now call ∷ entries)) ≡ answered client (reply_of setup entries client call) (map (caller_of setup entries) (callers entries))

@@ -4,8 +4,8 @@ use Rattle.std.specs.Prelude.{Option, Some, find}
 use Rattle.std.specs.Option.{option_map_or}
 use Rattle.std.specs.List.{AllByRecursion}
 use Rattle.std.proofs.lemmas.Bool.Decides.{nat_tests}
-use Rattle.client_set.specs.Rising.{put, without, IsOrder}
-use Rattle.client_set.proofs.RisingLaws.{IsRising-put}
+use Rattle.client_set.specs.Rising.{put, IsOrder}
+use Rattle.client_set.proofs.RisingLaws.{IsRising-put, IsOrder-nat_lt}
 use Rattle.client_window.specs.Windows.{Kept, window_of}
 use Rattle.calls.specs.declared.reply.Reply.{Reply}
 use Rattle.service_table.specs.declared.caller.ClientWindow.{ClientWindow}
@@ -13,41 +13,17 @@ use Rattle.service_table.specs.Tables.{client_window, is_window_for, window_befo
 use Rattle.service_table.specs.Steps.{window_for, with_reply, answered}
 use Rattle.service_table.specs.Ready.{IsReadyWindow, AreReadyWindows}
 use Rattle.service_table.proofs.FileSteps.{all-weaker}
+use Rattle.plain_service.proofs.ListLaws.{each-put}
 
 -- lists with an element put in its place, or without some
 
-module _ {X : Type 0} (P : X → Type 0) where
-  pub all-put : (before : X → X → Bool) (x : X) (xs : List X) → P x → AllByRecursion P xs → AllByRecursion P (put before x xs)
-  all-put before x [] is each = (is, tt)
-  all-put before x (y ∷ ys) is each = placed (before x y) (before y x) (all-put before x ys is each.1) where
-    placed : (below above : Bool) → AllByRecursion P (put before x ys) → AllByRecursion P (cond below (x ∷ y ∷ ys) (cond above (y ∷ put before x ys) (x ∷ ys)))
-    placed true above rest = (is, each)
-    placed false true rest = (each.0, rest)
-    placed false false rest = (is, each.1)
-
-  pub all-without : (test : X → Bool) (xs : List X) → AllByRecursion P xs → AllByRecursion P (without test xs)
-  all-without test [] each = tt
-  all-without test (x ∷ xs) each = by_case (test x) (all-without test xs each.1) where
-    by_case : (goes : Bool) → AllByRecursion P (without test xs) → AllByRecursion P (cond goes (without test xs) (x ∷ without test xs))
-    by_case true behind = behind
-    by_case false behind = (each.0, behind)
-
 -- orders by a client's number
-
-lt-self : (x : ℕ) → nat_lt x x ≡ false
-lt-self x = grind (arith, nat_tests)
-
-lt-onward : (x y z : ℕ) → nat_lt x y ≡ true → nat_lt y z ≡ true → nat_lt x z ≡ true
-lt-onward x y z one other = grind (arith, nat_tests)
-
-lt-beside : (x y z : ℕ) → nat_lt x y ≡ false → nat_lt y x ≡ false → nat_lt y z ≡ true → nat_lt x z ≡ true
-lt-beside x y z one other last = grind (arith, nat_tests)
 
 pub IsOrder-by : {X : Type 0} (client : X → ℕ) → IsOrder (λ x y. nat_lt (client x) (client y))
 IsOrder-by client = record {
-  self = λ x. lt-self (client x);
-  onward = λ x y z. lt-onward (client x) (client y) (client z);
-  beside = λ x y z. lt-beside (client x) (client y) (client z);
+  self = λ x. IsOrder-nat_lt.self (client x);
+  onward = λ x y z. IsOrder-nat_lt.onward (client x) (client y) (client z);
+  beside = λ x y z. IsOrder-nat_lt.beside (client x) (client y) (client z);
 }
 
 -- the window that is found once one is put in its place
@@ -119,6 +95,6 @@ ready-windows number client reply windows ready =
     let few = next-few client number windows ready.each in
     record {
       order = IsRising-put window_before (IsOrder-by (λ (caller : ClientWindow). caller.client)) (client_window client (with_reply reply (window_for client windows))) windows ready.order;
-      each = all-put (IsReadyWindow (number + 1)) window_before (client_window client (with_reply reply (window_for client windows))) windows (omega (arith, few))
+      each = each-put (IsReadyWindow (number + 1)) window_before (client_window client (with_reply reply (window_for client windows))) windows (omega (arith, few))
           (all-weaker (IsReadyWindow number) (IsReadyWindow (number + 1)) (λ caller is. omega (arith, is)) windows ready.each);
     }

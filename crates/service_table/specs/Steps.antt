@@ -15,7 +15,8 @@ use Rattle.alarm_view.specs.declared.alarm.KeptAlarm.{KeptAlarm}
 use Rattle.alarm_view.specs.Alarms.{kept_alarm, from_record}
 use Rattle.alarm_view.specs.Modes.{mode_of}
 use Rattle.calls.specs.declared.call.Call.{Call}
-use Rattle.calls.specs.declared.call.Call.TheVariants.{LogInit, LogOpen, LogWrite, LogClose, LogFini, NtfInit, NtfSend, NtfSubscribe, NtfUnsubscribe, ReaderStart, ReaderRead, ReaderEnd, NtfFini}
+use Rattle.calls.specs.declared.call.Call.TheVariants.{LogInit, LogOpen, LogWrite, LogClose, LogFini, NtfInit, NtfSend, NtfSubscribe, NtfUnsubscribe}
+use Rattle.calls.specs.declared.call.Call.TheVariants.{ReaderStart, ReaderRead, ReaderEnd, NtfFini}
 use Rattle.calls.specs.declared.reply.Reply.{Reply}
 use Rattle.calls.specs.declared.saved.SavedReader.{SavedReader}
 use Rattle.log_history.specs.Changes.{LogChange}

@@ -1,5 +1,5 @@
 -- The device calls of deeds, one deed after another.
-use Rattle.std.proofs.Common.{◌≡◌, ℕ, ◌+◌, ◌<◌, List, [], ◌∷◌, ◌++◌, length, get_or, take, drop, Option, option_map, Ok, refl, sym, ap, subst, ◌∙◌, append_assoc}
+use Rattle.std.proofs.Common.{◌≡◌, ℕ, ◌+◌, ◌<◌, List, [], ◌∷◌, ◌++◌, length, get_or, take, drop, Option, option_map, Ok, sym, ap, subst, ◌∙◌}
 use Rattle.std.proofs.lemmas.List.{take_more, drop_more, take-append-drop, append-nil}
 use Rattle.disk_model.specs.Disk.{Files}
 use Rattle.disk_model.specs.DeviceCalls.{all_applied, Breaks}
@@ -7,12 +7,7 @@ use Rattle.disk_model.specs.declared.answers.DiskAnswer.{DiskAnswer}
 use Rattle.disk_model.proofs.Breaking.{breaks_within, performs_after}
 use Rattle.stream_layout.specs.declared.deed.Deed.{Deed}
 use Rattle.stream_layout.specs.Deeds.{calls_of, calls_of_all}
-
--- the calls of deeds in two parts
-pub calls_of_all-append : (front back : List Deed) → calls_of_all (front ++ back) ≡ calls_of_all front ++ calls_of_all back
-calls_of_all-append [] back = refl
-calls_of_all-append (deed ∷ front) back =
-    ap (λ calls. calls_of deed ++ calls) (calls_of_all-append front back) ∙ sym (append_assoc (calls_of deed) (calls_of_all front) (calls_of_all back))
+use Rattle.stream_layout.proofs.DeedLaws.{calls_of_all-append}
 
 -- the calls of one more deed
 pub calls_of_all_more : (deeds : List Deed) (i : ℕ) (d : Deed) → i < length deeds

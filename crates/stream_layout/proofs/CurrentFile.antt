@@ -1,5 +1,5 @@
 -- The files of a living stream: those that are closed, and the current one behind them.
-use Rattle.std.proofs.Common.{◌≡◌, ◌≢◌, suc, ℤ, ◌<ℤ◌, int_lt, true, List, [], ◌∷◌, ◌++◌, length, Option, Some, None, is_some, is_none, refl, ap, subst, arith}
+use Rattle.std.proofs.Common.{◌≡◌, ◌≢◌, suc, ℤ, ◌<ℤ◌, int_lt, true, List, [], ◌∷◌, ◌++◌, length, None, is_some, refl, ap, subst, arith, sym, ◌∙◌, append_assoc}
 use Rattle.std.specs.List.{All}
 use Rattle.std.specs.Option.{option_to_list}
 use Rattle.std.proofs.lemmas.Bool.{and_parts}
@@ -7,9 +7,10 @@ use Rattle.std.proofs.lemmas.Int.{ints}
 use Rattle.std.proofs.lemmas.List.{drop_at}
 use Rattle.std.proofs.lemmas.List.Elements.{All-nil, All-cons, All-head, All-tail, All-weaker, All-drop}
 use Rattle.stream_config.specs.declared.state.LogFile.{LogFile}
-use Rattle.stream_config.specs.Events.{file_closed, last_closed}
+use Rattle.stream_config.specs.Events.{file_closed, last_closed, open_file}
 use Rattle.stream_config.specs.Fit.{stamps_of, rises, is_last_open}
 use Rattle.stream_layout.specs.Deeds.{current_file}
+use Rattle.ais_values.proofs.Basics.{none_from}
 
 -- a list of files that is split at the current one
 pub record HasCurrent (files : List LogFile) : Type 0 where
@@ -18,10 +19,6 @@ pub record HasCurrent (files : List LogFile) : Type 0 where
   pub whole : files ≡ front ++ current ∷ []
   pub unclosed : current.closed ≡ None
   pub shut : All (λ (file : LogFile). is_some file.closed ≡ true) front
-
-pub none_from : {A : Type 0} (o : Option A) → is_none o ≡ true → o ≡ None
-none_from None is = refl
-none_from (Some value) is = cc
 
 pub has_current : (files : List LogFile) → is_last_open files ≡ true → HasCurrent files
 has_current [] is = cc
@@ -58,6 +55,16 @@ length-last_closed closed [] = refl
 length-last_closed closed (file ∷ []) = refl
 length-last_closed closed (file ∷ next ∷ files) = ap suc (length-last_closed closed (next ∷ files))
 
+-- the stamps once the last file is closed and a new one is made
+pub stamps-closed : (closed created : ℤ) (files : List LogFile) → is_last_open files ≡ true → stamps_of (last_closed closed files ++ open_file created ∷ []) ≡ stamps_of files ++ closed ∷ created ∷ []
+stamps-closed closed created [] opened = cc
+stamps-closed closed created (file ∷ []) opened =
+    ap (λ stamp. file.created ∷ (option_to_list stamp ++ []) ++ closed ∷ created ∷ []) (sym (none_from file.closed opened))
+stamps-closed closed created (file ∷ next ∷ files) opened =
+    let split = and_parts (is_some file.closed) (is_last_open (next ∷ files)) opened in
+    ap (λ stamps. file.created ∷ option_to_list file.closed ++ stamps) (stamps-closed closed created (next ∷ files) split.1)
+    ∙ ap (λ stamps. file.created ∷ stamps) (sym (append_assoc (option_to_list file.closed) (stamps_of (next ∷ files)) (closed ∷ created ∷ [])))
+
 -- stamps that rise
 
 earlier : (one other : ℤ) → int_lt one other ≡ true → one <ℤ other
@@ -66,7 +73,7 @@ earlier one other is = grind (arith, ints)
 pub unlike : (one other : ℤ) → one <ℤ other → one ≢ other
 unlike one other less same = omega (arith, ints)
 
-rises-tail : (stamp : ℤ) (stamps : List ℤ) → rises (stamp ∷ stamps) ≡ true → rises stamps ≡ true
+pub rises-tail : (stamp : ℤ) (stamps : List ℤ) → rises (stamp ∷ stamps) ≡ true → rises stamps ≡ true
 rises-tail stamp [] is = refl
 rises-tail stamp (next ∷ stamps) is = (and_parts (int_lt stamp next) (rises (next ∷ stamps)) is).1
 

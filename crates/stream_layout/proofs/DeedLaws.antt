@@ -1,5 +1,5 @@
--- Which files the deeds of an event name.
-use Rattle.std.proofs.Common.{◌≡◌, suc, ◌-◌, ◌<◌, ◌≤◌, ℤ, true, List, [], ◌∷◌, ◌++◌, length, get_or, Option, Some, None, refl, ap, subst, ◌∙◌, arith}
+-- Which files the deeds of an event name, and what deeds in a row call.
+use Rattle.std.proofs.Common.{◌≡◌, suc, ◌-◌, ◌<◌, ◌≤◌, ℤ, true, List, [], ◌∷◌, ◌++◌, length, get_or, Option, Some, None, refl, ap, subst, ◌∙◌, arith, sym, append_assoc}
 use Rattle.std.specs.List.{All}
 use Rattle.std.specs.Option.{ForSome, option_to_list, IfSome}
 use Rattle.std.proofs.lemmas.List.{length_push}
@@ -11,11 +11,12 @@ use Rattle.stream_config.specs.Events.{open_file, file_closed, last_closed}
 use Rattle.stream_config.specs.Fit.{stamps_of, is_last_open}
 use Rattle.stream_layout.specs.declared.deed.Deed.TheVariants.{Remove}
 use Rattle.stream_layout.specs.Names.{log_name}
-use Rattle.stream_layout.specs.Deeds.{current_file, removal, file_written_to}
+use Rattle.stream_layout.specs.Deeds.{current_file, removal, file_written_to, calls_of, calls_of_all}
 use Rattle.stream_layout.specs.Carrying.{IsStamp}
 use Rattle.stream_layout.specs.Inside.{HasStamps, oldest_closed}
 use Rattle.stream_layout.proofs.CurrentFile.{behind_front, length-last_closed}
 use Rattle.stream_layout.proofs.EventLaws.{removal_none, removal_oldest}
+use Rattle.stream_layout.specs.declared.deed.Deed.{Deed}
 
 -- the current file is the last
 pub current_file_at : (files : List LogFile) (d : LogFile) → 0 < length files → get_or files (length files - 1) d ≡ current_file files
@@ -86,3 +87,8 @@ pub written_stamps : (files : List LogFile) (stamps : Option Stamps) → All IsS
     → IfSome stamps (λ two. IsStamp two.closed × IsStamp two.created) → HasStamps (file_written_to files stamps)
 written_stamps files None all some new = current_stamps files all some
 written_stamps files (Some stamps) all some new = fresh_stamps stamps.created new.1
+
+pub calls_of_all-append : (front back : List Deed) → calls_of_all (front ++ back) ≡ calls_of_all front ++ calls_of_all back
+calls_of_all-append [] back = refl
+calls_of_all-append (deed ∷ front) back =
+    ap (λ calls. calls_of deed ++ calls) (calls_of_all-append front back) ∙ sym (append_assoc (calls_of deed) (calls_of_all front) (calls_of_all back))

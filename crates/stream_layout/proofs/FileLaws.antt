@@ -48,7 +48,7 @@ found-renamed files from to file stands q =
     ∙ ap (λ b. cond (bytes_eq q to) (Some file) (cond b None (get files q))) (same_is q from)
 
 -- a settled file with bytes put over some of its own, and synced
-written_whole : (at : ℕ) (bytes old : List ℕ) → at ≤ length old
+pub written_whole : (at : ℕ) (bytes old : List ℕ) → at ≤ length old
     → file_synced (file_written at bytes (settled_file old)) ≡ settled_file (overwritten old at bytes)
 written_whole at bytes old within =
     ap settled_file (cond-true _ (overwritten old at bytes) old (le-leb at (length old) within))

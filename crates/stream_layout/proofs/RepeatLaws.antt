@@ -130,7 +130,7 @@ unmoved true from found target is none = is refl
 unmoved false true found target is none = none refl
 unmoved false false found target is none = refl
 
-twice : {A : Type 0} (b c : Bool) (x y z : A) → cond b x (cond c y (cond b x (cond c y z))) ≡ cond b x (cond c y z)
+pub twice : {A : Type 0} (b c : Bool) (x y z : A) → cond b x (cond c y (cond b x (cond c y z))) ≡ cond b x (cond c y z)
 twice true c x y z = refl
 twice false true x y z = refl
 twice false false x y z = refl

@@ -26,26 +26,27 @@ use Rattle.stream_layout.specs.Inside.{oldest_closed}
 use Rattle.stream_layout.specs.Repeating.{Attempted, RepeatSafely}
 use Rattle.stream_config.specs.Cfg.{cfg_of}
 use Rattle.stream_layout.proofs.CarryLaws.{begins_at_start}
-use Rattle.stream_layout.proofs.CurrentFile.{has_current, none_from, unlike, current_file-append, last_closed-append, last_made, behind_front}
+use Rattle.stream_layout.proofs.CurrentFile.{has_current, unlike, current_file-append, last_closed-append, last_made, behind_front}
 use Rattle.stream_layout.proofs.DeedLaws.{some_files, none_goes, oldest_goes, current_stamps}
 use Rattle.stream_layout.proofs.EventLaws.{IsLaidOut, laid_out, stored_stands}
 use Rattle.stream_layout.proofs.NameLaws.{created_apart, closed_apart}
 use Rattle.stream_layout.proofs.RepeatLaws.{made_again, ended_again, changed_again, rotated_again}
 use Rattle.stream_layout.proofs.WriteAgain.{written_once_more}
+use Rattle.ais_values.proofs.Basics.{none_from}
 
 -- the current file is not closed, and the oldest is once the current one is
-current_open : (files : List LogFile) → is_last_open files ≡ true → (current_file files).closed ≡ None
+pub current_open : (files : List LogFile) → is_last_open files ≡ true → (current_file files).closed ≡ None
 current_open [] is = cc
 current_open (file ∷ []) is = none_from file.closed is
 current_open (file ∷ next ∷ files) is = current_open (next ∷ files) (and_parts (is_some file.closed) (is_last_open (next ∷ files)) is).1
 
-oldest_shut : (closed : ℤ) (files : List LogFile) → is_last_open files ≡ true → is_some (oldest_closed closed files).closed ≡ true
+pub oldest_shut : (closed : ℤ) (files : List LogFile) → is_last_open files ≡ true → is_some (oldest_closed closed files).closed ≡ true
 oldest_shut closed [] is = cc
 oldest_shut closed (file ∷ []) is = refl
 oldest_shut closed (file ∷ next ∷ files) is = (and_parts (is_some file.closed) (is_last_open (next ∷ files)) is).0
 
 -- the new file is made later than the current one
-made_later : (files : List LogFile) (stamps : Stamps) → is_last_open files ≡ true → rises (stamps_of (last_closed stamps.closed files ++ open_file stamps.created ∷ [])) ≡ true
+pub made_later : (files : List LogFile) (stamps : Stamps) → is_last_open files ≡ true → rises (stamps_of (last_closed stamps.closed files ++ open_file stamps.created ∷ [])) ≡ true
     → (current_file files).created <ℤ stamps.created
 made_later files stamps is rising =
     let found = has_current files is in

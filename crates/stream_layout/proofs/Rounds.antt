@@ -1,10 +1,11 @@
 -- What one more record does to the records of a round and to those of a file.
-use Rattle.std.proofs.Common.{◌≡◌, ℕ, zero, suc, ◌+◌, ◌-◌, ◌*◌, ◌/◌, ◌%◌, ◌<◌, ◌≤◌, List, [], ◌∷◌, ◌++◌, length, take, drop, refl, sym, ap, ◌∙◌, inl, inr, arith, append_assoc, length-append, length-drop, length-take}
+use Rattle.std.proofs.Common.{◌≡◌, ℕ, zero, suc, ◌+◌, ◌-◌, ◌*◌, ◌/◌, ◌%◌, ◌<◌, ◌≤◌, List, [], ◌∷◌, ◌++◌, length, take, drop, sym, ap, ◌∙◌, inl, inr, arith, append_assoc, length-append, length-drop, length-take}
 use Rattle.std.specs.List.{concat, All}
 use Rattle.std.proofs.lemmas.Bool.{cases_eq}
 use Rattle.std.proofs.lemmas.List.{take-append-drop, take_all, take_at, take-append-le, drop-drop, drop_at, drop-append-le, drop_all, length_push}
 use Rattle.std.proofs.lemmas.List.Elements.{All-head, All-tail, All-take, All-drop, All-append}
 use Rattle.std.proofs.lemmas.Nat.{div-mul-add, div-add-mod'}
+use Rattle.std.proofs.lemmas.List.Folds.{concat-append}
 use Rattle.disk_model.specs.Disk.{overwritten}
 use Rattle.stream_layout.specs.LogFiles.{round_of, overlaid}
 
@@ -21,10 +22,6 @@ remainder n q k m small is =
 -- each record has this size
 abbrev pub AreOfSize : ℕ → List (List ℕ) → Type 0
 AreOfSize size records = All (λ bytes. length bytes ≡ size) records
-
-pub concat-append : (xs ys : List (List ℕ)) → concat (xs ++ ys) ≡ concat xs ++ concat ys
-concat-append [] ys = refl
-concat-append (x ∷ xs) ys = ap (λ v. x ++ v) (concat-append xs ys) ∙ sym (append_assoc x (concat xs) (concat ys))
 
 pub length-concat : (size : ℕ) (xs : List (List ℕ)) → AreOfSize size xs → length (concat xs) ≡ length xs * size
 length-concat size [] sizes = omega arith

@@ -3,10 +3,11 @@ use Rattle.std.proofs.lemmas.Int.{to_z-of_z}
 use Rattle.std.specs.List.{position}
 use Rattle.stream_config.specs.declared.event.StreamEvent.{StreamEvent}
 use Rattle.log_history.specs.Table.{is_named}
-use Rattle.log_service.proofs.PlaceLemmas.{first-is, nowhere-is, found-at, set-read, on-err}
+use Rattle.log_service.proofs.PlaceLemmas.{first-is, nowhere-is, found-at, set-read}
 use Rattle.log_service.proofs.EndLemmas.{due-fits}
 use Rattle.log_service.proofs.StoreLemmas.{stores-nowhere, stores-at}
 use Rattle.log_service.proofs.streams.store.Goals as goal
+use Rattle.ais_values.proofs.Basics.{OnErr-from}
 
 pub returns-in_default-clause-ok : goal.returns-in_default-clause-ok
 returns-in_default-clause-ok c =
@@ -28,7 +29,7 @@ returns-in_err-stamped-clause-err c =
     let named = is_named c.args.name.now in
     let items = c.args.streams.now.items in
     let at : position named items ≡ Some c.in-Some.place = ap (position named) (sym c.as_slice.ensures.value) ∙ sym c.place_of.ensures ∙ c.in-Some.is in
-    on-err c.from_residual-in_err-stamped.result (ap (set items c.in-Some.place) c.in_err-stamped.ensures.err ∙ set-read items c.in-Some.place c.index_mut.result.now c.index_mut.ensures.value (first-is named items c.in-Some.place at).within)
+    OnErr-from c.from_residual-in_err-stamped.result (ap (set items c.in-Some.place) c.in_err-stamped.ensures.err ∙ set-read items c.in-Some.place c.index_mut.result.now c.index_mut.ensures.value (first-is named items c.in-Some.place at).within)
 
 pub returns-clause-ok : goal.returns-clause-ok
 returns-clause-ok c =

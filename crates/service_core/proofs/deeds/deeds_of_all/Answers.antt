@@ -3,12 +3,13 @@ use Rattle.std.proofs.lemmas.List.{take_more, take_all}
 use Rattle.stream_config.specs.declared.event.StreamEvent.{StreamEvent}
 use Rattle.stream_layout.specs.declared.deed.Deed.{Deed}
 use Rattle.log_history.specs.Deeds.{deeds_of_all}
-use Rattle.service_core.proofs.ActLaws.{deeds-more, all-at}
+use Rattle.service_core.proofs.ActLaws.{deeds-more}
 use Rattle.stream_layout.specs.Carrying.{IsFitEvent}
 use Rattle.service_core.proofs.deeds.deeds_of_all.Goals as goal
+use Rattle.ais_values.proofs.Basics.{AllByRecursion-at}
 
 pub deeds-requires : goal.deeds-requires
-deeds-requires c = all-at IsFitEvent c.args.events.now c.loop-event.event-index c.event-item.result c.loop-event-test.true c.event-item.is c.requires
+deeds-requires c = AllByRecursion-at IsFitEvent c.args.events.now c.loop-event.event-index c.event-item.result c.loop-event-test.true c.event-item.is c.requires
 
 pub loop-event-preserved : goal.loop-event-preserved
 loop-event-preserved c =

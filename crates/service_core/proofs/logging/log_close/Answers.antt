@@ -3,11 +3,11 @@ use Rattle.std.proofs.lemmas.Int.{to_z-of_z}
 use Rattle.calls.specs.declared.call.Call.TheVariants.{LogClose}
 use Rattle.log_history.specs.Changes.{Closed}
 use Rattle.log_history.specs.Times.{second_of}
-use Rattle.service_table.proofs.CallLaws.{second-bound}
 use Rattle.service_core.specs.Acting.{table_of}
 use Rattle.service_core.proofs.ActLaws.{log-acted}
 use Rattle.service_core.proofs.LogConditions.{call-time, foreseen-fit}
 use Rattle.service_core.proofs.logging.log_close.Goals as goal
+use Rattle.plain_service.proofs.HistoryEvents.{second-bound}
 
 pub foresee_close-requires : goal.foresee_close-requires
 foresee_close-requires c = let fits = c.ranges.now in simp to_z-of_z (call-time c.args.parts.now.log c.args.now c.requires)

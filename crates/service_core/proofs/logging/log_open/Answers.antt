@@ -5,12 +5,12 @@ use Rattle.calls.specs.declared.call.Call.TheVariants.{LogOpen}
 use Rattle.log_history.specs.Changes.{Opened}
 use Rattle.log_history.specs.KeptAnswers.{making_in}
 use Rattle.log_history.specs.Times.{second_of}
-use Rattle.service_table.proofs.CallLaws.{second-bound}
 use Rattle.service_table.proofs.OkCalls.{opening-can}
 use Rattle.service_core.specs.Acting.{table_of}
 use Rattle.service_core.proofs.ActLaws.{log-acted}
 use Rattle.service_core.proofs.LogConditions.{call-time, foreseen-fit}
 use Rattle.service_core.proofs.logging.log_open.Goals as goal
+use Rattle.plain_service.proofs.HistoryEvents.{second-bound}
 
 pub foresee_open-requires : goal.foresee_open-requires
 foresee_open-requires c = let fits = c.ranges.now in simp to_z-of_z (call-time c.args.parts.now.log c.args.now c.requires)

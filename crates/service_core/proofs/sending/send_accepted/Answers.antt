@@ -7,12 +7,12 @@ use Rattle.log_history.specs.KeptAnswers.{is_filled, store_status}
 use Rattle.log_history.specs.Table.{events_of}
 use Rattle.log_history.specs.Times.{second_of}
 use Rattle.service_table.proofs.AlarmsReady.{can-add}
-use Rattle.service_table.proofs.CallLaws.{second-bound}
 use Rattle.service_core.specs.Acting.{table_of}
 use Rattle.service_core.specs.Sending.{sent_in, stored_of}
 use Rattle.service_core.proofs.LogConditions.{number-left, foreseen-fit}
 use Rattle.service_core.proofs.SendActs.{room-left, refused-sent, done-sent}
 use Rattle.service_core.proofs.sending.send_accepted.Goals as goal
+use Rattle.plain_service.proofs.HistoryEvents.{second-bound}
 
 pub foresee_store-requires-clause-numbers : goal.foresee_store-requires-clause-numbers
 foresee_store-requires-clause-numbers c = number-left c.args.parts.now.log c.args.now _ c.requires.log

@@ -4,11 +4,11 @@ use Rattle.ais_values.specs.declared.status.Status.TheVariants as status
 use Rattle.log_history.specs.Table.{table_after}
 use Rattle.log_history.specs.KeptAnswers.{is_filled}
 use Rattle.plain_service.specs.Alarms.{stream_for}
-use Rattle.service_table.proofs.CallLaws.{second-bound}
 use Rattle.service_core.specs.Sending.{stored_of}
 use Rattle.service_core.proofs.Standing.{ready-after}
 use Rattle.service_core.proofs.SendActs.{room-left}
 use Rattle.service_core.proofs.sending.send_to_all.Goals as goal
+use Rattle.plain_service.proofs.HistoryEvents.{second-bound}
 
 pub keep_standing-requires : goal.keep_standing-requires
 keep_standing-requires c =

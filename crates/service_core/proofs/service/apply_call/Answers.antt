@@ -7,13 +7,14 @@ use Rattle.service_table.specs.Conditions.{CanCall}
 use Rattle.service_table.specs.Ready.{IsReady}
 use Rattle.service_table.specs.Steps.{window_for, answered}
 use Rattle.service_table.proofs.WindowsReady.{next-few}
-use Rattle.service_table.proofs.CallLaws.{call-can-come, second-bound}
+use Rattle.service_table.proofs.CallLaws.{call-can-come}
 use Rattle.service_table.proofs.ReadySteps.{AreSoundParts, ready-call}
 use Rattle.service_core.specs.Acting.{table_of, table_with_parts, HasActed}
 use Rattle.service_core.specs.Inside.{kept_table}
 use Rattle.service_core.proofs.AppliedLaws.{acted-now, same-reply, same-events}
 use Rattle.service_core.proofs.CapacityLaws.{changed-capacity}
 use Rattle.service_core.proofs.service.apply_call.Goals as goal
+use Rattle.plain_service.proofs.HistoryEvents.{second-bound}
 
 pub room_for-requires : goal.room_for-requires
 room_for-requires c = c.requires.ready.windows.order

@@ -2,13 +2,13 @@ use Rattle.std.proofs.Common.{◌≡◌, ◌+◌, sym, ◌∙◌}
 use Rattle.std.proofs.lemmas.Int.{to_z-of_z}
 use Rattle.log_history.specs.Changes.{Stored}
 use Rattle.log_history.specs.Times.{second_of, record_at}
-use Rattle.service_table.proofs.CallLaws.{second-bound}
 use Rattle.calls.specs.declared.call.Call.TheVariants.{LogWrite}
 use Rattle.service_table.proofs.OkCalls.{call-can}
 use Rattle.service_core.specs.Acting.{table_of}
 use Rattle.service_core.proofs.LogConditions.{call-time, number-left, foreseen-fit}
 use Rattle.service_core.proofs.Standing.{write-acted, ready-after}
 use Rattle.service_core.proofs.writing.log_write.Goals as goal
+use Rattle.plain_service.proofs.HistoryEvents.{second-bound}
 
 pub foresee_write-requires-clause-moment : goal.foresee_write-requires-clause-moment
 foresee_write-requires-clause-moment c =
