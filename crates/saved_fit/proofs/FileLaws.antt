@@ -1,16 +1,13 @@
 -- Stamps of files, file by file.
-use Rattle.std.proofs.Common.{◌≡◌, Bool, true, false, not, ◌&&◌, List, [], ◌∷◌, ◌++◌, refl, ap, sym, ◌∙◌}
+use Rattle.std.proofs.Common.{◌≡◌, false, not, ◌&&◌, List, [], ◌∷◌, ◌++◌, refl, ap, sym, ◌∙◌}
 use Rattle.std.specs.Prelude.{Option, Some, None, is_some, is_none, ℤ, int_lt, ◌↔◌}
 use Rattle.std.specs.Option.{option_to_list}
 use Rattle.std.specs.List.{AllByRecursion}
+use Rattle.std.proofs.Math.Bool.{and_assoc}
 use Rattle.stream_config.specs.declared.state.LogFile.{LogFile}
 use Rattle.stream_config.specs.Fit.{stamps_of, rises, is_last_open}
 use Rattle.log_history.specs.Stamps.{IsStampUpTo}
 use Rattle.saved_fit.specs.Files.{is_later, is_behind_by, last_stamp_by, files_rise, open_last, HasStampsBy, HasStampsUpTo}
-
-and-third : (a b c : Bool) → ((a && b) && c) ≡ (a && (b && c))
-and-third true b c = refl
-and-third false b c = refl
 
 -- stamps behind the last one
 abbrev stamps_behind : Option ℤ → List ℤ → List ℤ
@@ -24,7 +21,7 @@ later-first (Some last) stamp stamps = refl
 rise-by : (last : Option ℤ) (created : ℤ) (closed : Option ℤ) (stamps : List ℤ) → rises (stamps_behind last (created ∷ option_to_list closed ++ stamps)) ≡ (is_behind_by last created closed && rises (last_stamp_by created closed ∷ stamps))
 rise-by last created None stamps = later-first last created stamps
 rise-by last created (Some closed) stamps =
-    later-first last created (closed ∷ stamps) ∙ sym (and-third (is_later last created) (int_lt created closed) (rises (closed ∷ stamps)))
+    later-first last created (closed ∷ stamps) ∙ sym (and_assoc (is_later last created) (int_lt created closed) (rises (closed ∷ stamps)))
 
 pub rise-same : (last : Option ℤ) (files : List LogFile) → files_rise last files ≡ rises (stamps_behind last (stamps_of files))
 rise-same None [] = refl
