@@ -1,6 +1,7 @@
 -- The items that are held are in range.
 use Rattle.std.proofs.Common.{◌≡◌, ℕ, suc, ◌≤◌, ◌⊎◌, inl, inr, Bool, true, false, ◌==◌, if◌then◌else◌, List, [], ◌∷◌, ◌++◌, length, ap, arith}
 use Rattle.std.specs.List.{AllByRecursion}
+use Rattle.std.proofs.lemmas.Option.{slice_get_within}
 use Rattle.wire.specs.MessageSpelling.{MessageInRange}
 use Rattle.ntf_history.proofs.GrowthLaws.{length-made}
 use Rattle.plain_service.specs.Setups.{Setup}
@@ -15,7 +16,7 @@ use Rattle.cluster_facts.specs.Lists.{Stands, IsNumbered}
 use Rattle.cluster_facts.specs.Messages.{calls_in}
 use Rattle.cluster_facts.specs.Service.{asked_for, subscribes, IsHeldItem}
 use Rattle.cluster_facts.specs.Ranges.{AreInRange}
-use Rattle.cluster_facts.proofs.Words.{by_test, All-map, slice_get-within}
+use Rattle.cluster_facts.proofs.Words.{by_test, All-map}
 use Rattle.cluster_facts.proofs.Clients.{subscribed-asked, asked_for-number}
 
 subscribes-number : (key id number : ℕ) (call : Call) → Stands (key, id) (subscribes number call) → key ≡ number
@@ -87,7 +88,7 @@ held-one setup past history range numbered (Delivery client key item) held =
     let few = range-few past range in
     let made = held.2 in
     let number = made.1 in
-    let within = slice_get-within (made_for setup past client key) made.0 item.content made.2 in
+    let within = slice_get_within (made_for setup past client key) made.0 item.content made.2 in
     let items = made-few setup past client key history in
     (record { least = low; most = high }, record { least = from; most = omega arith }, record { number = record { least = omega arith; most = omega arith } })
 held-one setup past history range numbered message held = elim held [ ]

@@ -1,6 +1,7 @@
 -- What servers and a relation are asked for carries over to turns and rounds.
 use Rattle.std.proofs.Common.{◌≡◌, ℕ, zero, suc, ◌+◌, ◌<◌, ◌≤◌, ◌⊎◌, inl, inr, Bool, true, false, ◌||◌, ◌==◌, nat_le, if◌then◌else◌, Option, Some, None, List, [], ◌∷◌, ◌++◌, length, reverse, refl, ap, sym, ◌∙◌, subst, arith}
 use Rattle.std.specs.List.{AllByRecursion}
+use Rattle.std.proofs.lemmas.Bool.{cases_Bool}
 use Rattle.cluster_facts.specs.Types.{Call, Reply, Item, Entry, Called, Receipted, Message, Request, Answer, Delivery, Receipt}
 use Rattle.cluster_facts.specs.Lists.{Stands, EndsIn, IsCounted, count_of}
 use Rattle.cluster_facts.specs.Messages.{sent_by, answers_to, receipts_of, message_of}
@@ -13,7 +14,7 @@ use Rattle.cluster_facts.specs.Facts.Keeps.{starts, waits, answered}
 use Rattle.cluster_facts.specs.Facts.Lives.{none as none_live, lives, refused}
 use Rattle.cluster_facts.proofs.Words.{by_test, All-map, All-of, All-append, EndsIn-same}
 use Rattle.cluster_facts.proofs.Growing.{IsOfRun-grows}
-use Rattle.cluster_facts.proofs.Posting.{true_or_false, posted-keeps, posted-stands, sent_by-posted, answers_to-posted, receipts_of-posted}
+use Rattle.cluster_facts.proofs.Posting.{posted-keeps, posted-stands, sent_by-posted, answers_to-posted, receipts_of-posted}
 use Rattle.cluster_facts.proofs.Keeping.{receipt-new}
 use Rattle.cluster_events.specs.Lines.{Told, Posted, Replied, Ignored, Why}
 use Rattle.cluster_events.specs.declared.lines.Why.TheVariants as because
@@ -84,7 +85,7 @@ held-made plain is_plain past = All-map (IsHeldItem plain past) (IsMadeItem plai
 -- a message that posting puts in front was not known
 pub posted-unknown : (plain : Plain) (message : Message) (net : List Message) → posted plain message net ≡ message ∷ net → knows plain message net ≡ false
 posted-unknown plain message net new =
-    elim (true_or_false (knows plain message net)) [
+    elim (cases_Bool (knows plain message net)) [
       | inl known ↦
           let P : Bool → List Message = λ b. if b then net else message ∷ net in
           let longer : length net ≡ suc (length net) = ap length (sym (ap P known) ∙ new) in
@@ -208,7 +209,7 @@ module _ {P : Type 0} (plain : Plain) (is_plain : IsPlain plain) (servers : Serv
       let after = with_agent client (after_reply number call reply agent) world.agents in
       let full = lacks_place world.places agent.queue (callbacks_of call reply) in
       let G : Bool → Type 0 = λ b. WorldGoes plain R world (record { state = record world { agents = if b then world.agents else after }; told = (if b then Ignored place because.Left else Replied client number call reply) ∷ [] }) in
-      elim (true_or_false full) [
+      elim (cases_Bool full) [
         | inl is_full ↦ subst G (sym is_full) (world-ignored world place because.Left sound)
         | inr has_place ↦ subst G (sym has_place) (record {
           sound = reply-sound plain client number call reply world kept stands sound;

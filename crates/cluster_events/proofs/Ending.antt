@@ -1,7 +1,7 @@
 -- `settle` ends, and after it everything is settled.
 use Rattle.std.proofs.Common.{◌≡◌, ℕ, zero, suc, ◌<◌, ◌≤◌, inl, inr, Bool, true, false, List, [], ◌++◌, refl, subst, arith}
+use Rattle.std.proofs.lemmas.Bool.{cases_Bool}
 use Rattle.cluster_facts.specs.Service.{Plain, IsPlain}
-use Rattle.cluster_facts.proofs.Posting.{true_or_false}
 use Rattle.cluster_events.specs.Lines.{Told}
 use Rattle.cluster_events.specs.Servers.{State, Servers}
 use Rattle.cluster_events.specs.Settling.{round, is_loud, Rounds}
@@ -34,7 +34,7 @@ module _ {P : Type 0} (plain : Plain) (is_plain : IsPlain plain) (servers : Serv
       let next = round plain servers state in
       let R : Bool → Type 0 = λ b. Rounds plain servers start next.state (next.told ++ told) b in
       let further : R (is_loud next.told) = Further rounds in
-      elim (true_or_false (is_loud next.told)) [
+      elim (cases_Bool (is_loud next.told)) [
         | inl loud ↦ let falls = round-falls state steady loud in absurd (omega arith)
         | inr quiet ↦ record { state = next.state; told = next.told ++ told; rounds = subst R quiet further }
       ]
@@ -43,7 +43,7 @@ module _ {P : Type 0} (plain : Plain) (is_plain : IsPlain plain) (servers : Serv
       let R : Bool → Type 0 = λ b. Rounds plain servers start next.state (next.told ++ told) b in
       let further : R (is_loud next.told) = Further rounds in
       let after = (round-carries plain is_plain servers Good serving Spends spends state steady).holds.steady in
-      elim (true_or_false (is_loud next.told)) [
+      elim (cases_Bool (is_loud next.told)) [
         | inl loud ↦ let falls = round-falls state steady loud in rounds-end fuel start next.state (next.told ++ told) after (omega arith) (subst R loud further)
         | inr quiet ↦ record { state = next.state; told = next.told ++ told; rounds = subst R quiet further }
       ]

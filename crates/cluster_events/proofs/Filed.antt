@@ -60,7 +60,3 @@ by-hand plain disk storage is_storage now past (Ready entry) legal range = no_at
 pub stand-between : (plain : Plain) (disk : Disk) (storage : Storage disk) → IsStorage plain disk storage → (world : World) (files : disk.Files) → IsSound plain world → AreInRange (accepted world.core) → FilesStand disk storage world files → Between disk storage (committed_by world.core.answered world.core.hand) files
 stand-between plain disk storage is_storage world files sound range stand =
     subst (λ (f : disk.Files). Between disk storage (committed_by world.core.answered world.core.hand) f) (sym stand) (by-hand plain disk storage is_storage world.now world.core.answered world.core.hand sound.facts.legal range)
-
--- and so are those that one more attempt of the last entry's deeds leaves
-pub attempt-between : (disk : Disk) (storage : Storage disk) (entry : Entry) (past : List Entry) (old new : disk.Files) → Between disk storage (entry ∷ past) old → Attempt disk (storage.deeds past entry) old new → Between disk storage (entry ∷ past) new
-attempt-between disk storage entry past old new between attempt = one_more between attempt

@@ -8,6 +8,5 @@ pub mod Ending
 pub mod Items
 pub mod Promised
 pub mod Filed
-pub mod OnDisk
 pub mod Broken
 pub mod Looping

@@ -1,6 +1,7 @@
 -- Rounds lower what is left to do.
 use Rattle.std.proofs.Common.{◌≡◌, ℕ, suc, ◌+◌, ◌<◌, ◌≤◌, inl, inr, Bool, true, false, ◌&&◌, ◌||◌, ◌==◌, nat_lt, nat_le, if◌then◌else◌, ℤ, Some, None, List, [], ◌∷◌, ◌++◌, length, refl, ap, sym, ◌∙◌, subst, arith, length-append}
 use Rattle.std.proofs.lemmas.Bool.Decides.{eqb_tells, leb_tells}
+use Rattle.std.proofs.lemmas.Bool.{and_parts, eqb-true, cases_Bool}
 use Rattle.cluster_facts.specs.Types.{Call, Reply, Item, Entry, Called, Receipted, Message, Request, Receipt}
 use Rattle.cluster_facts.specs.Lists.{Stands, IsNumbered, without}
 use Rattle.cluster_facts.specs.Messages.{calls_in, message_of}
@@ -11,7 +12,6 @@ use Rattle.cluster_facts.specs.World.{World, with_agent}
 use Rattle.cluster_facts.specs.Facts.{IsSound}
 use Rattle.cluster_facts.proofs.Words.{by_test, IsNumbered-bound}
 use Rattle.cluster_facts.proofs.Growing.{judged-new}
-use Rattle.cluster_facts.proofs.Posting.{true_or_false}
 use Rattle.cluster_events.specs.Lines.{Told, Posted, Replied, is_progress}
 use Rattle.cluster_events.specs.Servers.{State, Servers, drain}
 use Rattle.cluster_events.specs.Settling.{is_loud}
@@ -77,23 +77,16 @@ unheard-accepted (message ∷ net) entry past lacks (inr stands) =
 
 -- A new entry's message waited.
 
-pub and-true : (a b : Bool) → (a && b) ≡ true → (a ≡ true) × (b ≡ true)
-and-true true b e = (refl, e)
-and-true false b e = cc
-
-pub test-equal : (m n : ℕ) → (m == n) ≡ true → m ≡ n
-test-equal m n e = elim (eqb_tells m n) [ inl same ↦ same.1 | inr other ↦ let never = other.0 in cc ]
-
 -- a request that was accepted is among the client's calls
 call-accepted : (client number : ℕ) (call : Call) (past : List Entry) → is_accepted (Request client number call) past ≡ true → (asked : Call) × Stands (number, asked) (calls_in client past)
 call-accepted client number call [] accepted = cc
 call-accepted client number call (Called caller other time asked ∷ past) accepted =
     let C : Bool → List (ℕ × Call) = λ b. if b then (other, asked) ∷ calls_in client past else calls_in client past in
-    elim (true_or_false (client == caller && number == other)) [
+    elim (cases_Bool (client == caller && number == other)) [
       | inl here ↦
-          let both = and-true (client == caller) (number == other) here in
-          let same = test-equal client caller both.0 in
-          let numbers = test-equal number other both.1 in
+          let both = and_parts (client == caller) (number == other) here in
+          let same = eqb-true client caller both.0 in
+          let numbers = eqb-true number other both.1 in
           (asked, by_test (λ b. Stands (number, asked) (C b)) caller client (λ is. inl (ap (λ n. (n, asked)) numbers)) (λ different. absurd (different (sym same))))
       | inr elsewhere ↦
           let P : Bool → Type 0 = λ b. (b || is_accepted (Request client number call) past) ≡ true → is_accepted (Request client number call) past ≡ true in
@@ -106,7 +99,7 @@ call-accepted client number call (Receipted sender key through time ∷ past) ac
 
 pub new_call-waits : (client number : ℕ) (call : Call) (past : List Entry) → IsNumbered (calls_in client past) → number ≡ suc (length (calls_in client past)) → is_accepted (Request client number call) past ≡ false
 new_call-waits client number call past numbered next =
-    elim (true_or_false (is_accepted (Request client number call) past)) [
+    elim (cases_Bool (is_accepted (Request client number call) past)) [
       | inl accepted ↦
           let found = call-accepted client number call past accepted in
           let bound = IsNumbered-bound (number, found.0) (calls_in client past) numbered found.1 in
@@ -117,8 +110,8 @@ new_call-waits client number call past numbered next =
 -- a new receipt goes beyond all that were accepted
 pub is_new-above : (plain : Plain) (past : List Entry) (client key number : ℕ) → is_new plain past client key number ≡ true → plain.through past client key < number
 is_new-above plain past client key number new =
-    let tests = and-true (plain.lasts past client key) (nat_lt (plain.through past client key) number && nat_le number (length (plain.made past client key))) new in
-    let within = and-true (nat_lt (plain.through past client key) number) (nat_le number (length (plain.made past client key))) tests.1 in
+    let tests = and_parts (plain.lasts past client key) (nat_lt (plain.through past client key) number && nat_le number (length (plain.made past client key))) new in
+    let within = and_parts (nat_lt (plain.through past client key) number) (nat_le number (length (plain.made past client key))) tests.1 in
     elim (leb_tells (suc (plain.through past client key)) number) [
       | inl above ↦ above.1
       | inr below ↦ let never = below.0 in let test = within.0 in cc
@@ -144,13 +137,13 @@ receipt-passed plain is_plain client key number (Receipted sender other through 
           let same : plain.through past sender other ≡ plain.through past client key = λ i. plain.through past (senders i) (keys i) in
           omega arith
     ] in
-    elim (true_or_false (client == sender && (key == other && number == through))) [
+    elim (cases_Bool (client == sender && (key == other && number == through))) [
       | inl here ↦
-          let first = and-true (client == sender) (key == other && number == through) here in
-          let second = and-true (key == other) (number == through) first.1 in
-          let clients = test-equal client sender first.0 in
-          let keys = test-equal key other second.0 in
-          let numbers = test-equal number through second.1 in
+          let first = and_parts (client == sender) (key == other && number == through) here in
+          let second = and_parts (key == other) (number == through) first.1 in
+          let clients = eqb-true client sender first.0 in
+          let keys = eqb-true key other second.0 in
+          let numbers = eqb-true number through second.1 in
           let received = is_plain.received past sender other through time receipts.0 in
           let same : plain.through (entry ∷ past) sender other ≡ plain.through (entry ∷ past) client key = λ i. plain.through (entry ∷ past) (sym clients i) (sym keys i) in
           omega arith
@@ -166,7 +159,7 @@ pub may-waits : (plain : Plain) → IsPlain plain → (now : ℤ) (past : List E
 may-waits plain is_plain now past (Called client number time call) legal may =
     new_call-waits client number call past (legal.numbered client) (judged-new number (length (calls_in client past)) may)
 may-waits plain is_plain now past (Receipted client key through time) legal may =
-    elim (true_or_false (is_accepted (Receipt client key through) past)) [
+    elim (cases_Bool (is_accepted (Receipt client key through) past)) [
       | inl accepted ↦
           let passed = receipt-passed plain is_plain client key through past legal.receipts accepted in
           let above = is_new-above plain past client key through may in

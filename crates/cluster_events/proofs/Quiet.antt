@@ -2,6 +2,8 @@
 use Rattle.std.proofs.Common.{◌≡◌, ℕ, zero, suc, ◌+◌, ◌<◌, ◌≤◌, ◌⊎◌, inl, inr, Bool, true, false, ◌&&◌, ◌||◌, ◌==◌, nat_lt, nat_le, if◌then◌else◌, Option, Some, None, List, [], ◌∷◌, ◌++◌, length, slice_get, refl, ap, sym, ◌∙◌, subst, arith, length-append}
 use Rattle.std.specs.List.{AllByRecursion}
 use Rattle.std.proofs.lemmas.Bool.Decides.{leb_tells}
+use Rattle.std.proofs.lemmas.Bool.{le-leb, cases_Bool}
+use Rattle.std.proofs.lemmas.Option.{slice_get_within}
 use Rattle.cluster_facts.specs.Types.{Call, Reply, Refused, Status, Item, Entry, Called, Receipted, Callback, Message, Request, Answer, Delivery, Receipt}
 use Rattle.cluster_facts.specs.Lists.{Stands, count_of}
 use Rattle.cluster_facts.specs.Messages.{sent_by, answers_to, receipts_of, calls_in, message_of}
@@ -13,9 +15,9 @@ use Rattle.cluster_facts.specs.Facts.{Facts, IsSound, IsOfRun, IsToldItem, Fits,
 use Rattle.cluster_facts.specs.Facts.Keeps.{starts, waits, answered}
 use Rattle.cluster_facts.specs.Facts.Lives.{none as none_live, lives, refused}
 use Rattle.cluster_facts.specs.Facts.Fits.{empty, of_item, of_write}
-use Rattle.cluster_facts.proofs.Words.{by_test, Stands-left, Stands-right, All-at, All-map, All-of, All-append, IsNumbered-bound, IsNumbered-at, IsCounted-bound, slice_get-within}
+use Rattle.cluster_facts.proofs.Words.{by_test, Stands-left, Stands-right, All-at, All-map, All-of, All-append, IsNumbered-bound, IsNumbered-at, IsCounted-bound}
 use Rattle.cluster_facts.proofs.Clients.{kept_call-stands, find_living-found}
-use Rattle.cluster_facts.proofs.Posting.{true_or_false, answers_to-stands, answers_to-posted, receipts_of-stands, posted-stands}
+use Rattle.cluster_facts.proofs.Posting.{answers_to-stands, answers_to-posted, receipts_of-stands, posted-stands}
 use Rattle.cluster_events.specs.Lines.{Told, Posted, Replied, Ignored, is_progress}
 use Rattle.cluster_events.specs.declared.lines.Why.TheVariants as because
 use Rattle.cluster_events.specs.Outcomes.{Outcome, quietly, telling, and_then, for_each}
@@ -172,9 +174,6 @@ reply_at-some number reply (first ∷ replies) stands =
       | inr there ↦ reply_at-some number reply replies there
     ])
 
-le-test : (m n : ℕ) → m ≤ n → nat_le m n ≡ true
-le-test m n below = elim (leb_tells m n) [ inl yes_ ↦ yes_.0 | inr no_ ↦ let above = no_.1 in absurd (omega arith) ]
-
 all-three : (a b c : Bool) → a ≡ true → b ≡ true → c ≡ true → (a && (b && c)) ≡ true
 all-three true true true p q r = refl
 all-three true true false p q r = r
@@ -277,10 +276,10 @@ module _ (plain : Plain) (is_plain : IsPlain plain) (world : World) (facts : Fac
             let told = Fits-at (IsToldItem plain past (sent_by client world.net) client) (key, count) (facts.told client) mark in
             let made = told.1.made in
             let number = made.1 in
-            let place = slice_get-within (plain.made past client key) made.0 told.1.content made.2 in
+            let place = slice_get_within (plain.made past client key) made.0 told.1.content made.2 in
             let is_found = find_living-found key found own.follows.lives here in
             let used : (world.agents client ≡ fresh) → ⊥ = λ new. let none : find_living key (world.agents client).living ≡ None = ap (λ (agent : Agent). find_living key agent.living) new in cc in
-            let new : is_new plain past client key count ≡ true = all-three (plain.lasts past client key) (nat_lt (plain.through past client key) count) (nat_le count (length (plain.made past client key))) lasts (le-test (suc (plain.through past client key)) count (omega arith)) (le-test count (length (plain.made past client key)) (omega arith)) in
+            let new : is_new plain past client key count ≡ true = all-three (plain.lasts past client key) (nat_lt (plain.through past client key) count) (nat_le count (length (plain.made past client key))) lasts (le-leb (suc (plain.through past client key)) count (omega arith)) (le-leb count (length (plain.made past client key)) (omega arith)) in
             absurd (saw-resent client (Receipt client key count) used (Stands-right (Receipt client key count) (requests_of client (world.agents client).kept) (greatest_receipts client (world.agents client).living) (greatest_receipts-stands client key count found (world.agents client).living here is_found.next_is (omega arith))) new)
       ]
 
@@ -305,7 +304,7 @@ module _ (plain : Plain) (is_plain : IsPlain plain) (world : World) (facts : Fac
       let above = held.1 in
       let made = held.2 in
       let number = made.1 in
-      let within = slice_get-within (plain.made past client key) made.0 item.content made.2 in
+      let within = slice_get_within (plain.made past client key) made.0 item.content made.2 in
       let first = slice_get-some (plain.made past client key) through (omega arith) in
       let asks = is_plain.lasting past client key (facts.legal.numbered client) held.0 in
       let S : List (ℕ × Call) → Type 0 = λ calls. Stands (key, asks.0) (subscribed calls) in
@@ -366,7 +365,7 @@ reply_by-quiet place client number reply (Some call) world quiet =
     let full = lacks_place world.places (world.agents client).queue (callbacks_of call reply) in
     let P : Bool → Type 0 = λ b. is_loud ((if b then Ignored place because.Left else Replied client number call reply) ∷ []) ≡ false → (record world { agents = if b then world.agents else after } ≡ world) × ((other : Call) → Some call ≡ Some other → lacks_place world.places (world.agents client).queue (callbacks_of other reply) ≡ true) in
     let L : Call → Type 0 = λ c. lacks_place world.places (world.agents client).queue (callbacks_of c reply) ≡ true in
-    elim (true_or_false full) [
+    elim (cases_Bool full) [
       | inl is_full ↦ subst P (sym is_full) (λ q. (refl, λ other same. let is : call ≡ other = cc in subst L is is_full)) quiet
       | inr has_place ↦ subst P (sym has_place) (λ q. cc) quiet
     ]

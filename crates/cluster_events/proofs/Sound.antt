@@ -1,11 +1,11 @@
 -- Each event of agents, net and history leaves a sound world.
-use Rattle.std.proofs.Common.{◌≡◌, ℕ, suc, ◌⊎◌, inl, inr, Bool, true, false, not, nat_lt, nat_le, cond, if◌then◌else◌, ℤ, ◌≤ℤ◌, Option, Some, None, List, [], ◌∷◌, length, refl, ap, sym, subst, arith}
+use Rattle.std.proofs.Common.{◌≡◌, ℕ, suc, ◌⊎◌, inl, inr, Bool, true, false, not, nat_lt, cond, if◌then◌else◌, ℤ, ◌≤ℤ◌, Option, Some, None, List, [], ◌∷◌, refl, ap, sym, subst, arith}
 use Rattle.std.proofs.lemmas.Bool.Decides.{leb_tells}
 use Rattle.cluster_facts.specs.Types.{Ask, Start, Other, VersionRefused, TryAgain, BadHandle, Call, Reply, Status, Item, Entry, Message, Answer, Delivery, Receipt}
 use Rattle.cluster_facts.specs.Lists.{Stands, put}
 use Rattle.cluster_facts.specs.Messages.{message_of}
 use Rattle.cluster_facts.specs.Service.{Plain, IsPlain, answers_in}
-use Rattle.cluster_facts.specs.Agents.{Living, Agent, fresh, is_shut, can_serve, service_of, has_handle, call_of, refusal, dispatch_refusal, after_call, kept_call, callbacks_of, lacks_place, after_reply, find_living, after_item, after_dispatch_all, after_dispatch_one}
+use Rattle.cluster_facts.specs.Agents.{Living, Agent, fresh, is_shut, can_serve, service_of, has_handle, call_of, refusal, dispatch_refusal, after_call, kept_call, after_reply, find_living, after_item, after_dispatch_all, after_dispatch_one}
 use Rattle.cluster_facts.specs.History.{Hand, Empty, accepted, accepted_by, MayFollow, time_of}
 use Rattle.cluster_facts.specs.World.{World, posted, with_agent, enlisted}
 use Rattle.cluster_facts.specs.Facts.{Facts, IsSound, IsOfRun}
@@ -13,7 +13,7 @@ use Rattle.cluster_facts.proofs.Words.{each_client}
 use Rattle.cluster_facts.proofs.Posting.{answers_to-stands}
 use Rattle.cluster_facts.proofs.Keeping.{Facts-call, call-new, Facts-reply, Facts-item, receipt-new, Facts-post_answer, Facts-post_item, Facts-accept, Facts-dispatch_all, Facts-dispatch_one, Facts-later}
 use Rattle.cluster_events.specs.declared.lines.Why.TheVariants as because
-use Rattle.cluster_events.specs.ClientEvents.{post, send, ask_by, ask, reply_by, take_reply, Fate, fate_of, item_as, item_by, take_item, dispatch_all_by, dispatch_all, dispatch_one_by, dispatch_one, set_time}
+use Rattle.cluster_events.specs.ClientEvents.{post, send, ask_by, ask, fate_of, dispatch_all_by, dispatch_all, dispatch_one_by, dispatch_one, set_time}
 use Rattle.cluster_events.specs.ClientEvents.Fate.{Takes, Misses}
 
 -- What is posted by servers.
@@ -100,18 +100,6 @@ reply-sound plain client number call reply world kept stands sound = record {
   listed = listed-change plain client (after_reply number call reply (world.agents client)) world (λ new. let none : kept_call number (world.agents client).kept ≡ None = ap (λ (agent : Agent). kept_call number agent.kept) new in cc) sound;
 }
 
-reply_by-sound : (plain : Plain) (place client number : ℕ) (reply : Reply) (found : Option Call) (world : World) → kept_call number (world.agents client).kept ≡ found → Stands (Answer client number reply) world.net → IsSound plain world → IsSound plain (reply_by place client number reply found world).state
-reply_by-sound plain place client number reply None world kept stands sound = sound
-reply_by-sound plain place client number reply (Some call) world kept stands sound =
-    elim (lacks_place world.places (world.agents client).queue (callbacks_of call reply)) as (λ full. IsSound plain (record world { agents = if full then world.agents else with_agent client (after_reply number call reply (world.agents client)) world.agents })) [
-      | true ↦ sound
-      | false ↦ reply-sound plain client number call reply world kept stands sound
-    ]
-
-pub take_reply-sound : (plain : Plain) (place client number : ℕ) (reply : Reply) (world : World) → Stands (Answer client number reply) world.net → IsSound plain world → IsSound plain (take_reply place client number reply world).state
-take_reply-sound plain place client number reply world stands sound =
-    reply_by-sound plain place client number reply (kept_call number (world.agents client).kept) world refl stands sound
-
 -- An item is taken.
 
 -- an item is taken only where it is the next and there is a place
@@ -136,21 +124,6 @@ item-sound plain is_plain client key item found world here next stands sound =
       facts = subst F (sym (receipt-new plain is_plain world.now (accepted world.core) world.core.answered world.net world.agents client key item.number found here next sound.facts)) (Facts-item plain world.now (accepted world.core) world.core.answered world.net world.agents client key item found here next stands sound.facts);
       listed = listed-change plain client after world (λ new. let none : find_living key (world.agents client).living ≡ None = ap (λ (agent : Agent). find_living key agent.living) new in cc) sound;
     }
-
-item_as-sound : (plain : Plain) → IsPlain plain → (place client key : ℕ) (item : Item) (found : Living) (fate : Fate) (full : Bool) (world : World) → find_living key (world.agents client).living ≡ Some found → fate_of item.number found.next full ≡ fate → Stands (Delivery client key item) world.net → IsSound plain world → IsSound plain (item_as plain place client key item found fate world).state
-item_as-sound plain is_plain place client key item found (Misses why) full world here is stands sound = sound
-item_as-sound plain is_plain place client key item found Takes full world here is stands sound =
-    item-sound plain is_plain client key item found world here (fate_of-takes item.number found.next full is).0 stands sound
-
-item_by-sound : (plain : Plain) → IsPlain plain → (place client key : ℕ) (item : Item) (found : Option Living) (world : World) → find_living key (world.agents client).living ≡ found → Stands (Delivery client key item) world.net → IsSound plain world → IsSound plain (item_by plain place client key item found world).state
-item_by-sound plain is_plain place client key item None world here stands sound = sound
-item_by-sound plain is_plain place client key item (Some found) world here stands sound =
-    let full = nat_le world.places (length (world.agents client).queue) in
-    item_as-sound plain is_plain place client key item found (fate_of item.number found.next full) full world here refl stands sound
-
-pub take_item-sound : (plain : Plain) → IsPlain plain → (place client key : ℕ) (item : Item) (world : World) → Stands (Delivery client key item) world.net → IsSound plain world → IsSound plain (take_item plain place client key item world).state
-take_item-sound plain is_plain place client key item world stands sound =
-    item_by-sound plain is_plain place client key item (find_living key (world.agents client).living) world refl stands sound
 
 -- Callbacks are handed out.
 

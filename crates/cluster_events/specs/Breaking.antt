@@ -1,10 +1,9 @@
--- Words of public clauses: an event that breaks off: what holds of the world and the files that it leaves.
-use Rattle.std.specs.Prelude.{◌≡◌, ℕ, ◌⊎◌, List, ◌++◌}
+-- Words of public clauses: an event that breaks off: what holds of the world that it leaves.
+use Rattle.std.specs.Prelude.{◌≡◌, ℕ, List, ◌++◌}
 use Rattle.cluster_facts.specs.Types.{Call, Entry, Callback}
 use Rattle.cluster_facts.specs.Lists.{EndsIn, IsCounted}
 use Rattle.cluster_facts.specs.Messages.{sent_by, calls_in}
 use Rattle.cluster_facts.specs.Service.{Plain, answers_in}
-use Rattle.cluster_facts.specs.Storage.{Disk, Storage, Between}
 use Rattle.cluster_facts.specs.Agents.{fed_of}
 use Rattle.cluster_facts.specs.History.{IsLegal, committed}
 use Rattle.cluster_facts.specs.World.{World}
@@ -33,22 +32,3 @@ pub record Holds (plain : Plain) (world : World) : Type 0 where
   pub legal : IsLegal plain world.now (committed world.core)
   pub calls : (client : ℕ) → EndsIn (sent_by client world.net) (calls_in client (committed world.core))
   pub fed : (client : ℕ) → IsFed plain world.core.answered client (fed_of (world.agents client))
-
--- a step of an event changes agents or history and not both, and posts no request where it changes the history
-pub record IsStep (old new : World) : Type 0 where
-  pub one : (new.agents ≡ old.agents) ⊎ (new.core ≡ old.core)
-  pub sent : (new.core ≡ old.core) ⊎ ((client : ℕ) → sent_by client new.net ≡ sent_by client old.net)
-  pub now : new.now ≡ old.now
-
--- of a step that broke off, history, net and agents are each as before it or as after it
-pub record Partly (old new left : World) : Type 0 where
-  pub core : (left.core ≡ old.core) ⊎ (left.core ≡ new.core)
-  pub net : (left.net ≡ old.net) ⊎ (left.net ≡ new.net)
-  pub agents : (left.agents ≡ old.agents) ⊎ (left.agents ≡ new.agents)
-  pub now : left.now ≡ old.now
-
--- an event that broke off, with lines that nobody sees
-pub record Breaks (plain : Plain) (disk : Disk) (storage : Storage disk) (old left : World) (unseen : List Told) (files : disk.Files) : Type 0 where
-  pub tells : Tells plain old left unseen
-  pub holds : Holds plain left
-  pub between : Between disk storage (committed left.core) files

@@ -2,7 +2,8 @@
 use Rattle.std.specs.Prelude.{ℕ, suc, ◌+◌, Bool, nat_lt, nat_le, if◌then◌else◌, ℤ, Option, Some, None, List, [], ◌∷◌, length}
 use Rattle.cluster_facts.specs.Types.{Ask, Call, Reply, Status, Item, Callback, Message, Request, Receipt}
 use Rattle.cluster_facts.specs.Service.{Plain}
-use Rattle.cluster_facts.specs.Agents.{Living, Agent, call_of, refusal, dispatch_refusal, after_call, kept_call, callbacks_of, lacks_place, after_reply, find_living, after_item, oldest, after_dispatch_all, after_dispatch_one}
+use Rattle.cluster_facts.specs.Agents.{Living, Agent, call_of, refusal, dispatch_refusal, after_call, kept_call, callbacks_of}
+use Rattle.cluster_facts.specs.Agents.{lacks_place, after_reply, find_living, after_item, oldest, after_dispatch_all, after_dispatch_one}
 use Rattle.cluster_facts.specs.World.{World, knows, posted, with_agent, enlisted}
 use Rattle.cluster_events.specs.Lines.{Told, Posted, Replied, Declined, HandedOut, Dispatched, Ignored, Why}
 use Rattle.cluster_events.specs.declared.lines.Why.TheVariants.{AnsweredReply, Left, TakenItem, AheadItem, GoneItem}

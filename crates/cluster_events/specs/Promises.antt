@@ -45,7 +45,8 @@ pub record RepliesRight (plain : Plain) (world : World) (told : List Told) : Typ
 -- so does each line that replies to a reader's read
 abbrev pub ReadersRight : Plain → World → List Told → Type 0
 ReadersRight plain world told =
-    (client number direction : ℕ) (reply : Reply) → Stands (number, ReaderRead direction, reply) (deals_told client told) → IsAnswered plain world.core.answered client (number, ReaderRead direction, reply)
+    (client number direction : ℕ) (reply : Reply) → Stands (number, ReaderRead direction, reply) (deals_told client told)
+    → IsAnswered plain world.core.answered client (number, ReaderRead direction, reply)
 
 -- the `callback` lines of a client are the callbacks handed out to it, each once, by number
 abbrev pub CallbacksPrinted : World → List Told → Type 0
@@ -54,7 +55,8 @@ CallbacksPrinted world told = (client : ℕ) → Prints (world.agents client).ha
 -- of each subscription a client got its first items, in order, each once
 abbrev pub ItemsInOrder : Plain → World → Type 0
 ItemsInOrder plain world =
-    (client key : ℕ) → AreFirstItems plain world.core.answered (sent_by client world.net) client key (taken_of key (receipts_of client world.net) (items_in (fed_of (world.agents client))))
+    (client key : ℕ) → AreFirstItems plain world.core.answered (sent_by client world.net) client key
+    (taken_of key (receipts_of client world.net) (items_in (fed_of (world.agents client))))
 
 -- the callbacks of writes that a client got are, in order, one for each `reply` line of a write that asked for one
 abbrev pub WritesCalledBack : World → List Told → Type 0

@@ -57,4 +57,6 @@ Happens plain shelf servers _ state outcome = ⊥
 -- what lines lead to from a start, the last line first, and all that they print
 pub data Run {P : Type 0} (plain : Plain) (shelf : Shelf) (servers : Servers P) (start : State P) : List Line → State P → List Told → Type 0 where
   Started : Run plain shelf servers start [] start []
-  Went : {lines : List Line} {state : State P} {told : List Told} → (next : Line) (outcome : Outcome (State P)) → Run plain shelf servers start lines state told → Happens plain shelf servers next state outcome → Run plain shelf servers start (next ∷ lines) outcome.state (outcome.told ++ told)
+  Went : {lines : List Line} {state : State P} {told : List Told} → (next : Line) (outcome : Outcome (State P))
+      → Run plain shelf servers start lines state told → Happens plain shelf servers next state outcome
+      → Run plain shelf servers start (next ∷ lines) outcome.state (outcome.told ++ told)

@@ -46,7 +46,8 @@ pub record IsServing {P : Type 0} (plain : Plain) (servers : Servers P) (Good : 
   pub front : (state : State P) (world : World) → world.core ≡ state.world.core → Good state → Good (record { world = world; peers = state.peers })
   pub accepts : (entry : Entry) (state : State P) → state.world.core.hand ≡ Empty → Good state → Accepts Good entry state (servers.accept entry state).state
   pub drains : (state : State P) → IsSteady plain Good state → Drains plain Good state (drain servers state).state
-  pub commits : (entry : Entry) (state : State P) → state.world.core.hand ≡ Empty → Good state → is_loud ((drain servers (servers.accept entry state).state).told ++ (servers.accept entry state).told) ≡ true
+  pub commits : (entry : Entry) (state : State P) → state.world.core.hand ≡ Empty → Good state
+      → is_loud ((drain servers (servers.accept entry state).state).told ++ (servers.accept entry state).told) ≡ true
 
 -- what is asked of a relation between the worlds before and after events and their lines: it holds of nothing, of one event
 -- after another, and of each step that a round is made of
@@ -54,9 +55,24 @@ pub record IsCarried {P : Type 0} (plain : Plain) (servers : Servers P) (Good : 
   pub same : (world : World) → R world world []
   pub both : (one two three : World) (first second : List Told) → R one two first → R two three second → R one three (second ++ first)
   pub ignored : (world : World) (place : ℕ) (why : Why) → R world world (Ignored place why ∷ [])
-  pub answer : (world : World) (client number : ℕ) (reply : Reply) → IsSound plain world → Stands (number, reply) (answers_in plain client world.core.answered) → R world (record world { net = Answer client number reply ∷ world.net }) (Posted (suc (length world.net)) (Answer client number reply) ∷ [])
-  pub pushed : (world : World) (client key : ℕ) (item : Item) → IsSound plain world → IsOfRun plain world.core.answered (Delivery client key item) → R world (record world { net = Delivery client key item ∷ world.net }) (Posted (suc (length world.net)) (Delivery client key item) ∷ [])
-  pub reply : (world : World) (client number : ℕ) (call : Call) (reply : Reply) → IsSound plain world → kept_call number (world.agents client).kept ≡ Some call → lacks_place world.places (world.agents client).queue (callbacks_of call reply) ≡ false → Stands (Answer client number reply) world.net → R world (record world { agents = with_agent client (after_reply number call reply (world.agents client)) world.agents }) (Replied client number call reply ∷ [])
-  pub item : (world : World) (client key : ℕ) (item : Item) (found : Living) → IsSound plain world → find_living key (world.agents client).living ≡ Some found → item.number ≡ found.next → nat_le world.places (length (world.agents client).queue) ≡ false → Stands (Delivery client key item) world.net → R world (record world { net = Receipt client key item.number ∷ world.net; agents = with_agent client (after_item key found.id item.content (world.agents client)) world.agents }) (Posted (suc (length world.net)) (Receipt client key item.number) ∷ [])
-  pub accept : (entry : Entry) (state : State P) → IsSteady plain Good state → state.world.core.hand ≡ Empty → MayFollow plain state.world.core.answered entry → time_of entry ≡ state.world.now → Stands (message_of entry) state.world.net → R state.world (servers.accept entry state).state.world (servers.accept entry state).told
+  pub answer : (world : World) (client number : ℕ) (reply : Reply) → IsSound plain world
+      → Stands (number, reply) (answers_in plain client world.core.answered)
+      → R world (record world { net = Answer client number reply ∷ world.net }) (Posted (suc (length world.net)) (Answer client number reply) ∷ [])
+  pub pushed : (world : World) (client key : ℕ) (item : Item) → IsSound plain world → IsOfRun plain world.core.answered (Delivery client key item)
+      → R world (record world { net = Delivery client key item ∷ world.net }) (Posted (suc (length world.net)) (Delivery client key item) ∷ [])
+  pub reply : (world : World) (client number : ℕ) (call : Call) (reply : Reply) → IsSound plain world
+      → kept_call number (world.agents client).kept ≡ Some call
+      → lacks_place world.places (world.agents client).queue (callbacks_of call reply) ≡ false → Stands (Answer client number reply) world.net
+      → R world (record world { agents = with_agent client (after_reply number call reply (world.agents client)) world.agents })
+      (Replied client number call reply ∷ [])
+  pub item : (world : World) (client key : ℕ) (item : Item) (found : Living) → IsSound plain world
+      → find_living key (world.agents client).living ≡ Some found → item.number ≡ found.next
+      → nat_le world.places (length (world.agents client).queue) ≡ false → Stands (Delivery client key item) world.net
+      → R world (record world {
+        net = Receipt client key item.number ∷ world.net;
+        agents = with_agent client (after_item key found.id item.content (world.agents client)) world.agents;
+      }) (Posted (suc (length world.net)) (Receipt client key item.number) ∷ [])
+  pub accept : (entry : Entry) (state : State P) → IsSteady plain Good state → state.world.core.hand ≡ Empty
+      → MayFollow plain state.world.core.answered entry → time_of entry ≡ state.world.now → Stands (message_of entry) state.world.net
+      → R state.world (servers.accept entry state).state.world (servers.accept entry state).told
   pub drain : (state : State P) → IsSteady plain Good state → R state.world (drain servers state).state.world (drain servers state).told

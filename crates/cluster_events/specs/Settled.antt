@@ -14,6 +14,9 @@ pub record IsSettled (plain : Plain) (world : World) : Type 0 where
   -- every call that was sent stands in the history
   pub heard : (client : ℕ) → calls_in client world.core.answered ≡ sent_by client world.net
   -- its reply is taken, unless it gives a callback for which the client's queue lacks a place
-  pub taken : (client number : ℕ) (call : Call) → kept_call number (world.agents client).kept ≡ Some call → (reply : Reply) × Stands (number, reply) (answers_in plain client world.core.answered) × (lacks_place world.places (world.agents client).queue (callbacks_of call reply) ≡ true)
+  pub taken : (client number : ℕ) (call : Call) → kept_call number (world.agents client).kept ≡ Some call → (reply : Reply)
+      × Stands (number, reply) (answers_in plain client world.core.answered)
+      × (lacks_place world.places (world.agents client).queue (callbacks_of call reply) ≡ true)
   -- no item is held, unless its client's queue is full
-  pub held : (client key : ℕ) (item : Item) → Stands (Delivery client key item) (plain.held world.core.answered) → world.places ≤ length (world.agents client).queue
+  pub held : (client key : ℕ) (item : Item) → Stands (Delivery client key item) (plain.held world.core.answered)
+      → world.places ≤ length (world.agents client).queue

@@ -53,7 +53,8 @@ is_loud told = list_any is_progress told
 -- rounds up to the first that is not loud
 pub data Rounds {P : Type 0} (plain : Plain) (servers : Servers P) (start : State P) : State P → List Told → Bool → Type 0 where
   Begun : Rounds plain servers start start [] true
-  Further : {state : State P} {told : List Told} → Rounds plain servers start state told true → Rounds plain servers start (round plain servers state).state ((round plain servers state).told ++ told) (is_loud (round plain servers state).told)
+  Further : {state : State P} {told : List Told} → Rounds plain servers start state told true
+      → Rounds plain servers start (round plain servers state).state ((round plain servers state).told ++ told) (is_loud (round plain servers state).told)
 
 -- `settle`: what it leads to and the lines that it prints, those on messages without effect left out
 pub record Settles {P : Type 0} (plain : Plain) (servers : Servers P) (old new : State P) (told : List Told) : Type 0 where

@@ -20,7 +20,8 @@ behind first outcome = record { state = outcome.state; told = outcome.told ++ fi
 -- Of an event for each element, that of one element stops, after those of the elements before it.
 pub data EachStops {S X : Type 0} (event : X → S → Outcome S) (Stops : X → S → Outcome S → Type 0) : List X → S → Outcome S → Type 0 where
   Here : {x : X} {xs : List X} {state : S} {stop : Outcome S} → Stops x state stop → EachStops event Stops (x ∷ xs) state stop
-  Later : {x : X} {xs : List X} {state : S} {stop : Outcome S} → EachStops event Stops xs (event x state).state stop → EachStops event Stops (x ∷ xs) state (behind (event x state) stop)
+  Later : {x : X} {xs : List X} {state : S} {stop : Outcome S} → EachStops event Stops xs (event x state).state stop
+      → EachStops event Stops (x ∷ xs) state (behind (event x state) stop)
 
 -- a turn stops once its message was heard
 abbrev pub TurnStops : {P : Type 0} → Plain → Servers P → Message → State P → Outcome (State P) → Type 0
@@ -34,7 +35,8 @@ ClientStops plain servers client state stop =
 -- a round stops at its start, or in the turns of a client
 pub data RoundStops {P : Type 0} (plain : Plain) (servers : Servers P) (state : State P) : Outcome (State P) → Type 0 where
   AtStart : RoundStops plain servers state (quietly state)
-  InTurns : {stop : Outcome (State P)} → EachStops (client_turns plain servers) (ClientStops plain servers) (drain servers state).state.world.clients (drain servers state).state stop → RoundStops plain servers state (behind (drain servers state) stop)
+  InTurns : {stop : Outcome (State P)} → EachStops (client_turns plain servers) (ClientStops plain servers)
+      (drain servers state).state.world.clients (drain servers state).state stop → RoundStops plain servers state (behind (drain servers state) stop)
 
 -- `settle` stops in a round, after others that were loud
 pub record SettleStops {P : Type 0} (plain : Plain) (servers : Servers P) (start : State P) (stop : Outcome (State P)) : Type 0 where

@@ -30,4 +30,5 @@ in_order (x ∷ xs) = in_order xs ++ x ∷ []
 abbrev pub AreFirstItems : Plain → List Entry → List (ℕ × Call) → ℕ → ℕ → List Callback → Type 0
 AreFirstItems plain past sent client key [] = Unit {0}
 AreFirstItems plain past sent client key (last ∷ taken) =
-    (id : ℕ) × Stands (key, id) (asked_for sent) × ((later : List Callback) × (map (callback_of id) (plain.made past client key) ≡ in_order (last ∷ taken) ++ later))
+    (id : ℕ) × Stands (key, id) (asked_for sent)
+    × ((later : List Callback) × (map (callback_of id) (plain.made past client key) ≡ in_order (last ∷ taken) ++ later))

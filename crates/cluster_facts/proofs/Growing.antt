@@ -1,7 +1,6 @@
 -- What stays as the history grows.
-use Rattle.std.proofs.Common.{◌≡◌, ℕ, suc, ◌+◌, ◌≤◌, inl, inr, Bool, true, false, ◌==◌, nat_lt, nat_le, if◌then◌else◌, ℤ, pos, negsuc, ◌≤ℤ◌, Some, List, [], ◌∷◌, length, slice_get, sym, subst, arith, le_trans, leb→le, le→leb}
+use Rattle.std.proofs.Common.{◌≡◌, ℕ, suc, ◌+◌, inr, Bool, true, false, ◌==◌, nat_lt, nat_le, if◌then◌else◌, ℤ, pos, negsuc, ◌≤ℤ◌, Some, List, [], ◌∷◌, length, slice_get, sym, subst, le_trans, leb→le, le→leb}
 use lib.Signed.{≤ℤ_refl}
-use Rattle.std.proofs.lemmas.Bool.Decides.{eqb_tells}
 use Rattle.cluster_facts.specs.Types.{Call, Reply, Content, Entry, Called, Receipted, Callback, Message, Request, Answer, Delivery, Receipt}
 use Rattle.cluster_facts.specs.Lists.{Stands, IsNumbered}
 use Rattle.cluster_facts.specs.Messages.{calls_in}
@@ -57,19 +56,6 @@ judged-new number count is =
     let P : Bool → Type 0 = λ b. (if b then New else rest (nat_lt count number) (nat_le (number + 32) count)) ≡ New → number ≡ suc count in
     let never : (b c : Bool) → rest b c ≡ New → number ≡ suc count = elim [ true ↦ λ c e. cc | false ↦ elim [ true ↦ λ e. cc | false ↦ λ e. cc ] ] in
     by_test P number (suc count) (λ same e. same) (λ different. never (nat_lt count number) (nat_le (number + 32) count)) is
-
-pub judged-repeat : (number count : ℕ) → judged number count ≡ Repeat → number ≤ count
-judged-repeat number count is =
-    let P : Bool → Type 0 = λ b. (if b then New else if nat_lt count number then Ahead else if nat_le (number + 32) count then Old else Repeat) ≡ Repeat → number ≤ count in
-    by_test P number (suc count) (λ same e. cc) (λ different. ahead) is
-  where
-    ahead : (if nat_lt count number then Ahead else if nat_le (number + 32) count then Old else Repeat) ≡ Repeat → number ≤ count
-    ahead e =
-        let Q : Bool → Type 0 = λ b. (if b then Ahead else if nat_le (number + 32) count then Old else Repeat) ≡ Repeat → number ≤ count in
-        elim (Rattle.std.proofs.lemmas.Bool.Decides.leb_tells (suc count) number) [
-          | inl above ↦ subst Q (sym above.0) (λ never. cc) e
-          | inr below ↦ let bound = below.1 in omega arith
-        ]
 
 -- Times.
 

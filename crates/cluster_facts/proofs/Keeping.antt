@@ -1,5 +1,5 @@
 -- Each event of agents, net and history keeps the facts.
-use Rattle.std.proofs.Common.{◌≡◌, ℕ, inl, inr, Bool, true, false, ◌==◌, if◌then◌else◌, ℤ, ◌≤ℤ◌, Some, List, [], ◌∷◌, ◌++◌, length, refl, sym, ◌∙◌, subst, arith, append_assoc}
+use Rattle.std.proofs.Common.{◌≡◌, ℕ, inl, inr, Bool, false, if◌then◌else◌, ℤ, ◌≤ℤ◌, Some, List, [], ◌∷◌, ◌++◌, length, refl, sym, ◌∙◌, subst, arith, append_assoc}
 use Rattle.cluster_facts.specs.Types.{Call, Reply, Item, Entry, Called, Receipted, Callback, Message, Request, Answer, Delivery, Receipt}
 use Rattle.cluster_facts.specs.Lists.{Stands, EndsIn, IsNumbered}
 use Rattle.cluster_facts.specs.Messages.{sent_by, answers_to, receipts_of, calls_in, message_of}
@@ -11,9 +11,9 @@ use Rattle.cluster_facts.specs.Facts.{view_of, IsClient, Fits, IsToldItem, IsOfR
 use Rattle.cluster_facts.specs.Facts.Keeps.{starts}
 use Rattle.cluster_facts.specs.Facts.Lives.{none as none_live}
 use Rattle.cluster_facts.specs.Facts.Fits.{empty, of_item}
-use Rattle.cluster_facts.proofs.Words.{each_client, All-at, All-map, IsNumbered-bound, EndsIn-more, EndsIn-tail, IsCounted-bound}
+use Rattle.cluster_facts.proofs.Words.{each_client, All-at, All-map, IsNumbered-bound, EndsIn-more, IsCounted-bound}
 use Rattle.cluster_facts.proofs.Clients.{IsClient-call, IsClient-reply, IsClient-item, IsClient-hears, IsClient-calls, Fits-reply, Fits-map, find_living-found, subscribed-asked, asked_for-number, oldest-append}
-use Rattle.cluster_facts.proofs.Growing.{IsOfRun-grows, IsToldItem-grows, IsToldItem-sends, IsLegal-follow, IsLegal-before, IsLegal-later, judged-new}
+use Rattle.cluster_facts.proofs.Growing.{IsOfRun-grows, IsToldItem-grows, IsToldItem-sends, IsLegal-follow, IsLegal-later, judged-new}
 use Rattle.cluster_facts.proofs.Posting.{posted-cases, posted-new, sent_by-stands, receipts_of-stands}
 
 -- An agent sends a call.
@@ -163,27 +163,6 @@ Facts-answered plain is_plain now accepted answered net agents entry facts = rec
   run = All-map (IsOfRun plain answered) (IsOfRun plain (entry ∷ answered)) net (IsOfRun-grows plain is_plain entry answered) facts.run;
   heard = facts.heard;
   legal = facts.legal;
-}
-
--- An entry that waited is lost.
-lost-client : (entry : Entry) (accepted : List Entry) (net : List Message) (client : ℕ) (agent : Agent) → IsClient (view_of client net (entry ∷ accepted)) agent → IsClient (view_of client net accepted) agent
-lost-client (Called caller number time call) accepted net client agent own =
-    let calls : Bool → List (ℕ × Call) = λ b. if b then (number, call) ∷ calls_in client accepted else calls_in client accepted in
-    let P : Bool → Type 0 = λ b. IsClient (record { sent = sent_by client net; heard = answers_to client net; marks = receipts_of client net; calls = calls b }) agent → IsClient (view_of client net accepted) agent in
-    let cases : (b : Bool) → P b = elim [
-      | true ↦ λ one. IsClient-calls (sent_by client net) ((number, call) ∷ calls_in client accepted) (calls_in client accepted) (answers_to client net) (receipts_of client net) agent (EndsIn-tail (number, call) (sent_by client net) (calls_in client accepted) one.sends.first) one
-      | false ↦ λ one. one
-    ] in
-    cases (caller == client) own
-lost-client (Receipted caller key through time) accepted net client agent own = own
-
-pub Facts-lost : (plain : Plain) (now : ℤ) (accepted answered : List Entry) (net : List Message) (agents : ℕ → Agent) (entry : Entry) → Facts plain now (entry ∷ accepted) answered net agents → Facts plain now accepted answered net agents
-Facts-lost plain now accepted answered net agents entry facts = record {
-  clients = λ client. lost-client entry accepted net client (agents client) (facts.clients client);
-  told = facts.told;
-  run = facts.run;
-  heard = facts.heard.1;
-  legal = IsLegal-before plain now entry accepted facts.legal;
 }
 
 -- An agent hands out callbacks.

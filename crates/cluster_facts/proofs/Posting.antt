@@ -1,5 +1,6 @@
 -- What posting makes of the net, and which messages stand in it.
 use Rattle.std.proofs.Common.{◌≡◌, ℕ, suc, ◌⊎◌, inl, inr, Bool, true, false, ◌||◌, ◌==◌, if◌then◌else◌, Some, List, [], ◌∷◌, length, refl, ap, sym, subst}
+use Rattle.std.proofs.lemmas.Bool.{cases_Bool}
 use Rattle.cluster_facts.specs.Types.{Call, Reply, Message, Request, Answer, Receipt}
 use Rattle.cluster_facts.specs.Lists.{Stands}
 use Rattle.cluster_facts.specs.Messages.{sent_by, answers_to, receipts_of}
@@ -7,36 +8,21 @@ use Rattle.cluster_facts.specs.Service.{Plain, IsPlain}
 use Rattle.cluster_facts.specs.World.{knows, posted, message_at}
 use Rattle.cluster_facts.proofs.Words.{by_test}
 
-pub true_or_false : (b : Bool) → (b ≡ true) ⊎ (b ≡ false)
-true_or_false true = inl refl
-true_or_false false = inr refl
-
 -- what the net knows stands in it
 pub knows-stands : (plain : Plain) → IsPlain plain → (message : Message) (net : List Message) → knows plain message net ≡ true → Stands message net
 knows-stands plain is_plain message [] known = cc
 knows-stands plain is_plain message (first ∷ net) known =
     let P : Bool → Type 0 = λ b. (b || knows plain message net) ≡ true → Stands message (first ∷ net) in
-    elim (true_or_false (plain.same message first)) [
+    elim (cases_Bool (plain.same message first)) [
       | inl same ↦ inl (is_plain.same_is message first same)
       | inr other ↦ subst P (sym other) (λ deeper. inr (knows-stands plain is_plain message net deeper)) known
     ]
-
-pub stands-knows : (plain : Plain) → IsPlain plain → (message : Message) (net : List Message) → Stands message net → knows plain message net ≡ true
-stands-knows plain is_plain message [] stands = elim stands [ ]
-stands-knows plain is_plain message (first ∷ net) (inl same) =
-    let P : Bool → Type 0 = λ b. (b || knows plain message net) ≡ true in
-    subst P (sym (subst (λ m. plain.same message m ≡ true) same (is_plain.same_self message))) refl
-stands-knows plain is_plain message (first ∷ net) (inr stands) =
-    let deeper = stands-knows plain is_plain message net stands in
-    let P : Bool → Type 0 = λ b. (plain.same message first || b) ≡ true in
-    let cases : (b : Bool) → (b || true) ≡ true = elim [ true ↦ refl | false ↦ refl ] in
-    subst P (sym deeper) (cases (plain.same message first))
 
 -- a message stands in the net already, and posting it changes nothing; or it is the newest afterwards
 pub posted-cases : (plain : Plain) → IsPlain plain → (message : Message) (net : List Message) → (Stands message net × (posted plain message net ≡ net)) ⊎ (posted plain message net ≡ message ∷ net)
 posted-cases plain is_plain message net =
     let P : Bool → List Message = λ b. if b then net else message ∷ net in
-    elim (true_or_false (knows plain message net)) [
+    elim (cases_Bool (knows plain message net)) [
       | inl known ↦ inl (knows-stands plain is_plain message net known, ap P known)
       | inr unknown ↦ inr (ap P unknown)
     ]

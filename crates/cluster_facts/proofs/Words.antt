@@ -91,10 +91,6 @@ IsNumbered-once x y (z ∷ zs) numbered (inr one) (inl other) same =
     absurd (omega arith)
 IsNumbered-once x y (z ∷ zs) numbered (inr one) (inr other) same = IsNumbered-once x y zs numbered.1 one other same
 
-pub IsNumbered-tail : {X : Type 0} (more xs : List (ℕ × X)) → IsNumbered (more ++ xs) → IsNumbered xs
-IsNumbered-tail [] xs numbered = numbered
-IsNumbered-tail (x ∷ more) xs numbered = IsNumbered-tail more xs numbered.1
-
 -- each number up to the length stands in a numbered list
 pub IsNumbered-at : {X : Type 0} (number : ℕ) (xs : List (ℕ × X)) → IsNumbered xs → 1 ≤ number → number ≤ length xs → (x : X) × Stands (number, x) xs
 IsNumbered-at number [] numbered some most = absurd (omega arith)
@@ -138,27 +134,11 @@ EndsIn-stands {X = X} x new old ends stands =
     let P : List X → Type 0 = λ xs. Stands x xs in
     subst P (sym ends.1) (Stands-right x ends.0 old stands)
 
-pub EndsIn-numbered : {X : Type 0} (new old : List (ℕ × X)) → EndsIn new old → IsNumbered new → IsNumbered old
-EndsIn-numbered new old ends numbered = IsNumbered-tail ends.0 old (subst (λ xs. IsNumbered xs) ends.1 numbered)
-
-pub EndsIn-length : {X : Type 0} (new old : List X) → EndsIn new old → length old ≤ length new
-EndsIn-length new old ends =
-    let whole = ap length ends.1 in
-    let longer = length-append ends.0 old in
-    omega arith
-
 -- what stands at a place stays there where the list grows at its end
 pub slice_get-append : {X : Type 0} (xs more : List X) (place : ℕ) (x : X) → slice_get xs place ≡ Some x → slice_get (xs ++ more) place ≡ Some x
 slice_get-append [] more place x found = cc
 slice_get-append (y ∷ xs) more zero x found = found
 slice_get-append (y ∷ xs) more (suc place) x found = slice_get-append xs more place x found
-
-pub slice_get-within : {X : Type 0} (xs : List X) (place : ℕ) (x : X) → slice_get xs place ≡ Some x → place < length xs
-slice_get-within [] place x found = cc
-slice_get-within (y ∷ xs) zero x found = omega arith
-slice_get-within (y ∷ xs) (suc place) x found =
-    let deeper = slice_get-within xs place x found in
-    omega arith
 
 -- a receipt's number is at most the count of its key's receipts
 pub IsCounted-bound : (key number : ℕ) (marks : List (ℕ × ℕ)) → IsCounted marks → Stands (key, number) marks → (1 ≤ number) × (number ≤ count_of key marks)

@@ -1,8 +1,11 @@
 -- Words of public clauses: a client's agent: what it keeps, when it refuses, and what each of its events makes of it.
-use Rattle.std.specs.Prelude.{ℕ, zero, suc, ◌+◌, Bool, true, false, not, ◌&&◌, ◌||◌, ◌==◌, nat_le, if◌then◌else◌, Option, Some, None, List, [], ◌∷◌, ◌++◌, length}
+use Rattle.std.specs.Prelude.{ℕ, zero, suc, ◌+◌, Bool, true, false, not, ◌&&◌, ◌||◌, ◌==◌, nat_le}
+use Rattle.std.specs.Prelude.{if◌then◌else◌, Option, Some, None, List, [], ◌∷◌, ◌++◌, length}
 use Rattle.ais_values.specs.Statuses.{release_a, supported_version}
 use Rattle.ais_values.specs.FirstRow.{first_row}
-use Rattle.cluster_facts.specs.Types.{Which, Log, Ntf, Version, Status, Success, VersionRefused, TryAgain, BadHandle, Ask, Start, Other, Call, LogInit, LogOpen, LogWrite, LogClose, LogFini, NtfInit, NtfSubscribe, NtfUnsubscribe, NtfFini, Reply, Refused, Content, Single, Losses, Callback, Written, Notified, Discarded, Message, Request, Receipt}
+use Rattle.cluster_facts.specs.Types.{Which, Log, Ntf, Version, Status, Success, VersionRefused, TryAgain, BadHandle, Ask, Start, Other, Call}
+use Rattle.cluster_facts.specs.Types.{LogInit, LogOpen, LogWrite, LogClose, LogFini, NtfInit, NtfSubscribe, NtfUnsubscribe, NtfFini, Reply}
+use Rattle.cluster_facts.specs.Types.{Refused, Content, Single, Losses, Callback, Written, Notified, Discarded, Message, Request, Receipt}
 use Rattle.cluster_facts.specs.Lists.{without}
 
 -- a subscription that lives in the agent: its key, its id, and the number of the item that comes next

@@ -47,7 +47,8 @@ pub record Sends (sent calls : List (ℕ × Call)) (next : ℕ) (log_handle ntf_
 pub data Keeps (heard : List (ℕ × Reply)) : List (ℕ × Call) → List (ℕ × Call) → Type 0 where
   starts : Keeps heard [] []
   waits : {sent kept : List (ℕ × Call)} → (call : ℕ × Call) → Keeps heard sent kept → Keeps heard (call ∷ sent) (call ∷ kept)
-  answered : {sent kept : List (ℕ × Call)} → (call : ℕ × Call) → (reply : Reply) → Stands (call.0, reply) heard → Keeps heard sent kept → Keeps heard (call ∷ sent) kept
+  answered : {sent kept : List (ℕ × Call)} → (call : ℕ × Call) → (reply : Reply) → Stands (call.0, reply) heard → Keeps heard sent kept
+      → Keeps heard (call ∷ sent) kept
 
 pub record Awaits (sent : List (ℕ × Call)) (heard : List (ℕ × Reply)) (next : ℕ) (kept : List (ℕ × Call)) : Type 0 where
   pub keeps : Keeps heard sent kept
@@ -58,8 +59,10 @@ pub record Awaits (sent : List (ℕ × Call)) (heard : List (ℕ × Reply)) (nex
 -- follows those of which a receipt was posted
 pub data Lives (heard : List (ℕ × Reply)) (marks : List (ℕ × ℕ)) : List (ℕ × ℕ) → List Living → Type 0 where
   none : Lives heard marks [] []
-  lives : {subscriptions : List (ℕ × ℕ)} {living : List Living} → (subscription : Living) → subscription.next ≡ suc (count_of subscription.key marks) → Lives heard marks subscriptions living → Lives heard marks ((subscription.key, subscription.id) ∷ subscriptions) (subscription ∷ living)
-  refused : {subscriptions : List (ℕ × ℕ)} {living : List Living} → (subscription : ℕ × ℕ) → (status : Status) → Stands (subscription.0, Refused status) heard → Lives heard marks subscriptions living → Lives heard marks (subscription ∷ subscriptions) living
+  lives : {subscriptions : List (ℕ × ℕ)} {living : List Living} → (subscription : Living) → subscription.next ≡ suc (count_of subscription.key marks)
+      → Lives heard marks subscriptions living → Lives heard marks ((subscription.key, subscription.id) ∷ subscriptions) (subscription ∷ living)
+  refused : {subscriptions : List (ℕ × ℕ)} {living : List Living} → (subscription : ℕ × ℕ) → (status : Status)
+      → Stands (subscription.0, Refused status) heard → Lives heard marks subscriptions living → Lives heard marks (subscription ∷ subscriptions) living
 
 pub record Follows (sent : List (ℕ × Call)) (heard : List (ℕ × Reply)) (marks : List (ℕ × ℕ)) (living : List Living) : Type 0 where
   pub lives : Lives heard marks (subscribed sent) living
@@ -83,8 +86,10 @@ pub record IsToldItem (plain : Plain) (past : List Entry) (sent : List (ℕ × C
 -- the callbacks are, in order, those of the receipts, with those of writes between them
 pub data Fits (R : ℕ × ℕ → Callback → Type 0) : List (ℕ × ℕ) → List Callback → Type 0 where
   empty : Fits R [] []
-  of_item : {marks : List (ℕ × ℕ)} {fed : List Callback} → (mark : ℕ × ℕ) → (callback : Callback) → R mark callback → Fits R marks fed → Fits R (mark ∷ marks) (callback ∷ fed)
-  of_write : {marks : List (ℕ × ℕ)} {fed : List Callback} → (invocation : ℕ) → (status : Status) → Fits R marks fed → Fits R marks (Written invocation status ∷ fed)
+  of_item : {marks : List (ℕ × ℕ)} {fed : List Callback} → (mark : ℕ × ℕ) → (callback : Callback) → R mark callback → Fits R marks fed
+      → Fits R (mark ∷ marks) (callback ∷ fed)
+  of_write : {marks : List (ℕ × ℕ)} {fed : List Callback} → (invocation : ℕ) → (status : Status) → Fits R marks fed
+      → Fits R marks (Written invocation status ∷ fed)
 
 -- each message of the net belongs to the run: a reply is the service's to an entry whose work is done, and an item was made
 abbrev pub IsOfRun : Plain → List Entry → Message → Type 0

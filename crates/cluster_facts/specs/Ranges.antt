@@ -1,5 +1,5 @@
 -- Words of public clauses: what the entries of a run are beside their order: clients, times and their count lie within bounds.
-use Rattle.std.specs.Prelude.{ℕ, ◌≤◌, ◌<◌, ℤ, pos, ◌≤ℤ◌, List, [], ◌∷◌, length}
+use Rattle.std.specs.Prelude.{ℕ, ◌≤◌, ◌<◌, pos, ◌≤ℤ◌, List, [], ◌∷◌, length}
 use Rattle.cluster_facts.specs.Types.{Entry, Called, Receipted}
 use Rattle.cluster_facts.specs.History.{time_of}
 

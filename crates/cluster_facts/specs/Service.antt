@@ -2,7 +2,8 @@
 -- whose newest comes first.
 use Rattle.std.specs.Prelude.{◌≡◌, ℕ, suc, ◌<◌, ◌⊎◌, Bool, true, ◌&&◌, ◌==◌, nat_lt, nat_le, if◌then◌else◌, ℤ, Some, List, [], ◌∷◌, ◌++◌, length, slice_get}
 use Rattle.std.specs.List.{AllByRecursion}
-use Rattle.cluster_facts.specs.Types.{Call, NtfSubscribe, NtfUnsubscribe, NtfFini, Reply, Refused, Status, Content, Entry, Called, Receipted, Message, Delivery, Receipt}
+use Rattle.cluster_facts.specs.Types.{Call, NtfSubscribe, NtfUnsubscribe, NtfFini, Reply, Refused, Status}
+use Rattle.cluster_facts.specs.Types.{Content, Entry, Called, Receipted, Message, Delivery, Receipt}
 use Rattle.cluster_facts.specs.Lists.{Stands, IsNumbered, without}
 use Rattle.cluster_facts.specs.Messages.{calls_in, message_of}
 
@@ -72,13 +73,19 @@ pub record IsPlain (plain : Plain) : Type 0 where
   pub same_is : (one other : Message) → plain.same one other ≡ true → one ≡ other
   pub same_self : (message : Message) → plain.same message message ≡ true
   -- items that were made stay
-  pub grows : (entry : Entry) (past : List Entry) (client key : ℕ) → (more : List Content) × (plain.made (entry ∷ past) client key ≡ plain.made past client key ++ more)
+  pub grows : (entry : Entry) (past : List Entry) (client key : ℕ) → (more : List Content)
+      × (plain.made (entry ∷ past) client key ≡ plain.made past client key ++ more)
   -- a subscription goes on by receipts alone
   pub begins : (client key : ℕ) → plain.through [] client key ≡ 0
-  pub moves : (entry : Entry) (past : List Entry) (client key : ℕ) → (plain.through (entry ∷ past) client key ≡ plain.through past client key) ⊎ (message_of entry ≡ Receipt client key (plain.through (entry ∷ past) client key))
-  pub received : (past : List Entry) (client key number : ℕ) (time : ℤ) → is_new plain past client key number ≡ true → plain.through (Receipted client key number time ∷ past) client key ≡ number
+  pub moves : (entry : Entry) (past : List Entry) (client key : ℕ) → (plain.through (entry ∷ past) client key ≡ plain.through past client key)
+      ⊎ (message_of entry ≡ Receipt client key (plain.through (entry ∷ past) client key))
+  pub received : (past : List Entry) (client key number : ℕ) (time : ℤ) → is_new plain past client key number ≡ true
+      → plain.through (Receipted client key number time ∷ past) client key ≡ number
   -- a subscription that stands was asked for, not given up and not refused
-  pub lasting : (past : List Entry) (client key : ℕ) → IsNumbered (calls_in client past) → plain.lasts past client key ≡ true → (id : ℕ) × Stands (key, id) (subscribed (calls_in client past)) × ((status : Status) → Stands (key, Refused status) (answers_in plain client past) → ⊥)
+  pub lasting : (past : List Entry) (client key : ℕ) → IsNumbered (calls_in client past) → plain.lasts past client key ≡ true → (id : ℕ)
+      × Stands (key, id) (subscribed (calls_in client past)) × ((status : Status) → Stands (key, Refused status) (answers_in plain client past) → ⊥)
   -- the items held are those made, and the first without receipt is among them
   pub held_of : (past : List Entry) → AllByRecursion (IsHeldItem plain past) (plain.held past)
-  pub held_first : (past : List Entry) (client key : ℕ) (content : Content) → plain.lasts past client key ≡ true → slice_get (plain.made past client key) (plain.through past client key) ≡ Some content → Stands (Delivery client key (record { number = suc (plain.through past client key); content = content })) (plain.held past)
+  pub held_first : (past : List Entry) (client key : ℕ) (content : Content) → plain.lasts past client key ≡ true
+      → slice_get (plain.made past client key) (plain.through past client key) ≡ Some content
+      → Stands (Delivery client key (record { number = suc (plain.through past client key); content = content })) (plain.held past)

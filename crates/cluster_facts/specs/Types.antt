@@ -12,7 +12,8 @@ pub use Rattle.sub_queue.specs.declared.item.Item.{Item}
 pub use Rattle.calls.specs.declared.call.Ask.{Ask}
 pub use Rattle.calls.specs.declared.call.Ask.TheVariants.{Start, Plain as Other}
 pub use Rattle.calls.specs.declared.call.Call.{Call}
-pub use Rattle.calls.specs.declared.call.Call.TheVariants.{LogInit, LogOpen, LogWrite, LogClose, LogFini, NtfInit, NtfSend, NtfSubscribe, NtfUnsubscribe, ReaderStart, ReaderRead, ReaderEnd, NtfFini}
+pub use Rattle.calls.specs.declared.call.Call.TheVariants.{LogInit, LogOpen, LogWrite, LogClose, LogFini, NtfInit, NtfSend}
+pub use Rattle.calls.specs.declared.call.Call.TheVariants.{NtfSubscribe, NtfUnsubscribe, ReaderStart, ReaderRead, ReaderEnd, NtfFini}
 pub use Rattle.calls.specs.declared.reply.Reply.{Reply}
 pub use Rattle.calls.specs.declared.reply.Reply.TheVariants.{Refused, Done, Sent, Found}
 pub use Rattle.calls.specs.declared.entry.Entry.{Entry}
