@@ -3,6 +3,7 @@ use Rattle.std.proofs.Common.{◌≡◌, ℕ, suc, ◌≤◌, ◌==◌, Bool, tr
 use Rattle.std.specs.Prelude.{ℤ, Option, Some, None, is_some, nat_le}
 use Rattle.std.specs.List.{AllByRecursion, list_any}
 use Rattle.std.proofs.lemmas.Bool.Decides.{nat_tests}
+use Rattle.std.proofs.lemmas.Bool.{or_right, and_from, ne_eqb}
 use Rattle.ais_values.specs.declared.status.Status.{Status}
 use Rattle.ais_values.specs.declared.status.Status.TheVariants as status
 use Rattle.client_set.specs.Members.{Stands}
@@ -47,23 +48,12 @@ AllAsked client past calls answers = (sub : Sub) → Stands sub (subs past.ntf) 
 
 -- words
 
-or-second : (a b : Bool) → b ≡ true → (a || b) ≡ true
-or-second true b e = refl
-or-second false b e = e
-
-both-so : (a b : Bool) → a ≡ true → b ≡ true → (a && b) ≡ true
-both-so true b one other = other
-both-so false b one other = cc
-
 second-not : (a b : Bool) → a ≡ true → (a && b) ≡ false → b ≡ false
 second-not true b is both = both
 second-not false b is both = cc
 
 same-test : (a b : ℕ) → a ≡ b → (a == b) ≡ true
 same-test a b e = grind (arith, nat_tests)
-
-apart-test : (a b : ℕ) → (a ≡ b → ⊥) → (a == b) ≡ false
-apart-test a b apart = by_test (λ t. t ≡ false) a b (λ same. absurd (apart same)) (λ different. refl)
 
 any-at : {X : Type 0} (test : X → Bool) (x : X) (xs : List X) → list_any test xs ≡ false → Stands x xs → test x ≡ false
 any-at test x [] none stands = absurd stands
@@ -140,7 +130,7 @@ own-ok : (setup : Setup) (past : Past) (client number : ℕ) (now : ℤ) (call :
 own-ok setup past client number now NtfInit calls answers ok next told all sub stands mine =
     let before = all sub stands mine in
     asked-later past (past_after setup past client number now NtfInit status.Ok) number NtfInit Done calls answers sub next before
-    (or-second (client == sub.client) (is_using past.ntf sub.client) before.user) before.asked
+    (or_right (client == sub.client) (is_using past.ntf sub.client) before.user) before.asked
 own-ok setup past client number now (NtfSend notification) calls answers ok next told all sub stands mine =
     let before = all sub stands mine in
     asked-later past (past_after setup past client number now (NtfSend notification) status.Ok) number (NtfSend notification) (ok_reply setup past client (NtfSend notification)) calls answers sub next before before.user before.asked
@@ -180,7 +170,7 @@ asked-beside past after calls answers sub before user =
 beside-ok : (setup : Setup) (past : Past) (caller client number : ℕ) (now : ℤ) (call : Call) (calls : List (ℕ × Call)) (answers : List (ℕ × Reply)) → (caller ≡ client → ⊥) → AllAsked client past calls answers → AllAsked client (past_after setup past caller number now call status.Ok) calls answers
 beside-ok setup past caller client number now NtfInit calls answers apart all sub stands mine =
     let before = all sub stands mine in
-    asked-beside past (past_after setup past caller number now NtfInit status.Ok) calls answers sub before (or-second (caller == sub.client) (is_using past.ntf sub.client) before.user)
+    asked-beside past (past_after setup past caller number now NtfInit status.Ok) calls answers sub before (or_right (caller == sub.client) (is_using past.ntf sub.client) before.user)
 beside-ok setup past caller client number now (NtfSend notification) calls answers apart all sub stands mine =
     let before = all sub stands mine in
     asked-beside past (past_after setup past caller number now (NtfSend notification) status.Ok) calls answers sub before before.user
@@ -197,7 +187,7 @@ beside-ok setup past caller client number now (NtfUnsubscribe id) calls answers 
 beside-ok setup past caller client number now NtfFini calls answers apart all sub stands mine =
     let before = all sub (Stands-without (is_of caller) sub (subs past.ntf) stands).0 mine in
     asked-beside past (past_after setup past caller number now NtfFini status.Ok) calls answers sub before
-    (both-so (not (caller == sub.client)) (is_using past.ntf sub.client) (ap not (apart-test caller sub.client (λ same. apart (same ∙ mine)))) before.user)
+    (and_from (not (caller == sub.client)) (is_using past.ntf sub.client) (ap not (ne_eqb caller sub.client (λ same. apart (same ∙ mine)))) before.user)
 beside-ok setup past caller client number now call calls answers apart all sub stands mine =
     let before = all sub stands mine in
     asked-beside past (past_after setup past caller number now call status.Ok) calls answers sub before before.user

@@ -14,3 +14,4 @@ pub mod EndsKept
 pub mod LogKept
 pub mod EntriesKept
 pub mod StorageLaws
+pub mod TellingLaws

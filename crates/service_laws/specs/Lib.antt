@@ -1,3 +1,4 @@
 pub mod PlainOf
 pub mod Disks
 pub mod StorageOf
+pub mod Telling

@@ -1,14 +1,18 @@
 //! What the cluster asks of a service, kept by the plain service.
-ghost use Rattle.std.specs.Prelude.{ℤ, List};
+ghost use Rattle.std.specs.Prelude.{ℕ, ℤ, List};
+ghost use Rattle.calls.specs.declared.call.Call.{Call as CallOf};
+ghost use Rattle.calls.specs.declared.reply.Callback.{Callback as CallbackOf};
 ghost use Rattle.calls.specs.declared.entry.Entry.{Entry as EntryOf};
 ghost use Rattle.plain_service.specs.Setups.{Setup, CanBegin};
 ghost use Rattle.plain_service.specs.Legal.{IsHistory};
 ghost use Rattle.cluster_facts.specs.History.{IsLegal};
 ghost use Rattle.cluster_facts.specs.Service.{IsPlain};
 ghost use Rattle.cluster_events.specs.Filing.{IsStorage};
+ghost use Rattle.cluster_events.specs.Taking.{in_order, AreFirstItems};
 ghost use Rattle.service_laws.specs.Disks.{service_disk};
 ghost use Rattle.service_laws.specs.PlainOf.{plain_of};
 ghost use Rattle.service_laws.specs.StorageOf.{storage_of};
+ghost use Rattle.service_laws.specs.Telling.{TellSends};
 ghost use Rattle.cluster_facts.specs.Ranges.{AreInRange};
 
 /// The plain service keeps all that the cluster asks of a service: items that were made stay, a
@@ -19,6 +23,14 @@ pub fn law_of_service()
     ensures plain { (setup : Setup) → IsPlain (plain_of setup) }
     ensures history { (setup : Setup) → CanBegin setup → (now : ℤ) (past : List EntryOf) →
         IsLegal (plain_of setup) now past → AreInRange past → IsHistory setup past }
+{}
+
+/// The callbacks of the first items of a subscription tell of the first sends answered ok for which it
+/// asked while it lasted, each once and in order; what they tell as lost are the first that were dropped.
+pub fn law_of_telling()
+    ensures { (setup : Setup) (past : List EntryOf) (sent : List (ℕ × CallOf)) (client key : ℕ)
+        (taken : List CallbackOf) → AreFirstItems (plain_of setup) past sent client key taken →
+        TellSends setup past client key (in_order taken) }
 {}
 
 /// The files of the plain service keep all that the cluster asks of files. The deeds of the start
