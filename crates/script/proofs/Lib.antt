@@ -4,5 +4,4 @@ mod Skipping
 mod FirstLine
 mod Answering
 mod Turns
-mod Counting
 mod LineFronts

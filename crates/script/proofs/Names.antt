@@ -4,14 +4,6 @@ use Rattle.ais_values.specs.Names.{IsName}
 use Rattle.script_language.specs.ValueReading.{is_name}
 use Rattle.script_language.proofs.ValueRules.{decides_name}
 
-pub no_name : (bytes : List ℕ) → ¬ IsName bytes → is_name bytes ≡ false
-no_name bytes h =
-    let at : (t : Bool) → is_name bytes ≡ t → t ≡ false = elim [
-      | true ↦ λ test. absurd (h ((decides_name bytes).0 test))
-      | false ↦ λ test. refl
-    ] in
-    at (is_name bytes) refl
-
 pub a_name : (bytes : List ℕ) → IsName bytes → is_name bytes ≡ true
 a_name bytes h = (decides_name bytes).1 h
 

@@ -63,10 +63,16 @@ fn cluster(alloc: Global, bytes: &[u8]) -> Result<(Line, &[u8]), Trouble>
     ensures { Gives (λ found. (found.0, found.1.now)) result (cluster_at bytes.now) }
 {
     let (line, rest) = setting(alloc, bytes)?;
-    if has_sound_streams(alloc, &line)? {
-        Ok((line, rest))
-    } else {
-        Err(Trouble::Bad)
+    match has_sound_streams(alloc, &line) {
+        Ok(true) => Ok((line, rest)),
+        Ok(false) => {
+            drop(line);
+            Err(Trouble::Bad)
+        }
+        Err(_) => {
+            drop(line);
+            Err(Trouble::Memory)
+        }
     }
 }
 

@@ -1,5 +1,5 @@
 //! Sets of filters.
-ghost use Rattle.std.specs.Prelude.{◌≡◌};
+ghost use Rattle.std.specs.Prelude.{◌≡◌, IfOk};
 ghost use Rattle.script.specs.Gives.{Gives};
 ghost use Rattle.script_grammar.specs.Reading.{maybe};
 ghost use Rattle.script_language.specs.FilterReading.{filter_at, filters_at};
@@ -52,16 +52,35 @@ fn maybe_filter<'a>(
     }
 }
 
+/// The same beside what was read before. Where nothing is read, what was read before is let go here, once for all its types:
+/// a set of filters is wide, and where each `?` lets go what is there so far, the ways out are most of the function.
+fn beside_filter<'a, A: Drop>(
+    alloc: Global,
+    before: A,
+    bytes: &'a [u8],
+    words: &[u8],
+) -> Result<((A, Option<Filter>), &'a [u8]), Trouble>
+    ensures gives { Gives (λ found. (found.0.1, found.1.now)) result
+        (maybe words.now filter_at bytes.now) }
+    ensures before { IfOk result (λ found. found.0.0 ≡ before) }
+{
+    match maybe_filter(alloc, bytes, words) {
+        Ok((filter, rest)) => Ok(((before, filter), rest)),
+        Err(trouble) => Err(trouble),
+    }
+}
+
 /// A filter for each type at most, in the types' order.
 #[tactic(auto, unfolding(script_language::specs::FilterReading::filters_at))]
 pub(crate) fn filters(alloc: Global, bytes: &[u8]) -> Result<(FilterSet, &[u8]), Trouble>
     ensures { Gives (λ found. (found.0, found.1.now)) result (filters_at bytes.now) }
 {
-    let (objects, rest) = maybe_filter(alloc, bytes, b" filter objects")?;
-    let (attributes, rest) = maybe_filter(alloc, rest, b" filter attributes")?;
-    let (states, rest) = maybe_filter(alloc, rest, b" filter states")?;
-    let (alarms, rest) = maybe_filter(alloc, rest, b" filter alarm")?;
-    let (security, rest) = maybe_filter(alloc, rest, b" filter security")?;
+    let (read, rest) = maybe_filter(alloc, bytes, b" filter objects")?;
+    let (read, rest) = beside_filter(alloc, read, rest, b" filter attributes")?;
+    let (read, rest) = beside_filter(alloc, read, rest, b" filter states")?;
+    let (read, rest) = beside_filter(alloc, read, rest, b" filter alarm")?;
+    let (read, rest) = beside_filter(alloc, read, rest, b" filter security")?;
+    let ((((objects, attributes), states), alarms), security) = read;
     let filters = FilterSet {
         objects,
         attributes,

@@ -1,16 +1,16 @@
 //! Reading of whole scripts.
-ghost use Rattle.std.specs.Prelude.{◌≡◌, ◌+◌, ◌-◌, ◌^◌, ◌<◌, None, [], ◌≤◌, ◌==◌, ◌∷◌, ◌⊎◌, ℕ, List, length, OnOk, IfOk, IfErr, MatchResult, IsErrAnd};
+ghost use Rattle.std.specs.Prelude.{◌≡◌, ◌+◌, ◌<◌, None, [], ◌≤◌, ◌==◌, ◌∷◌, ◌++◌, ◌⊎◌, ℕ, List, length, OnOk, IfOk, IfErr, MatchResult, IsErrAnd};
 ghost use Rattle.std.specs.List.{position_or_len};
 ghost use Rattle.script_language.specs.Scripts.{raw_lines, time_after, misplaced, IsScriptOf, IsBadAt};
 ghost use Rattle.script_language.specs.ScriptReading.{is_skipped, judged};
 ghost use Rattle.script.specs.Answers.{Tells, CountsScript};
-ghost use Rattle.script.specs.Judged.{TurnsTo, Refuses, Judges, outcome_of, counted, tally_of, RefusesCount, Tallies};
+ghost use Rattle.script.specs.Judged.{Outcome, TurnsTo, Refuses, KeepsFew, LeadsTo, Judges};
 
 use crate::lines::line_of;
 use crate::trouble::Trouble;
 use ais_values::Seq;
 use script_lines::{Line, ScriptAnswer, ScriptWhy};
-use std::alloc::Global;
+use std::alloc::{AllocError, Global};
 
 /// The length of the first line, without its LF.
 fn line_length(bytes: &[u8]) -> usize
@@ -111,22 +111,63 @@ fn read_line(
     Ok(Some((line, later)))
 }
 
-/// The lines read so far, the time in force and the number of the next line.
+/// What is kept of the lines of a script.
+trait Keep: Drop {
+    ghost use Rattle.std.specs.Prelude.{List};
+    ghost use Rattle.script_lines.specs.declared.line.Line.{Line};
+
+    /// That this is what is kept of some lines.
+    ghost Keeps: { Self → List Line → Type 0 };
+
+    /// Keeps one more line. After want of memory what is kept is of no more use.
+    fn keep(&mut self, line: Line) -> Result<(), AllocError>
+        requires { KeepsFew Keeps self.old 4294967295 }
+        ensures { OnOk result ((lines : List Line) →
+            Keeps self.old lines → Keeps self.new (lines ++ line ∷ [])) };
+}
+
+/// All lines are kept.
+impl Keep for Seq<Line> {
+    ghost use Rattle.std.specs.Prelude.{◌≡◌};
+
+    ghost Keeps = { λ kept lines. kept ≡ lines };
+
+    fn keep(&mut self, line: Line) -> Result<(), AllocError> {
+        self.push(line)
+    }
+}
+
+/// Their count is kept.
+impl Keep for u32 {
+    ghost use Rattle.std.specs.Prelude.{◌≡◌, length};
+
+    ghost Keeps = { λ count lines. count ≡ length lines };
+
+    fn keep(&mut self, line: Line) -> Result<(), AllocError> {
+        drop(line);
+        *self += 1;
+        Ok(())
+    }
+}
+
+/// What was kept of the lines so far, the time in force and the number of the next line.
 #[derive(Drop)]
-struct Reader {
-    lines: Vec<Line>,
+struct Reader<K> {
+    kept: K,
     time: Option<i64>,
     number: u32,
 }
 
-impl Reader {
+impl<K: Keep> Reader<K> {
     /// Reads one more line.
     fn turn(&mut self, alloc: Global, raw: &[u8]) -> Result<(), ScriptAnswer>
-        requires { self.old.number < 2 ^ 32 - 1 }
-        ensures ok { OnOk result ((raws : List (List ℕ)) →
-            outcome_of self.old (raw.now ∷ raws) ≡ outcome_of self.new raws) }
-        ensures err { IfErr result (λ answer. (raws : List (List ℕ)) →
-            Refuses answer (outcome_of self.old (raw.now ∷ raws))) }
+        requires number { self.old.number < 4294967295 }
+        requires few { KeepsFew K.Keeps self.old.kept self.old.number }
+        ensures ok { OnOk result ((raws : List (List ℕ)) (outcome : Outcome) →
+            LeadsTo K.Keeps self.old (raw.now ∷ raws) outcome
+            → LeadsTo K.Keeps self.new raws outcome) }
+        ensures err { IfErr result (λ answer. (raws : List (List ℕ)) (outcome : Outcome) →
+            LeadsTo K.Keeps self.old (raw.now ∷ raws) outcome → Refuses answer outcome) }
         ensures counts { OnOk result (self.new.number ≡ self.old.number + 1) }
     {
         let found = match read_line(alloc, self.time, self.number, raw) {
@@ -138,13 +179,14 @@ impl Reader {
             return Ok(());
         };
         self.time = later;
-        self.lines.push(line)?;
+        self.kept.keep(line)?;
         Ok(())
     }
 
-    /// The lines, where a cluster line was read.
-    fn finish(self) -> Result<Seq<Line>, ScriptAnswer>
-        ensures { Judges result (outcome_of self []) }
+    /// What was kept, where a cluster line was read.
+    fn finish(self) -> Result<K, ScriptAnswer>
+        ensures { (outcome : Outcome) → LeadsTo K.Keeps self [] outcome
+            → Judges K.Keeps result outcome }
     {
         if self.time.is_none() {
             return Err(ScriptAnswer::Bad {
@@ -152,17 +194,18 @@ impl Reader {
                 why: ScriptWhy::Cluster,
             });
         }
-        Ok(Seq::from_vec(self.lines))
+        Ok(self.kept)
     }
 }
 
-/// The lines that the bytes spell, or what is bad.
-fn judge(alloc: Global, bytes: &[u8]) -> Result<Seq<Line>, ScriptAnswer>
-    requires { length bytes.now ≤ 4294967294 }
-    ensures { Judges result (judged None 1 (raw_lines bytes.now)) }
+/// What is kept of the lines that the bytes spell, where at first that of none is kept; or what is bad.
+fn judge<K: Keep>(alloc: Global, bytes: &[u8], kept: K) -> Result<K, ScriptAnswer>
+    requires few { length bytes.now ≤ 4294967294 }
+    requires none { K.Keeps kept [] }
+    ensures { Judges K.Keeps result (judged None 1 (raw_lines bytes.now)) }
 {
     let mut reader = Reader {
-        lines: Vec::with_capacity(alloc, shown_lines(bytes))?,
+        kept,
         time: None,
         number: 1,
     };
@@ -176,76 +219,6 @@ fn judge(alloc: Global, bytes: &[u8]) -> Result<Seq<Line>, ScriptAnswer>
         rest = after;
     }
     reader.finish()
-}
-
-/// How many lines were read so far, the time in force and the number of the next line.
-#[derive(Drop)]
-struct Counter {
-    count: u32,
-    time: Option<i64>,
-    number: u32,
-}
-
-impl Counter {
-    /// Reads one more line, and lets it go.
-    fn turn(&mut self, alloc: Global, raw: &[u8]) -> Result<(), ScriptAnswer>
-        requires number { self.old.number < 2 ^ 32 - 1 }
-        requires count { self.old.count < self.old.number }
-        ensures ok { OnOk result ((raws : List (List ℕ)) →
-            tally_of self.old (raw.now ∷ raws) ≡ tally_of self.new raws) }
-        ensures err { IfErr result (λ answer. (raws : List (List ℕ)) →
-            RefusesCount answer (tally_of self.old (raw.now ∷ raws))) }
-        ensures counts { OnOk result (self.new.number ≡ self.old.number + 1) }
-        ensures bound { OnOk result (self.new.count < self.new.number) }
-    {
-        let found = match read_line(alloc, self.time, self.number, raw) {
-            Ok(found) => found,
-            Err(answer) => return Err(answer),
-        };
-        self.number += 1;
-        let Some((line, later)) = found else {
-            return Ok(());
-        };
-        drop(line);
-        self.time = later;
-        self.count += 1;
-        Ok(())
-    }
-
-    /// The count, where a cluster line was read.
-    fn finish(&self) -> Result<u32, ScriptAnswer>
-        ensures { Tallies result (tally_of self.now []) }
-    {
-        if self.time.is_none() {
-            return Err(ScriptAnswer::Bad {
-                line: self.number,
-                why: ScriptWhy::Cluster,
-            });
-        }
-        Ok(self.count)
-    }
-}
-
-/// The number of the lines that the bytes spell, or what is bad.
-fn tally(alloc: Global, bytes: &[u8]) -> Result<u32, ScriptAnswer>
-    requires { length bytes.now ≤ 4294967294 }
-    ensures { Tallies result (counted (judged None 1 (raw_lines bytes.now))) }
-{
-    let mut counter = Counter {
-        count: 0,
-        time: None,
-        number: 1,
-    };
-    let mut rest = bytes;
-    'lines: while !rest.is_empty() {
-        let (raw, after) = first_line(rest);
-        match counter.turn(alloc, raw) {
-            Ok(()) => {}
-            Err(answer) => return Err(answer),
-        }
-        rest = after;
-    }
-    counter.finish()
 }
 
 /// Reads a script of at most 4,294,967,294 bytes. It takes the room for its lines first, and then reads each line once.
@@ -267,7 +240,8 @@ pub fn parse_script(alloc: Global, bytes: &[u8]) -> Result<Seq<Line>, ScriptAnsw
         → IsErrAnd result (λ answer. (answer ≡ ScriptAnswer.Memory)
         ⊎ (answer ≡ ScriptAnswer.Bad number why)) }
 {
-    judge(alloc, bytes)
+    let room = Vec::with_capacity(alloc, shown_lines(bytes))?;
+    judge(alloc, bytes, Seq::from_vec(room))
 }
 
 /// How many lines a script of at most 4,294,967,294 bytes has. It keeps one line at a time; `Bad` comes as from
@@ -287,5 +261,5 @@ pub fn count_lines(alloc: Global, bytes: &[u8]) -> Result<u32, ScriptAnswer>
         → IsErrAnd result (λ answer. (answer ≡ ScriptAnswer.Memory)
         ⊎ (answer ≡ ScriptAnswer.Bad number why)) }
 {
-    tally(alloc, bytes)
+    judge(alloc, bytes, 0u32)
 }

@@ -69,7 +69,7 @@ not-skipped raw h =
 abbrev Outcome : Type 0
 Outcome = Result (List Line) (ℕ × ScriptWhy)
 
-pub behind-none : (outcome : Outcome) → behind [] outcome ≡ outcome
+behind-none : (outcome : Outcome) → behind [] outcome ≡ outcome
 behind-none (Ok lines) = refl
 behind-none (Err bad) = refl
 
