@@ -13,7 +13,10 @@ use Rattle.log_history.specs.Deeds.{deeds_of_all}
 use Rattle.log_history.proofs.FirstLaws.{find-map}
 use Rattle.ntf_history.specs.declared.subscription.Subscription.{Subscription}
 use Rattle.ntf_history.specs.Tables.{HaveQueues, is_kept_at, is_new_for, is_new_in}
+use Rattle.ntf_history.proofs.AnswerLaws.{is_new-kept}
 use Rattle.plain_service.specs.Setups.{Setup}
+use Rattle.plain_service.specs.Changing.{past_of}
+use Rattle.plain_service.specs.Items.{is_new_receipt}
 use Rattle.plain_service.specs.Legal.{IsHistory, CanFollow}
 use Rattle.plain_service.specs.Replies.{replies_to}
 use Rattle.plain_service.specs.Storing.{deeds_of}
@@ -50,6 +53,13 @@ pub new-is : (kept : ServiceTable) (client key through : ℕ) → is_new_saved (
 new-is kept client key through =
     ap (holds_item through) (find-map saved_queue (is_kept_at client key) (λ (sub : SavedSub). sub.client == client && sub.key == key) (λ _. refl) kept.ntf.subs)
     ∙ new-mapped through (find (is_kept_at client key) kept.ntf.subs)
+
+-- **a receipt is new for the table of a value exactly where it is for each history that the value stands for**
+pub new-stands : (setup : Setup) (past : List Entry) (kept : ServiceTable) → HaveQueues kept.ntf.capacity kept.ntf.subs → StandsFor setup past (saved_table kept) → (client key through : ℕ) → is_new_in kept.ntf client key through ≡ is_new_receipt setup past client key through
+unfolding service_of is_new_receipt
+new-stands setup past kept queues stands client key through =
+    ap (λ (table : ServiceTable). is_new_in table.ntf client key through) (stands-table setup past kept queues stands)
+    ∙ is_new-kept setup.capacity (past_of setup past).ntf client key through
 
 -- **a call**
 pub followed-call : (setup : Setup) (past : List Entry) (client seq : ℕ) (now : ℤ) (call : Call) (kept later : ServiceTable) (effect : Effect) → HaveQueues kept.ntf.capacity kept.ntf.subs → IsHistory setup past → StandsFor setup past (saved_table kept) → CanFollow setup (Called client seq now call) past → HasApplied kept client seq now call later effect → HasFollowed setup past (Called client seq now call) (saved_table later) effect

@@ -8,7 +8,7 @@ ghost use Rattle.plain_service.specs.Setups.{Setup, IsMoment};
 ghost use Rattle.plain_service.specs.Replies.{replies_to};
 ghost use Rattle.plain_service.specs.Legal.{CanFollow, IsHistory};
 ghost use Rattle.plain_service.specs.Values.{StandsFor};
-ghost use Rattle.plain_service.specs.Items.{items_of};
+ghost use Rattle.plain_service.specs.Items.{items_of, is_new_receipt};
 ghost use Rattle.plain_service.specs.Fitness.{IsFit};
 ghost use Rattle.service_table.specs.Steps.{window_for, after_receipt_in};
 ghost use Rattle.service_table.specs.Ready.{IsReady};
@@ -183,10 +183,13 @@ impl Service {
         judge_call(self.kept.callers.as_slice(), client, seq)
     }
 
-    /// Whether a receipt is new: the subscription of this client and key lasts, and holds an item of this number. It
-    /// takes no memory.
+    /// Whether a receipt is new: the subscription of this client and key lasts, and holds an item of this number. By
+    /// each history that the service stands for: the subscription lasts, and the number is above the one through which
+    /// it has a receipt and at most the count of items ever made for it. It takes no memory.
     pub fn is_new(&self, client: u16, key: u32, through: u32) -> bool
-        ensures { result ≡ is_new_in self.now client key through }
+        ensures value { result ≡ is_new_in self.now client key through }
+        ensures history { (setup : Setup) (past : List Entry) → StandsFor setup past self.now
+            → result ≡ is_new_receipt setup past client key through }
     {
         self.kept.parts.ntf.is_new(client, key, through)
     }

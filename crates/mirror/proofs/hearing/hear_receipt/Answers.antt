@@ -14,7 +14,7 @@ returns-then-is_new-clause-ok c =
     let a = c.args in
     on-ok c.accept.result _ _ (λ reaction accepted setup past history stands.
     let server = serving c.accept.new.service reaction.owed in
-    receipt-new setup past a.client a.key a.through a.now a.service.now reaction.heard server stands c.requires (sym c.if-is_new.ensures)
+    receipt-new setup past a.client a.key a.through a.now a.service.now reaction.heard server stands c.requires (sym c.if-is_new.ensures.value)
     (subst (λ moment. CanFollow setup (Receipted a.client a.key a.through moment) past → IsAccepted setup past (Receipted a.client a.key a.through moment) reaction.heard server) (to_z-of_z w64 a.now c.ranges.now) (accepted setup past history stands)))
     c.accept.ensures.ok
 
@@ -22,4 +22,4 @@ pub returns-clause-ok : goal.returns-clause-ok
 returns-clause-ok c =
     let a = c.args in
     λ setup past history stands.
-    subst (λ owed. IsReceiptHeard setup past a.client a.key a.through a.now (is_new (plain_of setup) past a.client a.key a.through) c.react_not.result.heard (serving a.service.now owed)) (sym c.react_not.ensures.owed) (receipt-done setup past a.client a.key a.through a.now a.service.now c.react_not.result.heard stands (sym c.if-is_new.ensures) c.react_not.ensures.heard)
+    subst (λ owed. IsReceiptHeard setup past a.client a.key a.through a.now (is_new (plain_of setup) past a.client a.key a.through) c.react_not.result.heard (serving a.service.now owed)) (sym c.react_not.ensures.owed) (receipt-done setup past a.client a.key a.through a.now a.service.now c.react_not.result.heard stands (sym c.if-is_new.ensures.value) c.react_not.ensures.heard)
