@@ -1,11 +1,9 @@
--- One part added after another, and what stands where memory runs out between two.
+-- What stands where memory runs out between two parts that are added one after the other.
 use Rattle.std.proofs.Common.{◌≡◌, ℕ, Result, Ok, Err, List, [], ◌++◌, refl, ap, sym, ◌∙◌, append_assoc}
 use Rattle.std.proofs.lemmas.List.{append_cancel_left, append-nil}
 use Rattle.std.specs.Prelude.{OnErr}
+use Rattle.script_printer.proofs.Chain.{chained}
 use Rattle.event_text.specs.Texts.{AddedInPart}
-
-pub chained : {X : Type 0} (before between after a b : List X) → between ≡ before ++ a → after ≡ between ++ b → after ≡ before ++ (a ++ b)
-chained before between after a b e f = f ∙ ap (λ x. x ++ b) e ∙ append_assoc before a b
 
 -- nothing was added
 pub none_added : (before added after : List (List ℕ)) → after ≡ before → AddedInPart before added after

@@ -6,11 +6,13 @@ use Rattle.ais_values.specs.Statuses.{status_word}
 use Rattle.script_grammar.specs.Writing.{joined}
 use Rattle.script_language.specs.Printing.{server_text, shown_note_text, line_text}
 use Rattle.sub_queue.specs.declared.item.Lost.{Lost}
-use Rattle.cluster_facts.specs.Types.{Status, Reply, Refused as Rejected, Done, Sent, Found, Entry, Called, Receipted, Callback, Written, Notified, Discarded, Message, Request, Answer, Delivery, Receipt}
+use Rattle.cluster_facts.specs.Types.{Status, Reply, Refused as Rejected, Done, Sent, Found, Entry, Called, Receipted}
+use Rattle.cluster_facts.specs.Types.{Callback, Written, Notified, Discarded, Message, Request, Answer, Delivery, Receipt}
 use Rattle.cluster_events.specs.declared.lines.ServerRole.{ServerRole}
 use Rattle.cluster_events.specs.declared.lines.ServerRole.TheVariants.{Active, Armed, Standby, Joining, Down}
 use Rattle.cluster_events.specs.declared.lines.Why.{Why}
-use Rattle.cluster_events.specs.declared.lines.Why.TheVariants.{OldRequest, AheadRequest, Busy, DoneReceipt, AnsweredReply, Left, TakenItem, AheadItem, GoneItem}
+use Rattle.cluster_events.specs.declared.lines.Why.TheVariants.{OldRequest, AheadRequest, Busy, DoneReceipt, AnsweredReply}
+use Rattle.cluster_events.specs.declared.lines.Why.TheVariants.{Left, TakenItem, AheadItem, GoneItem}
 use Rattle.cluster_events.specs.declared.lines.Standing.{Standing}
 use Rattle.cluster_events.specs.Lines.{Told, Posted, Committed, Replied, Declined, HandedOut, Dispatched, Ignored, Refused, Stood, Listed, Shown}
 
@@ -34,7 +36,8 @@ unfoldable pub entry_line : ℕ → Entry → List ℕ
 entry_line index (Called client number time call) =
     joined (codes "acc " ∷ decimal index ∷ codes " call " ∷ decimal client ∷ codes " " ∷ decimal number ∷ codes " " ∷ signed_decimal time ∷ line_end ∷ [])
 entry_line index (Receipted client key through time) =
-    joined (codes "acc " ∷ decimal index ∷ codes " rcpt " ∷ decimal client ∷ codes " " ∷ decimal key ∷ codes " " ∷ decimal through ∷ codes " " ∷ signed_decimal time ∷ line_end ∷ [])
+    joined (codes "acc " ∷ decimal index ∷ codes " rcpt " ∷ decimal client ∷ codes " " ∷ decimal key ∷ codes " "
+    ∷ decimal through ∷ codes " " ∷ signed_decimal time ∷ line_end ∷ [])
 
 -- a client's agent takes a reply, or refuses what is asked of it
 unfoldable pub reply_line : ℕ → ℕ → Reply → List ℕ
@@ -77,9 +80,11 @@ lost_lines client number id lost =
 -- a callback is handed out
 unfoldable pub callback_lines : ℕ → ℕ → Callback → List (List ℕ)
 callback_lines client number (Written invocation status) =
-    joined (codes "callback " ∷ decimal client ∷ codes " " ∷ decimal number ∷ codes " write " ∷ decimal invocation ∷ codes " " ∷ status_word status ∷ line_end ∷ []) ∷ []
+    joined (codes "callback " ∷ decimal client ∷ codes " " ∷ decimal number ∷ codes " write " ∷ decimal invocation
+    ∷ codes " " ∷ status_word status ∷ line_end ∷ []) ∷ []
 callback_lines client number (Notified id notification) =
-    joined (codes "callback " ∷ decimal client ∷ codes " " ∷ decimal number ∷ codes " ntf " ∷ decimal id ∷ codes " " ∷ shown_note_text notification ∷ line_end ∷ []) ∷ []
+    joined (codes "callback " ∷ decimal client ∷ codes " " ∷ decimal number ∷ codes " ntf " ∷ decimal id ∷ codes " "
+    ∷ shown_note_text notification ∷ line_end ∷ []) ∷ []
 callback_lines client number (Discarded id lost) = lost_lines client number id lost
 
 -- a dispatch has handed out so many

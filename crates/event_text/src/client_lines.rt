@@ -200,7 +200,7 @@ fn put_lost_of(
 
 /// Adds a line for each type of which notifications are lost, by rising codes. Where memory runs out, some of them, from the
 /// first on, may have been added.
-#[tactic(auto, unfolding(crate::specs::Texts::lost_lines), using(crate::proofs::Chain::chained))]
+#[tactic(auto, unfolding(crate::specs::Texts::lost_lines), using(script_printer::proofs::Chain::chained))]
 fn put_lost(
     alloc: Global,
     lines: &mut Vec<Seq<u8>>,

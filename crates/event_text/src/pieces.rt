@@ -1,6 +1,6 @@
 //! Pieces of lines, and lines of pieces.
 ghost use Rattle.std.specs.Prelude.{◌≡◌, ◌++◌, ◌∷◌, [], OnOk, OnErr, codes};
-ghost use Rattle.std.specs.Fmt.{decimal, signed_decimal};
+ghost use Rattle.std.specs.Fmt.{decimal};
 ghost use Rattle.std.specs.List.{flat_map, join_by};
 ghost use Rattle.event_text.specs.Texts.{why_text, role_text};
 ghost use Rattle.event_text.specs.Pieces.{piece_text};
@@ -9,7 +9,7 @@ use ais_values::{Seq, Status};
 use cluster_events::{ServerRole, Why};
 use ntf_types::Notification;
 use script_lines::{Line, Server};
-use script_printer::{print_line, print_note};
+use script_printer::{Printable, print_line, print_note, put, put_all, put_number, put_signed};
 use std::alloc::{AllocError, Global};
 
 /// A piece of a line.
@@ -33,31 +33,8 @@ pub(crate) enum Piece<'a> {
     Node(Server),
 }
 
-/// Adds bytes at the end.
-fn put(out: &mut Vec<u8>, bytes: &[u8]) -> Result<(), AllocError>
-    ensures { OnOk result (out.new.items ≡ out.old.items ++ bytes.now) }
-{
-    out.extend_from_slice(bytes)
-}
-
-/// Adds a number in decimal.
-fn put_number(alloc: Global, out: &mut Vec<u8>, number: u64) -> Result<(), AllocError>
-    ensures { OnOk result (out.new.items ≡ out.old.items ++ decimal number) }
-{
-    let text = number.to_string(alloc)?;
-    put(out, text.as_bytes())
-}
-
-/// Adds a signed number in decimal.
-fn put_signed(alloc: Global, out: &mut Vec<u8>, number: i64) -> Result<(), AllocError>
-    ensures { OnOk result (out.new.items ≡ out.old.items ++ signed_decimal number) }
-{
-    let text = number.to_string(alloc)?;
-    put(out, text.as_bytes())
-}
-
 /// Adds a comma and a number.
-#[tactic(auto, using(crate::proofs::Chain::chained))]
+#[tactic(auto, using(script_printer::proofs::Chain::chained))]
 fn put_further(alloc: Global, out: &mut Vec<u8>, number: u64) -> Result<(), AllocError>
     ensures { OnOk result (out.new.items ≡ out.old.items ++ (codes "," ++ decimal number)) }
 {
@@ -78,7 +55,7 @@ fn put_furthers(alloc: Global, out: &mut Vec<u8>, numbers: &[u64]) -> Result<(),
 }
 
 /// Adds numbers with commas between them.
-#[tactic(auto, using(crate::proofs::Chain::chained))]
+#[tactic(auto, using(script_printer::proofs::Chain::chained))]
 fn put_ids(alloc: Global, out: &mut Vec<u8>, numbers: &[u64]) -> Result<(), AllocError>
     ensures { OnOk result (out.new.items ≡ out.old.items
         ++ join_by decimal (codes ",") numbers.now) }
@@ -94,7 +71,7 @@ fn put_ids(alloc: Global, out: &mut Vec<u8>, numbers: &[u64]) -> Result<(), Allo
 }
 
 /// Adds the reason for which a message had no effect.
-#[tactic(auto, using(crate::proofs::Chain::chained))]
+#[tactic(auto, using(script_printer::proofs::Chain::chained))]
 fn put_why(alloc: Global, out: &mut Vec<u8>, why: Why) -> Result<(), AllocError>
     ensures { OnOk result (out.new.items ≡ out.old.items ++ why_text why) }
 {
@@ -155,14 +132,14 @@ fn put_piece(alloc: Global, out: &mut Vec<u8>, piece: &Piece) -> Result<(), Allo
     }
 }
 
-/// Adds pieces.
-fn put_pieces(alloc: Global, out: &mut Vec<u8>, pieces: &[Piece]) -> Result<(), AllocError>
-    ensures { OnOk result (out.new.items ≡ out.old.items ++ flat_map piece_text pieces.now) }
-{
-    for piece in pieces {
-        put_piece(alloc, out, piece)?;
+impl Printable for Piece<'_> {
+    ghost use Rattle.event_text.specs.Pieces.{piece_text};
+
+    ghost text = { piece_text };
+
+    fn print(&self, alloc: Global, out: &mut Vec<u8>) -> Result<(), AllocError> {
+        put_piece(alloc, out, self)
     }
-    Ok(())
 }
 
 /// Adds a line of these pieces. Where memory runs out nothing is added.
@@ -176,7 +153,7 @@ pub(crate) fn put_line(
     ensures err { OnErr result (lines.new.items ≡ lines.old.items) }
 {
     let mut text = Vec::new(alloc);
-    put_pieces(alloc, &mut text, pieces)?;
+    put_all(alloc, &mut text, pieces)?;
     lines.push(Seq::from_vec(text))?;
     Ok(())
 }
