@@ -1,7 +1,6 @@
 -- What stands where memory runs out between two parts that are added one after the other.
-use Rattle.std.proofs.Common.{◌≡◌, ℕ, Result, Ok, Err, List, [], ◌++◌, refl, ap, sym, ◌∙◌, append_assoc}
+use Rattle.std.proofs.Common.{◌≡◌, ℕ, List, [], ◌++◌, refl, ap, sym, ◌∙◌, append_assoc}
 use Rattle.std.proofs.lemmas.List.{append_cancel_left, append-nil}
-use Rattle.std.specs.Prelude.{OnErr}
 use Rattle.script_printer.proofs.Chain.{chained}
 use Rattle.event_text.specs.Texts.{AddedInPart}
 
@@ -26,8 +25,3 @@ part-added before added after front rest e whole = record {
   whole = append_cancel_left before added (front ++ rest) (sym whole ∙ ap (λ x. x ++ rest) e ∙ append_assoc before front rest);
   stands = e;
 }
-
--- what holds after a failure
-pub on-err : {T E : Type 0} {P : Type 0} (result : Result T E) → P → OnErr result P
-on-err (Ok value) p = tt
-on-err (Err error) p = p

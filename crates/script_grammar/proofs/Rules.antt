@@ -8,6 +8,7 @@ use Rattle.std.proofs.lemmas.Bool.Decides.{Decides-eqb}
 use Rattle.std.proofs.lemmas.List.{append-nil}
 use Rattle.std.proofs.lemmas.Option.{cond_some}
 use Rattle.std.proofs.lemmas.Bool.{and_parts, or_cases, or_right}
+use Rattle.ais_values.proofs.Basics.{some_of}
 use Rattle.script_grammar.specs.Grammar.{Known, Word, Part, OneOf, Optional, Such, BehindCommas, Listed, Maybe, Unless, MaybeList}
 use Rattle.script_grammar.specs.Reading.{skipped, known, word, part, one_of, with_made, optional, passing, such, with_first, behind_commas, listed, maybe, unless, maybe_list, alone, whole}
 
@@ -168,10 +169,6 @@ and_then_some f None line h = cc
 and_then_some f (Some a) line h = (a, refl, h)
 
 -- what is there
-some_of : {A : Type 0} (o : Option A) → is_some o ≡ true → (a : A) × (o ≡ Some a)
-some_of None h = cc
-some_of (Some a) h = (a, refl)
-
 meets-begins : (start other : Beginning) (bytes : List ℕ) → meets start other ≡ true → begins start bytes ≡ true → begins other bytes ≡ true
 meets-begins Ends Ends bytes h p = p
 meets-begins Ends (Begins front) bytes h p = cc
