@@ -1,6 +1,6 @@
 -- **The deeds of an entry, made again after any attempts, leave the files of the history with it.**
-use Rattle.std.proofs.Common.{◌≡◌, ℕ, ◌<◌, ◌≤◌, Bool, true, false, ◌&&◌, cond, List, [], ◌∷◌, ◌++◌, length, refl, sym, ap, subst, ◌∙◌, arith, leb→le, lt-ltb}
-use Rattle.std.specs.Prelude.{ℤ, pos, negsuc, int_lt, Option, Some, None, option_map, filter}
+use Rattle.std.proofs.Common.{◌≡◌, ℕ, ◌≤◌, Bool, true, false, ◌&&◌, cond, List, [], ◌∷◌, ◌++◌, length, refl, sym, ap, subst, ◌∙◌, arith, lt-ltb}
+use Rattle.std.specs.Prelude.{pos, int_lt, Option, Some, None, option_map, filter}
 use Rattle.std.specs.Option.{option_map_or}
 use Rattle.std.specs.List.{AllByRecursion, cons_option, find}
 use Rattle.std.specs.Str.{bytes_eq}
@@ -37,7 +37,7 @@ use Rattle.log_history.proofs.Reaching.{Passes, reached}
 use Rattle.log_history.proofs.StampedLaws.{amid, stamped}
 use Rattle.log_history.proofs.SoundStreams.{sound}
 use Rattle.log_history.proofs.StampLaws.{AreTimely}
-use Rattle.log_history.proofs.StreamLaws.{IsSoundStream, fit-files, fit-stamps}
+use Rattle.log_history.proofs.StreamLaws.{IsSoundStream, fit-files, fit-stamps, up-to-lt}
 use Rattle.log_history.proofs.TableLaws.{find-living}
 use Rattle.cluster_facts.specs.Storage.{Attempts}
 use Rattle.plain_service.specs.Setups.{Setup, log_setup}
@@ -80,11 +80,6 @@ stands-amid front behind stream last files low are holds name bytes is =
 
 -- a record is stored
 
-stamp-below : (last closing : ℕ) (stamp : ℤ) → last < closing → IsStampUpTo (pos last) stamp → int_lt stamp (pos closing) ≡ true
-stamp-below last closing (pos n) less is =
-    let le : n ≤ last = leb→le n last is.to.le in lt-ltb n closing (omega (arith, le, less))
-stamp-below last closing (negsuc n) less is = absurd (is.from.le)
-
 storing-again : (front behind : List Stream) (stream : Stream) (last second : ℕ) (rec : LogRecord) (files : Files) → last ≤ 20000000100 → AreStamps last (stamps_of_all (front ++ stream ∷ behind)) → stream.ended ≡ None → Passes stream → IsSoundStream last stream → IsFitEvent (storing last second rec (state_of stream)) → Holds (front ++ stream ∷ behind) files → IsRepeatable (calls_of_all (deeds_of (storing last second rec (state_of stream)))) files
 storing-again front behind stream last second rec files low are living passes sound_is fit holds = by_case (is_due stream) fit where
   stamps : Stamps
@@ -97,7 +92,7 @@ storing-again front behind stream last second rec files low are living passes so
       let standing = fit-files last stream passes.some_rotated living sound_is in
       changed-again (state_of stream) (bytes_in (state_of stream) rec) stamps files is
       (rises-behind (state_of stream).files stamps standing.last_open standing.rising
-      (each-weaker (IsStampUpTo (pos last)) (λ stamp. int_lt stamp (pos (stamp_after last second)) ≡ true) (λ stamp up. stamp-below last (stamp_after last second) stamp (omega arith) up) (stamps_of (state_of stream).files) (fit-stamps last stream passes.some_rotated living sound_is))
+      (each-weaker (IsStampUpTo (pos last)) (λ stamp. int_lt stamp (pos (stamp_after last second)) ≡ true) (λ stamp up. up-to-lt last (stamp_after last second) stamp (omega arith) up) (stamps_of (state_of stream).files) (fit-stamps last stream passes.some_rotated living sound_is))
       (lt-ltb (stamp_after last second) (stamp_after (stamp_after last second) second) (omega arith)))
 
 stored-option : (past : List LogChange) (last second : ℕ) (rec : LogRecord) (test : Stream → Bool) (streams : List Stream) (found : Option Stream) (files : Files) → find (λ stream. lives stream && test stream) streams ≡ found → last ≤ 20000000100 → AreStamps last (stamps_of_all streams) → Each Passes streams → Each (IsSoundStream last) streams → AllByRecursion IsFitEvent (option_map_or (λ (stream : OpenStream). storing last second rec stream.state ∷ []) (option_map (open_stream past) found) []) → Holds streams files → IsRepeatable (calls_of_all (deeds_of_all (option_map_or (λ (stream : OpenStream). storing last second rec stream.state ∷ []) (option_map (open_stream past) found) []))) files

@@ -4,15 +4,14 @@ use Rattle.std.specs.Prelude.{Option, Some, None, option_map}
 use Rattle.std.specs.Str.{bytes_eq}
 use Rattle.std.specs.FinMap.{get, same_map}
 use Rattle.std.specs.Cmp.Lexicographic.{nat_list_cmp_total}
-use Rattle.std.proofs.lemmas.Bool.{le-leb, cond-true}
 use Rattle.disk_model.specs.Disk.{File, Files, settled_file, overwritten, file_written, file_synced, created, removed, renamed, written_at, synced}
 use Rattle.disk_model.specs.DeviceCalls.{DeviceCall, CallCreate, CallWrite, CallSync, CallRename, CallRemove, all_applied}
 use Rattle.disk_model.proofs.Changes.{get-adjusted, adjusted_twice, written_again}
 use Rattle.disk_model.proofs.Renaming.{renamed_absent}
 use Rattle.disk_model.proofs.Shelving.{names_differ}
 use Rattle.disk_model.proofs.Tearing.{length-overwritten, torn_overwritten}
-use Rattle.stream_layout.proofs.FileLaws.{same_is, itself, apart, found-created, found-renamed, found-made, found-refilled}
-use Rattle.stream_layout.proofs.RepeatLaws.{Any, made_again, changed_again, rotated_again}
+use Rattle.stream_layout.proofs.FileLaws.{same_is, itself, apart, found-created, found-renamed, found-made, found-refilled, written_whole}
+use Rattle.stream_layout.proofs.RepeatLaws.{Any, made_again, changed_again, rotated_again, twice}
 use Rattle.stream_layout.proofs.WriteAgain.{written_once_more}
 use Rattle.service_laws.proofs.Attempting.{IsRepeatable, repeatable}
 
@@ -23,11 +22,6 @@ same-files one other same = same_map nat_list_cmp_total names_differ one other s
 once : {A : Type 0} (b : Bool) (x y : A) → cond b x (cond b x y) ≡ cond b x y
 once true x y = refl
 once false x y = refl
-
-twice : {A : Type 0} (b c : Bool) (x y z : A) → cond b x (cond c y (cond b x (cond c y z))) ≡ cond b x (cond c y z)
-twice true c x y z = refl
-twice false true x y z = refl
-twice false false x y z = refl
 
 -- a stream is made
 
@@ -137,17 +131,13 @@ writing name at bytes = CallWrite name at bytes ∷ CallSync name ∷ []
 abbrev pub Reaches : (name : List ℕ) (at : ℕ) → Files → Type 0
 Reaches name at files = (whole : List ℕ) × (get files name ≡ Some (settled_file whole)) × (at ≤ length whole)
 
-written-whole : (at : ℕ) (bytes old : List ℕ) → at ≤ length old → file_synced (file_written at bytes (settled_file old)) ≡ settled_file (overwritten old at bytes)
-written-whole at bytes old within =
-    ap settled_file (cond-true _ (overwritten old at bytes) old (le-leb at (length old) within))
-
 written-shown : (files : Files) (name : List ℕ) (at : ℕ) (bytes old : List ℕ) → get files name ≡ Some (settled_file old) → at ≤ length old → (q : List ℕ) → get (all_applied (writing name at bytes) files) q ≡ cond (bytes_eq q name) (Some (settled_file (overwritten old at bytes))) (get files q)
 written-shown files name at bytes old stands within q =
     ap (λ m. get m q) (adjusted_twice (file_written at bytes) file_synced files name)
     ∙ get-adjusted (λ file. file_synced (file_written at bytes file)) files name q
     ∙ ap (λ b. cond b (option_map (λ file. file_synced (file_written at bytes file)) (get files name)) (get files q)) (same_is q name)
     ∙ ap (λ o. cond (bytes_eq q name) (option_map (λ file. file_synced (file_written at bytes file)) o) (get files q)) stands
-    ∙ ap (λ file. cond (bytes_eq q name) (Some file) (get files q)) (written-whole at bytes old within)
+    ∙ ap (λ file. cond (bytes_eq q name) (Some file) (get files q)) (written_whole at bytes old within)
 
 overwritten-twice : (at : ℕ) (bytes old : List ℕ) → at ≤ length old → overwritten (overwritten old at bytes) at bytes ≡ overwritten old at bytes
 overwritten-twice at bytes old within =

@@ -27,7 +27,7 @@ use Rattle.cluster_facts.specs.Storage.{Attempt, Attempts}
 use Rattle.service_laws.specs.Disks.{service_disk}
 use Rattle.service_laws.proofs.Attempting.{IsRepeatable}
 use Rattle.service_laws.proofs.DoneAgain.{renamed-gone, renamed-stays}
-use Rattle.service_laws.proofs.EventsAgain.{current-open}
+use Rattle.stream_layout.proofs.RepeatOn.{current_open}
 
 -- the end of a stream whose current file was made by this stamp or before, and that is closed later
 pub record IsLateEnd (low : ℕ) (before : StreamState) (closed : ℤ) : Type 0 where
@@ -56,7 +56,7 @@ unlike-stamp low number (negsuc n) is later same = absurd (is.from.le)
 -- the name of a current file is none that a file gets as it is closed later
 pub apart-names : (low : ℕ) (one : StreamState) (other : StreamState) (first closed : ℤ) → IsLateEnd low one first → IsLateEnd low other closed → from_name one ≢ to_name other closed
 apart-names low one other first closed is late =
-    let opened = current-open one.files is.fit.stream.standing.last_open in
+    let opened = current_open one.files is.fit.stream.standing.last_open in
     let made = (current_stamps one.files is.fit.stream.stamps (some_files one.files is.fit.stream.standing.last_open)).created in
     let current : LogFile = current_file one.files in
     let open_one : LogFile = record { created = current.created; closed = None } in

@@ -27,6 +27,7 @@ use Rattle.service_laws.proofs.ChangesKept.{IsKeptBy, kept-untouched, kept-back,
 use Rattle.service_laws.proofs.DoneAgain.{renamed-gone}
 use Rattle.service_laws.proofs.EndsAgain.{IsLateEnd, IsLateEvent, from_name, to_name, end_calls, apart-names, stays-gone}
 use Rattle.service_laws.proofs.Untouched.{Untouched, untouched-all, renamed-beside, moved-back}
+use Rattle.log_history.proofs.NamedLaws.{pos-tells}
 
 standing-event : (low : ℕ) (events : List StreamEvent) (before : StreamState) (closed : ℤ) → AllByRecursion (IsLateEvent low) events → Stands (Ended before closed) events → IsLateEnd low before closed
 standing-event low events before closed late there = standing-each (IsLateEvent low) (Ended before closed) events late there
@@ -44,9 +45,6 @@ rise-ends last second (stream ∷ streams) =
       by_case : (b : Bool) → RiseAfter (stamp_after last second) (ends_in (stamp_after last second) second streams) → RiseAfter last (ends_in last second streams) → RiseAfter last (cond b (Ended stream.state (pos (stamp_after last second)) ∷ ends_in (stamp_after last second) second streams) (ends_in last second streams))
       by_case true later same = (stamp_after last second, refl, omega arith, later)
       by_case false later same = same
-
-pos-tells : (one other : ℕ) → pos one ≡ pos other → one ≡ other
-pos-tells one other same = cc
 
 -- names that files get by different closing stamps differ
 closed-names : (one other : StreamState) (first closed : ℤ) (n m : ℕ) → first ≡ pos n → closed ≡ pos m → n < m → IsStamp first → IsStamp closed → to_name one first ≢ to_name other closed

@@ -1,10 +1,9 @@
 -- **A record that stands before and after an entry stands at one of its two places while the entry's deeds are attempted.**
-use Rattle.std.proofs.Common.{◌≡◌, ◌≢◌, ℕ, zero, suc, ◌+◌, ◌<◌, ◌≤◌, nat_le, nat_lt, true, false, ◌⊎◌, inl, inr, List, [], ◌∷◌, ◌++◌, length, map, refl, ap, sym, ◌∙◌, subst, arith, length-append}
+use Rattle.std.proofs.Common.{◌≡◌, ◌≢◌, ℕ, zero, suc, ◌+◌, ◌≤◌, nat_le, nat_lt, true, false, ◌⊎◌, inl, inr, List, [], ◌∷◌, ◌++◌, length, map, refl, ap, sym, ◌∙◌, subst, arith, length-append}
 use Rattle.std.specs.Prelude.{ℤ, Option, Some, None, option_map, pos, unsigned_abs, slice_get}
 use Rattle.std.specs.Option.{option_map_or}
 use Rattle.std.specs.List.{AllByRecursion, cons_option, find}
 use Rattle.std.proofs.lemmas.Bool.{and_parts, leb-true}
-use Rattle.std.proofs.lemmas.Option.{get_or_from_slice_get}
 use Rattle.client_set.specs.Members.{Stands}
 use Rattle.client_set.proofs.MemberLaws.{Stands-append_right}
 use Rattle.disk_model.specs.Disk.{Files}
@@ -34,7 +33,6 @@ use Rattle.log_history.specs.Legal.{IsLogHistory}
 use Rattle.log_history.specs.Places.{first_in, place_of, place_in, record_in, IsAt}
 use Rattle.log_history.specs.Stamps.{second_in, CanStamp}
 use Rattle.log_history.specs.Table.{OpenStream, open_stream, state_of, new_state, table, storing, bytes_in, ends_in, events_of}
-use Rattle.log_history.proofs.CarryLaws.{sizes-printed}
 use Rattle.log_history.proofs.EventLaws.{events-fit}
 use Rattle.log_history.proofs.FirstLaws.{Each, Each-find}
 use Rattle.log_history.proofs.NamedLaws.{names-once}
@@ -66,6 +64,7 @@ use Rattle.service_laws.proofs.EndsKept.{EndMoves, rise-ends, kept-ends}
 use Rattle.service_laws.proofs.LogKept.{place-name, old-name, not-new, not-cfg, beside-slot, kept-nothing, kept-alone, kept-storing}
 use Rattle.service_laws.proofs.PlacesMoved.{PlaceIs, place-is, Moved, same-place, recorded-place, ended-place, current-is, changed-at, same-stream, ended-at}
 use Rattle.ais_values.proofs.Basics.{none_from}
+use Rattle.log_history.proofs.RecordLaws.{length-record}
 
 -- the stream of a place that is told
 
@@ -84,17 +83,6 @@ same-places : (stream : Stream) (k : ℕ) (spot after : List ℕ × ℕ) → Pla
 same-places stream k spot after is later =
     let file : later.file ≡ is.file = cc (later.there, is.there) in
     same-place spot after (later.name ∙ ap (log_name stream.attrs) file ∙ sym is.name) (later.offset ∙ sym is.offset)
-
-within : (xs : List (List ℕ)) (k : ℕ) (x : List ℕ) → slice_get xs k ≡ Some x → k < length xs
-within [] k x is = cc
-within (y ∷ xs) zero x is = omega arith
-within (y ∷ xs) (suc k) x is = omega (arith, within xs k x is)
-
-length-own : (stream : Stream) (k : ℕ) (bytes : List ℕ) → Passes stream → slice_get (records_of stream) k ≡ Some bytes → length bytes ≡ stream.attrs.record_size
-length-own stream k bytes passes is =
-    let all = records_of stream in
-    let sizes = sizes-printed stream.attrs 1 stream.records (omega (arith, passes.sizes.least_record)) in
-    ap length (sym (get_or_from_slice_get all k bytes [] is)) ∙ sizes k [] (within all k bytes is)
 
 -- the name of a current file is one of its stream's
 current-named : (stream : Stream) → stream.ended ≡ None → Passes stream → Stands (log_name stream.attrs (current_file (state_of stream).files)) (names_in stream)
@@ -148,7 +136,7 @@ module _ (setup : LogSetup) (past : List LogChange) (legal : IsLogHistory setup 
       let first : first_in found.attrs.action n found.attrs.rotated (length found.records + 1) ≤ k = subst (λ count. first_in found.attrs.action n found.attrs.rotated count ≤ k) (length-append found.records (rec ∷ [])) standing in
       let mine : slice_get (records_of found) k ≡ Some bytes =
       ap (λ w. slice_get (records_of w) k) (sym two.0) ∙ sym (ap (λ one. option_map_or (λ (w : Stream). slice_get (records_of w) k) one None) place.there) ∙ record_is in
-      beside-slot last found k spot bytes (bytes_in (state_of found) rec) passes sound_is alive stays at first (length-own found k bytes passes mine) fit.size named in
+      beside-slot last found k spot bytes (bytes_in (state_of found) rec) passes sound_is alive stays at first (length-record found k bytes passes mine) fit.size named in
       kept-storing bytes spot after (disk_files setup past) new was is last second rec found passes sound_is alive fit older moves apart_is
 
   -- streams end

@@ -1,11 +1,9 @@
 -- The deeds of what happens to one stream, made again after any attempts, leave what they would have left at once.
-use Rattle.std.proofs.Common.{◌≡◌, ◌≢◌, ℕ, ◌≤◌, true, ◌&&◌, List, [], ◌∷◌, ◌++◌, length, refl, sym, ap, subst, ◌∙◌, inl, inr, arith, append_assoc}
-use Rattle.std.specs.Prelude.{ℤ, int_lt, Option, Some, None, is_some, ◌<ℤ◌}
-use Rattle.std.specs.List.{All, AllByRecursion}
+use Rattle.std.proofs.Common.{◌≡◌, ◌≢◌, ℕ, ◌≤◌, true, ◌&&◌, List, [], ◌∷◌, ◌++◌, length, refl, sym, ap, subst, ◌∙◌, inl, inr, arith}
+use Rattle.std.specs.Prelude.{ℤ, int_lt, Some, None}
+use Rattle.std.specs.List.{AllByRecursion}
 use Rattle.std.specs.FinMap.{get}
-use Rattle.std.specs.Option.{option_to_list}
 use Rattle.std.proofs.lemmas.Bool.{cases_lt, and_parts}
-use Rattle.std.proofs.lemmas.List.Elements.{All-head}
 use Rattle.disk_model.specs.Disk.{Files, settled_file}
 use Rattle.disk_model.specs.DeviceCalls.{DeviceCall}
 use Rattle.stream_config.specs.declared.attrs.StreamAttrs.{StreamAttrs}
@@ -26,26 +24,13 @@ use Rattle.stream_layout.specs.LogFiles.{log_entries}
 use Rattle.stream_layout.specs.Names.{log_name, cfg_name}
 use Rattle.stream_layout.specs.Spots.{spot_of}
 use Rattle.stream_layout.proofs.CarryLaws.{begins_at_start}
-use Rattle.stream_layout.proofs.CurrentFile.{has_current, unlike, current_file-append, last_closed-append, last_made, behind_front}
+use Rattle.stream_layout.proofs.CurrentFile.{has_current, unlike, stamps-closed}
 use Rattle.stream_layout.proofs.DeedLaws.{some_files, none_goes, oldest_goes, current_stamps}
 use Rattle.stream_layout.proofs.EventLaws.{IsLaidOut, laid_out, stored_stands}
 use Rattle.stream_layout.proofs.NameLaws.{created_apart, closed_apart}
 use Rattle.service_laws.proofs.Attempting.{IsRepeatable}
 use Rattle.service_laws.proofs.DoneAgain.{Reaches, made-repeatable, changed-repeatable, rotated-repeatable, written-repeatable}
-use Rattle.ais_values.proofs.Basics.{none_from}
-
--- the current file is open, and the oldest is closed once the current one is
-pub current-open : (files : List LogFile) → is_last_open files ≡ true → (current_file files).closed ≡ None
-current-open [] is = cc
-current-open (file ∷ []) is = none_from file.closed is
-current-open (file ∷ next ∷ files) is =
-    current-open (next ∷ files) (and_parts (is_some file.closed) (is_last_open (next ∷ files)) is).1
-
-pub oldest-shut : (closed : ℤ) (files : List LogFile) → is_last_open files ≡ true → is_some (oldest_closed closed files).closed ≡ true
-oldest-shut closed [] is = cc
-oldest-shut closed (file ∷ []) is = refl
-oldest-shut closed (file ∷ next ∷ files) is =
-    (and_parts (is_some file.closed) (is_last_open (next ∷ files)) is).0
+use Rattle.stream_layout.proofs.RepeatOn.{current_open, oldest_shut, made_later}
 
 -- a stream is made
 pub made-again : (state : StreamState) (files : Files) → IsRepeatable (calls_of_all (deeds_of (Made state))) files
@@ -75,15 +60,6 @@ stored-again state bytes records files fit are stand =
 
 -- the stamps of the files with the current one closed and a new one behind it
 
-stamps-closed : (closing created : ℤ) (files : List LogFile) → is_last_open files ≡ true → stamps_of (last_closed closing files ++ open_file created ∷ []) ≡ stamps_of files ++ closing ∷ created ∷ []
-stamps-closed closing created [] is = cc
-stamps-closed closing created (file ∷ []) is =
-    ap (λ (closed : Option ℤ). file.created ∷ ((option_to_list closed ++ []) ++ closing ∷ created ∷ [])) (sym (none_from file.closed is))
-stamps-closed closing created (file ∷ next ∷ files) is =
-    let rest = stamps-closed closing created (next ∷ files) (and_parts (is_some file.closed) (is_last_open (next ∷ files)) is).1 in
-    ap (λ behind. file.created ∷ (option_to_list file.closed ++ behind)) rest
-    ∙ ap (λ behind. file.created ∷ behind) (sym (append_assoc (option_to_list file.closed) (stamps_of (next ∷ files)) (closing ∷ created ∷ [])))
-
 rises-further : (stamps : List ℤ) (closing created : ℤ) → rises stamps ≡ true → AllByRecursion (λ stamp. int_lt stamp closing ≡ true) stamps → int_lt closing created ≡ true → rises (stamps ++ closing ∷ created ∷ []) ≡ true
 rises-further [] closing created up below later = both later where
   both : int_lt closing created ≡ true → (int_lt closing created && true) ≡ true
@@ -97,18 +73,6 @@ rises-further (stamp ∷ next ∷ stamps) closing created up below later =
 pub rises-behind : (files : List LogFile) (stamps : Stamps) → is_last_open files ≡ true → rises (stamps_of files) ≡ true → AllByRecursion (λ stamp. int_lt stamp stamps.closed ≡ true) (stamps_of files) → int_lt stamps.closed stamps.created ≡ true → rises (stamps_of (last_closed stamps.closed files ++ open_file stamps.created ∷ [])) ≡ true
 rises-behind files stamps is up below later =
     ap rises (stamps-closed stamps.closed stamps.created files is) ∙ rises-further (stamps_of files) stamps.closed stamps.created up below later
-
--- the new file is made later than the current one
-made-later : (files : List LogFile) (stamps : Stamps) → is_last_open files ≡ true → rises (stamps_of (last_closed stamps.closed files ++ open_file stamps.created ∷ [])) ≡ true → (current_file files).created <ℤ stamps.created
-made-later files stamps is rising =
-    let found = has_current files is in
-    let shut = file_closed stamps.closed found.current in
-    let all = last_made (last_closed stamps.closed files) (open_file stamps.created) rising in
-    let split = ap (last_closed stamps.closed) found.whole ∙ last_closed-append stamps.closed found.front found.current in
-    let P : LogFile → Type 0 = λ (file : LogFile). file.created <ℤ stamps.created in
-    let last = All-head P shut [] (behind_front P found.front (shut ∷ []) (subst (All P) split all)) in
-    let same = ap current_file found.whole ∙ current_file-append found.front found.current in
-    subst P (sym same) last
 
 -- the calls of a change of file, by what is removed
 abbrev calls_for : StreamAttrs → LogFile → Stamps → ℕ → List ℕ → List Deed → List DeviceCall
@@ -127,13 +91,13 @@ changed-again state bytes stamps files fit rising =
     let shut = file_closed stamps.closed current in
     let fresh = open_file stamps.created in
     let oldest = oldest_closed stamps.closed state.files in
-    let opened = current-open state.files stands.last_open in
-    let closed = oldest-shut stamps.closed state.files stands.last_open in
+    let opened = current_open state.files stands.last_open in
+    let closed = oldest_shut stamps.closed state.files stands.last_open in
     let stamp = (current_stamps state.files fit.stream.stamps some).created in
     let start = begins_at_start state fit.stream (sym fit.changes) in
     let from_to : log_name attrs current ≢ log_name attrs shut = λ same. closed_apart attrs shut current refl opened (sym same) in
     let from_new : log_name attrs current ≢ log_name attrs fresh =
-    created_apart attrs current fresh stamp fit.new_stamps.1 (unlike current.created stamps.created (made-later state.files stamps stands.last_open rising)) in
+    created_apart attrs current fresh stamp fit.new_stamps.1 (unlike current.created stamps.created (made_later state.files stamps stands.last_open rising)) in
     let from_gone : log_name attrs current ≢ log_name attrs oldest = λ same. closed_apart attrs oldest current closed opened (sym same) in
     let new_gone : log_name attrs fresh ≢ log_name attrs oldest = λ same. closed_apart attrs oldest fresh closed refl (sym same) in
     let P : ℕ → List Deed → Type 0 = λ at gone. IsRepeatable (calls_for attrs current stamps at bytes gone) files in

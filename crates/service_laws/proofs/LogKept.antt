@@ -42,9 +42,10 @@ use Rattle.log_history.proofs.StreamLaws.{full_count, IsSoundStream}
 use Rattle.stream_layout.proofs.StoredBytes.{same_round}
 use Rattle.service_laws.proofs.BytesKept.{slots-apart}
 use Rattle.service_laws.proofs.ChangesKept.{IsKeptBy, kept-changed, kept-rotated, kept-written}
-use Rattle.service_laws.proofs.EventsAgain.{oldest-shut}
-use Rattle.service_laws.proofs.PlacesMoved.{PlaceIs, Moved, current-is, name-in}
+use Rattle.service_laws.proofs.PlacesMoved.{PlaceIs, Moved, current-is}
 use Rattle.stream_layout.proofs.EventLaws.{some_records}
+use Rattle.log_history.proofs.RecordLaws.{named-among}
+use Rattle.stream_layout.proofs.RepeatOn.{oldest_shut}
 
 -- the name of a file that stands is old: it tells a stamp that is not behind the last one
 
@@ -65,7 +66,7 @@ place-name stream number place is =
 
 pub old-name : (last : ℕ) (streams : List Stream) (s : ℕ) (stream : Stream) (name : List ℕ) → AreStamps last (stamps_of_all streams) → slice_get streams s ≡ Some stream → Stands name (names_in stream) → IsOld last name
 old-name last streams s stream name are is there =
-    let found = stamp-of (names_of_all streams) (stamps_of_all streams) name (named-all streams) (name-in streams s stream name is there) in
+    let found = stamp-of (names_of_all streams) (stamps_of_all streams) name (named-all streams) (named-among streams s stream name is there) in
     record { stamp = found.stamp; low = are.upto found.stamp found.there; names = found.names }
 
 pub not-new : (last : ℕ) (name : List ℕ) (attrs : StreamAttrs) (file : LogFile) (stamp : ℕ) → IsOld last name → last_stamp file ≡ pos stamp → last < stamp → stamp ≤ 20000000100 → name ≢ log_name attrs file
@@ -152,7 +153,7 @@ module _ (bytes : List ℕ) (spot after : List ℕ × ℕ) (old new : Files) (wa
       let oldest = oldest_closed (pos closing) state.files in
       let some = some_files state.files fit.stream.standing.last_open in
       let opened : current.closed ≡ None = ap (λ (f : LogFile). f.closed) current_is in
-      let closed = oldest-shut (pos closing) state.files fit.stream.standing.last_open in
+      let closed = oldest_shut (pos closing) state.files fit.stream.standing.last_open in
       let upto = sound.upto in
       let own : IsOld last (log_name attrs (open_file (pos stream.current))) = record { stamp = stream.current; low = upto; names = record { attrs = attrs; file = open_file (pos stream.current); last = refl; is = refl } } in
       let current_old : IsOld last (log_name attrs current) = subst (λ (f : LogFile). IsOld last (log_name attrs f)) (sym current_is) own in

@@ -6,8 +6,6 @@ use Rattle.std.proofs.lemmas.List.{map-append, drop-append-le}
 use Rattle.client_set.specs.Members.{Stands}
 use Rattle.client_set.proofs.MemberLaws.{Stands-append_left, Stands-append_right}
 use Rattle.record_print.specs.declared.record.LogRecord.{LogRecord}
-use Rattle.stream_config.specs.declared.attrs.FullAction.{FullAction}
-use Rattle.stream_config.specs.declared.attrs.FullAction.TheVariants.{Wrap, Halt, Rotate}
 use Rattle.stream_config.specs.declared.event.StreamEvent.TheVariants as event
 use Rattle.stream_config.specs.declared.state.LogFile.{LogFile}
 use Rattle.stream_config.specs.Events.{open_file, most_files, standing}
@@ -23,6 +21,8 @@ use Rattle.log_history.specs.Firsts.{change_first}
 use Rattle.log_history.specs.Places.{is_standing, place_of}
 use Rattle.log_history.specs.Table.{open_stream, state_of, ends_in}
 use Rattle.ais_values.proofs.Basics.{none_from}
+use Rattle.log_history.proofs.FileLists.{some-most}
+use Rattle.log_history.proofs.RecordLaws.{once-behind, named-among}
 
 -- a place that is told, by its file
 pub record PlaceIs (stream : Stream) (number : ℕ) (place : List ℕ × ℕ) : Type 0 where
@@ -108,16 +108,11 @@ recorded-place last second rec stream number spot after living is later =
 
 -- the current file of a stream that lives
 
-least-most : (action : FullAction) (rotated : ℕ) → 1 ≤ rotated → 1 ≤ most_files action rotated
-least-most Wrap rotated some = omega arith
-least-most Halt rotated some = omega arith
-least-most Rotate rotated some = some
-
 pub current-is : (stream : Stream) → stream.ended ≡ None → 1 ≤ stream.attrs.rotated → current_file (state_of stream).files ≡ open_file (pos stream.current)
 current-is stream living some =
     let front = map closed_file stream.full in
     let last = open_file (pos stream.current) in
-    let most = least-most stream.attrs.action stream.attrs.rotated some in
+    let most = some-most stream.attrs.action stream.attrs.rotated some in
     let gone : ℕ = length (front ++ last ∷ []) - most_files stream.attrs.action stream.attrs.rotated in
     let all = length-append front (last ∷ []) in
     ap (λ (ended : Option ℕ). let one : LogFile = record { created = pos stream.current; closed = option_map pos ended } in current_file (standing stream.attrs (map closed_file stream.full ++ one ∷ []))) living
@@ -143,13 +138,6 @@ changed-at test change (z ∷ zs) (suc s) x y is later = by_case (test z) refl l
     | inr changed ↦ inr (changed.0, ap (λ b. cond b (Some z) (find test zs)) found ∙ changed.1)
   ]
 
-pub name-in : (xs : List Stream) (s : ℕ) (x : Stream) (name : List ℕ) → slice_get xs s ≡ Some x → Stands name (names_in x) → Stands name (names_of_all xs)
-name-in [] s x name is there = cc
-name-in (z ∷ zs) zero x name is there =
-    let same : x ≡ z = cc in Stands-append_left name (names_in z) (names_of_all zs) (subst (λ w. Stands name (names_in w)) same there)
-name-in (z ∷ zs) (suc s) x name is there =
-    Stands-append_right name (names_in z) (names_of_all zs) (name-in zs s x name is there)
-
 found-name : (test : Stream → Bool) (xs : List Stream) (x : Stream) (name : List ℕ) → find test xs ≡ Some x → Stands name (names_in x) → Stands name (names_of_all xs)
 found-name test [] x name is there = cc
 found-name test (z ∷ zs) x name is there = by_case (test z) is (λ behind. found-name test zs x name behind there) where
@@ -164,10 +152,6 @@ not-twice (y ∷ front) behind x once (inl same) other =
     once.0 (subst (λ z. Stands z (front ++ behind)) same (Stands-append_right x front behind other))
 not-twice (y ∷ front) behind x once (inr there) other = not-twice front behind x once.1 there other
 
-behind-once : {X : Type 0} (front behind : List X) → NoneTwice (front ++ behind) → NoneTwice behind
-behind-once [] behind once = once
-behind-once (x ∷ front) behind once = behind-once front behind once.1
-
 -- a name of the stream that changes is a name of no other
 pub same-stream : (test : Stream → Bool) (change : Stream → Stream) (xs : List Stream) (s : ℕ) (x found : Stream) (name : List ℕ) → NoneTwice (names_of_all xs) → slice_get xs s ≡ Some x → find test xs ≡ Some found → Stands name (names_in x) → Stands name (names_in found) → (x ≡ found) × (slice_get (change_first test change xs) s ≡ Some (change found))
 same-stream test change [] s x found name once is one there here = cc
@@ -181,11 +165,11 @@ same-stream test change (z ∷ zs) zero x found name once is one there here = by
       let f : x ≡ z = cc in
       absurd (not-twice (names_in z) (names_of_all zs) name once (subst (λ w. Stands name (names_in w)) f there) (found-name test zs found name later here))
 same-stream test change (z ∷ zs) (suc s) x found name once is one there here =
-    by_case (test z) refl one (λ later. same-stream test change zs s x found name (behind-once (names_in z) (names_of_all zs) once) is later there here) where
+    by_case (test z) refl one (λ later. same-stream test change zs s x found name (once-behind (names_in z) (names_of_all zs) once) is later there here) where
       by_case : (b : Bool) → test z ≡ b → cond b (Some z) (find test zs) ≡ Some found → (find test zs ≡ Some found → (x ≡ found) × (slice_get (change_first test change zs) s ≡ Some (change found))) → (x ≡ found) × (slice_get (change_first test change (z ∷ zs)) (suc s) ≡ Some (change found))
       by_case true passes same behind =
           let e : found ≡ z = cc in
-          absurd (not-twice (names_in z) (names_of_all zs) name once (subst (λ w. Stands name (names_in w)) e here) (name-in zs s x name is there))
+          absurd (not-twice (names_in z) (names_of_all zs) name once (subst (λ w. Stands name (names_in w)) e here) (named-among zs s x name is there))
       by_case false passes later behind =
           let rest = behind later in
           (rest.0, ap (λ b. slice_get (cond b (change z ∷ zs) (z ∷ change_first test change zs)) (suc s)) passes ∙ rest.1)
