@@ -1,4 +1,6 @@
 //! Filters and sets of filters.
+ghost use Rattle.std.specs.Prelude.{◌≡◌, Ok, IfOk};
+
 use ais_values::{ClassId, Duplicate, Name, Seq};
 use std::alloc::{AllocError, Global};
 
@@ -44,14 +46,39 @@ impl Duplicate for Filter {
     }
 }
 
+/// The two values, where both are there.
+///
+/// A set's filters are wide: one that is alive where a copy of the next may fail would be let go there field by field.
+fn both<A: Drop, B: Drop>(
+    first: Result<A, AllocError>,
+    second: Result<B, AllocError>,
+) -> Result<(A, B), AllocError>
+    ensures first { IfOk result (λ pair. first ≡ Ok pair.0) }
+    ensures second { IfOk result (λ pair. second ≡ Ok pair.1) }
+{
+    match first {
+        Ok(first) => match second {
+            Ok(second) => Ok((first, second)),
+            Err(error) => Err(error),
+        },
+        Err(error) => Err(error),
+    }
+}
+
 impl Duplicate for FilterSet {
     fn copy(&self, alloc: Global) -> Result<Self, AllocError> {
+        let changes = both(
+            both(self.objects.copy(alloc), self.attributes.copy(alloc)),
+            self.states.copy(alloc),
+        );
+        let alarms = both(self.alarms.copy(alloc), self.security.copy(alloc));
+        let (((objects, attributes), states), (alarms, security)) = both(changes, alarms)?;
         Ok(FilterSet {
-            objects: self.objects.copy(alloc)?,
-            attributes: self.attributes.copy(alloc)?,
-            states: self.states.copy(alloc)?,
-            alarms: self.alarms.copy(alloc)?,
-            security: self.security.copy(alloc)?,
+            objects,
+            attributes,
+            states,
+            alarms,
+            security,
         })
     }
 }
