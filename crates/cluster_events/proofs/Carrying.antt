@@ -1,5 +1,5 @@
 -- What servers and a relation are asked for carries over to turns and rounds.
-use Rattle.std.proofs.Common.{◌≡◌, ℕ, zero, suc, ◌+◌, ◌<◌, ◌≤◌, ◌⊎◌, inl, inr, Bool, true, false, ◌||◌, ◌==◌, nat_le, if◌then◌else◌, Option, Some, None, List, [], ◌∷◌, ◌++◌, length, reverse, refl, ap, sym, ◌∙◌, subst, arith}
+use Rattle.std.proofs.Common.{◌≡◌, ℕ, zero, suc, ◌+◌, ◌≤◌, inl, inr, Bool, true, false, nat_le, if◌then◌else◌, Option, Some, None, List, [], ◌∷◌, ◌++◌, length, refl, ap, sym, ◌∙◌, subst, arith}
 use Rattle.std.specs.List.{AllByRecursion}
 use Rattle.std.proofs.lemmas.Bool.{cases_Bool}
 use Rattle.cluster_facts.specs.Types.{Call, Reply, Item, Entry, Called, Receipted, Message, Request, Answer, Delivery, Receipt}
@@ -7,7 +7,7 @@ use Rattle.cluster_facts.specs.Lists.{Stands, EndsIn, IsCounted, count_of}
 use Rattle.cluster_facts.specs.Messages.{sent_by, answers_to, receipts_of, message_of}
 use Rattle.cluster_facts.specs.Service.{Plain, IsPlain, IsMade, IsHeldItem, answers_in, is_new}
 use Rattle.cluster_facts.specs.Agents.{Living, kept_call, callbacks_of, lacks_place, after_reply, find_living, after_item, requests_of, greatest_receipt, greatest_receipts, resent}
-use Rattle.cluster_facts.specs.History.{Hand, Empty, Waiting, Applied, Ready, Core, Judged, New, Repeat, Old, Ahead, judged_call, accepted, accepted_by, MayFollow}
+use Rattle.cluster_facts.specs.History.{Hand, Empty, Core, Judged, New, Repeat, Old, Ahead, judged_call, accepted, MayFollow}
 use Rattle.cluster_facts.specs.World.{World, knows, posted, with_agent, number_of}
 use Rattle.cluster_facts.specs.Facts.{IsSound, IsOfRun, Keeps, Lives}
 use Rattle.cluster_facts.specs.Facts.Keeps.{starts, waits, answered}

@@ -9,7 +9,7 @@ use Rattle.cluster_facts.specs.Lists.{Stands, EndsIn, without}
 use Rattle.cluster_facts.specs.Messages.{sent_by, receipts_of, calls_in}
 use Rattle.cluster_facts.specs.Service.{Plain, IsPlain, answers_in}
 use Rattle.cluster_facts.specs.Storage.{dealt_in}
-use Rattle.cluster_facts.specs.Agents.{Agent, fresh, fed_of, call_of, refusal, dispatch_refusal, after_call, oldest, after_dispatch_all, after_dispatch_one}
+use Rattle.cluster_facts.specs.Agents.{Agent, fed_of, call_of, refusal, dispatch_refusal, after_call, oldest, after_dispatch_all, after_dispatch_one}
 use Rattle.cluster_facts.specs.History.{Hand, Empty, Waiting, Applied, Ready, IsLegal, accepted, committed, committed_by, accepted_by}
 use Rattle.cluster_facts.specs.World.{World, with_agent, enlisted, empty_world, message_at}
 use Rattle.cluster_facts.specs.Facts.{IsSound}
@@ -18,7 +18,7 @@ use Rattle.cluster_facts.proofs.Clients.{oldest-append}
 use Rattle.cluster_facts.proofs.Growing.{IsLegal-before}
 use Rattle.cluster_facts.proofs.Posting.{message_at-stands}
 use Rattle.cluster_facts.proofs.Keeping.{call-new}
-use Rattle.cluster_events.specs.Lines.{Told, Posted, Committed, Replied, Declined, HandedOut, Dispatched, Ignored, Refused, Stood, Listed, Shown, Standing, ServerRole, is_ignored}
+use Rattle.cluster_events.specs.Lines.{Told, Posted, Declined, HandedOut, Ignored, Refused, Stood, Listed, Shown, Standing, ServerRole, is_ignored}
 use Rattle.cluster_events.specs.Outcomes.{Outcome}
 use Rattle.cluster_events.specs.ClientEvents.{ask_by, ask, handed_lines, hand_out, dispatch_all_by, dispatch_all, dispatch_one_by, dispatch_one, set_time}
 use Rattle.cluster_events.specs.Servers.{State, Servers, in_world}

@@ -7,7 +7,8 @@ use Rattle.cluster_facts.specs.Messages.{calls_in}
 use Rattle.cluster_facts.specs.Service.{Plain, IsPlain, IsMade, answers_in, subscribes, asked_for}
 use Rattle.cluster_facts.specs.History.{Judged, New, Repeat, Old, Ahead, judged, MayFollow, NeverAbove, ReceiptsAreNew, IsLegal, time_of}
 use Rattle.cluster_facts.specs.Facts.{IsToldItem, IsOfRun}
-use Rattle.cluster_facts.proofs.Words.{by_test, each_client, Stands-right, slice_get-append}
+use Rattle.ais_values.proofs.Basics.{slice_get-append}
+use Rattle.cluster_facts.proofs.Words.{by_test, each_client, Stands-right}
 
 pub IsMade-grows : (plain : Plain) → IsPlain plain → (entry : Entry) (past : List Entry) (client key number : ℕ) (content : Content) → IsMade plain past client key number content → IsMade plain (entry ∷ past) client key number content
 IsMade-grows plain is_plain entry past client key number content made =

@@ -1,7 +1,8 @@
 -- Laws of the words on lists.
-use Rattle.std.proofs.Common.{◌≡◌, ℕ, zero, suc, ◌+◌, ◌<◌, ◌≤◌, ◌⊎◌, inl, inr, Bool, true, false, ◌==◌, cond, if◌then◌else◌, Option, Some, None, List, [], ◌∷◌, ◌++◌, length, slice_get, refl, ap, sym, ◌∙◌, subst, arith, length-append}
+use Rattle.std.proofs.Common.{◌≡◌, ℕ, suc, ◌+◌, ◌<◌, ◌≤◌, inl, inr, Bool, true, false, ◌==◌, if◌then◌else◌, List, [], ◌∷◌, ◌++◌, length, refl, ap, sym, ◌∙◌, subst, arith, length-append}
 use Rattle.std.specs.List.{AllByRecursion}
 use Rattle.std.proofs.lemmas.Bool.Decides.{eqb_tells}
+pub use Rattle.client_set.proofs.MemberLaws.{Stands-append_left as Stands-left, Stands-append_right as Stands-right, Stands-append_cases as Stands-append}
 use Rattle.cluster_facts.specs.Lists.{Stands, EndsIn, IsNumbered, IsCounted, count_of, without}
 
 -- a fact that tells of a test of two numbers, by the case that they are equal and the case that they are not
@@ -16,21 +17,6 @@ by_test P one other same different =
 pub each_client : (Q : ℕ → Bool → Type 0) (client : ℕ) → Q client true → ((other : ℕ) → Q other false) → (other : ℕ) → Q other (client == other)
 each_client Q client own others other =
     by_test (Q other) client other (λ same. subst (λ x. Q x true) same own) (λ different. others other)
-
-pub Stands-left : {X : Type 0} (x : X) (xs ys : List X) → Stands x xs → Stands x (xs ++ ys)
-Stands-left x [] ys stands = elim stands [ ]
-Stands-left x (y ∷ xs) ys (inl same) = inl same
-Stands-left x (y ∷ xs) ys (inr stands) = inr (Stands-left x xs ys stands)
-
-pub Stands-right : {X : Type 0} (x : X) (xs ys : List X) → Stands x ys → Stands x (xs ++ ys)
-Stands-right x [] ys stands = stands
-Stands-right x (y ∷ xs) ys stands = inr (Stands-right x xs ys stands)
-
-pub Stands-append : {X : Type 0} (x : X) (xs ys : List X) → Stands x (xs ++ ys) → Stands x xs ⊎ Stands x ys
-Stands-append x [] ys stands = inr stands
-Stands-append x (y ∷ xs) ys (inl same) = inl (inl same)
-Stands-append x (y ∷ xs) ys (inr stands) =
-    elim (Stands-append x xs ys stands) [ inl left ↦ inl (inr left) | inr right ↦ inr right ]
 
 pub Stands-without : {X : Type 0} (x : X) (test : X → Bool) (xs : List X) → Stands x (without test xs) → Stands x xs
 Stands-without x test [] stands = elim stands [ ]
@@ -133,12 +119,6 @@ pub EndsIn-stands : {X : Type 0} (x : X) (new old : List X) → EndsIn new old �
 EndsIn-stands {X = X} x new old ends stands =
     let P : List X → Type 0 = λ xs. Stands x xs in
     subst P (sym ends.1) (Stands-right x ends.0 old stands)
-
--- what stands at a place stays there where the list grows at its end
-pub slice_get-append : {X : Type 0} (xs more : List X) (place : ℕ) (x : X) → slice_get xs place ≡ Some x → slice_get (xs ++ more) place ≡ Some x
-slice_get-append [] more place x found = cc
-slice_get-append (y ∷ xs) more zero x found = found
-slice_get-append (y ∷ xs) more (suc place) x found = slice_get-append xs more place x found
 
 -- a receipt's number is at most the count of its key's receipts
 pub IsCounted-bound : (key number : ℕ) (marks : List (ℕ × ℕ)) → IsCounted marks → Stands (key, number) marks → (1 ≤ number) × (number ≤ count_of key marks)

@@ -1,7 +1,8 @@
 -- What the answers and the receipts ask of the history, the kept table tells.
-use Rattle.std.proofs.Common.{◌≡◌, ℕ, suc, ◌<◌, Bool, true, false, ◌&&◌, ◌||◌, cond, List, [], ◌∷◌, map, length, refl, ap, ◌∙◌, arith}
+use Rattle.std.proofs.Common.{◌≡◌, ℕ, ◌<◌, Bool, true, false, ◌&&◌, ◌||◌, cond, List, [], ◌∷◌, map, length, refl, ap, ◌∙◌, arith}
 use Rattle.std.specs.Prelude.{Option, Some, None, find, option_map, is_some}
 use Rattle.std.specs.List.{list_any}
+use Rattle.std.proofs.lemmas.List.{length-map}
 use Rattle.sub_queue.specs.Queue.{IsCapacity}
 use Rattle.sub_queue.specs.History.{is_new_receipt}
 use Rattle.ntf_history.specs.Changes.{Sub, NtfChange}
@@ -22,12 +23,8 @@ pub has_id-kept : (capacity : ℕ) (past : List NtfChange) (client id : ℕ) →
 has_id-kept capacity past client id = list_any-kept capacity past client id (subs past)
 
 -- how many subscriptions last
-length-map : {X Y : Type 0} (f : X → Y) (xs : List X) → length (map f xs) ≡ length xs
-length-map f [] = refl
-length-map f (x ∷ xs) = ap (λ n. suc n) (length-map f xs)
-
 pub length-kept : (capacity : ℕ) (past : List NtfChange) → length (table_of capacity past).subs ≡ length (subs past)
-length-kept capacity past = length-map (kept_of capacity past) (subs past)
+length-kept capacity past = length-map (subs past) (kept_of capacity past)
 
 -- the subscription of a client and key
 find-map : (capacity : ℕ) (past : List NtfChange) (client key : ℕ) (xs : List Sub) → find (is_kept_at client key) (map (kept_of capacity past) xs) ≡ option_map (kept_of capacity past) (find (has_key client key) xs)

@@ -16,7 +16,7 @@ use Rattle.client_set.proofs.RisingLaws.{Stands-put, Stands-without}
 use Rattle.ntf_history.specs.Changes.{Sub, NtfChange}
 use Rattle.ntf_history.specs.Changes.NtfChange.{Began, Ended, Subscribed, Unsubscribed, Sent, Receipted}
 use Rattle.ntf_history.specs.Subscriptions.{has_id, is_of, comes_first, subs, sub_at, lasts, offered_to, happened, account, made, through_of, is_new, Extends}
-use Rattle.ntf_history.proofs.KeyLaws.{keys_same}
+use Rattle.ais_values.proofs.Basics.{pair_same}
 
 pub Extends-same : {X : Type 0} (xs : List X) → Extends xs xs
 Extends-same xs = record { more = []; is = sym (append-nil xs) }
@@ -71,7 +71,7 @@ through-receipted capacity client key other number through alive before true is 
   new : (b : Bool) → (cond b through (account_of capacity before).through ≡ (account_of capacity before).through) ⊎ (Receipted other number through ≡ Receipted client key (cond b through (account_of capacity before).through))
   new true =
       let tests = and_parts (client == other && key == number) alive is in
-      let keys = keys_same client key other number tests.0 in
+      let keys = pair_same client key other number tests.0 in
       inr (ap (λ c. Receipted c number through) (sym keys.0) ∙ ap (λ k. Receipted client k through) (sym keys.1))
   new false = inl refl
 

@@ -8,6 +8,7 @@ use Rattle.client_set.proofs.RisingLaws.{IsRising-put, IsRising-without}
 use Rattle.ntf_history.specs.Changes.{Sub, NtfChange}
 use Rattle.ntf_history.specs.Changes.NtfChange.{Began, Ended, Subscribed, Unsubscribed, Sent, Receipted}
 use Rattle.ntf_history.specs.Subscriptions.{has_key, has_id, is_of, key_first, comes_first, subs, sub_at}
+use Rattle.ais_values.proofs.Basics.{pair_same}
 
 pub key_first-self : (client key : ℕ) → key_first client key client key ≡ false
 key_first-self client key = grind (arith, nat_tests)
@@ -47,12 +48,9 @@ both_same c k = grind (arith, nat_tests)
 pub has_key-self : (sub : Sub) → has_key sub.client sub.key sub ≡ true
 has_key-self sub = both_same sub.client sub.key
 
-pub keys_same : (c k d l : ℕ) → (c == d && k == l) ≡ true → (c ≡ d) × (k ≡ l)
-keys_same c k d l same = (grind (arith, nat_tests), grind (arith, nat_tests))
-
 -- the client and the key of a subscription that has them
 pub has_key-is : (client key : ℕ) (sub : Sub) → has_key client key sub ≡ true → (sub.client ≡ client) × (sub.key ≡ key)
-has_key-is client key sub same = keys_same sub.client sub.key client key same
+has_key-is client key sub same = pair_same sub.client sub.key client key same
 
 -- what comes behind an element comes after it
 ComesFirst-at : {X : Type 0} (before : X → X → Bool) (x s : X) (xs : List X) → ComesFirst before x xs → Stands s xs → before x s ≡ true

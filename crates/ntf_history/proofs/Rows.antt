@@ -10,11 +10,12 @@ use Rattle.ntf_filters.specs.declared.filter.FilterSet.{FilterSet}
 use Rattle.ntf_filters.specs.Matching.{admits, admits_option, admits_common, admits_body}
 use Rattle.ntf_filters.specs.FitTests.{is_fit}
 use Rattle.sub_queue.specs.declared.item.Content.TheVariants.{Notified, Discarded}
+use Rattle.sub_queue.specs.Items.{mark_of}
 use Rattle.alarm_view.specs.declared.cursor.Cursor.{Cursor}
 use Rattle.alarm_view.specs.declared.alarm.KeptAlarm.{KeptAlarm}
 use Rattle.ntf_history.specs.Changes.{Sub, NtfChange, last_id}
 use Rattle.ntf_history.specs.Changes.NtfChange.{Began, Ended, Subscribed, Unsubscribed, Sent, Receipted}
-use Rattle.ntf_history.specs.Subscriptions.{subs, account, made, through_of}
+use Rattle.ntf_history.specs.Subscriptions.{subs, account, made, through_of, asked_while, dropped_while}
 use Rattle.ntf_history.specs.StoredAlarms.{stored_alarms}
 use Rattle.ntf_history.specs.Readers.{reader_of}
 use Rattle.ntf_history.specs.Readers.ReaderChange.{Started, Told, Stopped}
@@ -95,6 +96,15 @@ five_made = refl
 five_lost : (account 2 five_sent 7 3).lost ≡ record { kind = 0x4000; id = 4 } ∷ record { kind = 0x4000; id = 5 } ∷ []
 unfolding admits admits_option admits_common admits_body
 five_lost = refl
+
+-- all five were asked for, and the last three dropped; what is sent behind the end is not asked for
+five_asked : map mark_of (asked_while (Sent (alarm 6) 5 ∷ Unsubscribed 7 5 ∷ five_sent) 7 3) ≡ map mark_of (alarm 1 ∷ alarm 2 ∷ alarm 3 ∷ alarm 4 ∷ alarm 5 ∷ [])
+unfolding admits admits_option admits_common admits_body
+five_asked = refl
+
+three_dropped : map mark_of (dropped_while 2 (Sent (alarm 6) 5 ∷ Unsubscribed 7 5 ∷ five_sent) 7 3) ≡ map mark_of (alarm 3 ∷ alarm 4 ∷ alarm 5 ∷ [])
+unfolding admits admits_option admits_common admits_body
+three_dropped = refl
 
 -- the receipt counts for its own subscription alone
 others_receipt : through_of 2 five_sent 2 9 ≡ 0

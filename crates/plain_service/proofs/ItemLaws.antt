@@ -24,8 +24,9 @@ use Rattle.plain_service.specs.Answers.{status_of}
 use Rattle.plain_service.specs.Alarms.{taken_by, stream_for}
 use Rattle.plain_service.specs.Changing.{past_of, ntf_change, accepted_notification}
 use Rattle.plain_service.specs.Items.{held_for, items_for, items_after, items_of, made_for, through_for, lasts_for, is_new_receipt, IsHeldItem, IsReceipt, Leaves}
-use Rattle.plain_service.proofs.ListLaws.{standing-each}
+use Rattle.plain_service.proofs.ListLaws.{standing-each, each-mapped}
 use Rattle.plain_service.proofs.Possible.{past_after-by}
+use Rattle.ais_values.proofs.Basics.{AllByRecursion-append}
 
 grows-option : (capacity : ℕ) (change : Option NtfChange) (past : List NtfChange) (client key : ℕ) → Extends (made capacity past client key) (made capacity (cons_option change past) client key)
 grows-option capacity None past client key = Extends-same (made capacity past client key)
@@ -78,20 +79,11 @@ through-new setup past client key through now new =
 
 -- what a list of items has
 
-module _ {X : Type 0} (P : X → Type 0) where
-  each-append : (xs ys : List X) → AllByRecursion P xs → AllByRecursion P ys → AllByRecursion P (xs ++ ys)
-  each-append [] ys each more = more
-  each-append (x ∷ xs) ys each more = (each.0, each-append xs ys each.1 more)
-
 module _ {X Y : Type 0} (P : Y → Type 0) where
-  each-map : (f : X → Y) (xs : List X) → AllByRecursion (λ x. P (f x)) xs → AllByRecursion P (map f xs)
-  each-map f [] each = tt
-  each-map f (x ∷ xs) each = (each.0, each-map f xs each.1)
-
   each-flat_map : (f : X → List Y) (xs : List X) → ((x : X) → Stands x xs → AllByRecursion P (f x)) → AllByRecursion P (flat_map f xs)
   each-flat_map f [] each = tt
   each-flat_map f (x ∷ xs) each =
-      each-append P (f x) (flat_map f xs) (each x (inl refl)) (each-flat_map f xs (λ y there. each y (inr there)))
+      AllByRecursion-append P (f x) (flat_map f xs) (each x (inl refl)) (each-flat_map f xs (λ y there. each y (inr there)))
 
 Stands-flat_map : {X Y : Type 0} (f : X → List Y) (xs : List X) (x : X) (y : Y) → Stands x xs → Stands y (f x) → Stands y (flat_map f xs)
 Stands-flat_map f [] x y stands is = absurd stands
@@ -123,7 +115,7 @@ items-held setup past = each-flat_map (IsHeldItem setup past) (items_for setup.c
       let changes = (past_of setup past).ntf in
       let through = through_of setup.capacity changes sub.client sub.key in
       let contents = made setup.capacity changes sub.client sub.key in
-      each-map (IsHeldItem setup past) (held_for sub.client sub.key) (numbered (through + 1) (drop through contents))
+      each-mapped (IsHeldItem setup past) (held_for sub.client sub.key) (numbered (through + 1) (drop through contents))
       (numbered-each (λ number content. IsHeldItem setup past (held_for sub.client sub.key (record { number = number; content = content }))) (through + 1) (drop through contents)
       (λ i content is. record {
         lasting = ap is_some (sub_at-member changes sub stands);

@@ -7,6 +7,7 @@ use Rattle.std.proofs.lemmas.Bool.Decides.{nat_tests}
 use Rattle.std.proofs.lemmas.List.Elements.{filter-append}
 use Rattle.std.proofs.lemmas.List.Sums.{length-filter}
 use Rattle.std.proofs.lemmas.Bool.{and_from, not-true}
+use Rattle.std.proofs.Math.Bool.{and-false}
 use Rattle.ais_values.specs.Codes.{all_differ}
 use Rattle.ais_values.specs.declared.status.Status.TheVariants as status
 use Rattle.stream_config.specs.declared.attrs.StreamAttrs.{StreamAttrs}
@@ -110,10 +111,6 @@ some-put client (other ∷ clients) = by_case (nat_lt client other) (nat_lt othe
   by_case true above = refl
   by_case false true = refl
   by_case false false = refl
-
-and-false : (app : Bool) → (app && false) ≡ false
-and-false true = refl
-and-false false = refl
 
 IsUsed-opened : (client : ℕ) (using : List ℕ) (stream : OpenStream) → IsClient client → IsAmong using client → IsUsed using stream → IsUsed using (with_opener client stream)
 IsUsed-opened client using stream caller user is = record {

@@ -30,7 +30,7 @@ use Rattle.log_history.specs.Legal.{IsLogHistory}
 use Rattle.log_history.specs.Times.{second_of}
 use Rattle.log_history.proofs.Reaching.{reached}
 use Rattle.log_history.proofs.KeptLaws.{has-openers}
-use Rattle.ntf_history.specs.Changes.{Sub, NtfChange}
+use Rattle.ntf_history.specs.Changes.{NtfChange}
 use Rattle.ntf_history.specs.Changes as ntf
 use Rattle.ntf_history.specs.Subscriptions.{has_id, subs, is_known}
 use Rattle.ntf_history.specs.StoredAlarms.{is_alarm, alarms_sent}
@@ -44,7 +44,7 @@ use Rattle.plain_service.specs.Replies.{calls_of, next_number}
 use Rattle.plain_service.specs.Legal.{IsHistory}
 use Rattle.plain_service.proofs.WellKnown.{stored_in, stored_in-bound, living-alarm, living-notification, taken-alarm, taken-notification}
 use Rattle.plain_service.proofs.OkAnswers.{begin-ok, end-ok, close-ok, write-ok, open-ok, create-ok, send-ok, subscribe-ok}
-use Rattle.ntf_history.proofs.KeyLaws.{keys_same}
+use Rattle.ais_values.proofs.Basics.{pair_same}
 
 -- a call that is refused changes nothing
 pub past_after-by : (P : Past → Type 0) (setup : Setup) (past : Past) (client seq : ℕ) (now : ℤ) (call : Call) (answered : Status) → P past → (answered ≡ status.Ok → P (past_after setup past client seq now call status.Ok)) → P (past_after setup past client seq now call answered)
@@ -170,7 +170,7 @@ keys-called : (setup : Setup) (past : Past) (client seq : ℕ) (now : ℤ) (call
 keys-called setup past client seq now (NtfSubscribe id filters) entries next before other key known = by_case (client == other && seq == key) refl known where
   by_case : (mine : Bool) → (client == other && seq == key) ≡ mine → (mine || is_known past.ntf other key) ≡ true → key < next_number other (Called client seq now (NtfSubscribe id filters) ∷ entries)
   by_case true is known_now =
-      let same = keys_same client seq other key is in
+      let same = pair_same client seq other key is in
       let own : next_number other (Called client seq now (NtfSubscribe id filters) ∷ entries) ≡ next_number client entries + 1 =
       ap (λ c. next_number c (Called client seq now (NtfSubscribe id filters) ∷ entries)) (sym same.0) ∙ next-own client seq now (NtfSubscribe id filters) entries in
       omega (arith, own, same.1, next)

@@ -21,7 +21,8 @@ use Rattle.calls.specs.declared.entry.Entry.TheVariants.{Called, Receipted}
 use Rattle.calls.specs.declared.entry.Held.{Held}
 use Rattle.plain_service.specs.Setups.{Setup}
 use Rattle.plain_service.specs.Replies.{reply_of, next_number}
-use Rattle.plain_service.specs.Items.{items_of, held_for, is_new_receipt}
+use Rattle.plain_service.specs.Items.{items_of, held_for, made_for, through_for, is_new_receipt}
+use Rattle.plain_service.specs.Asked.{sub_for, sends_asked, sends_dropped}
 
 -- 2024-01-01T00:00:00 UTC
 abbrev now : ℤ
@@ -106,6 +107,18 @@ is_second_old = refl
 none_held : items_of setup (Receipted 1 2 3 now ∷ one_receipt) ≡ []
 unfolding items_of is_fit is_sound admits admits_option admits_common admits_body
 none_held = refl
+
+-- all five were asked for, and three of them dropped; a refused send is not among them, and no send behind the end
+abbrev after_end : List Entry
+after_end = sent (called 1 (NtfUnsubscribe 9) (called 3 (NtfSend (alarm 0 now (codes "f"))) one_receipt))
+
+all_asked : sends_asked setup after_end 1 2 ≡ lost 1 ∷ lost 2 ∷ lost 3 ∷ lost 4 ∷ lost 5 ∷ []
+unfolding sub_for reply_of is_fit is_sound admits admits_option admits_common admits_body
+all_asked = refl
+
+three_dropped : sends_dropped setup after_end 1 2 ≡ lost 3 ∷ lost 4 ∷ lost 5 ∷ []
+unfolding sub_for made_for through_for reply_of is_fit is_sound admits admits_option admits_common admits_body
+three_dropped = refl
 
 -- a reader at the first of two alarms of one time reads both and goes back, and finds none before the first
 abbrev reading : List Entry
