@@ -1,6 +1,6 @@
 -- What the active server makes of a message, by what the calls of its service tell.
 use Rattle.std.proofs.Common.{◌≡◌, ◌≢◌, ℕ, ◌+◌, ◌<◌, ◌≤◌, true, false, List, length, refl, ap, sym, subst, ◌∙◌, arith, Bor}
-use Rattle.std.specs.Prelude.{ℤ, Some, None, Result, Ok, Err, IfOk}
+use Rattle.std.specs.Prelude.{ℤ, Some, None}
 use Rattle.calls.specs.declared.call.Call.{Call}
 use Rattle.calls.specs.declared.reply.Reply.{Reply}
 use Rattle.calls.specs.declared.entry.Entry.{Entry}
@@ -20,16 +20,12 @@ use Rattle.cluster_facts.specs.Service.{is_new}
 use Rattle.service_laws.specs.PlainOf.{plain_of}
 use Rattle.mirror.specs.declared.heard.Why.TheVariants.{Old as OldRequest, Ahead as AheadRequest, Done}
 use Rattle.mirror.specs.declared.heard.Heard.{Heard}
-use Rattle.mirror.specs.Nodes.{Server, at_rest}
+use Rattle.mirror.specs.Nodes.{Server}
 use Rattle.mirror.specs.Hearing.{IsRequestHeard, IsReceiptHeard, ignored, repeated}
 use Rattle.mirror.specs.Reacting.{serving, IsAccepted, IsHeardAgain}
 use Rattle.mirror.proofs.Judging.{call-new, call-ahead, call-old, call-repeat, next-number, reply-under}
-use Rattle.mirror.proofs.NodeLaws.{count-is, next-of, new-of, new-follows}
-
--- what follows from the value of a result that is handed on
-pub on-ok : {T E : Type 0} (result : Result T E) (P Q : T → Type 0) → ((value : T) → P value → Q value) → IfOk result P → IfOk result Q
-on-ok (Ok value) P Q step is = step value is
-on-ok (Err error) P Q step is = tt
+use Rattle.mirror.proofs.NodeLaws.{count-is, next-of, new-of}
+use Rattle.service_laws.proofs.ServiceLaws.{new-receipt}
 
 -- Entries.
 
@@ -52,12 +48,6 @@ request-new setup past client number call now saved heard server stands can is a
     let next : number ≡ length (replies_to setup client past) + 1 = is ∙ next-is setup past saved client stands in
     let follows : CanFollow setup (Called client number now call) past = (can-accept setup past saved client now stands can, next ∙ sym (next-number setup client past)) in
     subst (λ judgement. IsRequestHeard setup past client number call now judgement heard server) (sym (call-new setup client number past next)) (accepted follows)
-
-again : (setup : Setup) (past : List Entry) (client number : ℕ) (call : Call) (now : ℤ) (judgement : Judged) (heard : Heard) (server : Server) → IsHeardAgain setup past client number judgement heard → server ≡ at_rest setup past → IsRequestHeard setup past client number call now judgement heard server
-again setup past client number call now New heard server is rest = absurd is
-again setup past client number call now Repeat heard server is rest = (is.0, is.1, is.2, rest)
-again setup past client number call now Old heard server is rest = (is, rest)
-again setup past client number call now Ahead heard server is rest = (is, rest)
 
 judged-as : (setup : Setup) (past : List Entry) (client number : ℕ) (judgement : Judged) (heard : Heard) → judged_call past client number ≡ judgement → IsHeardAgain setup past client number judgement heard → IsHeardAgain setup past client number (judged_call past client number) heard
 judged-as setup past client number judgement heard same is =
@@ -100,7 +90,7 @@ again-rest setup past client number saved heard told.Ahead other judged stands s
 pub receipt-new : (setup : Setup) (past : List Entry) (client key through : ℕ) (now : ℤ) (saved : Saved) (heard : Heard) (server : Server) → StandsFor setup past saved → CanAcceptIn saved client now → is_new_in saved client key through ≡ true → (CanFollow setup (Receipted client key through now) past → IsAccepted setup past (Receipted client key through now) heard server) → IsReceiptHeard setup past client key through now (is_new (plain_of setup) past client key through) heard server
 receipt-new setup past client key through now saved heard server stands can is accepted =
     let new : is_new (plain_of setup) past client key through ≡ true = sym (new-of setup past client key through) ∙ ap (λ value. is_new_in value client key through) (sym stands) ∙ is in
-    let follows : CanFollow setup (Receipted client key through now) past = (can-accept setup past saved client now stands can, new-follows setup past client key through new) in
+    let follows : CanFollow setup (Receipted client key through now) past = (can-accept setup past saved client now stands can, new-receipt setup past client key through new) in
     subst (λ b. IsReceiptHeard setup past client key through now b heard server) (sym new) (accepted follows)
 
 pub receipt-done : (setup : Setup) (past : List Entry) (client key through : ℕ) (now : ℤ) (saved : Saved) (heard : Heard) → StandsFor setup past saved → is_new_in saved client key through ≡ false → heard ≡ ignored Done → IsReceiptHeard setup past client key through now (is_new (plain_of setup) past client key through) heard (serving saved None)

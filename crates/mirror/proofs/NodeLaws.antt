@@ -1,9 +1,8 @@
 -- How many entries a server has applied, and what its service tells of clients and receipts, by the history that it stands for.
-use Rattle.std.proofs.Common.{◌≡◌, ℕ, suc, ◌+◌, true, List, ◌∷◌, length, refl, ap, sym, ◌∙◌}
+use Rattle.std.proofs.Common.{◌≡◌, ℕ, suc, ◌+◌, List, ◌∷◌, length, refl, ap, sym, ◌∙◌}
 use Rattle.std.specs.Prelude.{Option, Some}
 use Rattle.calls.specs.declared.reply.Reply.{Reply}
 use Rattle.calls.specs.declared.entry.Entry.{Entry}
-use Rattle.calls.specs.declared.entry.Entry.TheVariants.{Called, Receipted}
 use Rattle.calls.specs.declared.saved.Saved.{Saved}
 use Rattle.client_window.specs.Windows.{Kept}
 use Rattle.plain_service.specs.Setups.{Setup}
@@ -15,26 +14,15 @@ use Rattle.ntf_history.proofs.AnswerLaws.{is_new-kept}
 use Rattle.service_table.specs.Histories.{service_of}
 use Rattle.service_table.proofs.SavedLaws.{value-is}
 use Rattle.service_core.specs.Applying.{next_in, is_new_in}
-use Rattle.service_core.specs.Following.{reply_to_entry}
 use Rattle.service_core.proofs.FollowLaws.{next-is, new-is, window-is}
 use Rattle.cluster_facts.specs.Service.{is_new}
 use Rattle.service_laws.specs.PlainOf.{plain_of}
 use Rattle.mirror.specs.declared.heard.Role.{Role}
 use Rattle.mirror.specs.declared.owed.Owed.{Owed}
-use Rattle.mirror.specs.Nodes.{Server, at_rest, at_work, number_of, number_in_hand, replies_owed}
-use Rattle.mirror.specs.Reacting.{replies_for}
+use Rattle.mirror.specs.Nodes.{Server}
 
 abbrev pub server_with : Role → Option Saved → Option Owed → Server
 server_with role service owed = record { role = role; service = service; owed = owed }
-
--- **the number of the entry in hand**
-pub number-at_work : (setup : Setup) (past : List Entry) (entry : Entry) → number_in_hand (at_work setup past entry) ≡ Some (suc (length past))
-unfolding saved_of
-number-at_work setup past entry = refl
-
-pub number-at_rest : (setup : Setup) (past : List Entry) → number_of (at_rest setup past) ≡ Some (length past)
-unfolding saved_of
-number-at_rest setup past = refl
 
 pub count-is : (setup : Setup) (past : List Entry) → (saved_of setup past).number ≡ length past
 unfolding saved_of
@@ -62,14 +50,6 @@ new-by_plain setup past client key through = refl
 pub new-of : (setup : Setup) (past : List Entry) (client key through : ℕ) → is_new_in (saved_of setup past) client key through ≡ is_new (plain_of setup) past client key through
 new-of setup past client key through =
     new-by_table setup past client key through ∙ new-by_plain setup past client key through
-
-pub new-follows : (setup : Setup) (past : List Entry) (client key through : ℕ) → is_new (plain_of setup) past client key through ≡ true → is_new_receipt setup past client key through ≡ true
-new-follows setup past client key through new = new-by_plain setup past client key through ∙ new
-
--- the reply to an entry, as the message that is owed
-pub replies-are : (setup : Setup) (past : List Entry) (entry : Entry) (reply : Option Reply) → reply ≡ reply_to_entry setup past entry → replies_for entry reply ≡ replies_owed setup past entry
-replies-are setup past (Called client number time call) reply is = ap (replies_for (Called client number time call)) is
-replies-are setup past (Receipted client key through time) reply is = refl
 
 -- a server whose parts stay is what it was
 pub stays-is : (role : Role) (service : Option Saved) (owed later : Option Owed) (value : Server) (saved new : Saved) → server_with role service owed ≡ value → service ≡ Some saved → new ≡ saved → later ≡ owed → server_with role (Some new) later ≡ value

@@ -36,7 +36,8 @@ IsRequestHeard setup past client number call now New heard server =
     let entry = Called client number now call in
     (heard ≡ accepted_alone entry) × (server ≡ at_work setup past entry)
 IsRequestHeard setup past client number call now Repeat heard server =
-    (reply : Reply) × (reply_at number (answers_in (plain_of setup) client past) ≡ Some reply) × (heard ≡ repeated (Answer client number reply)) × (server ≡ at_rest setup past)
+    (reply : Reply) × (reply_at number (answers_in (plain_of setup) client past) ≡ Some reply) × (heard ≡ repeated (Answer client number reply))
+    × (server ≡ at_rest setup past)
 IsRequestHeard setup past client number call now Old heard server =
     (heard ≡ ignored OldRequest) × (server ≡ at_rest setup past)
 IsRequestHeard setup past client number call now Ahead heard server =

@@ -1,6 +1,6 @@
 //! A server of the cluster.
 ghost use Rattle.std.specs.Prelude.{◌≡◌, ◌≢◌, ◌↔◌, IsTrue, ℕ, suc, List, [], ◌∷◌, length, is_some, option_map, IsSome, IfOk, OnOk, OnErr, IsErrOf};
-ghost use Rattle.ais_values.specs.Causes.{HasCauseOf};
+ghost use Rattle.ais_values.specs.Causes.{RoseExactlyOn};
 ghost use Rattle.disk_model.specs.DeviceCalls.{all_applied, FailsAfter, LacksMemoryAfter};
 ghost use Rattle.disk_model.specs.declared.answers.DiskAnswer.{DiskAnswer};
 ghost use Rattle.stream_layout.specs.Deeds.{calls_of_all};
@@ -159,8 +159,8 @@ impl Node {
     /// nothing is in hand after it.
     ///
     /// `Memory`: some of the deeds' calls from the front were made, fewer than all, and the server is as it was, so
-    /// that it can work again. `Failed`, which comes only where the disk's count of faults rose: some calls from the
-    /// front were made and the next one failed, and the server is down.
+    /// that it can work again. `Failed`, which comes exactly where the disk's count of faults rose: some calls from
+    /// the front were made and the next one failed, and the server is down. On `Ok` and on `Memory` the count stands.
     pub fn work<D: SharedDisk>(&mut self, alloc: Global, disk: &mut D) -> Result<Heard, DiskAnswer>
         requires { IsSome self.old.owed }
         ensures done { IfOk result (λ heard. (heard ≡ worked (replies_in self.old.owed))
@@ -173,7 +173,7 @@ impl Node {
         ensures failed { IsErrOf result DiskAnswer.Failed → (self.new ≡ down)
             × (count : ℕ) × FailsAfter (calls_of_all (deeds_in self.old.owed)) count
             (D.files disk.old) (D.files disk.new) }
-        ensures cause { HasCauseOf (D.faults disk.old) (D.faults disk.new) result
+        ensures cause { RoseExactlyOn (D.faults disk.old) (D.faults disk.new) result
             DiskAnswer.Failed }
     {
         match do_deeds(disk, &self.owed) {

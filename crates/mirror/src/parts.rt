@@ -1,6 +1,6 @@
 //! What a node does on its parts: its service and what it owes.
 ghost use Rattle.std.specs.Prelude.{◌≡◌, ◌<◌, ℕ, List, [], Some, None, map, option_map, IsSome, IfOk, OnOk, OnErr, IsErrOf};
-ghost use Rattle.ais_values.specs.Causes.{HasCauseOf};
+ghost use Rattle.ais_values.specs.Causes.{RoseExactlyOn};
 ghost use Rattle.disk_model.specs.DeviceCalls.{all_applied, FailsAfter, LacksMemoryAfter};
 ghost use Rattle.disk_model.specs.declared.answers.DiskAnswer.{DiskAnswer};
 ghost use Rattle.stream_layout.specs.Deeds.{calls_of_all};
@@ -64,7 +64,7 @@ pub(crate) fn do_deeds<D: SharedDisk>(disk: &mut D, owed: &Option<Owed>) -> Resu
     ensures failed { IsErrOf result DiskAnswer.Failed →
         (count : ℕ) × FailsAfter (calls_of_all (deeds_in owed.now)) count
         (D.files disk.old) (D.files disk.new) }
-    ensures cause { HasCauseOf (D.faults disk.old) (D.faults disk.new) result DiskAnswer.Failed }
+    ensures cause { RoseExactlyOn (D.faults disk.old) (D.faults disk.new) result DiskAnswer.Failed }
 {
     match owed {
         None => Ok(()),

@@ -1,5 +1,6 @@
 use Rattle.std.proofs.Common.{◌<◌, ◌≤◌, subst}
-use Rattle.mirror.proofs.HearingLaws.{on-ok, again-ahead, again-repeat, again-rest}
+use Rattle.std.proofs.lemmas.Result.{IfOk-weaker}
+use Rattle.mirror.proofs.HearingLaws.{again-ahead, again-repeat, again-rest}
 use Rattle.mirror.proofs.hearing.hear_again.Goals as goal
 
 pub returns-then-next-seq : goal.returns-then-next-seq
@@ -11,7 +12,7 @@ returns-then-next-seq c =
 pub returns-in-Repeat : goal.returns-in-Repeat
 returns-in-Repeat c =
     let a = c.args in
-    on-ok c.repeat.result _ _ (λ heard is setup past history stands. again-repeat setup past a.client a.seq c.in-Repeat.reply.now heard history (c.in-Repeat.ensures setup past history stands) is) c.repeat.ensures
+    IfOk-weaker c.repeat.result _ _ (λ heard is setup past history stands. again-repeat setup past a.client a.seq c.in-Repeat.reply.now heard history (c.in-Repeat.ensures setup past history stands) is) c.repeat.ensures
 
 pub returns-in_default : goal.returns-in_default
 returns-in_default c =

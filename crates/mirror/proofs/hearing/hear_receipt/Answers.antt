@@ -1,18 +1,19 @@
 use Rattle.std.proofs.Common.{sym, subst, w64}
 use Rattle.std.proofs.lemmas.Int.{to_z-of_z}
+use Rattle.std.proofs.lemmas.Result.{IfOk-weaker}
 use Rattle.calls.specs.declared.entry.Entry.TheVariants.{Receipted}
 use Rattle.plain_service.specs.Legal.{CanFollow}
 use Rattle.service_laws.specs.PlainOf.{plain_of}
 use Rattle.cluster_facts.specs.Service.{is_new}
 use Rattle.mirror.specs.Hearing.{IsReceiptHeard}
 use Rattle.mirror.specs.Reacting.{serving, IsAccepted}
-use Rattle.mirror.proofs.HearingLaws.{on-ok, receipt-new, receipt-done}
+use Rattle.mirror.proofs.HearingLaws.{receipt-new, receipt-done}
 use Rattle.mirror.proofs.hearing.hear_receipt.Goals as goal
 
 pub returns-then-is_new-clause-ok : goal.returns-then-is_new-clause-ok
 returns-then-is_new-clause-ok c =
     let a = c.args in
-    on-ok c.accept.result _ _ (λ reaction accepted setup past history stands.
+    IfOk-weaker c.accept.result _ _ (λ reaction accepted setup past history stands.
     let server = serving c.accept.new.service reaction.owed in
     receipt-new setup past a.client a.key a.through a.now a.service.now reaction.heard server stands c.requires (sym c.if-is_new.ensures.value)
     (subst (λ moment. CanFollow setup (Receipted a.client a.key a.through moment) past → IsAccepted setup past (Receipted a.client a.key a.through moment) reaction.heard server) (to_z-of_z w64 a.now c.ranges.now) (accepted setup past history stands)))

@@ -1,15 +1,16 @@
 use Rattle.std.proofs.Common.{subst, ◌∙◌, w64}
 use Rattle.std.proofs.lemmas.Int.{to_z-of_z}
+use Rattle.std.proofs.lemmas.Result.{IfOk-weaker}
 use Rattle.calls.specs.declared.entry.Entry.TheVariants.{Called}
 use Rattle.plain_service.specs.Legal.{CanFollow}
 use Rattle.mirror.specs.Reacting.{serving, IsAccepted}
-use Rattle.mirror.proofs.HearingLaws.{on-ok, request-new}
+use Rattle.mirror.proofs.HearingLaws.{request-new}
 use Rattle.mirror.proofs.hearing.hear_request.Goals as goal
 
 pub returns-then-seq-next-clause-ok : goal.returns-then-seq-next-clause-ok
 returns-then-seq-next-clause-ok c =
     let a = c.args in
-    on-ok c.accept.result _ _ (λ reaction accepted setup past history stands.
+    IfOk-weaker c.accept.result _ _ (λ reaction accepted setup past history stands.
     let server = serving c.accept.new.service reaction.owed in
     request-new setup past a.client a.seq a.call.now a.now a.service.now reaction.heard server stands c.requires.can (c.if-seq-next.true ∙ c.next.ensures)
     (subst (λ call. CanFollow setup (Called a.client a.seq a.now call) past → IsAccepted setup past (Called a.client a.seq a.now call) reaction.heard server) c.in_ok-copy.ensures
