@@ -7,3 +7,5 @@ mod laws_tests;
 mod mirror_tests;
 #[cfg(test)]
 mod saved_fit_tests;
+#[cfg(test)]
+mod service_core_tests;

@@ -257,3 +257,36 @@ fn rules_broken_one_at_a_time(rt: HostRuntime) {
         each_breaks(&rt, rt.alloc(), part, rules[part as usize]);
     }
 }
+
+/// Whether a receipt is new to the service that is made of this value.
+fn takes(rt: &impl Abort, alloc: Global, plan: &Plan, client: u16, key: u32, through: u32) -> bool {
+    let value = built(rt, alloc, plan);
+    let new = match Service::restore(alloc, &value) {
+        Ok(service) => {
+            let new = service.is_new(client, key, through);
+            drop(service);
+            new
+        }
+        Err(_) => false,
+    };
+    drop(value);
+    new
+}
+
+/// Of two items the first was received.
+#[test]
+fn receipts_of_held_items_alone_are_new(rt: HostRuntime) {
+    let mut plan = sound();
+    plan.subs[0].first = 2;
+    plan.subs[0].held = 1;
+    for (client, key, through, new) in [
+        (1, 1, 1, false),
+        (1, 1, 2, true),
+        (1, 1, 3, false),
+        (1, 2, 2, false),
+        (2, 1, 2, false),
+    ] {
+        let taken = takes(&rt, rt.alloc(), &plan, client, key, through);
+        assert!(rt; taken == new, "{client} {key} {through}");
+    }
+}

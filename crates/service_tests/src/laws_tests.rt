@@ -64,6 +64,7 @@ fn laws_of_ntf_service() {
 
 #[test]
 fn laws_of_plain_service() {
+    plain_service::law_of_asked();
     plain_service::law_of_events();
     plain_service::law_of_files();
     plain_service::law_of_ids();

@@ -5,7 +5,7 @@ ghost use Rattle.stream_config.specs.Attributes.{PassesAttrs};
 ghost use Rattle.stream_config.specs.WellKnown.{default_file};
 ghost use Rattle.log_service.specs.State.{IsNotified};
 
-use ais_values::{ClassId, Name, Seq, Status, StreamKind, Text};
+use ais_values::{ClassId, Duplicate, Name, Seq, Status, StreamKind, Text};
 use log_service::{LogState, Step};
 use record_print::{Header, LogRecord};
 use std::alloc::Global;
@@ -324,7 +324,8 @@ fn is_end(event: &StreamEvent, letter: u8, stamp: i64) -> bool {
     }
 }
 
-/// Client 1 closes all that it has open: whether the streams of two letters end then, one behind the other.
+/// Client 1 closes all that it has open: whether the streams of two letters end then, one behind the other. A copy of
+/// the step is equal to it.
 fn end_in_order(
     rt: &impl Abort,
     alloc: Global,
@@ -338,8 +339,9 @@ fn end_in_order(
         [one, other] => is_end(one, first.0, first.1) && is_end(other, second.0, second.1),
         _ => false,
     };
+    let equal = step.copy(alloc)? == step;
     drop(step);
-    Ok(in_order)
+    Ok(in_order && equal)
 }
 
 /// Streams end in the order in which they were made, and not in that of their names. One that another client has
