@@ -1,6 +1,6 @@
 -- Where nothing fails, and the input is what was asked for, a run ends well or lacks memory.
-use Rattle.std.proofs.Common.{◌≡◌, ℕ, ◌+◌, ◌≤◌, ◌⊎◌, inl, inr, List, [], ◌∷◌, ◌++◌, length, true, false, Option, Some, None, refl, ap, sym, ◌∙◌, subst, arith, append-nil}
-use Rattle.std.specs.Prelude.{codes, IfSome}
+use Rattle.std.proofs.Common.{◌≡◌, ℕ, ◌+◌, ◌≤◌, inl, inr, List, ◌∷◌, ◌++◌, length, true, false, Option, Some, None, refl, ap, sym, ◌∙◌, subst, arith, append-nil}
+use Rattle.std.specs.Prelude.{IfSome}
 use Rattle.std.specs.FinMap.{keys, entries, len-entries, len-empty}
 use Rattle.std.specs.Ordering.{nat_cmp}
 use Rattle.std.specs.Cmp.Lexicographic.{slice_cmp}
@@ -17,6 +17,7 @@ use Rattle.aisrun.specs.declared.ending.Status8.TheVariants.{Done, ScriptRefused
 use Rattle.aisrun.specs.declared.command.Command.{Command}
 use Rattle.aisrun.specs.declared.command.Command.TheVariants.{Run, Check, Expr}
 use Rattle.aisrun.specs.Commands.{command_of, text_of}
+use Rattle.aisrun.specs.Completing.{CanCheck, CanParse, CanRun, IsDoneOrMemory}
 use Rattle.aisrun.specs.Edges.{Edge, before, after, Faulted, Around}
 use Rattle.aisrun.specs.Endings.{input_limit, ReadsWhole, InputTooLong, Ends, Reads, NoScript, NotBuilt, NoExpression}
 use Rattle.aisrun.specs.Playing.{has_failures}
@@ -135,20 +136,22 @@ module _ {S K D : Type 0} (run : Around S K D) where
   parsed kind words faultless TooLong text end = absurd (not-reading kind words end.words)
 
   -- where the sink does not fail either, only memory may be missing
-  well : (status : Status8) → (Faulted run.stage.sink → ⊥) → ((text : List ℕ) → Ends run (Some status) text → status ≡ Done) → Written (Ends run) (WordsLack run) run.stage.sink status → (status ≡ Done) ⊎ (status ≡ Memory)
+  well : (status : Status8) → (Faulted run.stage.sink → ⊥) → ((text : List ℕ) → Ends run (Some status) text → status ≡ Done) → Written (Ends run) (WordsLack run) run.stage.sink status → IsDoneOrMemory status
   well status sink only (Whole text e appends) = inl (only text e)
   well status sink only (SinkFailed is rose reached text e front) = absurd (sink rose)
   well status sink only (SinkLacked is reached text e front) = inr is
   well status sink only (Lacked is text l appends) = inr is
 
-  pub completes : (status : Status8) → Written (Ends run) (WordsLack run) run.stage.sink status → (lines : List Line) (bytes : List ℕ) → run.words ≡ codes "run" ∷ [] → before run.source ≡ Some bytes → length bytes ≤ 16777216 → IsScriptOf lines bytes → has_failures lines ≡ false → before run.stage.disk ≡ Some no_files → (Faulted run.source → ⊥) → (Faulted run.stage.sink → ⊥) → (Faulted run.stage.disk → ⊥) → (status ≡ Done) ⊎ (status ≡ Memory)
-  completes status written lines bytes words left short script free empty reads sink disk =
-      well status sink (λ text end. played lines bytes (ap command_of words) left short script free empty reads disk status text end) written
+  pub completes : (status : Status8) → Written (Ends run) (WordsLack run) run.stage.sink status → CanRun run.words (before run.source) (before run.stage.disk) → (Faulted run.source → ⊥) → (Faulted run.stage.sink → ⊥) → (Faulted run.stage.disk → ⊥) → IsDoneOrMemory status
+  completes status written can reads sink disk =
+      let script = can.script in
+      well status sink (λ text end. played can.lines script.bytes (ap command_of can.asked) script.told script.short script.script can.built can.empty reads disk status text end) written
 
-  pub checks : (status : Status8) → Written (Ends run) (WordsLack run) run.stage.sink status → (lines : List Line) (bytes : List ℕ) → run.words ≡ codes "check" ∷ [] → before run.source ≡ Some bytes → length bytes ≤ 16777216 → IsScriptOf lines bytes → (Faulted run.source → ⊥) → (Faulted run.stage.sink → ⊥) → (status ≡ Done) ⊎ (status ≡ Memory)
-  checks status written lines bytes words left short script reads sink =
-      well status sink (λ text end. checked lines bytes (ap command_of words) left short script reads status text end) written
+  pub checks : (status : Status8) → Written (Ends run) (WordsLack run) run.stage.sink status → CanCheck run.words (before run.source) → (Faulted run.source → ⊥) → (Faulted run.stage.sink → ⊥) → IsDoneOrMemory status
+  checks status written can reads sink =
+      let script = can.script in
+      well status sink (λ text end. checked can.lines script.bytes (ap command_of can.asked) script.told script.short script.script reads status text end) written
 
-  pub exprs : (status : Status8) → Written (Ends run) (WordsLack run) run.stage.sink status → (kind : StreamKind) → command_of run.words ≡ Some (Expr kind) → ((fault : ExprFault) → IsFault kind (text_of run.words) fault → ⊥) → (Faulted run.stage.sink → ⊥) → (status ≡ Done) ⊎ (status ≡ Memory)
-  exprs status written kind words faultless sink =
-      well status sink (λ text end. parsed kind words faultless status text end) written
+  pub exprs : (status : Status8) → Written (Ends run) (WordsLack run) run.stage.sink status → CanParse run.words → (Faulted run.stage.sink → ⊥) → IsDoneOrMemory status
+  exprs status written can sink =
+      well status sink (λ text end. parsed can.kind can.asked can.faultless status text end) written

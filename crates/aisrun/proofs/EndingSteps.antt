@@ -1,9 +1,10 @@
 -- Ends of parts are ends of the whole.
-use Rattle.std.proofs.Common.{◌≡◌, ℕ, ◌≤◌, inl, inr, List, [], ◌∷◌, ◌++◌, false, Option, Some, None, Result, Ok, Err, refl, ap, sym, ◌∙◌, subst, append-nil, arith}
+use Rattle.std.proofs.Common.{◌≡◌, ℕ, inl, inr, List, [], ◌∷◌, ◌++◌, false, Option, Some, None, Result, Ok, Err, refl, ap, sym, ◌∙◌, subst, append-nil}
 use Rattle.std.specs.Prelude.{IfOk, IfSome, codes}
 use Rattle.std.specs.FinMap as files
 use Rattle.std.specs.Io.KnownBytes.{Appends}
 use Rattle.std.proofs.KnownBytes.{Appends-nil}
+use Rattle.ais_values.specs.Causes.{Rose}
 use Rattle.ais_values.specs.declared.kind.StreamKind.{StreamKind}
 use Rattle.disk_model.specs.Disk.{Files}
 use Rattle.script_lines.specs.declared.line.Line.{Line}
@@ -29,7 +30,7 @@ use Rattle.aisrun.specs.Playing.{files_told, has_failures, Goes, PlaysFront, Sta
 use Rattle.aisrun.specs.RunSteps.{EndWritten, InputEnds, InputLacks}
 use Rattle.aisrun.specs.Scripting.{BytesEnd, BytesLack}
 use Rattle.aisrun.specs.Steps.{EventsEnd, LacksBehind, IsNever, IsText, Reaching, Written, Lacked}
-use Rattle.aisrun.proofs.WritingSteps.{Rose-whole, written-as}
+use Rattle.aisrun.proofs.WritingSteps.{written-as}
 
 -- the end of a text
 pub text-ends : (E : Reaching) (status : Status8) (whole : List ℕ) → E (Some status) whole → (reached : Option Status8) (text : List ℕ) → IsText status whole reached text → E reached text
@@ -70,18 +71,18 @@ front-of held opening events done rest setup places text begins empty parts goes
 }
 
 module _ {K D : Type 0} (told : K → Option (List ℕ)) (sink_faults : K → ℕ) (out out_after : K) (held : D → Option Files) (disk_faults : D → ℕ) (world world_after : World) where
-  -- the count rose in a longer time too
-  since-earlier : (old mid new : D) (files : Option Files) → disk_faults old ≤ disk_faults mid → FaultedSince (edge held disk_faults mid new) files → FaultedSince (edge held disk_faults old new) files
-  since-earlier old mid new files risen since =
-      let later : disk_faults mid ≤ disk_faults since.mid = since.later in
-      record { mid = since.mid; stands = since.stands; later = omega arith; rose = since.rose }
+  -- the count stood before
+  since-earlier : (old mid new : D) (files : Option Files) → disk_faults mid ≡ disk_faults old → FaultedSince (edge held disk_faults mid new) files → FaultedSince (edge held disk_faults old new) files
+  since-earlier old mid new files stood since =
+      record { mid = since.mid; told = since.told; stood = since.stood ∙ stood; rose = since.rose }
 
   since-faulted : (old new : D) (files : Option Files) → FaultedSince (edge held disk_faults old new) files → Faulted (edge held disk_faults old new)
   since-faulted old new files since =
-      Rose-whole (disk_faults old) (disk_faults since.mid) (disk_faults new) (disk_faults new) since.later since.rose (omega arith)
+      let R : ℕ → Type 0 = λ count. Rose count (disk_faults new) in
+      subst R since.stood since.rose
 
-  pub events-play : (old mid new : D) (opening : Line) (events : List Line) (setup : Setup) (places : ℕ) → Begins opening setup places → HoldsNone (held old) → disk_faults old ≤ disk_faults mid → (reached : Option Status8) (text : List ℕ) → EventsEnd setup places (held old) (held new) (FaultedSince (edge held disk_faults mid new)) world_after events reached text → PlayEnds (opening ∷ events) (stage (edge told sink_faults out out_after) (edge held disk_faults old new) world world_after) reached text
-  events-play old mid new opening events setup places begins empty risen None text ends = (
+  pub events-play : (old mid new : D) (opening : Line) (events : List Line) (setup : Setup) (places : ℕ) → Begins opening setup places → HoldsNone (held old) → disk_faults mid ≡ disk_faults old → (reached : Option Status8) (text : List ℕ) → EventsEnd setup places (held old) (held new) (FaultedSince (edge held disk_faults mid new)) world_after events reached text → PlayEnds (opening ∷ events) (stage (edge told sink_faults out out_after) (edge held disk_faults old new) world world_after) reached text
+  events-play old mid new opening events setup places begins empty stood None text ends = (
     ends.0,
     ends.1,
     record {
@@ -89,26 +90,26 @@ module _ {K D : Type 0} (told : K → Option (List ℕ)) (sink_faults : K → �
       now = ends.3.now;
     },
   )
-  events-play old mid new opening events setup places begins empty risen (Some Done) text ends = (
+  events-play old mid new opening events setup places begins empty stood (Some Done) text ends = (
     events,
     record {
       front = front-of (held old) opening events events [] setup places text begins empty (sym (append-nil events)) ends.goes;
       now = ends.now;
     },
   )
-  events-play old mid new opening events setup places begins empty risen (Some DiskFault) text ends =
+  events-play old mid new opening events setup places begins empty stood (Some DiskFault) text ends =
       let broke = ends in
       let behind = broke.behind in
-      let since = since-earlier old mid new (files_told behind.goes.files (held old)) risen broke.since in
+      let since = since-earlier old mid new (files_told behind.goes.files (held old)) stood broke.since in
       let front = front-of (held old) opening events behind.done (behind.next ∷ behind.rest) setup places broke.front begins empty behind.parts behind.goes in
       (since-faulted old new (files_told behind.goes.files (held old)) since, AtEvent behind.done behind.next behind.rest broke.front front broke.lines broke.fault since broke.written)
-  events-play old mid new opening events setup places begins empty risen (Some ScriptRefused) text ends = absurd ends
-  events-play old mid new opening events setup places begins empty risen (Some Usage) text ends = absurd ends
-  events-play old mid new opening events setup places begins empty risen (Some Memory) text ends = absurd ends
-  events-play old mid new opening events setup places begins empty risen (Some ReadFault) text ends = absurd ends
-  events-play old mid new opening events setup places begins empty risen (Some WriteFault) text ends = absurd ends
-  events-play old mid new opening events setup places begins empty risen (Some RootNotEmpty) text ends = absurd ends
-  events-play old mid new opening events setup places begins empty risen (Some TooLong) text ends = absurd ends
+  events-play old mid new opening events setup places begins empty stood (Some ScriptRefused) text ends = absurd ends
+  events-play old mid new opening events setup places begins empty stood (Some Usage) text ends = absurd ends
+  events-play old mid new opening events setup places begins empty stood (Some Memory) text ends = absurd ends
+  events-play old mid new opening events setup places begins empty stood (Some ReadFault) text ends = absurd ends
+  events-play old mid new opening events setup places begins empty stood (Some WriteFault) text ends = absurd ends
+  events-play old mid new opening events setup places begins empty stood (Some RootNotEmpty) text ends = absurd ends
+  events-play old mid new opening events setup places begins empty stood (Some TooLong) text ends = absurd ends
 
   pub events-lack : (old new : D) (opening : Line) (events : List Line) (setup : Setup) (places : ℕ) → Begins opening setup places → HoldsNone (held old) → (text : List ℕ) → LacksBehind setup places (held old) (held new) world_after events text → PlayLacks (opening ∷ events) (stage (edge told sink_faults out out_after) (edge held disk_faults old new) world world_after) text
   events-lack old new opening events setup places begins empty text broke =
@@ -122,33 +123,32 @@ module _ {K D : Type 0} (told : K → Option (List ℕ)) (sink_faults : K → �
       let moved = subst F same (played.front, played.now) in
       record { front = moved.0; now = moved.1 }
 
-  fails-earlier : (old mid new : D) (lines : List Line) → held mid ≡ held old → disk_faults old ≤ disk_faults mid → (text : List ℕ) → DiskFails lines (stage (edge told sink_faults out out_after) (edge held disk_faults mid new) world world_after) text → DiskFails lines (stage (edge told sink_faults out out_after) (edge held disk_faults old new) world world_after) text
-  fails-earlier old mid new lines same risen text (AtNames stays still is) = AtNames (stays ∙ same) still is
-  fails-earlier old mid new lines same risen text (AtOpening opens count fails since still is) =
-      let since_old = since-earlier old mid new (held mid) risen since in
-      let F : Option Files → Type 0 = λ one. (opened : Opens lines one) × FailsAfter (calls_of_all (opening_of opened.setup)) count one (held new) × FaultedSince (edge held disk_faults old new) one in
-      let moved = subst F same (opens, fails, since_old) in
-      AtOpening moved.0 count moved.1 moved.2 still is
-  fails-earlier old mid new lines same risen text (AtEvent done next rest text_before front printed fault since is) =
-      let since_old = since-earlier old mid new (files_told front.goes.files (held mid)) risen since in
+  fails-earlier : (old mid new : D) (lines : List Line) → held mid ≡ held old → disk_faults mid ≡ disk_faults old → (text : List ℕ) → DiskFails lines (stage (edge told sink_faults out out_after) (edge held disk_faults mid new) world world_after) text → DiskFails lines (stage (edge told sink_faults out out_after) (edge held disk_faults old new) world world_after) text
+  fails-earlier old mid new lines same stood text (AtNames stays still is) = AtNames (stays ∙ same) still is
+  fails-earlier old mid new lines same stood text (AtOpening opens count fails still is) =
+      let F : Option Files → Type 0 = λ one. (opened : Opens lines one) × FailsAfter (calls_of_all (opening_of opened.setup)) count one (held new) in
+      let moved = subst F same (opens, fails) in
+      AtOpening moved.0 count moved.1 still is
+  fails-earlier old mid new lines same stood text (AtEvent done next rest text_before front printed fault since is) =
+      let since_old = since-earlier old mid new (files_told front.goes.files (held mid)) stood since in
       let F : Option Files → Type 0 = λ one. (plays : PlaysFront one lines done (next ∷ rest) text_before) × FaultLeft plays.setup plays.goes.state next (files_told plays.goes.files one) (held new) world_after printed × FaultedSince (edge held disk_faults old new) (files_told plays.goes.files one) in
       let moved = subst F same (front, fault, since_old) in
       AtEvent done next rest text_before moved.0 printed moved.1 moved.2 is
 
-  pub play-earlier : (old mid new : D) (lines : List Line) → held mid ≡ held old → disk_faults old ≤ disk_faults mid → (reached : Option Status8) (text : List ℕ) → PlayEnds lines (stage (edge told sink_faults out out_after) (edge held disk_faults mid new) world world_after) reached text → PlayEnds lines (stage (edge told sink_faults out out_after) (edge held disk_faults old new) world world_after) reached text
-  play-earlier old mid new lines same risen None text ends = (ends.0, ends.1, played-earlier old mid new lines ends.0 ends.1 text same ends.2)
-  play-earlier old mid new lines same risen (Some Done) text ends = (ends.0, played-earlier old mid new lines ends.0 [] text same ends.1)
-  play-earlier old mid new lines same risen (Some DiskFault) text ends =
-      (Rose-whole (disk_faults old) (disk_faults mid) (disk_faults new) (disk_faults new) risen ends.0 (omega arith), fails-earlier old mid new lines same risen text ends.1)
-  play-earlier old mid new lines same risen (Some RootNotEmpty) text ends =
+  pub play-earlier : (old mid new : D) (lines : List Line) → held mid ≡ held old → disk_faults mid ≡ disk_faults old → (reached : Option Status8) (text : List ℕ) → PlayEnds lines (stage (edge told sink_faults out out_after) (edge held disk_faults mid new) world world_after) reached text → PlayEnds lines (stage (edge told sink_faults out out_after) (edge held disk_faults old new) world world_after) reached text
+  play-earlier old mid new lines same stood None text ends = (ends.0, ends.1, played-earlier old mid new lines ends.0 ends.1 text same ends.2)
+  play-earlier old mid new lines same stood (Some Done) text ends = (ends.0, played-earlier old mid new lines ends.0 [] text same ends.1)
+  play-earlier old mid new lines same stood (Some DiskFault) text ends =
+      (subst (λ count. Rose count (disk_faults new)) stood ends.0, fails-earlier old mid new lines same stood text ends.1)
+  play-earlier old mid new lines same stood (Some RootNotEmpty) text ends =
       let L : Option Files → Type 0 = λ one. IfSome one (λ f. (others : List (List ℕ)) × (files.keys f ≡ ends.name ∷ others)) in
       record { name = ends.name; least = subst L same ends.least; same = ends.same ∙ same; world = ends.world; printed = ends.printed }
-  play-earlier old mid new lines same risen (Some ScriptRefused) text ends = absurd ends
-  play-earlier old mid new lines same risen (Some Usage) text ends = absurd ends
-  play-earlier old mid new lines same risen (Some Memory) text ends = absurd ends
-  play-earlier old mid new lines same risen (Some ReadFault) text ends = absurd ends
-  play-earlier old mid new lines same risen (Some WriteFault) text ends = absurd ends
-  play-earlier old mid new lines same risen (Some TooLong) text ends = absurd ends
+  play-earlier old mid new lines same stood (Some ScriptRefused) text ends = absurd ends
+  play-earlier old mid new lines same stood (Some Usage) text ends = absurd ends
+  play-earlier old mid new lines same stood (Some Memory) text ends = absurd ends
+  play-earlier old mid new lines same stood (Some ReadFault) text ends = absurd ends
+  play-earlier old mid new lines same stood (Some WriteFault) text ends = absurd ends
+  play-earlier old mid new lines same stood (Some TooLong) text ends = absurd ends
 
   pub lacks-earlier : (old mid new : D) (lines : List Line) → held mid ≡ held old → (text : List ℕ) → PlayLacks lines (stage (edge told sink_faults out out_after) (edge held disk_faults mid new) world world_after) text → PlayLacks lines (stage (edge told sink_faults out out_after) (edge held disk_faults old new) world world_after) text
   lacks-earlier old mid new lines same text (Unopened none stays still) = Unopened none (stays ∙ same) still

@@ -1,5 +1,5 @@
 -- What is promised where a fault of the disk ended a run holds.
-use Rattle.std.proofs.Common.{◌≡◌, ℕ, suc, inl, inr, Bool, true, false, ◌==◌, if◌then◌else◌, ℤ, List, [], ◌∷◌, ◌++◌, length, Option, Some, None, refl, ap, sym, subst, arith}
+use Rattle.std.proofs.Common.{◌≡◌, ℕ, inl, inr, Bool, true, false, ◌==◌, if◌then◌else◌, ℤ, List, [], ◌∷◌, ◌++◌, Option, Some, None, ap, sym, subst, arith}
 use Rattle.std.specs.Prelude.{IfSome}
 use Rattle.std.specs.List.{AllByRecursion}
 use Rattle.disk_model.specs.Disk.{Files}
@@ -7,7 +7,7 @@ use Rattle.script_lines.specs.declared.line.Line.{Line}
 use Rattle.plain_service.specs.Setups.{Setup, CanBegin}
 use Rattle.plain_service.specs.Storing.{files_of}
 use Rattle.cluster_facts.specs.Types.{Call, Reply, Entry, Called, Receipted, Message, Answer}
-use Rattle.cluster_facts.specs.Lists.{Stands, IsNumbered}
+use Rattle.cluster_facts.specs.Lists.{Stands}
 use Rattle.cluster_facts.specs.Messages.{calls_in}
 use Rattle.cluster_facts.specs.Service.{Plain, answers_in}
 use Rattle.cluster_facts.specs.Storage.{Between}
@@ -15,7 +15,7 @@ use Rattle.cluster_facts.specs.History.{Hand, IsLegal, accepted_by, committed_by
 use Rattle.cluster_facts.specs.Ranges.{AreInRange}
 use Rattle.cluster_facts.specs.World.{World as WorldOf, empty_world}
 use Rattle.cluster_facts.specs.Facts.{IsOfRun}
-use Rattle.cluster_facts.proofs.Words.{by_test, All-at, IsNumbered-bound}
+use Rattle.cluster_facts.proofs.Words.{All-at, IsNumbered-bound}
 use Rattle.cluster_facts.proofs.Growing.{IsLegal-before}
 use Rattle.cluster_events.specs.Lines.{Told}
 use Rattle.cluster_events.specs.Saying.{replies_told}
@@ -33,7 +33,9 @@ use Rattle.aisrun.specs.AfterFault.{RecordsKept, IsUnanswered, FaultKeeps, Keeps
 use Rattle.aisrun.specs.Endings.{FaultLeft, Showing, Working}
 use Rattle.aisrun.specs.Playing.{files_told, Goes}
 use Rattle.aisrun.proofs.GoingSteps.{told-same}
+use Rattle.aisrun.proofs.TellingLaws.{each-told}
 use Rattle.aisrun.proofs.PlayLaws.{at-end, answered-range, played-files, played-says, played-stays}
+use Rattle.cluster_core.proofs.WorkSteps.{own-number}
 
 -- The entry in hand is unanswered.
 
@@ -54,17 +56,11 @@ answers-called plain client number reply (Called caller other time asked ∷ pas
     cases (caller == client) stands
 answers-called plain client number reply (Receipted sender key through time ∷ past) stands = answers-called plain client number reply past stands
 
--- a call behind a history in which each client's calls are numbered has the number above them
-next-number : (client number : ℕ) (time : ℤ) (call : Call) (past : List Entry) → IsNumbered (calls_in client (Called client number time call ∷ past)) → number ≡ suc (length (calls_in client past))
-next-number client number time call past numbered =
-    let P : Bool → Type 0 = λ b. IsNumbered (if b then (number, call) ∷ calls_in client past else calls_in client past) → number ≡ suc (length (calls_in client past)) in
-    by_test P client client (λ same calls. calls.0) (λ different. absurd (different refl)) numbered
-
 -- so its history has no reply to it
 not-answered : (plain : Plain) (now : ℤ) (client number : ℕ) (time : ℤ) (call : Call) (past : List Entry) → IsLegal plain now (Called client number time call ∷ past) → (reply : Reply) → Stands (number, reply) (answers_in plain client past) → ⊥
 not-answered plain now client number time call past legal reply stands =
     let before = IsLegal-before plain now (Called client number time call) past legal in
-    let next = next-number client number time call past (legal.numbered client) in
+    let next = own-number client number time call past (legal.numbered client) in
     let called = answers-called plain client number reply past stands in
     let bound = IsNumbered-bound (number, called.0) (calls_in client past) (before.numbered client) called.1 in
     omega arith
@@ -132,8 +128,10 @@ module _ (setup : Setup) (places : ℕ) (told_first : Option Files) (played : Li
       let says = Says-both plain start goes.state.world reached goes.told told (played-says setup places told_first goes.run).1 fault.says in
       let tells : TellsFiles setup goes.state (files_told goes.files told_first) = told-same told_first (files_told goes.files told_first) (files_of setup goes.state.world.core.answered) (ap (λ (files : Files). files_told files told_first) files-stand) in
       let leaves = subst (λ (hand : Hand). LeavesBetween setup (committed_by past hand) (files_told goes.files told_first) left) fault.in_hand (fault.files tells) in
+      let promises = at-end plain reached (told ++ goes.told) setup.start places fault.good.steady.sound says in
       record {
-        promises = at-end plain reached (told ++ goes.told) setup.start places fault.good.steady.sound says;
+        promises = promises;
+        tells = each-told setup reached promises.items;
         unanswered = unanswered plain reached.now fault.entry past reached.net (told ++ goes.told) legal facts.run (λ client. (says.replies client).right);
         records = left-between setup (fault.entry ∷ past) (files_told goes.files told_first) left (RecordsKept setup fault.entry reached) leaves (λ files between. records-kept setup fault.good.begins fault.entry reached files legal range facts.run between);
       }

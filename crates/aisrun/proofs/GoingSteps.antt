@@ -1,5 +1,5 @@
 -- Lines that are played one after another.
-use Rattle.std.proofs.Common.{◌≡◌, ℕ, suc, ◌+◌, ◌<◌, ℤ, List, [], ◌∷◌, ◌++◌, length, drop, get_or, reverse, Option, Some, None, ◌≤◌, refl, ap, sym, ◌∙◌, subst, append_assoc, append-nil, add-one, drop-cons}
+use Rattle.std.proofs.Common.{◌≡◌, ℕ, suc, ◌+◌, ◌<◌, ℤ, List, [], ◌∷◌, ◌++◌, length, drop, get_or, reverse, Option, Some, None, refl, ap, sym, ◌∙◌, subst, append_assoc, append-nil, add-one, drop-cons}
 use Rattle.std.specs.Prelude.{IfSome, option_map}
 use Rattle.std.specs.Io.KnownBytes.{Appends}
 use Rattle.std.proofs.KnownBytes.{Appends-nil, Appends-trans}
@@ -15,7 +15,7 @@ use Rattle.cluster_events.specs.Lines.{Told}
 use Rattle.cluster_events.specs.OnDisk.{performed}
 use Rattle.cluster_events.specs.Servers.{State}
 use Rattle.lone_cluster.specs.Lone.{Alone, lone_start}
-use Rattle.event_text.specs.Texts.{printed, lines_of}
+use Rattle.event_text.specs.Texts.{printed}
 use Rattle.service_laws.specs.Disks.{service_disk}
 use Rattle.service_laws.specs.StorageOf.{storage_of}
 use Rattle.cluster_core.specs.declared.world.World.{World}
@@ -23,6 +23,7 @@ use Rattle.cluster_core.specs.Beginning.{Begun}
 use Rattle.cluster_core.specs.Broken.{Broken}
 use Rattle.cluster_core.specs.Playing.{EventDone, FaultLeaves}
 use Rattle.cluster_core.specs.Worlds.{HasState, IsGood, Shows, TellsFiles}
+use Rattle.cluster_core.proofs.SettlingLines.{printed-append}
 use Rattle.aisrun.specs.Playing.{files_told, Goes, Played, text_of}
 use Rattle.aisrun.specs.Playing.Played.{Begun as Starts, Went}
 use Rattle.aisrun.specs.declared.ending.Status8.{Status8}
@@ -32,15 +33,6 @@ use Rattle.aisrun.specs.Endings.{FaultLeft, Showing, Working}
 use Rattle.aisrun.specs.Steps.{Behind, CanFollow, EventsEnd, Going, LacksBehind, LineEnds, LineLacks, Plays, Written, Whole, joined_lines, time_behind}
 use Rattle.aisrun.proofs.PlayLaws.{line-kept, line-now, answered-range, played-files}
 use Rattle.aisrun.proofs.WritingSteps.{written-behind}
-
-printed-append : (later earlier : List Told) → printed (later ++ earlier) ≡ printed earlier ++ printed later
-printed-append [] earlier = sym (append-nil (printed earlier))
-  where
-    append-nil : (xs : List (List ℕ)) → xs ++ [] ≡ xs
-    append-nil [] = refl
-    append-nil (x ∷ xs) = ap (λ ys. x ∷ ys) (append-nil xs)
-printed-append (line ∷ later) earlier =
-    ap (λ lines. lines ++ lines_of line) (printed-append later earlier) ∙ append_assoc (printed earlier) (printed later) (lines_of line)
 
 text-append : (later earlier : List Told) → text_of (later ++ earlier) ≡ text_of earlier ++ text_of later
 text-append later earlier =
@@ -198,7 +190,7 @@ line-lacks setup places held mid left old new done next others front going text 
     subst L (sym (ap (λ (more : List ℕ). front ++ more) lacks.0 ∙ append-nil front)) whole
 
 -- a line that ended the run
-pub behind-ends : {K : Type 0} (told : K → Option (List ℕ)) (faults : K → ℕ) (first mid last : K) (setup : Setup) (places : ℕ) (held disk left : Option Files) (between later : ℕ) (Since : Option Files → Type 0) (old new : World) (events : List Line) (next : Line) (others : List Line) (status : Status8) → (behind : Behind setup places held disk old (edge told faults first mid) events (next ∷ others)) → faults first ≤ faults mid → (Rose between later → Since disk) → Written (LineEnds setup behind.going.state next disk left between later new) (LineLacks setup behind.going.state disk left new) (edge told faults mid last) status → Written (EventsEnd setup places held left Since new events) (LacksBehind setup places held left new events) (edge told faults first last) status
+pub behind-ends : {K : Type 0} (told : K → Option (List ℕ)) (faults : K → ℕ) (first mid last : K) (setup : Setup) (places : ℕ) (held disk left : Option Files) (between later : ℕ) (Since : Option Files → Type 0) (old new : World) (events : List Line) (next : Line) (others : List Line) (status : Status8) → (behind : Behind setup places held disk old (edge told faults first mid) events (next ∷ others)) → faults mid ≡ faults first → (Rose between later → Since disk) → Written (LineEnds setup behind.going.state next disk left between later new) (LineLacks setup behind.going.state disk left new) (edge told faults mid last) status → Written (EventsEnd setup places held left Since new events) (LacksBehind setup places held left new events) (edge told faults first last) status
 behind-ends told faults first mid last setup places held disk left between later Since old new events next others status behind sink rises written =
     let all = behind.done ++ next ∷ others in
     let front = behind.text in

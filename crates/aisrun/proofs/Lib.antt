@@ -1,7 +1,9 @@
 mod WritingSteps
+mod CountSteps
 mod ScriptSteps
 mod PlayLaws
 mod PromiseLaws
+mod TellingLaws
 mod WaitingLaws
 mod RefusalLaws
 mod TimeLaws

@@ -48,7 +48,7 @@ use Rattle.aisrun.specs.Steps.{time_behind}
 abbrev Steady : Setup → State Alone → Type 0
 Steady setup state = IsSteady (plain_of setup) IsGoodAlone state
 
-serves : (setup : Setup) → IsServing (plain_of setup) (lone (plain_of setup)) IsGoodAlone
+pub serves : (setup : Setup) → IsServing (plain_of setup) (lone (plain_of setup)) IsGoodAlone
 serves setup = lone-serves (plain_of setup) (is_plain setup)
 
 -- each line keeps the facts, and says what it must

@@ -27,7 +27,7 @@ each-end setup places held P always (Went {state = state} next shelf outcome mor
     let R : List Entry → Type 0 = λ entries. AreInRange entries in
     (always _ _ _ _ (Went next shelf outcome more run shelf_is happens grown) range, each-end setup places held P always run (range-before more state.world.core.answered (subst R grown range)))
 
-throughout : (held : Option Files) (P : Setup → Sentence) → ((setup : Setup) (places : ℕ) (held : Option Files) → CanBegin setup → (lines : List Line) (state : State Alone) (told : List Told) (files : Files) → Played setup places held lines state told files → AreInRange state.world.core.answered → P setup lines state told files) → Throughout held P
+pub throughout : (held : Option Files) (P : Setup → Sentence) → ((setup : Setup) (places : ℕ) (held : Option Files) → CanBegin setup → (lines : List Line) (state : State Alone) (told : List Told) (files : Files) → Played setup places held lines state told files → AreInRange state.world.core.answered → P setup lines state told files) → Throughout held P
 throughout held P always script done rest text front =
     let plays = front.goes in
     let core = plays.state.world.core in

@@ -23,15 +23,14 @@ use Rattle.cluster_events.specs.ClientEvents.{post_lines, ask, ask_by, handed_li
 use Rattle.cluster_events.specs.Events.{deliver_by, step_or_refuse, push_by}
 use Rattle.cluster_events.specs.Running.{Shelf, listed, shown, show_by, Happens}
 use Rattle.cluster_events.specs.Saying.{replies_told}
-use Rattle.cluster_events.specs.Serving.{IsSteady, IsServing, IsCarried}
+use Rattle.cluster_events.specs.Serving.{IsSteady, IsCarried}
 use Rattle.cluster_events.proofs.Carrying.{delivered-goes, resend-goes, post_all-goes, held-made, rounds-carry}
 use Rattle.lone_cluster.specs.Lone.{Alone, answer_of, work_by, lone, IsLone, IsGoodAlone}
-use Rattle.lone_cluster.proofs.Serving.{lone-serves}
 use Rattle.service_laws.specs.PlainOf.{plain_of}
 use Rattle.service_laws.proofs.ServiceLaws.{is_plain}
 use Rattle.aisrun.specs.Playing.{Played, Begun, Went}
 use Rattle.aisrun.specs.Promises.{OfEachLine, OfAllLines, call_refused, holds_service, rows_of_refusal, rows_of_dispatch, refused_as, refusal_in, refusals_told, DeclinesRightly}
-use Rattle.aisrun.proofs.PlayLaws.{played-says}
+use Rattle.aisrun.proofs.PlayLaws.{played-says, serves}
 use Rattle.aisrun.proofs.WaitingLaws.{KeepsWaiting, played-waits}
 
 -- Lines without a refusal.
@@ -148,17 +147,14 @@ module _ (setup : Setup) where
   abbrev Steady : State Alone → Type 0
   Steady state = IsSteady plain IsGoodAlone state
 
-  serves : IsServing plain (lone plain) IsGoodAlone
-  serves = lone-serves plain (is_plain setup)
-
   deliver-other : (place : ℕ) (found : Option Message) (state : State Alone) → message_at place state.world.net ≡ found → Steady state → AreOther (deliver_by plain (lone plain) place found state).told
   deliver-other place None state is steady = (refl, tt)
   deliver-other place (Some message) state is steady =
-      (delivered-goes plain (is_plain setup) (lone plain) IsGoodAlone serves TellsOthers (others-carried plain) place message state (message_at-stands place state.world.net message is) steady).carried
+      (delivered-goes plain (is_plain setup) (lone plain) IsGoodAlone (serves setup) TellsOthers (others-carried plain) place message state (message_at-stands place state.world.net message is) steady).carried
 
   push-other : (hand : Hand) (state : State Alone) → state.world.core.hand ≡ hand → Steady state → AreOther (push_by plain (lone plain) hand state).told
   push-other Empty state is steady =
-      (post_all-goes plain (is_plain setup) (lone plain) IsGoodAlone serves TellsOthers (others-carried plain) (plain.held state.world.core.answered) state (record { steady = steady; empty = is }) (held-made plain (is_plain setup) state.world.core.answered)).carried
+      (post_all-goes plain (is_plain setup) (lone plain) IsGoodAlone (serves setup) TellsOthers (others-carried plain) (plain.held state.world.core.answered) state (record { steady = steady; empty = is }) (held-made plain (is_plain setup) state.world.core.answered)).carried
   push-other (Waiting entry) state is steady = (refl, tt)
   push-other (Applied entry) state is steady = (refl, tt)
   push-other (Ready entry) state is steady = (refl, tt)
@@ -195,14 +191,14 @@ module _ (setup : Setup) where
   line-declines shelf (line.Deliver place) told state outcome steady waits happens =
       others-told outcome _ happens (deliver-other place (message_at place state.world.net) state refl steady)
   line-declines shelf (line.Resend client) told state outcome steady waits happens =
-      others-told outcome _ happens (resend-goes plain (is_plain setup) (lone plain) IsGoodAlone serves TellsOthers (others-carried plain) client state steady).carried
+      others-told outcome _ happens (resend-goes plain (is_plain setup) (lone plain) IsGoodAlone (serves setup) TellsOthers (others-carried plain) client state steady).carried
   line-declines shelf line.Mirror told state outcome steady waits happens = others-told outcome _ happens (refl, tt)
   line-declines shelf line.Ack told state outcome steady waits happens = others-told outcome _ happens (refl, tt)
   line-declines shelf line.Work told state outcome steady waits happens = others-told outcome _ happens (work-other state.world.core.hand state)
   line-declines shelf line.Push told state outcome steady waits happens = others-told outcome _ happens (push-other state.world.core.hand state refl steady)
   line-declines shelf line.Settle told state outcome steady waits happens =
       ap (λ (lines : List Told). refusals_told lines) happens.printed
-      ∙ none-told _ (All-without IsOther is_ignored happens.lines (rounds-carry plain (is_plain setup) (lone plain) IsGoodAlone serves TellsOthers (others-carried plain) state steady happens.rounds).carried)
+      ∙ none-told _ (All-without IsOther is_ignored happens.lines (rounds-carry plain (is_plain setup) (lone plain) IsGoodAlone (serves setup) TellsOthers (others-carried plain) state steady happens.rounds).carried)
   line-declines shelf (line.DispatchOne client) told state outcome steady waits happens =
       ap (λ (o : Outcome (State Alone)). refusals_told o.told) happens ∙ one-told client (dispatch_refusal (state.world.agents client)) state.world
       ∙ ap (λ (status : Option Status). refused_as client status) (dispatch-refused (state.world.agents client) (sent_by client state.world.net) _ (steady.sound.facts.clients client).sends)

@@ -1,6 +1,7 @@
 -- The lines of a script that has none on failures can be played one after another.
-use Rattle.std.proofs.Common.{◌≡◌, ℕ, ℤ, ◌<◌, ◌≤ℤ◌, Bool, true, false, ◌||◌, if◌then◌else◌, List, [], ◌∷◌, length, Option, Some, None, refl, ap, sym, ◌∙◌, subst, arith}
+use Rattle.std.proofs.Common.{◌≡◌, ℕ, ℤ, ◌<◌, ◌≤ℤ◌, Bool, true, false, if◌then◌else◌, List, [], ◌∷◌, length, Option, Some, None, refl, ap, sym, ◌∙◌, subst, arith}
 use Rattle.std.specs.Prelude.{int_lt, IfSome}
+use Rattle.std.proofs.lemmas.Bool.{or_parts}
 use Rattle.std.proofs.lemmas.Int.{ints}
 use Rattle.std.specs.FinMap.{keys, entries, empty_of_len, len-entries}
 use Rattle.std.proofs.lemmas.List.{length-map}
@@ -17,14 +18,6 @@ use Rattle.cluster_core.specs.Playing.{IsLoneLine}
 use Rattle.aisrun.specs.Playing.{is_failure, has_failures}
 use Rattle.aisrun.specs.Scripting.{CanPlay, IsPlayable}
 use Rattle.aisrun.specs.Steps.{CanFollow, time_behind}
-
-first-false : (one other : Bool) → (one || other) ≡ false → one ≡ false
-first-false true other is = cc
-first-false false other is = refl
-
-second-false : (one other : Bool) → (one || other) ≡ false → other ≡ false
-second-false true other is = cc
-second-false false other is = is
 
 -- a time that is not below the one in force
 not-below : (now later : ℤ) → (below : Bool) → int_lt later now ≡ below → (if below then Some why.Time else None) ≡ None → now ≤ℤ later
@@ -52,7 +45,7 @@ can-follow now (skipped skips rest) ordered well = can-follow now rest ordered w
 can-follow now (spelled {one = one} {raw = raw} {lines = lines} spells rest) ordered well =
     let O : Option ℤ → Type 0 = λ time. AreInOrder time lines in
     let others = subst O (time-behind now one ordered.0) ordered.1 in
-    ((raw, spells), lone-line now one ordered.0 (first-false (is_failure one) (has_failures lines) well), can-follow (time_behind now one) rest others (second-false (is_failure one) (has_failures lines) well))
+    ((raw, spells), lone-line now one ordered.0 ((or_parts (is_failure one) (has_failures lines) well).0), can-follow (time_behind now one) rest others ((or_parts (is_failure one) (has_failures lines) well).1))
 
 -- the first line that is spelled
 pub record SpelledFirst (one : Line) (lines : List Line) : Type 0 where
@@ -82,7 +75,7 @@ can-open _ events first placed ordered well = absurd cc
 pub can-play : (lines : List Line) (bytes : List ℕ) → IsScriptOf lines bytes → has_failures lines ≡ false → IsPlayable lines
 can-play [] bytes script well = let some : 0 < 0 = script.begun in absurd (omega arith)
 can-play (opening ∷ events) bytes script well =
-    can-open opening events (spelled-first script.spelled opening events refl) script.ordered.0 script.ordered.1 (second-false (is_failure opening) (has_failures events) well)
+    can-open opening events (spelled-first script.spelled opening events refl) script.ordered.0 script.ordered.1 ((or_parts (is_failure opening) (has_failures events) well).1)
 
 -- a disk that lists no name holds no file
 pub held-none : (old : Option Files) (names : List (List ℕ)) → IfSome old (λ f. names ≡ keys f) → length names ≡ 0 → HoldsNone old

@@ -19,15 +19,14 @@ use Rattle.cluster_events.specs.ClientEvents.{post_lines, ask_by, handed_lines, 
 use Rattle.cluster_events.specs.Events.{deliver_by, step_or_refuse, push_by}
 use Rattle.cluster_events.specs.Running.{Shelf, listed, shown, show_by, Happens}
 use Rattle.cluster_events.specs.Saying.{entry_in, entries_told}
-use Rattle.cluster_events.specs.Serving.{IsSteady, IsServing, IsCarried}
+use Rattle.cluster_events.specs.Serving.{IsSteady, IsCarried}
 use Rattle.cluster_events.proofs.Carrying.{delivered-goes, resend-goes, post_all-goes, held-made, rounds-carry}
 use Rattle.lone_cluster.specs.Lone.{Alone, answer_of, work_by, lone, IsLone, IsGoodAlone}
-use Rattle.lone_cluster.proofs.Serving.{lone-serves}
 use Rattle.service_laws.specs.PlainOf.{plain_of}
 use Rattle.service_laws.proofs.ServiceLaws.{is_plain}
 use Rattle.aisrun.specs.Playing.{Played, Begun, Went}
 use Rattle.aisrun.specs.Promises.{OfEachLine, OfAllLines, CommitsInTime}
-use Rattle.aisrun.proofs.PlayLaws.{played-says}
+use Rattle.aisrun.proofs.PlayLaws.{played-says, serves}
 
 -- Lines whose entries are of one time.
 
@@ -135,17 +134,14 @@ module _ (setup : Setup) where
   abbrev Timed : State Alone → Outcome (State Alone) → Type 0
   Timed state outcome = AreTimed state.world.now outcome.told
 
-  serves : IsServing plain (lone plain) IsGoodAlone
-  serves = lone-serves plain (is_plain setup)
-
   deliver-timed : (place : ℕ) (found : Option Message) (state : State Alone) → message_at place state.world.net ≡ found → Steady state → Timed state (deliver_by plain (lone plain) place found state)
   deliver-timed place None state is steady = (tt, tt)
   deliver-timed place (Some message) state is steady =
-      (delivered-goes plain (is_plain setup) (lone plain) IsGoodAlone serves StaysInTime (time-carried plain) place message state (message_at-stands place state.world.net message is) steady).carried.1
+      (delivered-goes plain (is_plain setup) (lone plain) IsGoodAlone (serves setup) StaysInTime (time-carried plain) place message state (message_at-stands place state.world.net message is) steady).carried.1
 
   push-timed : (hand : Hand) (state : State Alone) → state.world.core.hand ≡ hand → Steady state → Timed state (push_by plain (lone plain) hand state)
   push-timed Empty state is steady =
-      (post_all-goes plain (is_plain setup) (lone plain) IsGoodAlone serves StaysInTime (time-carried plain) (plain.held state.world.core.answered) state (record { steady = steady; empty = is }) (held-made plain (is_plain setup) state.world.core.answered)).carried.1
+      (post_all-goes plain (is_plain setup) (lone plain) IsGoodAlone (serves setup) StaysInTime (time-carried plain) (plain.held state.world.core.answered) state (record { steady = steady; empty = is }) (held-made plain (is_plain setup) state.world.core.answered)).carried.1
   push-timed (Waiting entry) state is steady = (tt, tt)
   push-timed (Applied entry) state is steady = (tt, tt)
   push-timed (Ready entry) state is steady = (tt, tt)
@@ -169,7 +165,7 @@ module _ (setup : Setup) where
   line-timed shelf (line.Deliver place) state outcome steady happens =
       subst (Timed state) (sym happens) (deliver-timed place (message_at place state.world.net) state refl steady)
   line-timed shelf (line.Resend client) state outcome steady happens =
-      subst (Timed state) (sym happens) (resend-goes plain (is_plain setup) (lone plain) IsGoodAlone serves StaysInTime (time-carried plain) client state steady).carried.1
+      subst (Timed state) (sym happens) (resend-goes plain (is_plain setup) (lone plain) IsGoodAlone (serves setup) StaysInTime (time-carried plain) client state steady).carried.1
   line-timed shelf line.Mirror state outcome steady happens = subst (Timed state) (sym happens) (tt, tt)
   line-timed shelf line.Ack state outcome steady happens = subst (Timed state) (sym happens) (tt, tt)
   line-timed shelf line.Work state outcome steady happens =
@@ -178,7 +174,7 @@ module _ (setup : Setup) where
       subst (Timed state) (sym happens) (push-timed state.world.core.hand state refl steady)
   line-timed shelf line.Settle state outcome steady happens =
       let now = state.world.now in
-      let goes = (rounds-carry plain (is_plain setup) (lone plain) IsGoodAlone serves StaysInTime (time-carried plain) state steady happens.rounds).carried in
+      let goes = (rounds-carry plain (is_plain setup) (lone plain) IsGoodAlone (serves setup) StaysInTime (time-carried plain) state steady happens.rounds).carried in
       subst (AreTimed now) (sym happens.printed) (All-without (IsTimed now) is_ignored happens.lines goes.1)
   line-timed shelf (line.DispatchOne client) state outcome steady happens =
       subst (Timed state) (sym happens) (one-timed state.world.now client (dispatch_refusal (state.world.agents client)) state.world)

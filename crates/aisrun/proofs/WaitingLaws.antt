@@ -23,16 +23,16 @@ use Rattle.cluster_events.specs.ClientEvents.{post_lines, ask_by, handed_lines, 
 use Rattle.cluster_events.specs.Events.{deliver_by, step_or_refuse, push_by}
 use Rattle.cluster_events.specs.Running.{Shelf, listed, shown, show_by, Happens}
 use Rattle.cluster_events.specs.Saying.{reply_in, replies_told, IsDone}
-use Rattle.cluster_events.specs.Serving.{IsSteady, IsServing, IsCarried}
+use Rattle.cluster_events.specs.Serving.{IsSteady, IsCarried}
 use Rattle.cluster_events.proofs.Carrying.{posted-unknown, delivered-goes, resend-goes, post_all-goes, held-made, rounds-carry}
 use Rattle.cluster_events.proofs.Telling.{gathered-append}
 use Rattle.lone_cluster.specs.Lone.{Alone, answer_of, work_by, lone, IsLone, IsGoodAlone}
-use Rattle.lone_cluster.proofs.Serving.{lone-serves, posted-sent}
+use Rattle.lone_cluster.proofs.Serving.{posted-sent}
 use Rattle.service_laws.specs.PlainOf.{plain_of}
 use Rattle.service_laws.proofs.ServiceLaws.{is_plain}
 use Rattle.aisrun.specs.Playing.{Played, Begun, Went}
 use Rattle.aisrun.specs.Promises.{is_replied, waiting_of}
-use Rattle.aisrun.proofs.PlayLaws.{played-says}
+use Rattle.aisrun.proofs.PlayLaws.{played-says, serves}
 
 -- Lists.
 
@@ -272,9 +272,6 @@ module _ (setup : Setup) where
   abbrev Steady : State Alone → Type 0
   Steady state = IsSteady plain IsGoodAlone state
 
-  serves : IsServing plain (lone plain) IsGoodAlone
-  serves = lone-serves plain (is_plain setup)
-
   -- a line that leaves the world as it is and tells no reply
   still : (world : World) (told : List Told) → ((client : ℕ) → replies_told client told ≡ []) → Passes world world told
   still world told quiet = passes-quiet world world told (λ client. refl) (λ client. refl) quiet
@@ -282,11 +279,11 @@ module _ (setup : Setup) where
   deliver-passes : (place : ℕ) (found : Option Message) (state : State Alone) → message_at place state.world.net ≡ found → Steady state → Passes state.world (deliver_by plain (lone plain) place found state).state.world (deliver_by plain (lone plain) place found state).told
   deliver-passes place None state is steady = still state.world _ (λ client. refl)
   deliver-passes place (Some message) state is steady =
-      (delivered-goes plain (is_plain setup) (lone plain) IsGoodAlone serves Passes (passes-carried plain) place message state (message_at-stands place state.world.net message is) steady).carried
+      (delivered-goes plain (is_plain setup) (lone plain) IsGoodAlone (serves setup) Passes (passes-carried plain) place message state (message_at-stands place state.world.net message is) steady).carried
 
   push-passes : (hand : Hand) (state : State Alone) → state.world.core.hand ≡ hand → Steady state → Passes state.world (push_by plain (lone plain) hand state).state.world (push_by plain (lone plain) hand state).told
   push-passes Empty state is steady =
-      (post_all-goes plain (is_plain setup) (lone plain) IsGoodAlone serves Passes (passes-carried plain) (plain.held state.world.core.answered) state (record { steady = steady; empty = is }) (held-made plain (is_plain setup) state.world.core.answered)).carried
+      (post_all-goes plain (is_plain setup) (lone plain) IsGoodAlone (serves setup) Passes (passes-carried plain) (plain.held state.world.core.answered) state (record { steady = steady; empty = is }) (held-made plain (is_plain setup) state.world.core.answered)).carried
   push-passes (Waiting entry) state is steady = still state.world _ (λ client. refl)
   push-passes (Applied entry) state is steady = still state.world _ (λ client. refl)
   push-passes (Ready entry) state is steady = still state.world _ (λ client. refl)
@@ -325,7 +322,7 @@ module _ (setup : Setup) where
     line-waits shelf (line.Deliver place) state outcome steady below waits happens =
         passed state outcome _ happens waits (deliver-passes place (message_at place state.world.net) state refl steady)
     line-waits shelf (line.Resend client) state outcome steady below waits happens =
-        passed state outcome _ happens waits (resend-goes plain (is_plain setup) (lone plain) IsGoodAlone serves Passes (passes-carried plain) client state steady).carried
+        passed state outcome _ happens waits (resend-goes plain (is_plain setup) (lone plain) IsGoodAlone (serves setup) Passes (passes-carried plain) client state steady).carried
     line-waits shelf line.Mirror state outcome steady below waits happens =
         passed state outcome _ happens waits (still state.world _ (λ client. refl))
     line-waits shelf line.Ack state outcome steady below waits happens =
@@ -336,7 +333,7 @@ module _ (setup : Setup) where
         passed state outcome _ happens waits (push-passes state.world.core.hand state refl steady)
     line-waits shelf line.Settle state outcome steady below waits happens =
         let T : List Told → Type 0 = λ told. KeepsWaiting outcome.state.world (told ++ before) in
-        let goes = (rounds-carry plain (is_plain setup) (lone plain) IsGoodAlone serves Passes (passes-carried plain) state steady happens.rounds).carried in
+        let goes = (rounds-carry plain (is_plain setup) (lone plain) IsGoodAlone (serves setup) Passes (passes-carried plain) state steady happens.rounds).carried in
         subst T (sym happens.printed) (waits-on state.world outcome.state.world before (without is_ignored happens.lines) waits (passes-without state.world outcome.state.world happens.lines goes))
     line-waits shelf (line.DispatchOne client) state outcome steady below waits happens =
         passed state outcome _ happens waits (one-passes client (dispatch_refusal (state.world.agents client)) state.world)

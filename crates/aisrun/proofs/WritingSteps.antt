@@ -1,21 +1,17 @@
 -- What is written piece by piece.
-use Rattle.std.proofs.Common.{◌≡◌, ℕ, suc, ◌+◌, ◌<◌, ◌≤◌, List, [], ◌∷◌, ◌++◌, length, take, drop, get_or, Option, Some, Err, refl, ap, sym, ◌∙◌, subst, arith, append_assoc, add-one, drop-cons, take-append-drop}
+use Rattle.std.proofs.Common.{◌≡◌, ℕ, suc, ◌+◌, ◌<◌, ◌≤◌, List, ◌∷◌, ◌++◌, length, take, drop, get_or, Option, Some, Err, refl, ap, sym, ◌∙◌, subst, arith, append_assoc, add-one, drop-cons, take-append-drop}
 use Rattle.std.specs.Io.KnownBytes.{Appends}
 use Rattle.std.proofs.KnownBytes.{Appends-trans}
 use Rattle.std.proofs.lemmas.List.{take-append-le, length-append}
 use Rattle.std.proofs.lemmas.Grind.{flat_map-append}
 use Rattle.std.proofs.Math.Seq.{take-append-add}
-use Rattle.ais_values.specs.Causes.{Rose, HasCauseOf}
+use Rattle.ais_values.specs.Causes.{Rose, RoseExactlyOn}
 use Rattle.io_edge.specs.declared.answers.SinkAnswer.{SinkAnswer}
 use Rattle.io_edge.specs.declared.answers.SinkAnswer.TheVariants as sink_answer
 use Rattle.io_edge.specs.Writes.{AppendsFront}
 use Rattle.aisrun.specs.declared.ending.Status8.{Status8}
 use Rattle.aisrun.specs.Edges.{Edge, edge, before, after}
 use Rattle.aisrun.specs.Steps.{Reaching, Written, Whole, SinkFailed, SinkLacked, Lacked, sink_status, joined_lines}
-
--- a count that rose in a part rose in the whole
-pub Rose-whole : (old mid new later : ℕ) → old ≤ mid → Rose mid new → new ≤ later → Rose old later
-Rose-whole old mid new later first rose last = omega arith
 
 -- a front of a text is one of a longer text
 pub front-more : (old new : Option (List ℕ)) (one two : List ℕ) → AppendsFront old new one → AppendsFront old new (one ++ two)
@@ -38,17 +34,8 @@ front-behind old mid new one two first front =
       appended = subst (Appends old new) (sym (take-append-add one two front.count)) (Appends-trans old mid new one (take front.count two) first front.appended);
     }
 
--- the lines up to one of them, and this one
-pub lines-more : (front : List (List ℕ)) (line : List ℕ) → joined_lines (front ++ line ∷ []) ≡ joined_lines front ++ line
-lines-more front line =
-    flat_map-append (λ (one : List ℕ). one) front (line ∷ []) ∙ ap (λ tail. joined_lines front ++ tail) (append-nil line)
-  where
-    append-nil : (xs : List ℕ) → xs ++ [] ≡ xs
-    append-nil [] = refl
-    append-nil (x ∷ xs) = ap (λ ys. x ∷ ys) (append-nil xs)
-
 -- what a sink that did not take all leaves of a text
-pub unwritten : {K : Type 0} (E : Reaching) (L : List ℕ → Type 0) (sink : Edge K (List ℕ)) (answer : SinkAnswer) (reached : Option Status8) (text : List ℕ) → E reached text → HasCauseOf {T = Unit} (sink.faults sink.old) (sink.faults sink.new) (Err answer) sink_answer.Failed → AppendsFront (before sink) (after sink) text → Written E L sink (sink_status answer)
+pub unwritten : {K : Type 0} (E : Reaching) (L : List ℕ → Type 0) (sink : Edge K (List ℕ)) (answer : SinkAnswer) (reached : Option Status8) (text : List ℕ) → E reached text → RoseExactlyOn {T = Unit} (sink.faults sink.old) (sink.faults sink.new) (Err answer) sink_answer.Failed → AppendsFront (before sink) (after sink) text → Written E L sink (sink_status answer)
 unwritten E L sink sink_answer.Memory reached text ends cause front = SinkLacked refl reached text ends front
 unwritten E L sink sink_answer.Failed reached text ends cause front = SinkFailed refl (cause.rose refl) reached text ends front
 
@@ -60,14 +47,14 @@ written-as E F L M sink status ends lacks (SinkLacked is reached text e front) =
 written-as E F L M sink status ends lacks (Lacked is text l appends) = Lacked is text (lacks text l) appends
 
 -- what is written behind a text
-pub written-behind : {K : Type 0} (told : K → Option (List ℕ)) (faults : K → ℕ) (old mid new : K) (E F : Reaching) (L M : List ℕ → Type 0) (front : List ℕ) (status : Status8) → Appends (told old) (told mid) front → faults old ≤ faults mid → ((reached : Option Status8) (text : List ℕ) → E reached text → F reached (front ++ text)) → ((text : List ℕ) → L text → M (front ++ text)) → Written E L (edge told faults mid new) status → Written F M (edge told faults old new) status
-written-behind told faults old mid new E F L M front status first risen ends lacks (Whole text e appends) =
+pub written-behind : {K : Type 0} (told : K → Option (List ℕ)) (faults : K → ℕ) (old mid new : K) (E F : Reaching) (L M : List ℕ → Type 0) (front : List ℕ) (status : Status8) → Appends (told old) (told mid) front → faults mid ≡ faults old → ((reached : Option Status8) (text : List ℕ) → E reached text → F reached (front ++ text)) → ((text : List ℕ) → L text → M (front ++ text)) → Written E L (edge told faults mid new) status → Written F M (edge told faults old new) status
+written-behind told faults old mid new E F L M front status first stood ends lacks (Whole text e appends) =
     Whole (front ++ text) (ends (Some status) text e) (Appends-trans (told old) (told mid) (told new) front text first appends)
-written-behind told faults old mid new E F L M front status first risen ends lacks (SinkFailed is rose reached text e part) =
-    SinkFailed is (Rose-whole (faults old) (faults mid) (faults new) (faults new) risen rose (omega arith)) reached (front ++ text) (ends reached text e) (front-behind (told old) (told mid) (told new) front text first part)
-written-behind told faults old mid new E F L M front status first risen ends lacks (SinkLacked is reached text e part) =
+written-behind told faults old mid new E F L M front status first stood ends lacks (SinkFailed is rose reached text e part) =
+    SinkFailed is (subst (λ count. Rose count (faults new)) stood rose) reached (front ++ text) (ends reached text e) (front-behind (told old) (told mid) (told new) front text first part)
+written-behind told faults old mid new E F L M front status first stood ends lacks (SinkLacked is reached text e part) =
     SinkLacked is reached (front ++ text) (ends reached text e) (front-behind (told old) (told mid) (told new) front text first part)
-written-behind told faults old mid new E F L M front status first risen ends lacks (Lacked is text l appends) =
+written-behind told faults old mid new E F L M front status first stood ends lacks (Lacked is text l appends) =
     Lacked is (front ++ text) (lacks text l) (Appends-trans (told old) (told mid) (told new) front text first appends)
 
 -- a line among others: those before it, itself, and those behind it
@@ -84,9 +71,3 @@ pub lines-front : (old mid new : Option (List ℕ)) (lines : List (List ℕ)) (p
 lines-front old mid new lines place line inside is before front =
     let F : List ℕ → Type 0 = λ text. AppendsFront old new text in
     subst F (sym (lines-at lines place line inside is)) (front-more old new (joined_lines (take place lines) ++ line) (joined_lines (drop (place + 1) lines)) (front-behind old mid new (joined_lines (take place lines)) line before front))
-
--- a count that did not fall, and then rose where an answer says so
-pub cause-behind : (old mid new : ℕ) (answer : SinkAnswer) → old ≤ mid → HasCauseOf {T = Unit} mid new (Err answer) sink_answer.Failed → HasCauseOf {T = Unit} old new (Err answer) sink_answer.Failed
-cause-behind old mid new answer risen cause =
-    let later : mid ≤ new = cause.later in
-    record { later = omega arith; rose = λ is. Rose-whole old mid new new risen (cause.rose is) (omega arith) }

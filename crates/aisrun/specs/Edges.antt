@@ -45,8 +45,9 @@ pub record Around (S K D : Type 0) : Type 0 where
   pub source : Edge S (List ℕ)
   pub stage : Stage K D
 
-abbrev pub around : {S K D : Type 0} → List (List ℕ) → Edge S (List ℕ) → Stage K D → Around S K D
-around words source stage = record { words = words; source = source; stage = stage }
+abbrev pub around : {S K D : Type 0} → List (List ℕ) → Edge S (List ℕ) → Edge K (List ℕ) → Edge D Files → World → World → Around S K D
+around words source sink disk world world_after =
+    record { words = words; source = source; stage = stage sink disk world world_after }
 
 -- disk and world are as they were
 pub record LeavesAll {K D : Type 0} (scene : Stage K D) : Type 0 where

@@ -29,7 +29,7 @@ use Rattle.cluster_events.specs.Lines.{Told}
 use Rattle.cluster_events.specs.Servers.{State}
 use Rattle.lone_cluster.specs.Lone.{Alone}
 use Rattle.aisrun.specs.declared.ending.Status8.{Status8}
-use Rattle.aisrun.specs.declared.ending.Status8.TheVariants.{Done, ScriptRefused, Usage, ReadFault, DiskFault, RootNotEmpty, TooLong}
+use Rattle.aisrun.specs.declared.ending.Status8.TheVariants.{Done, ScriptRefused, Usage, Memory, ReadFault, WriteFault, DiskFault, RootNotEmpty, TooLong}
 use Rattle.aisrun.specs.declared.command.Command.{Command}
 use Rattle.aisrun.specs.declared.command.Command.TheVariants.{Run, Check, Expr}
 use Rattle.aisrun.specs.Commands.{command_of, text_of as word_text}
@@ -129,23 +129,25 @@ pub data FaultLeft (setup : Setup) (state : State Alone) (next : Line) (held lef
   Showing : shows_files next ≡ true → Shows setup state world → left ≡ held → lines ≡ [] → FaultLeft setup state next held left world lines
   Working : (told : List Told) → FaultedIn setup next state told held left world → lines ≡ text_of told → FaultLeft setup state next held left world lines
 
--- the disk's count of faults rose since it told these files
+-- the disk's count of faults rose since some moment at which it told these files and had the count of the start: an event that
+-- is done leaves the count
 pub record FaultedSince {D : Type 0} (disk : Edge D Files) (held : Option Files) : Type 0 where
   pub mid : D
-  pub stands : disk.told mid ≡ held
-  pub later : disk.faults disk.old ≤ disk.faults mid
+  pub told : disk.told mid ≡ held
+  pub stood : disk.faults mid ≡ disk.faults disk.old
   pub rose : Rose (disk.faults mid) (disk.faults disk.new)
 
 -- the disk failed: as its names were asked for, in the deeds of the start, or in an event behind those that were done, of which
--- some lines were printed; its count rose there
+-- some lines were printed
 pub data DiskFails {K D : Type 0} (script : List Line) (scene : Stage K D) (text : List ℕ) : Type 0 where
   AtNames : after scene.disk ≡ before scene.disk → scene.world_after ≡ scene.world → text ≡ fault_line → DiskFails script scene text
   AtOpening :
       (opens : Opens script (before scene.disk)) (count : ℕ) → FailsAfter (calls_of_all (opening_of opens.setup)) count (before scene.disk) (after scene.disk)
-      → FaultedSince scene.disk (before scene.disk) → scene.world_after ≡ scene.world → text ≡ fault_line → DiskFails script scene text
+      → scene.world_after ≡ scene.world → text ≡ fault_line → DiskFails script scene text
   AtEvent :
       (done : List Line) (next : Line) (rest : List Line) (text_before : List ℕ) (front : PlaysFront (before scene.disk) script done (next ∷ rest) text_before)
-      (lines : List ℕ) → FaultLeft front.setup front.goes.state next (files_told front.goes.files (before scene.disk)) (after scene.disk) scene.world_after lines
+      (lines : List ℕ)
+      → FaultLeft front.setup front.goes.state next (files_told front.goes.files (before scene.disk)) (after scene.disk) scene.world_after lines
       → FaultedSince scene.disk (files_told front.goes.files (before scene.disk)) → text ≡ text_before ++ (lines ++ fault_line) → DiskFails script scene text
 
 -- these events of a script were done, and world and disk stand where they led
@@ -234,30 +236,6 @@ Ends run _ text = ⊥
 abbrev pub Prints : {K : Type 0} → Edge K (List ℕ) → (List ℕ → Type 0) → Type 0
 Prints sink P = (text : List ℕ) × P text × Appends (before sink) (after sink) text
 
--- How a run ends, by its status.
-
-abbrev pub EndsDone : {S K D : Type 0} → Around S K D → Type 0
-EndsDone run = Prints run.stage.sink (Succeeds run)
-
-abbrev pub EndsRefused : {S K D : Type 0} → Around S K D → Type 0
-EndsRefused run = Prints run.stage.sink (Refuses run)
-
-abbrev pub EndsUsage : {S K D : Type 0} → Around S K D → Type 0
-EndsUsage run = Prints run.stage.sink (KnowsNoWords run)
-
-abbrev pub EndsUnread : {S K D : Type 0} → Around S K D → Type 0
-EndsUnread run = Prints run.stage.sink (StopsReading run SourceFailed)
-
-abbrev pub EndsOverlong : {S K D : Type 0} → Around S K D → Type 0
-EndsOverlong run = Prints run.stage.sink (StopsReading run InputTooLong)
-
-abbrev pub EndsHeld : {S K D : Type 0} → Around S K D → Type 0
-EndsHeld run = (lines : List Line) × HasScript run lines × Prints run.stage.sink (RootHolds run.stage)
-
-abbrev pub EndsBroken : {S K D : Type 0} → Around S K D → Type 0
-EndsBroken run =
-    (lines : List Line) × HasScript run lines × Faulted run.stage.disk × Prints run.stage.sink (DiskFails lines run.stage)
-
 -- the sink failed: a front was written of the text of an end, or of what was done so far, and not all of it
 pub record EndsUnwritten {S K D : Type 0} (run : Around S K D) : Type 0 where
   pub rose : Faulted run.stage.sink
@@ -280,5 +258,13 @@ LacksBy (Some (Expr kind)) run text = (text ≡ []) × LeavesAll run.stage × Is
 
 -- memory ran out: a front was written of the text of an end, or of what was done so far; or all text up to where memory was wanting
 pub data EndsLacking {S K D : Type 0} (run : Around S K D) : Type 0 where
-  Unwritten : (reached : Option Status8) (text : List ℕ) → Ends run reached text → AppendsFront (before run.stage.sink) (after run.stage.sink) text → EndsLacking run
+  Unwritten :
+      (reached : Option Status8) (text : List ℕ) → Ends run reached text → AppendsFront (before run.stage.sink) (after run.stage.sink) text
+      → EndsLacking run
   Lacking : (text : List ℕ) → LacksBy (command_of run.words) run text → Appends (before run.stage.sink) (after run.stage.sink) text → EndsLacking run
+
+-- how a run ends, by its status
+abbrev pub EndsBy : {S K D : Type 0} → Status8 → Around S K D → Type 0
+EndsBy Memory run = EndsLacking run
+EndsBy WriteFault run = EndsUnwritten run
+EndsBy status run = Prints run.stage.sink (Ends run (Some status))

@@ -1,12 +1,15 @@
 pub mod AfterFault
 pub mod Checking
 pub mod Commands
+pub mod Completing
+pub mod Counts
 pub mod Edges
 pub mod Endings
 pub mod ExitStatus
 pub mod Inputs
 pub mod Playing
 pub mod Promises
+pub mod Telling
 pub mod RunSteps
 pub mod Scripting
 pub mod Steps

@@ -38,7 +38,13 @@ has_failures lines = list_any is_failure lines
 -- files of the history, where the disk tells its files
 pub data Played (setup : Setup) (places : ℕ) (held : Option Files) : List Line → State Alone → List Told → Files → Type 0 where
   Begun : Played setup places held [] (lone_start setup.start places) [] (all_applied service_disk (storage_of setup).opening no_files)
-  Went : {lines : List Line} {state : State Alone} {told : List Told} {files : Files} → (next : Line) (shelf : Shelf) (outcome : Outcome (State Alone)) (more : List Entry) → Played setup places held lines state told files → IfSome held (λ _. shelf ≡ shelf_of setup) → Happens (plain_of setup) shelf (lone (plain_of setup)) next state outcome → outcome.state.world.core.answered ≡ more ++ state.world.core.answered → Played setup places held (next ∷ lines) outcome.state (outcome.told ++ told) (performed service_disk (storage_of setup) more state.world.core.answered files)
+  Went :
+      {lines : List Line} {state : State Alone} {told : List Told} {files : Files} → (next : Line) (shelf : Shelf) (outcome : Outcome (State Alone))
+      (more : List Entry) → Played setup places held lines state told files → IfSome held (λ _. shelf ≡ shelf_of setup)
+      → Happens (plain_of setup) shelf (lone (plain_of setup)) next state outcome
+      → outcome.state.world.core.answered ≡ more ++ state.world.core.answered
+      → Played setup places held (next ∷ lines) outcome.state (outcome.told ++ told)
+      (performed service_disk (storage_of setup) more state.world.core.answered files)
 
 -- the bytes that events write
 abbrev pub text_of : List Told → List ℕ

@@ -33,7 +33,9 @@ abbrev pub Sentence : Type 1
 Sentence = List Line → State Alone → List Told → Files → Type 0
 
 -- it is so at the start, and at the end of each line
-abbrev pub AtEachEnd : (setup : Setup) (places : ℕ) (held : Option Files) (P : Sentence) {lines : List Line} {state : State Alone} {told : List Told} {files : Files} → Played setup places held lines state told files → Type 0
+abbrev pub AtEachEnd :
+    (setup : Setup) (places : ℕ) (held : Option Files) (P : Sentence) {lines : List Line} {state : State Alone} {told : List Told} {files : Files}
+    → Played setup places held lines state told files → Type 0
 AtEachEnd setup places held P Begun =
     P [] (lone_start setup.start places) [] (all_applied service_disk (storage_of setup).opening no_files)
 AtEachEnd setup places held P (Went {lines = lines} {state = state} {told = told} {files = files} next shelf outcome more run shelf_is happens grown) =
@@ -43,14 +45,17 @@ AtEachEnd setup places held P (Went {lines = lines} {state = state} {told = told
 -- it is so at each end, however far a script was played on a disk that told these files before
 abbrev pub Throughout : (held : Option Files) (P : Setup → Sentence) → Type 0
 Throughout held P =
-    (script done rest : List Line) (text : List ℕ) (front : PlaysFront held script done rest text) → AtEachEnd front.setup front.places held (P front.setup) front.goes.run
+    (script done rest : List Line) (text : List ℕ) (front : PlaysFront held script done rest text)
+    → AtEachEnd front.setup front.places held (P front.setup) front.goes.run
 
 -- what is said of one line: what was told before it, where it was played, and what it led to
 abbrev pub LineSentence : Type 1
 LineSentence = Line → List Told → State Alone → Outcome (State Alone) → Type 0
 
 -- it is so of each line
-abbrev pub OfEachLine : (P : LineSentence) {setup : Setup} {places : ℕ} {held : Option Files} {lines : List Line} {state : State Alone} {told : List Told} {files : Files} → Played setup places held lines state told files → Type 0
+abbrev pub OfEachLine :
+    (P : LineSentence) {setup : Setup} {places : ℕ} {held : Option Files} {lines : List Line} {state : State Alone} {told : List Told} {files : Files}
+    → Played setup places held lines state told files → Type 0
 OfEachLine P Begun = Unit {0}
 OfEachLine P (Went {state = state} {told = told} next shelf outcome more run shelf_is happens grown) = P next told state outcome × OfEachLine P run
 
@@ -93,7 +98,9 @@ KeepsRecords setup lines state told files = RecordsStay (plain_of setup) service
 abbrev pub StandsOnce : Setup → Sentence
 StandsOnce setup lines state told files =
     let past = state.world.core.answered in
-    (client number other_client other_number : ℕ) (stored other : StoredRecord) (spot : List ℕ × ℕ) → record_of setup past client number ≡ Some stored → record_of setup past other_client other_number ≡ Some other → place_of setup past stored ≡ Some spot → place_of setup past other ≡ Some spot → (client ≡ other_client) × (number ≡ other_number)
+    (client number other_client other_number : ℕ) (stored other : StoredRecord) (spot : List ℕ × ℕ) → record_of setup past client number ≡ Some stored
+    → record_of setup past other_client other_number ≡ Some other → place_of setup past stored ≡ Some spot → place_of setup past other ≡ Some spot
+    → (client ≡ other_client) × (number ≡ other_number)
 
 -- after `settle` every call is in the history and answered, and no item is held, but for those whose client's queue is full
 abbrev pub IsSettledAfter : Setup → List Line → State Alone → Type 0

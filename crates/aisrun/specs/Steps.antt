@@ -22,6 +22,7 @@ use Rattle.cluster_core.specs.Playing.{EventDone, IsLoneLine}
 use Rattle.cluster_core.specs.Worlds.{IsGood, LeavesFiles, Shows}
 use Rattle.aisrun.specs.declared.ending.Status8.{Status8}
 use Rattle.aisrun.specs.declared.ending.Status8.TheVariants.{Done, Memory, WriteFault, DiskFault}
+use Rattle.aisrun.specs.Counts.{HasStood, HasRisen, RisesBy}
 use Rattle.aisrun.specs.Edges.{Edge, before, after, Faulted}
 use Rattle.aisrun.specs.Endings.{FaultLeft, fault_line}
 use Rattle.aisrun.specs.Playing.{files_told, Goes, Played, StandsAt, text_of}
@@ -34,8 +35,12 @@ Reaching = Option Status8 → List ℕ → Type 0
 -- of what was done up to some point; or all text up to a point at which memory was wanting
 pub data Written {K : Type 0} (E : Reaching) (L : List ℕ → Type 0) (sink : Edge K (List ℕ)) (status : Status8) : Type 0 where
   Whole : (text : List ℕ) → E (Some status) text → Appends (before sink) (after sink) text → Written E L sink status
-  SinkFailed : status ≡ WriteFault → Faulted sink → (reached : Option Status8) (text : List ℕ) → E reached text → AppendsFront (before sink) (after sink) text → Written E L sink status
-  SinkLacked : status ≡ Memory → (reached : Option Status8) (text : List ℕ) → E reached text → AppendsFront (before sink) (after sink) text → Written E L sink status
+  SinkFailed :
+      status ≡ WriteFault → Faulted sink → (reached : Option Status8) (text : List ℕ) → E reached text → AppendsFront (before sink) (after sink) text
+      → Written E L sink status
+  SinkLacked :
+      status ≡ Memory → (reached : Option Status8) (text : List ℕ) → E reached text → AppendsFront (before sink) (after sink) text
+      → Written E L sink status
   Lacked : status ≡ Memory → (text : List ℕ) → L text → Appends (before sink) (after sink) text → Written E L sink status
 
 -- a text is written, behind which the run ends with a status
@@ -46,6 +51,21 @@ IsText status text reached written = (reached ≡ Some status) × (written ≡ t
 abbrev pub sink_status : SinkAnswer → Status8
 sink_status answer.Memory = Memory
 sink_status answer.Failed = WriteFault
+
+-- the sink's count of faults as an end is told: its status is told, unless the sink failed or lacked memory
+pub data SinkRises (status : Status8) (sink : ℕ × ℕ) (result : Status8) : Type 0 where
+  AsIs : result ≡ status → HasStood sink → SinkRises status sink result
+  Failing : result ≡ WriteFault → HasRisen sink → SinkRises status sink result
+  Wanting : result ≡ Memory → HasStood sink → SinkRises status sink result
+
+-- the count of an object that is not asked
+abbrev pub unasked : ℕ × ℕ
+unasked = (0, 0)
+
+-- the counts of faults behind a line: they stand where it is done, and otherwise have risen by the status that ends the run
+abbrev pub LineRises : Result Unit Status8 → (sink disk : ℕ × ℕ) → Type 0
+LineRises (Ok done) sink disk = HasStood sink × HasStood disk
+LineRises (Err status) sink disk = RisesBy status unasked sink disk
 
 -- memory was wanting nowhere, or where nothing was written
 abbrev pub IsNever : List ℕ → Type 0
@@ -121,7 +141,8 @@ pub record LacksBehind (setup : Setup) (places : ℕ) (held left : Option Files)
   pub broken : Broken setup behind.goes.state (files_told behind.goes.files held) left world
 
 -- by a fault of the disk, whose count of faults rose since it told the files of the events before
-pub record FaultsBehind (setup : Setup) (places : ℕ) (held left : Option Files) (Since : Option Files → Type 0) (world : World) (events : List Line) (text : List ℕ) : Type 0 where
+pub record FaultsBehind (setup : Setup) (places : ℕ) (held left : Option Files) (Since : Option Files → Type 0) (world : World) (events : List Line)
+    (text : List ℕ) : Type 0 where
   pub front : List ℕ
   pub behind : BreaksBehind setup places held events front
   pub lines : List ℕ
@@ -139,7 +160,8 @@ EventsEnd setup places held left Since world events (Some DiskFault) text =
 EventsEnd setup places held left Since world events _ text = ⊥
 
 -- behind some of the lines, of which these are left: the text so far is written, and no fault was lost
-pub record Behind {K : Type 0} (setup : Setup) (places : ℕ) (held left : Option Files) (world : World) (sink : Edge K (List ℕ)) (events rest : List Line) : Type 0 where
+pub record Behind {K : Type 0} (setup : Setup) (places : ℕ) (held left : Option Files) (world : World) (sink : Edge K (List ℕ))
+    (events rest : List Line) : Type 0 where
   pub done : List Line
   pub parts : events ≡ done ++ rest
   pub text : List ℕ

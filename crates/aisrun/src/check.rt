@@ -1,7 +1,9 @@
 //! The command `check`: whether the source gives a script.
 ghost use Rattle.std.specs.Prelude.{◌≤◌, length, IfOk};
 ghost use Rattle.aisrun.specs.Checking.{CheckEnds, Judged};
+ghost use Rattle.aisrun.specs.Counts.{RisesBy};
 ghost use Rattle.aisrun.specs.Edges.{edge};
+ghost use Rattle.aisrun.specs.Steps.{unasked};
 
 use crate::ending::{End, bad_line, passed};
 use crate::input::{Input, read_input};
@@ -33,6 +35,8 @@ fn judge(alloc: Global, bytes: &[u8]) -> Result<End, AllocError>
 pub fn check_script<S: Source>(alloc: Global, source: &mut S) -> Result<End, AllocError>
     ensures ends { IfOk result (λ end. CheckEnds (edge S.left S.faults source.old source.new)
         end.status end.text.items) }
+    ensures faults { IfOk result (λ end. RisesBy end.status
+        (S.faults source.old, S.faults source.new) unasked unasked) }
 {
     match read_input(alloc, source) {
         Ok(Input::Bytes(bytes)) => {

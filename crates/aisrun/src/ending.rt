@@ -5,6 +5,7 @@ ghost use Rattle.aisrun.specs.ExitStatus.{exit_status};
 ghost use Rattle.format_expr.specs.Faults.{word_of};
 ghost use Rattle.script_lines.specs.Refusals.{why_word};
 
+use ais_values::Duplicate;
 use format_expr::ExprFault;
 use script::ScriptWhy;
 use std::alloc::{AllocError, Global};
@@ -48,6 +49,12 @@ impl Status8 {
             Status8::RootNotEmpty => 7,
             Status8::TooLong => 8,
         }
+    }
+}
+
+impl Duplicate for Status8 {
+    fn copy(&self, _alloc: Global) -> Result<Self, AllocError> {
+        Ok(*self)
     }
 }
 

@@ -1,7 +1,7 @@
 //! Reading the input of a command.
 ghost use Rattle.std.specs.Prelude.{IfOk};
 ghost use Rattle.aisrun.specs.Edges.{edge};
-ghost use Rattle.aisrun.specs.Inputs.{InputRead};
+ghost use Rattle.aisrun.specs.Inputs.{InputRead, InputRises};
 
 use crate::ending::{End, too_long, unread};
 use io_edge::{ReadAnswer, Source, read_all};
@@ -23,7 +23,10 @@ pub enum Input {
 ///
 /// `Err` only where memory ran out.
 pub fn read_input<S: Source>(alloc: Global, source: &mut S) -> Result<Input, AllocError>
-    ensures { IfOk result (λ input. InputRead (edge S.left S.faults source.old source.new) input) }
+    ensures input { IfOk result (λ input.
+        InputRead (edge S.left S.faults source.old source.new) input) }
+    ensures faults { IfOk result (λ input. InputRises input
+        (S.faults source.old, S.faults source.new)) }
 {
     match read_all(alloc, source, INPUT_LIMIT) {
         Ok(bytes) => Ok(Input::Bytes(bytes)),

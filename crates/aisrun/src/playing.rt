@@ -1,6 +1,6 @@
 //! Playing a script: the cluster begins on a disk without files, and then line follows line.
-ghost use Rattle.std.specs.Prelude.{◌≡◌, ◌≤◌, ◌∷◌, ◌++◌, ℕ, codes, List, Option, IfOk, OnOk};
-ghost use Rattle.ais_values.specs.Causes.{HasCauseOf};
+ghost use Rattle.std.specs.Prelude.{◌≡◌, ◌∷◌, ◌++◌, ℕ, codes, List, Option, IfOk};
+ghost use Rattle.ais_values.specs.Causes.{RoseExactlyOn};
 ghost use Rattle.disk_model.specs.Disk.{Files};
 ghost use Rattle.plain_service.specs.Setups.{Setup};
 ghost use Rattle.cluster_events.specs.Servers.{State};
@@ -9,10 +9,11 @@ ghost use Rattle.script_language.specs.Lines.{Spells};
 ghost use Rattle.cluster_core.specs.Beginning.{Begun, HoldsNone};
 ghost use Rattle.cluster_core.specs.Playing.{IsLoneLine};
 ghost use Rattle.cluster_core.specs.Worlds.{empty_world, HasState, IsGood, Shows, TellsFiles};
+ghost use Rattle.aisrun.specs.Counts.{RisesBy};
 ghost use Rattle.aisrun.specs.Edges.{edge, stage};
 ghost use Rattle.aisrun.specs.Endings.{FaultedSince, PlayEnds, PlayLacks};
 ghost use Rattle.aisrun.specs.Scripting.{CanPlay, IsPlayable};
-ghost use Rattle.aisrun.specs.Steps.{CanFollow, EventsEnd, FindsNames, HasBegun, IsNone, IsText, LacksBehind, LineEnds, LineGives, LineLacks, Written};
+ghost use Rattle.aisrun.specs.Steps.{CanFollow, EventsEnd, FindsNames, HasBegun, IsNone, IsText, LacksBehind, LineEnds, LineGives, LineLacks, LineRises, SinkRises, Written, unasked};
 
 use crate::ending::{Status8, root_holds};
 use crate::writing::{unwritten, write_broken, write_lines, write_text};
@@ -40,8 +41,8 @@ fn play_line<K: Sink, D: SharedDisk>(
         (D.faults disk.old) (D.faults disk.new) world.new)
         (LineLacks setup state (D.files disk.old) (D.files disk.new) world.new)
         (edge K.written K.faults out.old out.new) result }
-    ensures sink { OnOk result (K.faults out.old ≤ K.faults out.new) }
-    ensures disk { OnOk result (D.faults disk.old ≤ D.faults disk.new) }
+    ensures faults { LineRises result (K.faults out.old, K.faults out.new)
+        (D.faults disk.old, D.faults disk.new) }
 {
     match world.event(alloc, line, disk) {
         Ok(lines) => match write_lines(out, lines.as_slice()) {
@@ -63,12 +64,14 @@ fn play_events<K: Sink, D: SharedDisk>(
 ) -> Status8
     requires begun { HasBegun (D.files disk.old) world.old }
     requires follows { CanFollow world.old.now events.now }
-    ensures { (setup : Setup) (places : ℕ) (held : Option Files)
+    ensures ends { (setup : Setup) (places : ℕ) (held : Option Files)
         → Begun setup places held (D.files disk.old) world.old
         → Written (EventsEnd setup places held (D.files disk.new)
         (FaultedSince (edge D.files D.faults disk.old disk.new)) world.new events.now)
         (LacksBehind setup places held (D.files disk.new) world.new events.now)
         (edge K.written K.faults out.old out.new) result }
+    ensures faults { RisesBy result unasked (K.faults out.old, K.faults out.new)
+        (D.faults disk.old, D.faults disk.new) }
 {
     for line in events {
         match play_line(alloc, line, out, disk, world) {
@@ -91,10 +94,12 @@ fn open<K: Sink, D: SharedDisk>(
     requires script { CanPlay opening.now events.now }
     requires empty { world.old ≡ empty_world }
     requires bare { HoldsNone (D.files disk.old) }
-    ensures { let scene = stage (edge K.written K.faults out.old out.new)
+    ensures ends { let scene = stage (edge K.written K.faults out.old out.new)
         (edge D.files D.faults disk.old disk.new) world.old world.new
         in let script = opening.now ∷ events.now
         in Written (PlayEnds script scene) (PlayLacks script scene) scene.sink result }
+    ensures faults { RisesBy result unasked (K.faults out.old, K.faults out.new)
+        (D.faults disk.old, D.faults disk.new) }
 {
     match world.begin(alloc, opening, disk) {
         Ok(()) => play_events(alloc, events, out, disk, world),
@@ -107,7 +112,7 @@ fn open<K: Sink, D: SharedDisk>(
 fn first_name<D: SharedDisk>(alloc: Global, disk: &mut D) -> Result<Option<Text>, DiskAnswer>
     ensures found { IfOk result (λ found. FindsNames (D.files disk.old) found) }
     ensures same { D.files disk.new ≡ D.files disk.old }
-    ensures cause { HasCauseOf (D.faults disk.old) (D.faults disk.new) result DiskAnswer.Failed }
+    ensures cause { RoseExactlyOn (D.faults disk.old) (D.faults disk.new) result DiskAnswer.Failed }
 {
     let names = match disk.names(alloc) {
         Ok(names) => names,
@@ -124,9 +129,10 @@ fn first_name<D: SharedDisk>(alloc: Global, disk: &mut D) -> Result<Option<Text>
 
 // Writes the end where the disk held a file of this name.
 fn write_held<K: Sink>(alloc: Global, out: &mut K, name: &[u8]) -> Status8
-    ensures { Written (IsText Status8.RootNotEmpty
+    ensures ends { Written (IsText Status8.RootNotEmpty
         (codes "root not empty: " ++ (name.now ++ codes "\n")))
         IsNone (edge K.written K.faults out.old out.new) result }
+    ensures faults { SinkRises Status8.RootNotEmpty (K.faults out.old, K.faults out.new) result }
 {
     match root_holds(alloc, name) {
         Ok(end) => write_text(out, end.status, end.text.as_slice()),
@@ -138,8 +144,8 @@ fn write_held<K: Sink>(alloc: Global, out: &mut K, name: &[u8]) -> Status8
 /// others are its events, whose lines are written as each event ends.
 ///
 /// `RootNotEmpty` comes where the disk holds a file; its least name is written, and disk and world stay.
-/// `DiskFault` comes only where the disk's faults rose as its names were asked for, in the deeds of the start, or, of a
-/// disk that tells its files, since it told those of the events before the one that ended the run.
+/// `DiskFault` comes only where the disk's count of faults rose. By any status but this one, a write fault or want of memory
+/// the count stands.
 pub fn play<K: Sink, D: SharedDisk>(
     alloc: Global,
     lines: &[Line],
@@ -149,9 +155,11 @@ pub fn play<K: Sink, D: SharedDisk>(
 ) -> Status8
     requires script { IsPlayable lines.now }
     requires empty { world.old ≡ empty_world }
-    ensures { let scene = stage (edge K.written K.faults out.old out.new)
+    ensures ends { let scene = stage (edge K.written K.faults out.old out.new)
         (edge D.files D.faults disk.old disk.new) world.old world.new
         in Written (PlayEnds lines.now scene) (PlayLacks lines.now scene) scene.sink result }
+    ensures faults { RisesBy result unasked (K.faults out.old, K.faults out.new)
+        (D.faults disk.old, D.faults disk.new) }
 {
     match first_name(alloc, disk) {
         Ok(None) => match lines.split_first() {

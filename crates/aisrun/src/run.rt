@@ -1,24 +1,18 @@
 //! The top call: the words, a source, a sink, a disk and a world, and the status that the run ends with.
-ghost use Rattle.std.specs.Prelude.{◌≡◌, ◌≢◌, ◌⊎◌, ◌≤◌, [], ◌∷◌, length, codes, false, List, ℕ, Some, MatchResult};
-ghost use Rattle.aisrun.specs.Causes.{Rose};
+ghost use Rattle.std.specs.Prelude.{◌≡◌, ◌≤◌, length};
 ghost use Rattle.aisrun.specs.AfterFault.{KeepsAtFault};
-ghost use Rattle.aisrun.specs.Commands.{command_of, text_of, word_bytes};
-ghost use Rattle.disk_model.specs.Disk.{no_files};
-ghost use Rattle.aisrun.specs.Faults.{IsFault};
-ghost use Rattle.format_expr.specs.declared.fault.ExprFault.{ExprFault};
-ghost use Rattle.ais_values.specs.declared.kind.StreamKind.{StreamKind};
-ghost use Rattle.aisrun.specs.declared.command.Command.{Command};
+ghost use Rattle.aisrun.specs.Commands.{word_bytes};
+ghost use Rattle.aisrun.specs.Completing.{CanCheck, CanParse, CanRun, IsDoneOrMemory};
+ghost use Rattle.aisrun.specs.Counts.{HasRisen, NoneRises, RisesBy};
 ghost use Rattle.aisrun.specs.declared.ending.Status8.{Status8};
 ghost use Rattle.aisrun.specs.Edges.{around, edge, stage};
-ghost use Rattle.aisrun.specs.Endings.{Ends, EndsBroken, EndsDone, EndsHeld, EndsLacking, EndsOverlong, EndsRefused, EndsUnread, EndsUnwritten, EndsUsage};
-ghost use Rattle.aisrun.specs.Playing.{has_failures};
+ghost use Rattle.aisrun.specs.Endings.{Ends, EndsBy};
 ghost use Rattle.aisrun.specs.Promises.{OfAllLines, Throughout, CallsBack, CommitsInTime, DeclinesRightly, KeepsFiles, KeepsOneHistory, KeepsRecords, PrintsPosts, ReadsRightly, RepliesRightly, SettlesAll, StandsOnce};
+ghost use Rattle.aisrun.specs.Telling.{TellsOnce};
 ghost use Rattle.aisrun.specs.Scripting.{BytesEnd, BytesLack};
-ghost use Rattle.aisrun.specs.RunSteps.{EndWritten, InputEnds, InputLacks, WordsLack};
-ghost use Rattle.aisrun.specs.Steps.{Written};
-ghost use Rattle.aisrun.specs.Scripts.{IsScriptOf};
+ghost use Rattle.aisrun.specs.RunSteps.{EndRises, EndWritten, InputEnds, InputLacks, WordsLack};
+ghost use Rattle.aisrun.specs.Steps.{Written, unasked};
 ghost use Rattle.cluster_core.specs.Worlds.{empty_world};
-ghost use Rattle.script_lines.specs.declared.line.Line.{Line};
 
 use crate::check::check_script;
 use crate::command::{Command, command_of, text_of};
@@ -35,7 +29,8 @@ use std::alloc::{AllocError, Global};
 
 // Writes an end, and tells its status.
 fn write_end<K: Sink>(out: &mut K, end: Result<End, AllocError>) -> Status8
-    ensures { EndWritten end (edge K.written K.faults out.old out.new) result }
+    ensures ends { EndWritten end (edge K.written K.faults out.old out.new) result }
+    ensures faults { EndRises end (K.faults out.old, K.faults out.new) result }
 {
     match end {
         Ok(end) => write_text(out, end.status, end.text.as_slice()),
@@ -53,9 +48,11 @@ fn run_bytes<K: Sink, D: SharedDisk>(
 ) -> Status8
     requires short { length bytes.now ≤ 16777216 }
     requires empty { world.old ≡ empty_world }
-    ensures { let scene = stage (edge K.written K.faults out.old out.new)
+    ensures ends { let scene = stage (edge K.written K.faults out.old out.new)
         (edge D.files D.faults disk.old disk.new) world.old world.new
         in Written (BytesEnd bytes.now scene) (BytesLack bytes.now scene) scene.sink result }
+    ensures faults { RisesBy result unasked (K.faults out.old, K.faults out.new)
+        (D.faults disk.old, D.faults disk.new) }
 {
     match read_script(alloc, bytes) {
         Ok(Script::Lines(lines)) => play(alloc, lines.as_slice(), out, disk, world),
@@ -73,10 +70,12 @@ fn run_script<S: Source, K: Sink, D: SharedDisk>(
     world: &mut World,
 ) -> Status8
     requires { world.old ≡ empty_world }
-    ensures { let source = edge S.left S.faults source.old source.new in
+    ensures ends { let source = edge S.left S.faults source.old source.new in
         let scene = stage (edge K.written K.faults out.old out.new)
         (edge D.files D.faults disk.old disk.new) world.old world.new
         in Written (InputEnds source scene) (InputLacks source scene) scene.sink result }
+    ensures faults { RisesBy result (S.faults source.old, S.faults source.new)
+        (K.faults out.old, K.faults out.new) (D.faults disk.old, D.faults disk.new) }
 {
     match read_input(alloc, source) {
         Ok(Input::Bytes(bytes)) => run_bytes(alloc, bytes.as_slice(), out, disk, world),
@@ -95,11 +94,12 @@ fn run_words<S: Source, K: Sink, D: SharedDisk>(
     world: &mut World,
 ) -> Status8
     requires { world.old ≡ empty_world }
-    ensures { let run = around (word_bytes words.now)
-        (edge S.left S.faults source.old source.new)
-        (stage (edge K.written K.faults out.old out.new)
-        (edge D.files D.faults disk.old disk.new) world.old world.new)
+    ensures ends { let run = around (word_bytes words.now)
+        (edge S.left S.faults source.old source.new) (edge K.written K.faults out.old out.new)
+        (edge D.files D.faults disk.old disk.new) world.old world.new
         in Written (Ends run) (WordsLack run) run.stage.sink result }
+    ensures faults { RisesBy result (S.faults source.old, S.faults source.new)
+        (K.faults out.old, K.faults out.new) (D.faults disk.old, D.faults disk.new) }
 {
     match command_of(words) {
         None => write_end(out, usage(alloc)),
@@ -115,19 +115,24 @@ fn run_words<S: Source, K: Sink, D: SharedDisk>(
 /// the others are its events, whose lines are written as each event ends. The words `check` read it to its end and tell
 /// whether it is a script. The words `expr KIND TEXT` tell whether the text is a format expression; the source stays unread.
 ///
-/// The first clauses say of each status what was read, what is written and what stands. `WriteFault` comes only where the
-/// sink's count of faults rose, `ReadFault` only where the source's rose, `DiskFault` only where the disk's rose as its names
-/// were asked for, in the deeds of the start, or, of a disk that tells its files, since it told those of the events before the
-/// one that ended the run. The disk is asked for nothing, and no line is played, of a script with a line on servers that fail
-/// and come back. Where memory ran out, `Memory`, nothing was written or a front of the text; `check`, `expr` and words that
-/// are none of the program's leave disk and world as they are all the same, `expr` and such words the source too.
+/// The clause `ends` says of each status what was read, what is written and what stands. Every count of faults stands but
+/// as the status says: `WriteFault` comes exactly where the sink's rose, whatever was to come; `ReadFault` only where the
+/// source's rose, and then only this, `WriteFault` or `Memory` comes; `DiskFault` only where the disk's rose, and then only
+/// this, `WriteFault` or `Memory` comes. An event that is done leaves the disk's count, so it rose as the names were asked
+/// for, in the deeds of the start, or in the event that ended the run. The disk is asked for nothing, and no line is
+/// played, of a script with a line on servers that fail and come back. Where memory ran out, `Memory`, nothing was written
+/// or a front of the text; `check`, `expr` and words that are none of the program's leave disk and world as they are all
+/// the same, `expr` and such words the source too.
 ///
-/// The clauses behind them say of each run what holds at the end of every line that was played, by any status. A line tells a
-/// refusal by a client's agent exactly where the calls that the client had sent, and those of them whose reply no line told,
-/// make one due. Each entry is committed at the time in force. No two calls have a record at one place. Where a fault of
-/// the disk ended it in an entry's work, the same holds of history, replies, callbacks and posts up to the fault, the entry is
-/// committed and has no reply, and what was answered as stored before it stands, unless the entry gives its place away; where
-/// the fault came in a line that shows files, all stands as at the end of the line before.
+/// The clauses behind them say of each run what holds at the end of every line that was played, by any status. A line tells
+/// a refusal by a client's agent exactly where the calls that the client had sent, and those of them whose reply no line
+/// told, make one due. Each entry is committed at the time in force. Of every subscription, the callbacks that its client
+/// got tell of the first sends answered ok for which it asked while it lasted, each once and in order, and tell as lost
+/// those that were dropped; so no notification comes twice to it, and those of one sender come in its order. No two calls
+/// have a record at one place. Where a fault of the disk ended it in an entry's work, the same holds of history, replies,
+/// callbacks and posts up to the fault, the entry is committed and has no reply, and what was answered as stored before it
+/// stands, unless the entry gives its place away; where the fault came in a line that shows files, all stands as at the end
+/// of the line before.
 pub fn run<S: Source, K: Sink, D: SharedDisk>(
     alloc: Global,
     words: &[String],
@@ -138,43 +143,14 @@ pub fn run<S: Source, K: Sink, D: SharedDisk>(
 ) -> Status8
     requires { world.old ≡ empty_world }
 
-    // What each status means.
-    ensures done { result ≡ Status8.Done → EndsDone (around (word_bytes words.now)
-        (edge S.left S.faults source.old source.new)
-        (stage (edge K.written K.faults out.old out.new)
-        (edge D.files D.faults disk.old disk.new) world.old world.new)) }
-    ensures refused { result ≡ Status8.ScriptRefused → EndsRefused (around (word_bytes words.now)
-        (edge S.left S.faults source.old source.new)
-        (stage (edge K.written K.faults out.old out.new)
-        (edge D.files D.faults disk.old disk.new) world.old world.new)) }
-    ensures usage { result ≡ Status8.Usage → EndsUsage (around (word_bytes words.now)
-        (edge S.left S.faults source.old source.new)
-        (stage (edge K.written K.faults out.old out.new)
-        (edge D.files D.faults disk.old disk.new) world.old world.new)) }
-    ensures memory { result ≡ Status8.Memory → EndsLacking (around (word_bytes words.now)
-        (edge S.left S.faults source.old source.new)
-        (stage (edge K.written K.faults out.old out.new)
-        (edge D.files D.faults disk.old disk.new) world.old world.new)) }
-    ensures read_fault { result ≡ Status8.ReadFault → EndsUnread (around (word_bytes words.now)
-        (edge S.left S.faults source.old source.new)
-        (stage (edge K.written K.faults out.old out.new)
-        (edge D.files D.faults disk.old disk.new) world.old world.new)) }
-    ensures write_fault { result ≡ Status8.WriteFault → EndsUnwritten (around (word_bytes words.now)
-        (edge S.left S.faults source.old source.new)
-        (stage (edge K.written K.faults out.old out.new)
-        (edge D.files D.faults disk.old disk.new) world.old world.new)) }
-    ensures disk_fault { result ≡ Status8.DiskFault → EndsBroken (around (word_bytes words.now)
-        (edge S.left S.faults source.old source.new)
-        (stage (edge K.written K.faults out.old out.new)
-        (edge D.files D.faults disk.old disk.new) world.old world.new)) }
-    ensures root_not_empty { result ≡ Status8.RootNotEmpty → EndsHeld (around (word_bytes words.now)
-        (edge S.left S.faults source.old source.new)
-        (stage (edge K.written K.faults out.old out.new)
-        (edge D.files D.faults disk.old disk.new) world.old world.new)) }
-    ensures too_long { result ≡ Status8.TooLong → EndsOverlong (around (word_bytes words.now)
-        (edge S.left S.faults source.old source.new)
-        (stage (edge K.written K.faults out.old out.new)
-        (edge D.files D.faults disk.old disk.new) world.old world.new)) }
+    // How the run ends, by its status.
+    ensures ends { EndsBy result (around (word_bytes words.now)
+        (edge S.left S.faults source.old source.new) (edge K.written K.faults out.old out.new)
+        (edge D.files D.faults disk.old disk.new) world.old world.new) }
+
+    // Which counts of faults rose.
+    ensures faults { RisesBy result (S.faults source.old, S.faults source.new)
+        (K.faults out.old, K.faults out.new) (D.faults disk.old, D.faults disk.new) }
 
     // What holds at the end of every line that was played.
     ensures one_history { Throughout (D.files disk.old) KeepsOneHistory }
@@ -183,6 +159,7 @@ pub fn run<S: Source, K: Sink, D: SharedDisk>(
     ensures in_time { OfAllLines (D.files disk.old) CommitsInTime }
     ensures readers { Throughout (D.files disk.old) ReadsRightly }
     ensures callbacks { Throughout (D.files disk.old) CallsBack }
+    ensures tells_once { Throughout (D.files disk.old) TellsOnce }
     ensures posts { Throughout (D.files disk.old) PrintsPosts }
     ensures files { Throughout (D.files disk.old) KeepsFiles }
     ensures stays { Throughout (D.files disk.old) KeepsRecords }
@@ -192,30 +169,16 @@ pub fn run<S: Source, K: Sink, D: SharedDisk>(
     // What holds where a fault of the disk ended the run in an event.
     ensures fault_keeps { KeepsAtFault (D.files disk.old) (D.files disk.new) world.new }
 
-    // A script without lines on failures, a disk without files and no fault: only memory may be missing.
-    ensures completes { (lines : List Line) (bytes : List ℕ)
-        → word_bytes words.now ≡ codes "run" ∷ []
-        → S.left source.old ≡ Some bytes → length bytes ≤ 16777216 → IsScriptOf lines bytes
-        → has_failures lines ≡ false → D.files disk.old ≡ Some no_files
-        → ¬ Rose (S.faults source.old) (S.faults source.new)
-        → ¬ Rose (K.faults out.old) (K.faults out.new)
-        → ¬ Rose (D.faults disk.old) (D.faults disk.new)
-        → (result ≡ Status8.Done) ⊎ (result ≡ Status8.Memory) }
-
-    // The same of a script that is checked.
-    ensures checks { (lines : List Line) (bytes : List ℕ)
-        → word_bytes words.now ≡ codes "check" ∷ []
-        → S.left source.old ≡ Some bytes → length bytes ≤ 16777216 → IsScriptOf lines bytes
-        → ¬ Rose (S.faults source.old) (S.faults source.new)
-        → ¬ Rose (K.faults out.old) (K.faults out.new)
-        → (result ≡ Status8.Done) ⊎ (result ≡ Status8.Memory) }
-
-    // The same of an expression: a text without a fault that begins with no minus sign.
-    ensures exprs { (kind : StreamKind)
-        → command_of (word_bytes words.now) ≡ Some (Command.Expr kind)
-        → ((fault : ExprFault) → IsFault kind (text_of (word_bytes words.now)) fault → ⊥)
-        → ¬ Rose (K.faults out.old) (K.faults out.new)
-        → (result ≡ Status8.Done) ⊎ (result ≡ Status8.Memory) }
+    // Where nothing fails, a script without lines on failures is played, a script is checked, and an expression is taken apart:
+    // only memory may be missing.
+    ensures completes { CanRun (word_bytes words.now) (S.left source.old) (D.files disk.old)
+        → NoneRises (S.faults source.old, S.faults source.new) (K.faults out.old, K.faults out.new)
+        (D.faults disk.old, D.faults disk.new) → IsDoneOrMemory result }
+    ensures checks { CanCheck (word_bytes words.now) (S.left source.old)
+        → ¬ HasRisen (S.faults source.old, S.faults source.new)
+        → ¬ HasRisen (K.faults out.old, K.faults out.new) → IsDoneOrMemory result }
+    ensures exprs { CanParse (word_bytes words.now)
+        → ¬ HasRisen (K.faults out.old, K.faults out.new) → IsDoneOrMemory result }
 {
     run_words(alloc, words, source, out, disk, world)
 }

@@ -1,10 +1,10 @@
 //! Writing texts and lines to the sink.
 ghost use Rattle.std.specs.Prelude.{◌≡◌, ◌++◌};
-ghost use Rattle.ais_values.specs.Causes.{HasCauseOf};
+ghost use Rattle.ais_values.specs.Causes.{RoseExactlyOn};
 ghost use Rattle.io_edge.specs.Writes.{WritesAll};
 ghost use Rattle.aisrun.specs.Edges.{edge};
 ghost use Rattle.aisrun.specs.Endings.{fault_line};
-ghost use Rattle.aisrun.specs.Steps.{IsNever, IsText, Written, joined_lines, sink_status};
+ghost use Rattle.aisrun.specs.Steps.{IsNever, IsText, SinkRises, Written, joined_lines, sink_status};
 
 use crate::ending::{FAULT_LINE, Status8};
 use ais_values::Seq;
@@ -24,7 +24,7 @@ pub fn unwritten(answer: SinkAnswer) -> Status8
 pub fn write_lines<K: Sink>(out: &mut K, lines: &[Seq<u8>]) -> Result<(), SinkAnswer>
     ensures bytes { WritesAll (K.written out.old) (K.written out.new) (joined_lines lines.now)
         result }
-    ensures cause { HasCauseOf (K.faults out.old) (K.faults out.new) result SinkAnswer.Failed }
+    ensures cause { RoseExactlyOn (K.faults out.old) (K.faults out.new) result SinkAnswer.Failed }
 {
     for line in lines {
         match write_all(out, line.as_slice()) {
@@ -37,8 +37,9 @@ pub fn write_lines<K: Sink>(out: &mut K, lines: &[Seq<u8>]) -> Result<(), SinkAn
 
 /// Writes lines, and behind them the one that tells of a disk fault.
 pub fn write_broken<K: Sink>(out: &mut K, lines: &[Seq<u8>]) -> Status8
-    ensures { Written (IsText Status8.DiskFault (joined_lines lines.now ++ fault_line)) IsNever
+    ensures ends { Written (IsText Status8.DiskFault (joined_lines lines.now ++ fault_line)) IsNever
         (edge K.written K.faults out.old out.new) result }
+    ensures faults { SinkRises Status8.DiskFault (K.faults out.old, K.faults out.new) result }
 {
     match write_lines(out, lines) {
         Ok(()) => write_text(out, Status8::DiskFault, FAULT_LINE),
@@ -48,8 +49,9 @@ pub fn write_broken<K: Sink>(out: &mut K, lines: &[Seq<u8>]) -> Status8
 
 /// Writes a text, behind which the run ends with a status.
 pub fn write_text<K: Sink>(out: &mut K, status: Status8, text: &[u8]) -> Status8
-    ensures { Written (IsText status text.now) IsNever
+    ensures ends { Written (IsText status text.now) IsNever
         (edge K.written K.faults out.old out.new) result }
+    ensures faults { SinkRises status (K.faults out.old, K.faults out.new) result }
 {
     match write_all(out, text) {
         Ok(()) => status,

@@ -1,7 +1,8 @@
 -- A call is asked for as the world has it.
-use Rattle.std.proofs.Common.{◌≡◌, ℕ, zero, suc, ◌+◌, ◌<◌, ◌≤◌, ◌⊎◌, inl, inr, Bool, true, false, not, cond, nat_lt, if◌then◌else◌, Option, Some, None, List, [], ◌∷◌, ◌++◌, length, slice_get, slice_set, refl, ap, sym, ◌∙◌, subst, arith}
+use Rattle.std.proofs.Common.{◌≡◌, ℕ, zero, suc, ◌+◌, ◌<◌, ◌≤◌, ◌⊎◌, inl, inr, Bool, true, false, cond, nat_lt, if◌then◌else◌, Option, Some, None, List, [], ◌∷◌, ◌++◌, length, slice_get, slice_set, refl, ap, sym, ◌∙◌, subst, arith}
 use Rattle.std.specs.List.{insert}
 use Rattle.std.proofs.lemmas.Bool.Decides.{eqb_tells, leb_tells}
+use Rattle.std.proofs.lemmas.Bool.{lt-ltb, le-ltb}
 use Rattle.wire.specs.MessageSpelling.{MessageInRange}
 use Rattle.client_set.specs.Rising.{put, IsRising}
 use Rattle.client_set.proofs.RisingLaws.{IsOrder-nat_lt, IsRising-put}
@@ -46,25 +47,19 @@ fit-at client at asked old new sent found from to numbers within is =
 
 -- A client among clients.
 
-less : (one other : ℕ) → one < other → nat_lt one other ≡ true
-less one other below = elim (leb_tells (suc one) other) [ inl is ↦ is.0 | inr not ↦ let above = not.1 in absurd (omega arith) ]
-
-not-less : (one other : ℕ) → other ≤ one → nat_lt one other ≡ false
-not-less one other above = elim (leb_tells (suc one) other) [ inl is ↦ let below = is.1 in absurd (omega arith) | inr not ↦ not.0 ]
-
 -- a client that stands there already leaves the clients as they are
 put-there : (client index : ℕ) (clients : List ℕ) → IsRising nat_lt clients → slice_get clients index ≡ Some client → put nat_lt client clients ≡ clients
 put-there client index [] rising is = cc
 put-there client zero (first ∷ clients) rising is =
     let same : first ≡ client = cc in
     let Q : ℕ → Type 0 = λ c. put nat_lt client (c ∷ clients) ≡ c ∷ clients in
-    let own : Q client = ap (λ b. if b then client ∷ client ∷ clients else if b then client ∷ put nat_lt client clients else client ∷ clients) (not-less client client (omega arith)) in
+    let own : Q client = ap (λ b. if b then client ∷ client ∷ clients else if b then client ∷ put nat_lt client clients else client ∷ clients) (le-ltb client client (omega arith)) in
     subst Q (sym same) own
 put-there client (suc index) (first ∷ clients) rising is =
     let below = first-above first client index clients rising.0 is in
     let rest = put-there client index clients rising.1 is in
-    ap (λ b. if b then client ∷ first ∷ clients else if nat_lt first client then first ∷ put nat_lt client clients else client ∷ clients) (not-less client first (omega arith))
-    ∙ ap (λ b. if b then first ∷ put nat_lt client clients else client ∷ clients) (less first client below)
+    ap (λ b. if b then client ∷ first ∷ clients else if nat_lt first client then first ∷ put nat_lt client clients else client ∷ clients) (le-ltb client first (omega arith))
+    ∙ ap (λ b. if b then first ∷ put nat_lt client clients else client ∷ clients) (lt-ltb first client below)
     ∙ ap (λ cs. first ∷ cs) rest
 
 own-agent : (client : ℕ) (next : Agent) (agents : ℕ → Agent) → with_agent client next agents client ≡ next
@@ -93,7 +88,7 @@ inserted client places next agents (first ∷ clients) rising nowhere =
     elim (leb_tells (suc client) first) [
       | inl lower ↦
           let below = lower.1 in
-          let above_is = not-less first client (omega arith) in
+          let above_is = le-ltb first client (omega arith) in
           let R : Bool → Type 0 = λ a. IsRising nat_lt (if a then client ∷ first ∷ clients else if nat_lt first client then first ∷ put nat_lt client clients else client ∷ clients) in
           let placed : IsRising nat_lt (client ∷ first ∷ clients) = subst R lower.0 (IsRising-put nat_lt IsOrder-nat_lt client (first ∷ clients) rising) in
           let same = others-same client places next agents (first ∷ clients) placed.0 in

@@ -35,11 +35,12 @@ use Rattle.cluster_core.specs.Worlds.{TellsFiles, LeavesFiles, StandsIn}
 use Rattle.cluster_core.specs.Delivered.{IsFetched, again, HearsAll}
 use Rattle.cluster_core.specs.Broken.{IsFedOf, BreaksAlone, BreaksAloneIf}
 use Rattle.cluster_core.specs.PartlyDone.{SaysUnasked, TakesPartly, AsksPartly, MayDispatch, AllStandIn}
-use Rattle.cluster_core.proofs.TakenSteps.{IsMoved, any_shelf}
-use Rattle.cluster_core.proofs.ChainSteps.{again-goes, all-take, resent-by, resent-stand}
+use Rattle.cluster_core.proofs.TakenSteps.{any_shelf, dispatched-moved, asked-moved}
+use Rattle.cluster_core.proofs.ChainSteps.{again-goes, resent-by, resent-stand}
 use Rattle.cluster_core.proofs.RoundSteps.{hear-answered, files-same, All-at}
 use Rattle.cluster_core.proofs.UnaskedSteps.{lone-unasked}
 use Rattle.cluster_core.proofs.BrokenSteps.{sound-fed, unasked-fed, event-broken, shown-broken, happened-broken}
+use Rattle.cluster_core.proofs.ListSteps.{All-take}
 
 -- what a line on agents is
 line-kept : (setup : Setup) (next : Line) (state : State Alone) (outcome : Outcome (State Alone)) → IsSteady (plain_of setup) IsGoodAlone state → Happens (plain_of setup) any_shelf (lone (plain_of setup)) next state outcome → IsSteady (plain_of setup) IsGoodAlone outcome.state × Says (plain_of setup) state.world outcome.state.world outcome.told
@@ -69,11 +70,6 @@ takes-break place message old net agents partly held setup state good shows stan
     })
     (partly plain state.world (is_plain setup) shows.net shows.agents)
 
--- **a call that a client asks for, done in part**
-asked-moved : (plain : Plain) (client : ℕ) (call : Call) (status : Option Status) (world : World) → IsMoved world (ask_by plain client call status world).state
-asked-moved plain client call (Some status) world = record { core = refl; now = refl; places = refl }
-asked-moved plain client call None world = record { core = refl; now = refl; places = refl }
-
 -- a call leaves what its client was fed
 asked-fed : (plain : Plain) (client : ℕ) (call : Call) (status : Option Status) (world : World) → IsSound plain world → (other : ℕ) → IsFedOf plain (ask_by plain client call status world).state.core.answered (sent_by other world.net) other (fed_of ((ask_by plain client call status world).state.agents other))
 asked-fed plain client call (Some status) world sound other = sound-fed plain world sound other
@@ -90,18 +86,6 @@ asks-break client asked old net agents partly held setup state good shows =
     (partly plain state.world (is_plain setup) shows.net shows.agents (sym shows.callbacks))
 
 -- **callbacks that were handed out without their lines, or not**
-given_one-moved : (client : ℕ) (status : Option Status) (world : World) → IsMoved world (dispatch_one_by client status world).state
-given_one-moved client (Some status) world = record { core = refl; now = refl; places = refl }
-given_one-moved client None world = record { core = refl; now = refl; places = refl }
-
-given_all-moved : (client : ℕ) (status : Option Status) (world : World) → IsMoved world (dispatch_all_by client status world).state
-given_all-moved client (Some status) world = record { core = refl; now = refl; places = refl }
-given_all-moved client None world = record { core = refl; now = refl; places = refl }
-
-given-moved : (how : How) (client : ℕ) (world : World) → IsMoved world (dispatch_as how client world).state
-given-moved One client world = given_one-moved client (dispatch_refusal (world.agents client)) world
-given-moved (All workers) client world = given_all-moved client (dispatch_refusal (world.agents client)) world
-
 given_one-sent : (client : ℕ) (status : Option Status) (world : World) (other : ℕ) → sent_by other (dispatch_one_by client status world).state.net ≡ sent_by other world.net
 given_one-sent client (Some status) world other = refl
 given_one-sent client None world other = refl
@@ -125,7 +109,7 @@ dispatch-breaks how client old agents may held setup state good shows =
     (record {
       sound = kept.0.sound;
       says = kept.1;
-      same = given-moved how client state.world;
+      same = dispatched-moved how client state.world;
       fed = unasked-fed (plain_of setup) state.world (dispatch_as how client state.world).state kept.0.sound (given-sent how client state.world);
     })
     (record { net_is = inl shows.net; agents_are = may state.world shows.agents })
@@ -157,7 +141,7 @@ again-files setup messages state held tells =
 pub hears-stop : (messages : List Message) (count : ℕ) (old now : Kept) (before after : List (List ℕ)) → HearsAll (take count messages) old now before after → BreaksAloneIf (AllStandIn messages) old now
 hears-stop messages count old now before after hears held setup state good shows stand =
     let front = take count messages in
-    let all = all-take (λ m. Stands m state.world.net) count messages stand in
+    let all = All-take (λ m. Stands m state.world.net) count messages stand in
     let first = hears setup state good shows all in
     let goes = again-goes setup front state good.steady all in
     let done = for_each (again setup) front state in
@@ -167,7 +151,7 @@ hears-stop messages count old now before after hears held setup state good shows
 pub hears-stop-within : (messages : List Message) (count : ℕ) (message : Message) (old now new : Kept) (before after : List (List ℕ)) → count < length messages → message ≡ get_or messages count message → HearsAll (take count messages) old now before after → BreaksAloneIf (StandsIn message) now new → BreaksAloneIf (AllStandIn messages) old new
 hears-stop-within messages count message old now new before after within is hears breaks held setup state good shows stand =
     let front = take count messages in
-    let all = all-take (λ m. Stands m state.world.net) count messages stand in
+    let all = All-take (λ m. Stands m state.world.net) count messages stand in
     let first = hears setup state good shows all in
     let goes = again-goes setup front state good.steady all in
     let done = for_each (again setup) front state in

@@ -1,11 +1,9 @@
 -- A message that the active server hears, its work and a push that break off.
 use Rattle.std.proofs.Common.{◌≡◌, ℕ, zero, suc, ◌⊎◌, inl, inr, Bool, true, false, Option, Some, None, List, [], ◌∷◌, ◌++◌, length, take, refl, ap, sym, ◌∙◌, subst}
 use Rattle.std.specs.Prelude.{IsSome, option_map}
-use Rattle.std.specs.List.{AllByRecursion}
 use Rattle.calls.specs.History.{Pushed}
 use Rattle.disk_model.specs.Disk.{Files}
-use Rattle.disk_model.specs.declared.answers.DiskAnswer.{DiskAnswer}
-use Rattle.disk_model.specs.declared.answers.DiskAnswer.TheVariants.{Memory, Failed}
+use Rattle.disk_model.specs.declared.answers.DiskAnswer.TheVariants.{Failed}
 use Rattle.disk_model.specs.DeviceCalls.{all_applied, LacksMemoryAfter, FailsAfter}
 use Rattle.stream_layout.specs.Deeds.{calls_of_all}
 use Rattle.plain_service.specs.Setups.{Setup}
@@ -23,7 +21,7 @@ use Rattle.cluster_facts.specs.World.{World, posted}
 use Rattle.script_lines.specs.declared.line.Server.TheVariants.{A as ServerA}
 use Rattle.cluster_events.specs.declared.lines.ServerRole.TheVariants.{Down}
 use Rattle.cluster_events.specs.Lines.{Stood}
-use Rattle.cluster_events.specs.Outcomes.{Outcome, for_each}
+use Rattle.cluster_events.specs.Outcomes.{Outcome}
 use Rattle.cluster_events.specs.Servers.{State, in_world}
 use Rattle.cluster_events.specs.ClientEvents.{post}
 use Rattle.cluster_events.specs.Events.{post_again, request_as, receipt_as, hear_at_rest}
@@ -31,6 +29,7 @@ use Rattle.cluster_events.specs.Saying.{Says}
 use Rattle.cluster_events.specs.Serving.{IsSteady}
 use Rattle.cluster_events.proofs.Telling.{Says-same}
 use Rattle.cluster_events.proofs.Carrying.{Goes, hear-goes, drain-goes, IsMadeItem, held-made, post_all-goes}
+use Rattle.event_text.specs.Texts.{server_line}
 use Rattle.lone_cluster.specs.Lone.{Alone, lone, IsGoodAlone, accept_alone, net_answering}
 use Rattle.lone_cluster.proofs.Serving.{lone-serves}
 use Rattle.mirror.specs.declared.heard.Heard.{Heard}
@@ -47,11 +46,12 @@ use Rattle.cluster_core.specs.Worlds.{Shows, IsGood, TellsFiles, heard_by, drain
 use Rattle.cluster_core.specs.Broken.{LeavesBetween, Broken, Faulted}
 use Rattle.cluster_core.specs.Errors.{BreaksOff}
 use Rattle.cluster_core.specs.Rounds.{StopsInDrain}
-use Rattle.cluster_core.specs.PartlyDone.{PostsSome, IsPartlyTold, SaysUnasked, IsFaultTold}
+use Rattle.cluster_core.specs.PartlyDone.{PostsSome, IsPartlyTold, SaysUnasked}
 use Rattle.cluster_core.proofs.ServerSteps.{state_with, answered-history, IsHeardBy}
-use Rattle.cluster_core.proofs.WorkSteps.{IsWorked, drain-steady}
+use Rattle.cluster_core.proofs.WorkSteps.{IsWorked, drain-steady, each-posted}
 use Rattle.cluster_core.proofs.UnaskedSteps.{lone-unasked, unasked-same}
 use Rattle.cluster_core.proofs.BrokenSteps.{left-between, same-between, unworked-between, lacking-between, failing-between, whole-broken, nothing-broken}
+use Rattle.cluster_core.proofs.ListSteps.{All-take}
 
 -- Messages that were posted in part.
 
@@ -296,36 +296,12 @@ pub work-fails : (setup : Setup) (state : State Alone) (old : Kept) (a : Server)
 work-fails setup state old a count held left good shows some fell fails =
     work-fails-by setup state state.world.core.hand old a count held left good shows some fell fails
 
--- and where memory ran out for its line
-work-unsaid-by : (setup : Setup) (state : State Alone) (hand : Hand) (old : Kept) (a : Server) (count : ℕ) (held left : Option Files) → IsGood setup (state_with state hand) → Shows setup (state_with state hand) old → IsSome old.a.owed → FailsAfter (calls_of_all (deeds_in old.a.owed)) count held left → Broken setup (state_with state hand) held left (record old { a = a })
-work-unsaid-by setup state Empty old a count held left good shows some fails = absurd (rest-owes setup state.world.core.answered old.a shows.active some)
-work-unsaid-by setup state (Ready entry) old a count held left good shows some fails =
-    let now = state_with state (Ready entry) in
-    let L : Server → Type 0 = λ server. FailsAfter (calls_of_all (deeds_in server.owed)) count held left in
-    whole-broken setup now now [] held left (record old { a = a }) good.steady.sound (unasked-same (plain_of setup) now.world) shows.net shows.agents shows.history shows.now (failing-between setup now entry count held left (subst L shows.active fails))
-work-unsaid-by setup state (Waiting entry) old a count held left good shows some fails = elim good.steady.good [ ]
-work-unsaid-by setup state (Applied entry) old a count held left good shows some fails = elim good.steady.good [ ]
-
--- **what work is left as after a fault, by whether it was told**
-pub work-faults : (answer : DiskAnswer) (old : Kept) (a : Server) (before after : List (List ℕ)) (count : ℕ) (held left : Option Files) → IsFaultTold answer before after → IsSome old.a.owed → a ≡ down → FailsAfter (calls_of_all (deeds_in old.a.owed)) count held left → BreaksOff StopsInDrain answer old (record old { a = a }) before after held left
-work-faults Memory old a before after count held left told some fell fails = λ setup state good shows so.
-    work-unsaid-by setup state state.world.core.hand old a count held left good shows some fails
-work-faults Failed old a before after count held left told some fell fails = λ setup state good shows so.
+-- **what work is left as after a fault that was told**
+pub work-faults : (old : Kept) (a : Server) (before after : List (List ℕ)) (count : ℕ) (held left : Option Files) → after ≡ before ++ server_line ServerA Down ∷ [] → IsSome old.a.owed → a ≡ down → FailsAfter (calls_of_all (deeds_in old.a.owed)) count held left → BreaksOff StopsInDrain Failed old (record old { a = a }) before after held left
+work-faults old a before after count held left told some fell fails = λ setup state good shows so.
     (Stood ServerA Down ∷ [], work-fails setup state old a count held left good shows some fell fails, told)
 
 -- A push.
-
-each-posted : (plain : Plain) (items : List Message) (state : State Alone) → for_each (λ item. in_world (post plain item)) items state ≡ record { state = record { world = record state.world { net = posted_all plain items state.world.net }; peers = state.peers }; told = lines_all plain items state.world.net }
-each-posted plain [] state = refl
-each-posted plain (item ∷ items) state =
-    let next = (in_world (post plain item) state).state in
-    let told = (in_world (post plain item) state).told in
-    ap (λ (outcome : Outcome (State Alone)). record { state = outcome.state; told = outcome.told ++ told }) (each-posted plain items next)
-
-all-taken : {X : Type 0} (P : X → Type 0) (count : ℕ) (xs : List X) → AllByRecursion P xs → AllByRecursion P (take count xs)
-all-taken P zero xs all = tt
-all-taken P (suc count) [] all = tt
-all-taken P (suc count) (x ∷ xs) all = (all.0, all-taken P count xs all.1)
 
 push-breaks-by : (setup : Setup) (state : State Alone) (hand : Hand) (old : Kept) (net : List (List ℕ)) (items : List Message) (held : Option Files) → IsGood setup (state_with state hand) → Shows setup (state_with state hand) old → old.a.owed ≡ None → ((past : List Entry) → IsHistory setup past → old.a ≡ at_rest setup past → items ≡ (plain_of setup).held past) → PostsSome items old.net net → Broken setup (state_with state hand) held held (record old { net = net })
 push-breaks-by setup state Empty old net items held good shows idle are posts =
@@ -335,7 +311,7 @@ push-breaks-by setup state Empty old net items held good shows idle are posts =
     let P : List Message → Type 0 = λ messages. PostsSome messages old.net net in
     let done = subst P (are past (answered-history setup state Empty good) shows.active) posts plain state.world.net (is_plain setup) shows.net in
     let front = take done.0 (plain.held past) in
-    let made = all-taken (IsMadeItem plain past) done.0 (plain.held past) (held-made plain (is_plain setup) past) in
+    let made = All-take (IsMadeItem plain past) done.0 (plain.held past) (held-made plain (is_plain setup) past) in
     let goes = post_all-goes plain (is_plain setup) (lone plain) IsGoodAlone (lone-serves plain (is_plain setup)) (SaysUnasked plain) (lone-unasked plain) front rest (record { steady = good.steady; empty = refl }) made in
     let same = each-posted plain front rest in
     let S : Outcome (State Alone) → Type 0 = λ outcome. IsSteady plain IsGoodAlone outcome.state in

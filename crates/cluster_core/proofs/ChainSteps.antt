@@ -1,7 +1,8 @@
 -- Events of the world of the code, one after another.
-use Rattle.std.proofs.Common.{◌≡◌, ℕ, zero, suc, ◌+◌, ◌<◌, inl, inr, Option, Some, None, List, [], ◌∷◌, ◌++◌, length, get_or, slice_get, take, refl, ap, sym, ◌∙◌, subst, arith, append_assoc}
+use Rattle.std.proofs.Common.{◌≡◌, ℕ, ◌+◌, ◌<◌, inl, inr, Some, None, List, [], ◌∷◌, ◌++◌, length, get_or, take, ap, sym, ◌∙◌, subst, append_assoc}
 use Rattle.std.specs.List.{AllByRecursion}
 use Rattle.std.proofs.lemmas.List.{take_more}
+use Rattle.std.proofs.lemmas.Option.{get_or_from_slice_get}
 use Rattle.wire.specs.MessageSpelling.{MessageFits, MessageInRange}
 use Rattle.plain_service.specs.Setups.{Setup}
 use Rattle.service_laws.specs.PlainOf.{plain_of}
@@ -29,8 +30,9 @@ use Rattle.cluster_core.specs.Worlds.{Shows, IsGood, HasState, Happened, Does, D
 use Rattle.cluster_core.specs.Delivered.{again, resent_by, HearsAll, StandAll}
 use Rattle.cluster_core.specs.PartlyDone.{SaysUnasked}
 use Rattle.cluster_core.proofs.DispatchSteps.{absent, seen-at}
-use Rattle.cluster_core.proofs.PostAllSteps.{printed-append}
 use Rattle.cluster_core.proofs.UnaskedSteps.{lone-unasked}
+use Rattle.cluster_core.proofs.ListSteps.{All-take}
+use Rattle.cluster_core.proofs.SettlingLines.{printed-append}
 
 -- one event after another
 pub happened-then : (setup : Setup) (first : Outcome (State Alone)) (event : State Alone → Outcome (State Alone)) (middle new : Kept) (before between after : List (List ℕ)) → Happened setup first middle before between → Happened setup (event first.state) new between after → Happened setup (and_then first event) new before after
@@ -58,11 +60,6 @@ all-front P (first ∷ front) x all = (all.0, all-front P front x all.1)
 all-last : {X : Type 0} (P : X → Type 0) (front : List X) (x : X) → AllByRecursion P (front ++ x ∷ []) → P x
 all-last P [] x all = all.0
 all-last P (first ∷ front) x all = all-last P front x all.1
-
-pub all-take : {X : Type 0} (P : X → Type 0) (count : ℕ) (xs : List X) → AllByRecursion P xs → AllByRecursion P (take count xs)
-all-take P zero xs all = tt
-all-take P (suc count) [] all = tt
-all-take P (suc count) (x ∷ xs) all = (all.0, all-take P count xs all.1)
 
 pub hears-none_yet : (world : Kept) (lines : List (List ℕ)) → HearsAll [] world world lines lines
 hears-none_yet world lines setup state good shows stands = (shows, good, sym (Rattle.std.proofs.Common.append-nil lines))
@@ -95,7 +92,7 @@ hears-whole messages count old new before after whole hears =
 -- the world stands for a state in which these messages stand in the net
 pub still-standing : (messages : List Message) (count : ℕ) (old new : Kept) (before after : List (List ℕ)) → StandAll messages old → HearsAll (take count messages) old new before after → HasState new
 still-standing messages count old new before after stand hears =
-    let all = all-take (λ m. Stands m stand.state.world.net) count messages stand.stand in
+    let all = All-take (λ m. Stands m stand.state.world.net) count messages stand.stand in
     let done = hears stand.setup stand.state stand.good stand.shows all in
     record { setup = stand.setup; state = (for_each (again stand.setup) (take count messages) stand.state).state; good = done.1; shows = done.0 }
 
@@ -127,17 +124,12 @@ all-range messages old stand =
 pub resent-stand : (setup : Setup) (client : ℕ) (state : State Alone) → IsGood setup state → AllByRecursion (λ message. Stands message state.world.net) (resent client (state.world.agents client))
 resent-stand setup client state good = resent-posted (plain_of setup) client state.world good.steady.sound
 
-get-read : {X : Type 0} (xs : List X) (place : ℕ) (other x : X) → slice_get xs place ≡ Some x → get_or xs place other ≡ x
-get-read [] place other x is = cc
-get-read (first ∷ xs) zero other x is = cc
-get-read (first ∷ xs) (suc place) other x is = get-read xs place other x is
-
 -- the messages that the agent of a client sends again
 pub resent-by : (client at : ℕ) (old : Kept) (agent : Seen) (messages : List Message) → place_of client old.agents ≡ Some at → agent ≡ get_or old.agents at agent → ((c places : ℕ) (a : Agent) → agent ≡ seen_of c places a → messages ≡ resent c a) → (setup : Setup) (state : State Alone) → Shows setup state old → messages ≡ resent client (state.world.agents client)
 resent-by client at old agent messages found is are setup state shows =
     let there = seen-at client at old.agents state.world shows.agents found in
     let seen = seen_of client state.world.places (state.world.agents client) in
-    are client state.world.places (state.world.agents client) (is ∙ get-read old.agents at agent seen there.1)
+    are client state.world.places (state.world.agents client) (is ∙ get_or_from_slice_get old.agents at seen agent there.1)
 
 pub resent-standing : (client at : ℕ) (old : Kept) (agent : Seen) (messages : List Message) → HasState old → place_of client old.agents ≡ Some at → agent ≡ get_or old.agents at agent → ((c places : ℕ) (a : Agent) → agent ≡ seen_of c places a → messages ≡ resent c a) → StandAll messages old
 resent-standing client at old agent messages stands found is are =

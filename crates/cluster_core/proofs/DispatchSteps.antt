@@ -1,11 +1,11 @@
 -- Callbacks of a client are handed out as the world has it.
-use Rattle.std.proofs.Common.{◌≡◌, ℕ, zero, suc, ◌+◌, ◌<◌, ◌⊎◌, inl, inr, Bool, true, ◌==◌, cond, nat_lt, if◌then◌else◌, Option, Some, None, List, [], ◌∷◌, ◌++◌, length, slice_get, slice_set, reverse, refl, ap, sym, ◌∙◌, subst, arith, true≢false, append_assoc, append-nil}
-use Rattle.std.specs.Prelude.{Result, Ok, Err, OnOk, OnErr}
+use Rattle.std.proofs.Common.{◌≡◌, ℕ, zero, suc, ◌+◌, ◌<◌, ◌⊎◌, inl, inr, Bool, ◌==◌, cond, nat_lt, if◌then◌else◌, Option, Some, None, List, [], ◌∷◌, ◌++◌, length, slice_get, slice_set, reverse, refl, ap, sym, ◌∙◌, subst, arith, append_assoc, append-nil}
+use Rattle.std.specs.Prelude.{Result, Ok, Err, OnErr}
 use Rattle.std.specs.List.{flat_map, position_from}
 use Rattle.std.proofs.lemmas.Iterator.Adapters.{position_from-zero}
 use Rattle.std.proofs.lemmas.List.{reverse-append, length-reverse}
 use Rattle.std.proofs.lemmas.List.Concat.{flat_map-append}
-use Rattle.std.proofs.lemmas.Bool.Decides.{leb_tells}
+use Rattle.std.proofs.lemmas.Bool.{ltb-true}
 use Rattle.client_set.specs.Rising.{ComesFirst, IsRising}
 use Rattle.cluster_facts.specs.Types.{Status, Callback, BadHandle}
 use Rattle.cluster_facts.specs.Lists.{Stands}
@@ -22,19 +22,11 @@ use Rattle.client_agent.specs.Steps.{numbered, handed_out, after_dispatch}
 use Rattle.event_text.specs.Texts.{callback_lines, dispatched_line, declined_line, printed}
 use Rattle.cluster_core.specs.Clients.{seen_all, ShowsAgents, place_of, IsDispatchedAt, dispatch_as, Dispatches}
 use Rattle.cluster_core.specs.PartlyDone.{MayDispatch}
-
--- What follows where a call is done follows there.
-pub on-ok : {T E P Q : Type 0} (r : Result T E) → (P → Q) → OnOk r P → OnOk r Q
-on-ok (Ok x) step holds = step holds
-on-ok (Err e) step holds = tt
+use Rattle.client_agent.proofs.Handing.{length-numbered}
 
 pub on-err : {T E P : Type 0} (r : Result T E) → P → OnErr r P
 on-err (Ok x) holds = tt
 on-err (Err e) holds = holds
-
-pub on-bad : {T E P Q : Type 0} (r : Result T E) → (P → Q) → OnErr r P → OnErr r Q
-on-bad (Ok x) step holds = tt
-on-bad (Err e) step holds = step holds
 
 -- The place of a client.
 
@@ -88,18 +80,15 @@ found client places place agents clients is =
 
 -- One agent changes.
 
-above : (one other : ℕ) → nat_lt one other ≡ true → one < other
-above one other is = elim (leb_tells (suc one) other) [ inl below ↦ let less = below.1 in omega arith | inr not ↦ absurd (true≢false (sym is ∙ not.0)) ]
-
 pub first-above : (first other index : ℕ) (clients : List ℕ) → ComesFirst nat_lt first clients → slice_get clients index ≡ Some other → first < other
 first-above first other index [] comes is = cc
-first-above first other zero (next ∷ clients) comes is = let same : next ≡ other = cc in let less = above first next comes.0 in omega arith
+first-above first other zero (next ∷ clients) comes is = let same : next ≡ other = cc in let less = ltb-true first next comes.0 in omega arith
 first-above first other (suc index) (next ∷ clients) comes is = first-above first other index clients comes.1 is
 
 pub others-same : (client places : ℕ) (after : Agent) (agents : ℕ → Agent) (clients : List ℕ) → ComesFirst nat_lt client clients → seen_all places (with_agent client after agents) clients ≡ seen_all places agents clients
 others-same client places after agents [] comes = refl
 others-same client places after agents (next ∷ clients) comes =
-    let less = above client next comes.0 in
+    let less = ltb-true client next comes.0 in
     let rest = others-same client places after agents clients comes.1 in
     let P : Bool → Type 0 = λ b. seen_of next places (if b then after else agents next) ∷ seen_all places (with_agent client after agents) clients ≡ seen_of next places (agents next) ∷ seen_all places agents clients in
     by_test P client next (λ same. absurd (omega arith)) (λ different. ap (λ s. seen_of next places (agents next) ∷ s) rest)
@@ -145,10 +134,6 @@ handed-printed client before (callback ∷ callbacks) =
     ∙ flat_map-append (λ (x : Numbered). callback_lines client x.number x.callback) (reverse (numbered before callbacks)) (one ∷ [])
     ∙ ap (λ front. front ++ (own ++ [])) (handed-printed client before callbacks)
     ∙ ap (λ back. printed (handed_lines client before callbacks) ++ back) (append-nil own)
-
-numbered-length : (before : ℕ) (callbacks : List Callback) → length (numbered before callbacks) ≡ length callbacks
-numbered-length before [] = refl
-numbered-length before (callback ∷ callbacks) = ap suc (numbered-length before callbacks)
 
 -- What a dispatch comes to.
 
@@ -227,7 +212,7 @@ dispatch-given how client place old new before between after taken is at first l
     let agents_are : new ≡ slice_set old place (seen_of client world.places (after_dispatch how agent)) = done.2 ∙ ap (λ s. slice_set old place s) done.1.2 in
     let taken_is : taken ≡ reverse (numbered (length agent.handed) callbacks) = done.1.1 in
     let texts : lines_for client taken ≡ printed (handed_lines client (length agent.handed) callbacks) = ap (lines_for client) taken_is ∙ handed-printed client (length agent.handed) callbacks in
-    let count : length taken ≡ length callbacks = ap length taken_is ∙ length-reverse (numbered (length agent.handed) callbacks) ∙ numbered-length (length agent.handed) callbacks in
+    let count : length taken ≡ length callbacks = ap length taken_is ∙ length-reverse (numbered (length agent.handed) callbacks) ∙ length-numbered (length agent.handed) callbacks in
     let lines : after ≡ before ++ (printed (handed_lines client (length agent.handed) callbacks) ++ dispatched_line client (length callbacks) ∷ []) =
     last ∙ ap (λ b. b ++ dispatched_line client (length taken) ∷ []) first
     ∙ append_assoc before (lines_for client taken) (dispatched_line client (length taken) ∷ [])

@@ -1,5 +1,5 @@
 -- The items that are held are in range.
-use Rattle.std.proofs.Common.{◌≡◌, ℕ, suc, ◌≤◌, ◌⊎◌, inl, inr, Bool, true, false, ◌==◌, if◌then◌else◌, List, [], ◌∷◌, ◌++◌, length, ap, arith}
+use Rattle.std.proofs.Common.{ℕ, suc, ◌≤◌, inl, inr, Bool, true, false, ◌==◌, if◌then◌else◌, List, [], ◌∷◌, length, arith}
 use Rattle.std.specs.List.{AllByRecursion}
 use Rattle.std.proofs.lemmas.Option.{slice_get_within}
 use Rattle.wire.specs.MessageSpelling.{MessageInRange}
@@ -11,28 +11,18 @@ use Rattle.plain_service.specs.Items.{made_for}
 use Rattle.plain_service.proofs.Possible.{possible}
 use Rattle.service_laws.specs.PlainOf.{plain_of}
 use Rattle.service_laws.proofs.ServiceLaws.{is_plain}
-use Rattle.cluster_facts.specs.Types.{Call, NtfSubscribe, Entry, Called, Receipted, Message, Delivery}
+use Rattle.cluster_facts.specs.Types.{Call, Entry, Called, Receipted, Message, Delivery}
 use Rattle.cluster_facts.specs.Lists.{Stands, IsNumbered}
 use Rattle.cluster_facts.specs.Messages.{calls_in}
 use Rattle.cluster_facts.specs.Service.{asked_for, subscribes, IsHeldItem}
 use Rattle.cluster_facts.specs.Ranges.{AreInRange}
-use Rattle.cluster_facts.proofs.Words.{by_test, All-map}
-use Rattle.cluster_facts.proofs.Clients.{subscribed-asked, asked_for-number}
-
-subscribes-number : (key id number : ℕ) (call : Call) → Stands (key, id) (subscribes number call) → key ≡ number
-subscribes-number key id number (NtfSubscribe other filters) (inl same) = ap (λ (p : ℕ × ℕ). p.0) same
-subscribes-number key id number (NtfSubscribe other filters) (inr stands) = elim stands [ ]
-subscribes-number key id number call stands = elim stands [ ]
-
-Stands-parts : {X : Type 0} (x : X) (front back : List X) → Stands x (front ++ back) → Stands x front ⊎ Stands x back
-Stands-parts x [] back stands = inr stands
-Stands-parts x (y ∷ front) back (inl same) = inl (inl same)
-Stands-parts x (y ∷ front) back (inr stands) = elim (Stands-parts x front back stands) [ inl there ↦ inl (inr there) | inr there ↦ inr there ]
+use Rattle.cluster_facts.proofs.Words.{by_test, All-map, Stands-append}
+use Rattle.cluster_facts.proofs.Clients.{subscribed-asked, asked_for-number, subscribes-number}
 
 -- keys begin at 1
 asked-from : (key id : ℕ) (calls : List (ℕ × Call)) → IsNumbered calls → Stands (key, id) (asked_for calls) → 1 ≤ key
 asked-from key id [] numbered stands = elim stands [ ]
-asked-from key id (call ∷ calls) numbered stands = elim (Stands-parts (key, id) (subscribes call.0 call.1) (asked_for calls) stands) [
+asked-from key id (call ∷ calls) numbered stands = elim (Stands-append (key, id) (subscribes call.0 call.1) (asked_for calls) stands) [
   | inl own ↦
       let is = subscribes-number key id call.0 call.1 own in
       let number = numbered.0 in
@@ -54,7 +44,7 @@ caller-range client (Called caller number time call ∷ past) range some =
     by_test P caller client (λ same here. (omega arith, omega arith)) (λ different there. caller-range client past range.1 there) some
 caller-range client (Receipted caller key through time ∷ past) range some = caller-range client past range.1 some
 
-calls-few : (client : ℕ) (past : List Entry) → length (calls_in client past) ≤ length past
+pub calls-few : (client : ℕ) (past : List Entry) → length (calls_in client past) ≤ length past
 calls-few client [] = omega arith
 calls-few client (Called caller number time call ∷ past) =
     let deeper = calls-few client past in

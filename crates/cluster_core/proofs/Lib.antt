@@ -1,3 +1,5 @@
+pub mod CauseSteps
+mod ListSteps
 mod PostingSteps
 mod DispatchSteps
 mod ListingSteps
@@ -7,10 +9,9 @@ mod FilesSteps
 mod ServerSteps
 mod PostAllSteps
 mod HeldSteps
-mod WorkSteps
+pub mod WorkSteps
 mod TakenSteps
-mod ResultSteps
-mod SettlingLines
+pub mod SettlingLines
 mod HeedingSteps
 mod ReplySteps
 mod RoundSteps
@@ -24,7 +25,6 @@ mod LineSpelled
 mod BrokenServers
 mod BeginSpelled
 mod BeginSteps
-pub mod BeginBroken
 mod ShowSteps
 mod BrokenClients
 mod LineBroken

@@ -11,14 +11,10 @@ use Rattle.cluster_core.specs.Broken.{BreaksOn, BreaksAlone}
 use Rattle.cluster_core.specs.Errors.{BreaksOff}
 use Rattle.cluster_core.specs.Rounds.{StopsInDrain, StopsInSettle}
 use Rattle.cluster_core.specs.Steps.{PlayBroken, EndsAs}
-use Rattle.cluster_core.proofs.BrokenSteps.{shown-broken}
-
--- nothing was done
-pub alone-same : (world : Kept) → BreaksAlone world world
-alone-same world held setup state good shows = shown-broken setup state held world good shows
+use Rattle.cluster_core.proofs.BrokenClients.{same-breaks}
 
 pub alone-as : (old new : Kept) → new ≡ old → BreaksAlone old new
-alone-as old new same = subst (BreaksAlone old) (sym same) (alone-same old)
+alone-as old new same = subst (BreaksAlone old) (sym same) (same-breaks old)
 
 -- a line that leaves the disk alone
 pub ends-broken : {T E : Type 0} (r : Result T E) (s : Result T DiskAnswer) (next : Line) (old new : Kept) (before after : List (List ℕ)) (held : Option Files) → EndsAs r s → OnErr r (BreaksAlone old new) → IfErr s (λ answer. PlayBroken answer next old new before after held held)
@@ -49,7 +45,7 @@ settle-broken (Err answer) next old new before after held left is breaks =
 
 -- files were to be shown
 memory-same : (old : Kept) (held left : Option Files) → left ≡ held → BreaksOn old old held left
-memory-same old held left same = subst (BreaksOn old old held) (sym same) (alone-same old held)
+memory-same old held left same = subst (BreaksOn old old held) (sym same) (same-breaks old held)
 
 pub files-broken : {T : Type 0} (r : Result T DiskAnswer) (next : Line) (old : Kept) (before after : List (List ℕ)) (held left : Option Files) → next ≡ line.Files → left ≡ held → (IsErrOf r Failed → after ≡ before) → IfErr r (λ answer. PlayBroken answer next old old before after held left)
 files-broken (Ok x) next old before after held left is same stays = tt

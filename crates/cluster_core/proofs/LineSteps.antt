@@ -1,7 +1,7 @@
 -- What a line of a script comes to, event by event.
-use Rattle.std.proofs.Common.{◌≡◌, ℕ, zero, suc, ◌+◌, ◌<◌, ◌≤◌, ◌⊎◌, inl, inr, Bool, true, false, ℤ, Option, Some, None, List, [], ◌∷◌, ◌++◌, length, slice_get, refl, ap, sym, ◌∙◌, subst, arith}
+use Rattle.std.proofs.Common.{◌≡◌, ℕ, zero, suc, ◌≤◌, Bool, true, false, ℤ, Option, Some, None, List, [], ◌∷◌, length, inr, refl, ap, sym, ◌∙◌, subst, arith}
 use Rattle.std.specs.Prelude.{Result, Ok, Err, OnOk, IfSome, IsSome, ◌≤ℤ◌}
-use Rattle.ais_values.specs.Causes.{HasCauseOf}
+use Rattle.ais_values.specs.Causes.{RoseExactlyOn}
 use Rattle.disk_model.specs.Disk.{Files}
 use Rattle.disk_model.specs.declared.answers.DiskAnswer.{DiskAnswer}
 use Rattle.disk_model.specs.declared.answers.DiskAnswer.TheVariants.{Failed}
@@ -12,14 +12,14 @@ use Rattle.plain_service.specs.Storing.{files_of}
 use Rattle.service_laws.specs.PlainOf.{plain_of}
 use Rattle.cluster_facts.specs.Types.{Ask, Call, Reply, Item, Message, Request, Answer, Delivery, Receipt}
 use Rattle.cluster_facts.specs.Service.{Plain}
-use Rattle.cluster_facts.specs.Agents.{Agent, Living, call_of, refusal, kept_call, find_living, dispatch_refusal}
+use Rattle.cluster_facts.specs.Agents.{Agent, Living, call_of, refusal, kept_call, find_living}
 use Rattle.cluster_facts.specs.History.{Hand, Empty, Waiting, Applied, Ready, Judged, New, Repeat, Old, Ahead, judged_call}
 use Rattle.cluster_facts.specs.Service.{is_new, answers_in}
 use Rattle.cluster_facts.specs.World.{World, message_at, number_of}
 use Rattle.cluster_events.specs.Outcomes.{Outcome, for_each}
 use Rattle.cluster_events.specs.Servers.{State, in_world}
-use Rattle.cluster_events.specs.ClientEvents.{reply_by, Fate, Takes, Misses, fate_of, item_as, item_by, take_reply, take_item}
-use Rattle.cluster_events.specs.Events.{reply_at, post_again, request_as, receipt_as, hear_at_rest, hear_by, hear, delivered, deliver_by, deliver, refuse, push_by, push}
+use Rattle.cluster_events.specs.ClientEvents.{reply_by, Fate, Takes, Misses, fate_of, item_as, item_by}
+use Rattle.cluster_events.specs.Events.{reply_at, post_again, request_as, receipt_as, hear_at_rest, hear_by, hear, delivered, deliver_by, refuse, push_by}
 use Rattle.cluster_events.specs.Running.{Shelf, Happens}
 use Rattle.lone_cluster.specs.Lone.{Alone, lone}
 use Rattle.client_agent.specs.declared.answers.How.{How}
@@ -37,7 +37,7 @@ use Rattle.cluster_core.proofs.FilesSteps.{left-same}
 use Rattle.cluster_core.proofs.ServerSteps.{state_with}
 use Rattle.cluster_core.specs.Shelves.{shelf_of}
 use Rattle.cluster_core.specs.Steps.{asked_by, dispatched_by, deliver_at, work_done, PlaysAlone, Plays, EndsAs}
-use Rattle.cluster_core.proofs.TakenSteps.{IsMoved, asked-moved, dispatched-moved}
+use Rattle.cluster_core.proofs.TakenSteps.{asked-moved, dispatched-moved}
 use Rattle.cluster_core.proofs.WorkSteps.{each-posted}
 
 -- Which entries are answered is left by all but work.
@@ -234,11 +234,11 @@ ends-ok (Ok x) (Err f) same step holds = elim same [ ]
 ends-ok (Err e) (Ok y) same step holds = elim same [ ]
 ends-ok (Err e) (Err f) same step holds = tt
 
-pub ends-cause : {T E : Type 0} (r : Result T E) (s : Result T DiskAnswer) (faults : ℕ) → EndsAs r s → HasCauseOf faults faults s Failed
-ends-cause (Ok x) (Ok y) faults same = record { later = omega arith; rose = λ is. cc }
+pub ends-cause : {T E : Type 0} (r : Result T E) (s : Result T DiskAnswer) (faults : ℕ) → EndsAs r s → RoseExactlyOn faults faults s Failed
+ends-cause (Ok x) (Ok y) faults same = record { later = omega arith; rose = λ is. cc; stands = refl }
 ends-cause (Ok x) (Err f) faults same = elim same [ ]
 ends-cause (Err e) (Ok y) faults same = elim same [ ]
-ends-cause (Err e) (Err f) faults same = record { later = omega arith; rose = λ is. cc }
+ends-cause (Err e) (Err f) faults same = record { later = omega arith; rose = λ is. cc; stands = inr refl }
 
 -- Each agent numbers its calls from 1.
 

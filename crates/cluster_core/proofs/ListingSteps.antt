@@ -1,5 +1,5 @@
 -- The steps of a listing.
-use Rattle.std.proofs.Common.{◌≡◌, ℕ, ◌+◌, ◌<◌, ◌≤◌, List, [], ◌∷◌, ◌++◌, length, take, get_or, Option, Some, None, sym, ◌∙◌, ap, subst, refl, arith}
+use Rattle.std.proofs.Common.{◌≡◌, ℕ, ◌+◌, ◌<◌, List, [], ◌∷◌, ◌++◌, length, take, get_or, Option, Some, None, sym, ◌∙◌, ap, subst, refl}
 use Rattle.std.specs.Prelude.{option_map, IfSome}
 use Rattle.std.specs.List.{cons_option}
 use Rattle.std.specs.Option.{option_to_list}
@@ -36,11 +36,11 @@ sizes_next (Some f) mid same names next name listed size more before told =
     ∙ ap (sizes_of f) (sym more)
 
 -- the line of one more name is made
-pub listing_next : (names : List (List ℕ)) (count : ℕ) (name : List ℕ) (held mid now : Option Files) (before first later : ℕ) (lines next : List (List ℕ))
+pub listing_next : (names : List (List ℕ)) (count : ℕ) (name : List ℕ) (held mid now : Option Files) (lines next : List (List ℕ))
     → count < length names → name ≡ get_or names count name
-    → Listing names count held mid before first lines → AddsLine mid name lines next → now ≡ mid → first ≤ later
-    → Listing names (count + 1) held now before later next
-listing_next names count name held mid now before first later lines next inside is so_far adds same risen =
+    → Listing names count held mid lines → AddsLine mid name lines next → now ≡ mid
+    → Listing names (count + 1) held now next
+listing_next names count name held mid now lines next inside is so_far adds same =
     let one = option_to_list (option_map (λ size. (name, size)) adds.size) in
     let more : take (count + 1) names ≡ take count names ++ name ∷ [] = take_more names count name inside ∙ ap (λ n. take count names ++ n ∷ []) (sym is) in
     record {
@@ -48,5 +48,4 @@ listing_next names count name held mid now before first later lines next inside 
       shown = adds.added ∙ ap (λ t. t ++ listed_lines one) so_far.shown ∙ sym (listed_lines-append so_far.listed one);
       told = sizes_next held mid so_far.same (take count names) (take (count + 1) names) name so_far.listed adds.size more so_far.told adds.told;
       same = same ∙ so_far.same;
-      risen = omega (arith, so_far.risen, risen);
     }

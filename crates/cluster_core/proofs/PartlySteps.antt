@@ -1,6 +1,5 @@
 -- How much of an event was done where memory ran out within it.
 use Rattle.std.proofs.Common.{◌≡◌, ℕ, ◌+◌, ◌<◌, inl, inr, Option, Some, None, List, [], ◌∷◌, ◌++◌, length, get_or, take, refl, ap, sym, ◌∙◌, subst}
-use Rattle.std.specs.Prelude.{Result, Ok, Err, OnErr}
 use Rattle.std.proofs.lemmas.List.{take_more}
 use Rattle.calls.specs.History.{Pushed}
 use Rattle.cluster_facts.specs.Types.{Entry, Message}
@@ -47,8 +46,3 @@ commits-so (Some entry) old new before after commits = inr commits.0
 pub reserve-breaks : (P : State Alone → Type 0) (old : Kept) (a : Server) (history : Pushed) → history.entries ≡ old.history.entries → BreaksAloneIf P old (record old { a = a; history = history })
 reserve-breaks P old a history same held setup state good shows so =
     nothing-broken setup state held (record old { a = a; history = history }) good shows.net shows.agents (same ∙ shows.history) shows.now
-
--- what follows where a call is not done follows there
-pub err-step : {T E P Q : Type 0} (r : Result T E) → (P → Q) → OnErr r P → OnErr r Q
-err-step (Ok x) step holds = tt
-err-step (Err e) step holds = step holds

@@ -8,23 +8,18 @@ use Rattle.wire.specs.Messages.{Spells}
 use Rattle.message_net.specs.Nets as bytes
 use Rattle.cluster_facts.specs.Service.{Plain, IsPlain}
 use Rattle.cluster_facts.specs.World.{posted, number_of}
-use Rattle.cluster_events.specs.Lines.{Told}
 use Rattle.cluster_events.specs.ClientEvents.{post_lines}
 use Rattle.event_text.specs.Texts.{printed}
 use Rattle.cluster_core.specs.Spelled.{AreSpelled, SpellingsTell, Posts, IsNumberIn}
 use Rattle.cluster_core.specs.Heard.{posted_all, lines_all, PostsAll}
 use Rattle.cluster_core.proofs.PostingSteps.{same-test, spelled-length}
+use Rattle.cluster_core.proofs.SettlingLines.{printed-append}
 
 -- an element that is read has what all elements have
 pub all-read : {X : Type 0} (P : X → Type 0) (xs : List X) (place : ℕ) (x : X) → place < length xs → x ≡ get_or xs place x → AllByRecursion P xs → P x
 all-read P [] place x within is all = absurd (omega arith)
 all-read P (first ∷ xs) zero x within is all = subst P (sym is) all.0
 all-read P (first ∷ xs) (suc place) x within is all = all-read P xs place x (omega arith) is all.1
-
-pub printed-append : (late early : List Told) → printed (late ++ early) ≡ printed early ++ printed late
-printed-append [] early = sym (append-nil (printed early))
-printed-append (line ∷ late) early =
-    ap (λ front. front ++ Rattle.event_text.specs.Texts.lines_of line) (printed-append late early) ∙ append_assoc (printed early) (printed late) (Rattle.event_text.specs.Texts.lines_of line)
 
 pub posted-more : (plain : Plain) (messages : List Message) (message : Message) (net : List Message) → posted_all plain (messages ++ message ∷ []) net ≡ posted plain message (posted_all plain messages net)
 posted-more plain [] message net = refl

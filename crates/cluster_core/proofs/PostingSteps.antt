@@ -1,5 +1,5 @@
 -- What is posted as bytes is posted as a message.
-use Rattle.std.proofs.Common.{◌≡◌, ℕ, suc, inl, inr, Bool, true, false, not, ◌||◌, if◌then◌else◌, Some, List, [], ◌∷◌, ◌++◌, length, refl, ap, sym, ◌∙◌, subst, append-nil, true≢false}
+use Rattle.std.proofs.Common.{◌≡◌, ℕ, suc, inr, Bool, true, false, not, ◌||◌, if◌then◌else◌, Some, List, [], ◌∷◌, ◌++◌, length, refl, ap, sym, ◌∙◌, subst, append-nil, true≢false}
 use Rattle.std.specs.Str.{bytes_eq}
 use Rattle.std.specs.Cmp.Lexicographic.{bytes_decides}
 use Rattle.wire.specs.declared.message.Message.{Message}
@@ -101,6 +101,3 @@ posts-known tell message string old new before after spells is first same_lines 
 pub posts-some : SpellingsTell → (message : Message) (string : List ℕ) (old new : List (List ℕ)) → Spells message string → new ≡ bytes.posted string old → PostsOrNot message old new
 posts-some tell message string old new spells is plain messages is_plain spelled =
     inr (subst (λ n. AreSpelled (posted plain message messages) n) (sym is) (posted-spelled plain is_plain tell message string messages old spells spelled))
-
-pub posts-none : (message : Message) (old new : List (List ℕ)) → new ≡ old → PostsOrNot message old new
-posts-none message old new is plain messages is_plain spelled = inl (subst (λ n. AreSpelled messages n) (sym is) spelled)

@@ -4,6 +4,7 @@ use Rattle.std.specs.List.{starts_with}
 use Rattle.std.specs.Str.{bytes_eq}
 use Rattle.std.specs.Cmp.Lexicographic.{bytes_decides}
 use Rattle.std.proofs.Math.Seq.{take-append_seam}
+use Rattle.std.proofs.lemmas.Bool.{false_from_ne_true}
 use Rattle.wire_code.specs.Spelling.{number_text, IsNumber, IsClient, IsCount}
 use Rattle.wire_code.specs.Reading.{number_at}
 use Rattle.wire_code.proofs.Codes.{ok_is}
@@ -135,10 +136,6 @@ starts-by client number receiver other reply =
     ap (λ n. bytes_eq (reply_front client number) (take n (message_text (Answer receiver other reply)))) (front-length client number)
     ∙ ap (bytes_eq (reply_front client number)) (front-taken receiver other reply)
 
-not-so : (b : Bool) → (b ≡ true → ⊥) → b ≡ false
-not-so true never = absurd (never refl)
-not-so false never = refl
-
 -- what was found, beside what the messages give
 abbrev pub IsReplyAs : ℕ → ℕ → Option Reply → Option (List ℕ) → Type 0
 IsReplyAs client number value None = value ≡ None
@@ -154,7 +151,7 @@ reply-here client number receiver other reply messages bytes found is_client is_
     let own = reply_front receiver other in
     let answers = answers_to client messages in
     let begins : starts_with nat_eq bytes front ≡ bytes_eq front own = ap (λ b. starts_with nat_eq b front) spells.is ∙ starts-by client number receiver other reply in
-    let apart : ((front ≡ own) → ⊥) → starts_with nat_eq bytes front ≡ false = λ never. begins ∙ not-so (bytes_eq front own) (λ is. never ((bytes_decides front own).0 is)) in
+    let apart : ((front ≡ own) → ⊥) → starts_with nat_eq bytes front ≡ false = λ never. begins ∙ false_from_ne_true (bytes_eq front own) (λ is. never ((bytes_decides front own).0 is)) in
     let F : Option Reply → Bool → Type 0 = λ value c. IsReplyAs client number value (if c then Some bytes else found) in
     let P : Bool → Type 0 = λ a. F (reply_at number (if a then (other, reply) ∷ answers else answers)) (starts_with nat_eq bytes front) in
     let Q : Bool → Type 0 = λ b. F (if b then Some reply else reply_at number answers) (starts_with nat_eq bytes front) in

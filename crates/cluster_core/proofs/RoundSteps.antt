@@ -2,6 +2,7 @@
 use Rattle.std.proofs.Common.{◌≡◌, ℕ, zero, suc, ◌+◌, ◌<◌, inl, inr, Bool, true, false, ◌||◌, nat_lt, if◌then◌else◌, Option, Some, None, List, [], ◌∷◌, ◌++◌, length, take, get_or, map, slice_get, refl, ap, sym, ◌∙◌, subst, arith, append_assoc, append-nil}
 use Rattle.std.specs.List.{AllByRecursion}
 use Rattle.std.proofs.lemmas.List.{take_more}
+use Rattle.std.proofs.Math.Bool.{or-false}
 use Rattle.disk_model.specs.Disk.{Files}
 use Rattle.wire.specs.MessageSpelling.{MessageInRange}
 use Rattle.wire.specs.Messages.{Spells}
@@ -21,7 +22,7 @@ use Rattle.cluster_facts.proofs.Posting.{answers_to-posted}
 use Rattle.cluster_facts.specs.Ranges.{AreInRange}
 use Rattle.cluster_events.specs.Outcomes.{Outcome, quietly, and_then, for_each}
 use Rattle.cluster_events.specs.Servers.{State, in_world, drain}
-use Rattle.cluster_events.specs.Events.{reply_at, post_again, request_as, receipt_as, hear_at_rest, hear_by, hear, push}
+use Rattle.cluster_events.specs.Events.{reply_at, post_again, request_as, receipt_as, hear_at_rest, hear_by, hear}
 use Rattle.cluster_events.specs.Settling.{take_answer_by, take_answer, turn, take_pushed}
 use Rattle.cluster_events.specs.Saying.{Says}
 use Rattle.cluster_events.specs.Serving.{IsSteady}
@@ -45,6 +46,7 @@ use Rattle.cluster_core.proofs.TakenSteps.{taken-goes}
 use Rattle.cluster_core.proofs.UnaskedSteps.{lone-unasked}
 use Rattle.cluster_core.proofs.FilesSteps.{left-told, left-same, left-both}
 use Rattle.cluster_core.proofs.SettlingLines.{kept-append, loud-append, SameButPlace, hear-places, hear-measured, IsQuiet, drain-quiet, push-quiet}
+use Rattle.cluster_core.proofs.ListSteps.{All-take}
 
 -- Events that happened are events that were played.
 
@@ -81,10 +83,6 @@ played-both setup state first event middle new before between after a b held tol
           let leaves = one.files tells in
           left-both setup first.state second.state held told left leaves (two.files (left-told setup first.state held told leaves));
     }
-
-pub or-false : (b : Bool) → (b || false) ≡ b
-or-false true = refl
-or-false false = refl
 
 pub played-flag : (setup : Setup) (state : State Alone) (outcome : Outcome (State Alone)) (new : World) (before after : List (List ℕ)) (a b : Bool) (held left : Option Files) → a ≡ b → Played setup state outcome new before after a held left → Played setup state outcome new before after b held left
 played-flag setup state outcome new before after a b held left same played = record {
@@ -221,12 +219,6 @@ turn-plays message old one two new before first second after a b held left hears
 
 -- Loops.
 
-pub All-take : {X : Type 0} (P : X → Type 0) (count : ℕ) (xs : List X) → AllByRecursion P xs → AllByRecursion P (take count xs)
-All-take P zero [] all = tt
-All-take P (suc count) [] all = tt
-All-take P zero (x ∷ xs) all = tt
-All-take P (suc count) (x ∷ xs) all = (all.0, All-take P count xs all.1)
-
 pub All-at : {X : Type 0} (P : X → Type 0) (index : ℕ) (xs : List X) (x : X) → AllByRecursion P xs → index < length xs → x ≡ get_or xs index x → P x
 All-at P index [] x all below is = absurd (omega arith)
 All-at P zero (first ∷ xs) x all below is = subst P (sym is) all.0
@@ -303,9 +295,6 @@ drained-stands message old new before after held left has does =
 
 pub state-of : (P : State Alone → Type 0) (world : World) → HasStateOf P world → HasState world
 state-of P world has = record { setup = has.setup; state = has.state; good = has.good; shows = has.shows }
-
-pub flag-on : (a b : Bool) → a ≡ true → (a || b) ≡ true
-flag-on a b is = ap (λ c. c || b) is
 
 pub flag-off : (a b : Bool) → a ≡ false → (a || b) ≡ b
 flag-off a b is = ap (λ c. c || b) is
@@ -542,12 +531,6 @@ item-plays (Delivery client key item) old new before after loud plays held setup
     let place = number_of plain message state.world.net in
     played-place setup state (message_taken message setup state) (item_taken message setup state) new before after loud held held (in-world-places setup state (taken-places plain 0 place state.world message)) (plays held setup state good shows so.0)
 item-plays _ old new before after loud plays held setup state good shows so = elim so.1 [ ]
-
--- a number that is read is that at its place, whatever is read past the end
-pub read-any : {X : Type 0} (xs : List X) (n : ℕ) (d e : X) → n < length xs → get_or xs n d ≡ get_or xs n e
-read-any [] n d e below = absurd (omega arith)
-read-any (first ∷ xs) zero d e below = refl
-read-any (first ∷ xs) (suc n) d e below = read-any xs n d e (omega arith)
 
 pub stands-of : (item : Message) (world : World) → HasStateOf (λ state. StandsIn item state × IsItem item) world → HasStateOf (StandsIn item) world
 stands-of item world has = record { setup = has.setup; state = has.state; good = has.good; shows = has.shows; so = has.so.0 }

@@ -30,7 +30,7 @@ use Rattle.cluster_events.specs.Events.{post_again, request_as, receipt_as, hear
 use Rattle.cluster_events.specs.Saying.{Says}
 use Rattle.cluster_events.specs.Serving.{IsSteady}
 use Rattle.cluster_events.proofs.Carrying.{hear-goes}
-use Rattle.event_text.specs.Texts.{printed, ignored_line}
+use Rattle.event_text.specs.Texts.{printed}
 use Rattle.lone_cluster.specs.Lone.{Alone, lone, IsGoodAlone, accept_alone}
 use Rattle.lone_cluster.proofs.Serving.{lone-serves, lone-says}
 use Rattle.mirror.specs.declared.heard.Heard.{Heard}
@@ -43,6 +43,7 @@ use Rattle.cluster_core.specs.declared.world.World.{World as Kept}
 use Rattle.cluster_core.specs.Clients.{ShowsAgents}
 use Rattle.cluster_core.specs.Heard.{reason_of, reason_lines, IsToldHeard}
 use Rattle.cluster_core.specs.Worlds.{IsActive, Shows, IsGood, HasState, Happened, heard_by}
+use Rattle.mirror.proofs.NodeLaws.{count-is}
 
 -- A state with its hand as a variable is the state.
 
@@ -66,10 +67,6 @@ answered-history setup state (Ready entry) good =
     history-of setup good.begins state.world.now state.world.core.answered (IsLegal-before (plain_of setup) state.world.now entry state.world.core.answered good.steady.sound.facts.legal) good.range.1
 answered-history setup state (Waiting entry) good = elim good.steady.good [ ]
 answered-history setup state (Applied entry) good = elim good.steady.good [ ]
-
-pub saved-number : (setup : Setup) (past : List Entry) → (saved_of setup past).number ≡ length past
-unfolding saved_of
-saved-number setup past = refl
 
 -- the agents of a world whose agents, clients and places are the same
 pub agents-as : (world other : World) (seen : List Rattle.client_agent.specs.Seen.Seen) → other.places ≡ world.places → other.agents ≡ world.agents → other.clients ≡ world.clients → ShowsAgents world seen → ShowsAgents other seen
@@ -241,13 +238,13 @@ can-hear _ now range moment = tt
 has-room-by : (setup : Setup) (state : State Alone) (hand : Hand) (old : Kept) → IsGood setup (state_with state hand) → Shows setup (state_with state hand) old → length old.history.entries < 4000000000 → HasRoom old.a.service
 has-room-by setup state Empty old good shows few =
     let past = state.world.core.answered in
-    let number = saved-number setup past in
+    let number = count-is setup past in
     let same = ap length shows.history in
     let below : (saved_of setup past).number < 4000000000 = omega arith in
     subst (λ (server : Server). HasRoom server.service) (sym shows.active) below
 has-room-by setup state (Ready entry) old good shows few =
     let past = state.world.core.answered in
-    let number = saved-number setup (entry ∷ past) in
+    let number = count-is setup (entry ∷ past) in
     let same = ap length shows.history in
     let below : (saved_of setup (entry ∷ past)).number < 4000000000 = omega arith in
     subst (λ (server : Server). HasRoom server.service) (sym shows.active) below

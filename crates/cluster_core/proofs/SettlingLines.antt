@@ -1,5 +1,5 @@
 -- What is printed of the events of a round, and which of them were loud.
-use Rattle.std.proofs.Common.{◌≡◌, ℕ, suc, ◌<◌, ◌≤◌, inl, inr, Bool, true, false, ◌||◌, nat_lt, if◌then◌else◌, Option, Some, None, List, [], ◌∷◌, ◌++◌, length, refl, ap, sym, ◌∙◌, subst, append_assoc, append-nil, arith}
+use Rattle.std.proofs.Common.{◌≡◌, ℕ, suc, inl, inr, Bool, true, false, ◌||◌, nat_lt, if◌then◌else◌, Option, Some, None, List, [], ◌∷◌, ◌++◌, length, refl, ap, sym, ◌∙◌, subst, append_assoc, append-nil, arith}
 use Rattle.std.specs.List.{AllByRecursion}
 use Rattle.std.proofs.lemmas.Bool.Decides.{leb_tells}
 use Rattle.cluster_facts.specs.Types.{Call, Reply, Entry, Called, Receipted, Message, Request, Answer, Delivery, Receipt}
@@ -57,12 +57,6 @@ loud-append (line ∷ second) first =
 
 pub not-less : (n : ℕ) → nat_lt n n ≡ false
 not-less n = elim (leb_tells (suc n) n) [ inl below ↦ let less = below.1 in absurd (omega arith) | inr not ↦ not.0 ]
-
-pub less-on : (a b : ℕ) → a < b → nat_lt a b ≡ true
-less-on a b less = elim (leb_tells (suc a) b) [ inl below ↦ below.0 | inr not ↦ let more = not.1 in absurd (omega arith) ]
-
-pub less-off : (a b : ℕ) → b ≤ a → nat_lt a b ≡ false
-less-off a b more = elim (leb_tells (suc a) b) [ inl below ↦ let less = below.1 in absurd (omega arith) | inr not ↦ not.0 ]
 
 pub less-one : (n : ℕ) → nat_lt n (suc n) ≡ true
 less-one n = elim (leb_tells (suc n) (suc n)) [ inl below ↦ below.0 | inr not ↦ let less = not.1 in absurd (omega arith) ]

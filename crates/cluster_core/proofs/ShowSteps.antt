@@ -10,7 +10,6 @@ use Rattle.script_lines.specs.declared.line.Line.{Line}
 use Rattle.script_lines.specs.declared.line.Line.TheVariants as line
 use Rattle.plain_service.specs.Setups.{Setup}
 use Rattle.plain_service.specs.Storing.{files_of}
-use Rattle.plain_service.specs.Values.{saved_of}
 use Rattle.service_laws.specs.PlainOf.{plain_of}
 use Rattle.mirror.specs.declared.heard.Role.TheVariants as role
 use Rattle.mirror.specs.Nodes.{Server, number_in_hand}
@@ -29,6 +28,7 @@ use Rattle.cluster_core.specs.Shelves.{sizes_of, listed_lines, ListsFiles, bytes
 use Rattle.cluster_core.specs.Worlds.{IsActive, Shows, IsGood, Happened, Does}
 use Rattle.cluster_core.specs.Showing.{role_shown, standing_of, refused, files_listed, file_shown, ShowsOn}
 use Rattle.cluster_core.specs.Reading.{TellsRead}
+use Rattle.mirror.proofs.NodeLaws.{count-is}
 
 -- The standing.
 
@@ -38,10 +38,6 @@ spelled-length [] (bytes ∷ net) spelled = absurd spelled
 spelled-length (message ∷ messages) [] spelled = absurd spelled
 spelled-length (message ∷ messages) (bytes ∷ net) spelled = ap suc (spelled-length messages net spelled.1)
 
-saved-number : (setup : Setup) (past : List Entry) → (saved_of setup past).number ≡ length past
-unfolding saved_of
-saved-number setup past = refl
-
 active-role : (setup : Setup) (past : List Entry) (hand : Hand) (server : Server) → IsActive setup past hand server → server.role ≡ role.Active
 active-role setup past Empty server is = ap (λ (s : Server). s.role) is
 active-role setup past (Ready entry) server is = ap (λ (s : Server). s.role) is
@@ -49,7 +45,7 @@ active-role setup past _ server is = absurd is
 
 active-hand : (setup : Setup) (past : List Entry) (hand : Hand) (server : Server) → IsActive setup past hand server → number_in_hand server ≡ number_alone (length past) hand
 active-hand setup past Empty server is = ap number_in_hand is
-active-hand setup past (Ready entry) server is = ap number_in_hand is ∙ ap Some (saved-number setup (entry ∷ past))
+active-hand setup past (Ready entry) server is = ap number_in_hand is ∙ ap Some (count-is setup (entry ∷ past))
 active-hand setup past _ server is = absurd is
 
 abbrev standing_with : ServerRole → ServerRole → ℕ → ℕ → ℕ → Option ℕ → Standing

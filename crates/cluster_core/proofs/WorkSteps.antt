@@ -1,7 +1,8 @@
 -- What the work of the entry in hand and a push come to in the world of the code.
-use Rattle.std.proofs.Common.{◌≡◌, ℕ, suc, ◌≤◌, Bool, true, false, ◌==◌, if◌then◌else◌, ℤ, Option, Some, None, List, [], ◌∷◌, ◌++◌, length, refl, ap, sym, ◌∙◌, subst, arith, append-nil}
+use Rattle.std.proofs.Common.{◌≡◌, ℕ, suc, Bool, true, false, if◌then◌else◌, ℤ, Option, Some, None, List, [], ◌∷◌, ◌++◌, length, take, refl, ap, sym, ◌∙◌, subst, arith, append-nil}
 use Rattle.std.specs.Prelude.{IfSome, IsSome, is_some, option_map}
 use Rattle.std.specs.List.{AllByRecursion}
+use Rattle.std.proofs.Math.Seq.{take-append_seam}
 use Rattle.disk_model.specs.Disk.{Files}
 use Rattle.disk_model.specs.DeviceCalls.{all_applied}
 use Rattle.stream_layout.specs.Deeds.{calls_of_all}
@@ -35,7 +36,7 @@ use Rattle.cluster_core.specs.declared.world.World.{World as Kept}
 use Rattle.cluster_core.specs.Spelled.{AreSpelled}
 use Rattle.cluster_core.specs.Heard.{posted_all, lines_all, PostsAll}
 use Rattle.cluster_core.specs.Worlds.{Shows, IsGood, HasState, TellsFiles, LeavesFiles, Happened, drained, pushed}
-use Rattle.cluster_core.proofs.HeldSteps.{held-range}
+use Rattle.cluster_core.proofs.HeldSteps.{held-range, calls-few}
 use Rattle.cluster_core.proofs.ServerSteps.{state_with, answered-history, agents-as}
 
 -- Work.
@@ -124,21 +125,15 @@ idles-by setup state (Applied entry) old before held good shows idle = elim good
 pub idles : (setup : Setup) (state : State Alone) (old : Kept) (before : List (List ℕ)) (held : Option Files) → IsGood setup state → Shows setup state old → old.a.owed ≡ None → Happened setup (drained setup state) old before before × (TellsFiles setup state held → LeavesFiles setup (drained setup state).state held held)
 idles setup state old before held good shows idle = idles-by setup state state.world.core.hand old before held good shows idle
 
--- what is posted by the work is in range
-calls-few : (client : ℕ) (past : List Entry) → length (calls_in client past) ≤ length past
-calls-few client [] = omega arith
-calls-few client (Called caller number time call ∷ past) =
-    let deeper = calls-few client past in
-    elim (caller == client) as (λ b. length (if b then (number, call) ∷ calls_in client past else calls_in client past) ≤ suc (length past)) [
-      | true ↦ omega arith
-      | false ↦ omega arith
-    ]
-calls-few client (Receipted caller key through time ∷ past) = let deeper = calls-few client past in omega arith
-
-own-number : (client number : ℕ) (time : ℤ) (call : Call) (past : List Entry) → IsNumbered (calls_in client (Called client number time call ∷ past)) → number ≡ suc (length (calls_in client past))
+pub own-number : (client number : ℕ) (time : ℤ) (call : Call) (past : List Entry) → IsNumbered (calls_in client (Called client number time call ∷ past)) → number ≡ suc (length (calls_in client past))
 own-number client number time call past numbered =
     let P : Bool → Type 0 = λ b. IsNumbered (if b then (number, call) ∷ calls_in client past else calls_in client past) → number ≡ suc (length (calls_in client past)) in
     by_test P client client (λ same is. is.0) (λ different is. absurd (different refl)) numbered
+
+-- a line that was put behind others is taken back
+pub taken-back : {X : Type 0} (before put after : List X) (line : X) (count : ℕ) → count ≡ length before → put ≡ before ++ line ∷ [] → after ≡ take count put → after ≡ before
+taken-back before put after line count is put_is after_is =
+    after_is ∙ ap (λ lines. take count lines) put_is ∙ ap (λ n. take n (before ++ line ∷ [])) is ∙ take-append_seam before (line ∷ [])
 
 replies-range : (setup : Setup) (state : State Alone) (entry : Entry) → IsGood setup (state_with state (Ready entry)) → AllByRecursion MessageInRange (replies_owed setup state.world.core.answered entry)
 replies-range setup state (Called client number time call) good =

@@ -31,7 +31,8 @@ AllStarted agents = (place : ℕ) (one : Seen) → slice_get agents place ≡ So
 -- the agent at a place was asked
 abbrev pub IsSentAt : Ask → ℕ → List Seen → Sent → List Seen → Type 0
 IsSentAt asked place old sent new =
-    (client places : ℕ) (agent : Agent) → slice_get old place ≡ Some (seen_of client places agent) → (seen : Seen) × IsSent client places asked agent sent seen × (new ≡ slice_set old place seen)
+    (client places : ℕ) (agent : Agent) → slice_get old place ≡ Some (seen_of client places agent) → (seen : Seen)
+    × IsSent client places asked agent sent seen × (new ≡ slice_set old place seen)
 
 -- the request, if there is one, can be posted
 abbrev pub HasFitRequest : Sent → Type 0
@@ -61,7 +62,9 @@ IsPlaced client agent sent old_net new_net old new before after =
 -- a client asked: the net and the agents that there are now, and the lines
 abbrev pub Asks : ℕ → ℕ → Ask → List (List ℕ) → List (List ℕ) → List Seen → List Seen → List (List ℕ) → List (List ℕ) → Type 0
 Asks callbacks client asked old_net new_net old new before after =
-    (plain : Plain) (world : World) → IsPlain plain → AreSpelled world.net old_net → ShowsAgents world old → world.places ≡ callbacks → AreSpelled (ask plain client asked world).state.net new_net × ShowsAgents (ask plain client asked world).state new × (after ≡ before ++ printed (ask plain client asked world).told)
+    (plain : Plain) (world : World) → IsPlain plain → AreSpelled world.net old_net → ShowsAgents world old → world.places ≡ callbacks
+    → AreSpelled (ask plain client asked world).state.net new_net × ShowsAgents (ask plain client asked world).state new
+    × (after ≡ before ++ printed (ask plain client asked world).told)
 
 -- the request, if there is one, was posted or not
 abbrev pub MayPost : Sent → List (List ℕ) → List (List ℕ) → Type 0

@@ -54,7 +54,9 @@ pub record Broken (setup : Setup) (state : State Alone) (held left : Option File
   pub unseen : List Told
   pub tells : Tells (plain_of setup) state.world rest unseen
   pub holds : Holds (plain_of setup) rest
-  pub deals : (client : ℕ) → AllByRecursion (λ (deal : ℕ × Call × Reply). Stands deal (dealt_in (plain_of setup) client rest.core.answered)) (deals_told client unseen)
+  pub deals :
+      (client : ℕ)
+      → AllByRecursion (λ (deal : ℕ × Call × Reply). Stands deal (dealt_in (plain_of setup) client rest.core.answered)) (deals_told client unseen)
   pub asked : (client : ℕ) → EndsIn (sent_by client state.world.net) (calls_in client (committed rest.core))
   pub fed : (client : ℕ) → IsFedOf (plain_of setup) rest.core.answered (sent_by client state.world.net) client (fed_of (rest.agents client))
   pub times : AllByRecursion (λ (line : ℕ × Entry). time_of line.1 ≡ state.world.now) (entries_told unseen)
@@ -84,7 +86,8 @@ BreaksAloneIf P old new = (held : Option Files) → BreaksIf P old new held held
 -- The disk had a fault as an entry was worked: the event came to this whole state with the entry in hand, where it stops, and told
 -- the lines of all that happened up to there; the active server is down now, which the last line tells, and the files are between
 -- those of the history without the entry and those of the history. Lines on messages without effect are left out.
-pub record Faulted (setup : Setup) (Stops : State Alone → Outcome (State Alone) → Type 0) (state : State Alone) (told : List Told) (held left : Option Files) (world : World) : Type 0 where
+pub record Faulted (setup : Setup) (Stops : State Alone → Outcome (State Alone) → Type 0) (state : State Alone) (told : List Told)
+    (held left : Option Files) (world : World) : Type 0 where
   pub reached : State Alone
   pub entry : Entry
   pub lines : List Told

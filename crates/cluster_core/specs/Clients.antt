@@ -32,7 +32,8 @@ place_of client seen = position (λ (one : Seen). one.client == client) seen
 -- the agent at a place handed out callbacks
 abbrev pub IsDispatchedAt : How → ℕ → List Seen → Dispatched → List Seen → Type 0
 IsDispatchedAt how place old dispatched new =
-    (client places : ℕ) (agent : Agent) → slice_get old place ≡ Some (seen_of client places agent) → (seen : Seen) × IsDispatched client places how agent dispatched seen × (new ≡ slice_set old place seen)
+    (client places : ℕ) (agent : Agent) → slice_get old place ≡ Some (seen_of client places agent) → (seen : Seen)
+    × IsDispatched client places how agent dispatched seen × (new ≡ slice_set old place seen)
 
 abbrev pub dispatch_as : How → ℕ → World → Outcome World
 dispatch_as One client world = dispatch_one client world
@@ -41,4 +42,5 @@ dispatch_as (All workers) client world = dispatch_all client world
 -- a dispatch of a client happened: the agents that there are now, and the lines
 abbrev pub Dispatches : How → ℕ → List Seen → List Seen → List (List ℕ) → List (List ℕ) → Type 0
 Dispatches how client old new before after =
-    (world : World) → ShowsAgents world old → ShowsAgents (dispatch_as how client world).state new × (after ≡ before ++ printed (dispatch_as how client world).told)
+    (world : World) → ShowsAgents world old → ShowsAgents (dispatch_as how client world).state new
+    × (after ≡ before ++ printed (dispatch_as how client world).told)

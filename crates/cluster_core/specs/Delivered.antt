@@ -54,7 +54,8 @@ resent_by client setup state = resend (plain_of setup) (lone (plain_of setup)) c
 -- messages are heard, from the first on, where all of them stand in the net
 abbrev pub HearsAll : List Message → World → World → List (List ℕ) → List (List ℕ) → Type 0
 HearsAll messages old new before after =
-    (setup : Setup) (state : State Alone) → IsGood setup state → Shows setup state old → AllByRecursion (λ message. Stands message state.world.net) messages → Happened setup (for_each (again setup) messages state) new before after
+    (setup : Setup) (state : State Alone) → IsGood setup state → Shows setup state old
+    → AllByRecursion (λ message. Stands message state.world.net) messages → Happened setup (for_each (again setup) messages state) new before after
 
 -- the world stands for a good state in which these messages stand in the net
 pub record StandAll (messages : List Message) (world : World) : Type 0 where

@@ -21,7 +21,8 @@ Stopping = Setup → State Alone → Outcome (State Alone) → Type 0
 -- worked then, and the lines of what happened up to there were printed
 abbrev pub FaultsIf : (State Alone → Type 0) → Stopping → World → World → List (List ℕ) → List (List ℕ) → Option Files → Option Files → Type 0
 FaultsIf P Stops old new before after held left =
-    (setup : Setup) (state : State Alone) → IsGood setup state → Shows setup state old → P state → (told : List Told) × Faulted setup (Stops setup) state told held left new × (after ≡ before ++ printed told)
+    (setup : Setup) (state : State Alone) → IsGood setup state → Shows setup state old → P state → (told : List Told)
+    × Faulted setup (Stops setup) state told held left new × (after ≡ before ++ printed told)
 
 -- what the event left, by its answer
 abbrev pub BreaksOffIf : (State Alone → Type 0) → Stopping → DiskAnswer → World → World → List (List ℕ) → List (List ℕ) → Option Files → Option Files → Type 0

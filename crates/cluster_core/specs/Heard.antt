@@ -27,7 +27,8 @@ lines_all plain (message ∷ messages) net =
 
 abbrev pub PostsAll : List Message → List (List ℕ) → List (List ℕ) → List (List ℕ) → List (List ℕ) → Type 0
 PostsAll messages old new before after =
-    (plain : Plain) (net : List Message) → IsPlain plain → AreSpelled net old → AreSpelled (posted_all plain messages net) new × (after ≡ before ++ printed (lines_all plain messages net))
+    (plain : Plain) (net : List Message) → IsPlain plain → AreSpelled net old → AreSpelled (posted_all plain messages net) new
+    × (after ≡ before ++ printed (lines_all plain messages net))
 
 -- an entry is committed, if there is one
 abbrev pub Commits : Option Entry → List Entry → List Entry → List (List ℕ) → List (List ℕ) → Type 0

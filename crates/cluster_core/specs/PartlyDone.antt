@@ -1,10 +1,5 @@
 -- Words of bodies alone: how much of an event was done where memory ran out within it.
-use Rattle.std.specs.Prelude.{◌≡◌, ℕ, ◌⊎◌, Option, Some, None, List, [], ◌∷◌, ◌++◌, take}
-use Rattle.disk_model.specs.declared.answers.DiskAnswer.{DiskAnswer}
-use Rattle.disk_model.specs.declared.answers.DiskAnswer.TheVariants.{Memory, Failed}
-use Rattle.script_lines.specs.declared.line.Server.TheVariants.{A as ServerA}
-use Rattle.cluster_events.specs.declared.lines.ServerRole.TheVariants.{Down}
-use Rattle.event_text.specs.Texts.{server_line}
+use Rattle.std.specs.Prelude.{◌≡◌, ℕ, ◌⊎◌, Option, Some, None, List, ◌∷◌, take}
 use Rattle.std.specs.List.{AllByRecursion}
 use Rattle.cluster_facts.specs.Types.{Ask, Entry, Message}
 use Rattle.cluster_facts.specs.Lists.{Stands}
@@ -48,12 +43,14 @@ pub record PartlyShows (old new : World) (net : List (List ℕ)) (agents : List 
 -- a reply or an item was delivered in part
 abbrev pub TakesPartly : ℕ → Message → List (List ℕ) → List (List ℕ) → List Seen → List Seen → Type 0
 TakesPartly place message old_net new_net old new =
-    (plain : Plain) (world : World) → IsPlain plain → AreSpelled world.net old_net → ShowsAgents world old → PartlyShows world (taken_as plain place message world).state new_net new
+    (plain : Plain) (world : World) → IsPlain plain → AreSpelled world.net old_net → ShowsAgents world old
+    → PartlyShows world (taken_as plain place message world).state new_net new
 
 -- a client asked in part
 abbrev pub AsksPartly : ℕ → ℕ → Ask → List (List ℕ) → List (List ℕ) → List Seen → List Seen → Type 0
 AsksPartly callbacks client asked old_net new_net old new =
-    (plain : Plain) (world : World) → IsPlain plain → AreSpelled world.net old_net → ShowsAgents world old → world.places ≡ callbacks → PartlyShows world (ask plain client asked world).state new_net new
+    (plain : Plain) (world : World) → IsPlain plain → AreSpelled world.net old_net → ShowsAgents world old → world.places ≡ callbacks
+    → PartlyShows world (ask plain client asked world).state new_net new
 
 -- callbacks were handed out or not
 abbrev pub MayDispatch : How → ℕ → List Seen → List Seen → Type 0
@@ -74,8 +71,3 @@ pub record AsksNone (old new : World) (told : List Told) : Type 0 where
 pub record SaysUnasked (plain : Plain) (old new : World) (told : List Told) : Type 0 where
   pub says : Says plain old new told
   pub asks : AsksNone old new told
-
--- a fault of the disk was told: the active server is down
-abbrev pub IsFaultTold : DiskAnswer → List (List ℕ) → List (List ℕ) → Type 0
-IsFaultTold Memory before after = Unit {0}
-IsFaultTold Failed before after = after ≡ before ++ server_line ServerA Down ∷ []

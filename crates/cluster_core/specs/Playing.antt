@@ -17,7 +17,7 @@ use Rattle.cluster_core.specs.declared.answer.EventAnswer.TheVariants.{Memory, D
 use Rattle.cluster_core.specs.Broken.{BreaksOn}
 use Rattle.cluster_core.specs.Errors.{FaultsIf}
 use Rattle.cluster_core.specs.Shelves.{shelf_of}
-use Rattle.cluster_core.specs.Worlds.{Shows, IsGood, LeavesFiles}
+use Rattle.cluster_core.specs.Worlds.{Shows, IsGood, TellsFiles, LeavesFiles}
 
 -- a line that can be played while no server fails: no cluster line, no line on failures, and no time below that in force
 abbrev pub IsLoneLine : ℤ → Line → Type 0
@@ -40,6 +40,12 @@ pub record EventDone (setup : Setup) (state : State Alone) (next : Line) (lines 
   pub shows : Shows setup outcome.state world
   pub text : lines ≡ printed outcome.told
   pub files : LeavesFiles setup outcome.state held left
+
+-- so it is over each good state that the world stood for, whose files the disk held, where it tells them
+abbrev pub DoesEvent : Line → List (List ℕ) → World → World → Option Files → Option Files → Type 0
+DoesEvent next lines old new held left =
+    (setup : Setup) (state : State Alone) → IsGood setup state → Shows setup state old → TellsFiles setup state held
+    → EventDone setup state next lines held left new
 
 -- A line that shows files leaves all as it was where the disk has a fault. Any other line stops at an entry that was to be worked:
 -- that is `work` or `settle`, since no other line works one, and so a fault comes in no other.

@@ -38,7 +38,8 @@ abbrev pub Event : Type 0
 Event = Setup → State Alone → Outcome (State Alone)
 
 -- what an event of a round came to: the world, its lines, whether it was loud, and the files of the disk, where they are told
-pub record Played (setup : Setup) (state : State Alone) (outcome : Outcome (State Alone)) (new : World) (before after : List (List ℕ)) (loud : Bool) (held left : Option Files) : Type 0 where
+pub record Played (setup : Setup) (state : State Alone) (outcome : Outcome (State Alone)) (new : World) (before after : List (List ℕ)) (loud : Bool)
+    (held left : Option Files) : Type 0 where
   pub shows : Shows setup outcome.state new
   pub good : IsGood setup outcome.state
   pub lines : after ≡ before ++ kept_lines outcome.told
@@ -48,7 +49,8 @@ pub record Played (setup : Setup) (state : State Alone) (outcome : Outcome (Stat
 -- an event of a round was played, over each state that the world stood for and of which P is so
 abbrev pub PlaysOn : (State Alone → Type 0) → Event → World → World → List (List ℕ) → List (List ℕ) → Bool → Option Files → Option Files → Type 0
 PlaysOn P event old new before after loud held left =
-    (setup : Setup) (state : State Alone) → IsGood setup state → Shows setup state old → P state → Played setup state (event setup state) new before after loud held left
+    (setup : Setup) (state : State Alone) → IsGood setup state → Shows setup state old → P state
+    → Played setup state (event setup state) new before after loud held left
 
 -- the same of one that leaves the disk alone
 abbrev pub Plays : (State Alone → Type 0) → Event → World → World → List (List ℕ) → List (List ℕ) → Bool → Type 0
@@ -192,7 +194,9 @@ MayPost _ old new = new ≡ old
 -- a reply or an item was delivered: the net and the agents that there are now, the lines, and whether it was taken
 abbrev pub Heeds : Message → List (List ℕ) → List (List ℕ) → List Seen → List Seen → List (List ℕ) → List (List ℕ) → Bool → Type 0
 Heeds message old_net new_net old new before after loud =
-    (plain : Plain) (world : WorldOf) → IsPlain plain → AreSpelled world.net old_net → ShowsAgents world old → AreSpelled (taken_as plain 0 message world).state.net new_net × ShowsAgents (taken_as plain 0 message world).state new × (after ≡ before ++ kept_lines (taken_as plain 0 message world).told) × (loud ≡ is_loud (taken_as plain 0 message world).told)
+    (plain : Plain) (world : WorldOf) → IsPlain plain → AreSpelled world.net old_net → ShowsAgents world old
+    → AreSpelled (taken_as plain 0 message world).state.net new_net × ShowsAgents (taken_as plain 0 message world).state new
+    × (after ≡ before ++ kept_lines (taken_as plain 0 message world).told) × (loud ≡ is_loud (taken_as plain 0 message world).told)
 
 -- how the spelling of a reply to a client's call begins
 abbrev pub reply_front : ℕ → ℕ → List ℕ

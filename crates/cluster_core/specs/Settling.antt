@@ -14,4 +14,6 @@ use Rattle.cluster_core.specs.Worlds.{IsGood, Shows, Happened, TellsFiles, Leave
 -- leads to, and that happened
 abbrev pub DoesSettle : World → World → List (List ℕ) → List (List ℕ) → Option Files → Option Files → Type 0
 DoesSettle old new before after held left =
-    (setup : Setup) (state : State Alone) → IsGood setup state → Shows setup state old → (outcome : Outcome (State Alone)) × Settles (plain_of setup) (lone (plain_of setup)) state outcome.state outcome.told × Happened setup outcome new before after × (TellsFiles setup state held → LeavesFiles setup outcome.state held left)
+    (setup : Setup) (state : State Alone) → IsGood setup state → Shows setup state old → (outcome : Outcome (State Alone))
+    × Settles (plain_of setup) (lone (plain_of setup)) state outcome.state outcome.told × Happened setup outcome new before after
+    × (TellsFiles setup state held → LeavesFiles setup outcome.state held left)

@@ -57,4 +57,5 @@ file_shown name setup shelf state = show_file shelf (lone (plain_of setup)) name
 -- does not may show any
 abbrev pub ShowsOn : (Setup → Shelf → State Alone → Outcome (State Alone)) → World → List (List ℕ) → List (List ℕ) → Option Files → Type 0
 ShowsOn event world before after held =
-    (setup : Setup) (state : State Alone) → IsGood setup state → Shows setup state world → TellsFiles setup state held → (shelf : Shelf) × IfSome held (λ _. shelf ≡ shelf_of setup) × Happened setup (event setup shelf state) world before after
+    (setup : Setup) (state : State Alone) → IsGood setup state → Shows setup state world → TellsFiles setup state held → (shelf : Shelf)
+    × IfSome held (λ _. shelf ≡ shelf_of setup) × Happened setup (event setup shelf state) world before after

@@ -22,12 +22,14 @@ SpellingsTell =
 -- a message was posted to a net that spells these messages: the net that there is now, and the lines
 abbrev pub Posts : Message → List (List ℕ) → List (List ℕ) → List (List ℕ) → List (List ℕ) → Type 0
 Posts message old new before after =
-    (plain : Plain) (messages : List Message) → IsPlain plain → AreSpelled messages old → AreSpelled (posted plain message messages) new × (after ≡ before ++ printed (post_lines plain message messages))
+    (plain : Plain) (messages : List Message) → IsPlain plain → AreSpelled messages old → AreSpelled (posted plain message messages) new
+    × (after ≡ before ++ printed (post_lines plain message messages))
 
 -- a message was posted or not: the net that is left
 abbrev pub PostsOrNot : Message → List (List ℕ) → List (List ℕ) → Type 0
 PostsOrNot message old new =
-    (plain : Plain) (messages : List Message) → IsPlain plain → AreSpelled messages old → AreSpelled messages new ⊎ AreSpelled (posted plain message messages) new
+    (plain : Plain) (messages : List Message) → IsPlain plain → AreSpelled messages old
+    → AreSpelled messages new ⊎ AreSpelled (posted plain message messages) new
 
 -- the place is the number of the message in a net that spells these messages
 abbrev pub IsNumberIn : Message → List (List ℕ) → ℕ → Type 0

@@ -48,7 +48,9 @@ work_done setup state = work_next (lone (plain_of setup)) state
 -- what happened by a line that leaves the disk alone: whatever the shelf, and the answered entries are as they were
 abbrev pub PlaysAlone : Line → World → World → List (List ℕ) → List (List ℕ) → Type 0
 PlaysAlone next old new before after =
-    (setup : Setup) (state : State Alone) → IsGood setup state → Shows setup state old → (outcome : Outcome (State Alone)) × ((shelf : Shelf) → Happens (plain_of setup) shelf (lone (plain_of setup)) next state outcome) × Happened setup outcome new before after × (outcome.state.world.core.answered ≡ state.world.core.answered)
+    (setup : Setup) (state : State Alone) → IsGood setup state → Shows setup state old → (outcome : Outcome (State Alone))
+    × ((shelf : Shelf) → Happens (plain_of setup) shelf (lone (plain_of setup)) next state outcome) × Happened setup outcome new before after
+    × (outcome.state.world.core.answered ≡ state.world.core.answered)
 
 -- what happened by any line
 pub record Played (setup : Setup) (state : State Alone) (next : Line) (new : World) (before after : List (List ℕ)) (held left : Option Files) : Type 0 where
@@ -61,7 +63,8 @@ pub record Played (setup : Setup) (state : State Alone) (next : Line) (new : Wor
 
 abbrev pub Plays : Line → World → World → List (List ℕ) → List (List ℕ) → Option Files → Option Files → Type 0
 Plays next old new before after held left =
-    (setup : Setup) (state : State Alone) → IsGood setup state → Shows setup state old → TellsFiles setup state held → Played setup state next new before after held left
+    (setup : Setup) (state : State Alone) → IsGood setup state → Shows setup state old → TellsFiles setup state held
+    → Played setup state next new before after held left
 
 -- a disk's answer is done where the other result is, and otherwise memory ran out
 abbrev pub EndsAs : {T E : Type 0} → Result T E → Result T DiskAnswer → Type 0

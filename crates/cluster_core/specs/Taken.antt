@@ -41,7 +41,8 @@ why_of missed.Gone = GoneItem
 -- the agent at a place took a message or missed it
 abbrev pub IsTakenAt : ℕ → Message → List Seen → Taken → List Seen → Type 0
 IsTakenAt at message old taken new =
-    (client places : ℕ) (agent : Agent) → slice_get old at ≡ Some (seen_of client places agent) → (seen : Seen) × IsTaken client places message agent taken seen × (new ≡ slice_set old at seen)
+    (client places : ℕ) (agent : Agent) → slice_get old at ≡ Some (seen_of client places agent) → (seen : Seen)
+    × IsTaken client places message agent taken seen × (new ≡ slice_set old at seen)
 
 -- the receipt, if there is one, can be posted
 abbrev pub HasFitReceipt : Taken → Type 0
@@ -65,4 +66,6 @@ taken_as plain place _ world = quietly world
 -- it was delivered: the net and the agents that there are now, and the lines
 abbrev pub Takes : ℕ → Message → List (List ℕ) → List (List ℕ) → List Seen → List Seen → List (List ℕ) → List (List ℕ) → Type 0
 Takes place message old_net new_net old new before after =
-    (plain : Plain) (world : World) → IsPlain plain → AreSpelled world.net old_net → ShowsAgents world old → AreSpelled (taken_as plain place message world).state.net new_net × ShowsAgents (taken_as plain place message world).state new × (after ≡ before ++ printed (taken_as plain place message world).told)
+    (plain : Plain) (world : World) → IsPlain plain → AreSpelled world.net old_net → ShowsAgents world old
+    → AreSpelled (taken_as plain place message world).state.net new_net × ShowsAgents (taken_as plain place message world).state new
+    × (after ≡ before ++ printed (taken_as plain place message world).told)

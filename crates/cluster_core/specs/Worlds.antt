@@ -79,7 +79,8 @@ Does event old new before after =
 -- the same with a disk: where it told the files of the history, it tells those of the history after the event
 abbrev pub DoesOn : (Setup → State Alone → Outcome (State Alone)) → World → World → List (List ℕ) → List (List ℕ) → Option Files → Option Files → Type 0
 DoesOn event old new before after held left =
-    (setup : Setup) (state : State Alone) → IsGood setup state → Shows setup state old → Happened setup (event setup state) new before after × (TellsFiles setup state held → LeavesFiles setup (event setup state).state held left)
+    (setup : Setup) (state : State Alone) → IsGood setup state → Shows setup state old → Happened setup (event setup state) new before after
+    × (TellsFiles setup state held → LeavesFiles setup (event setup state).state held left)
 
 -- The events of the servers.
 
@@ -117,4 +118,5 @@ empty_world = record {
 -- and these are the items
 abbrev pub Pushes : List Message → World → World → List (List ℕ) → List (List ℕ) → Type 0
 Pushes items old new before after =
-    (setup : Setup) (state : State Alone) → IsGood setup state → Shows setup state old → Happened setup (pushed setup state) new before after × (items ≡ (plain_of setup).held state.world.core.answered)
+    (setup : Setup) (state : State Alone) → IsGood setup state → Shows setup state old → Happened setup (pushed setup state) new before after
+    × (items ≡ (plain_of setup).held state.world.core.answered)

@@ -5,7 +5,7 @@ ghost use Rattle.plain_service.specs.Setups.{Setup};
 ghost use Rattle.script_language.specs.Lines.{Spells};
 ghost use Rattle.service_core.specs.Beginning.{BeginsAs, CanBeginAs};
 ghost use Rattle.cluster_core.specs.Worlds.{empty_world};
-ghost use Rattle.cluster_core.specs.Answers.{HasFault};
+ghost use Rattle.cluster_core.specs.Answers.{RisesAtFault};
 ghost use Rattle.cluster_core.specs.Beginning.{Begins, HoldsNone, Begun, LeavesBroken};
 ghost use Rattle.cluster_core.specs.Starting.{wells_of, world_of, Starts, StartsWorld, broken_by};
 
@@ -119,8 +119,8 @@ impl World {
     /// holds none before, and those of the empty history after.
     ///
     /// On an error the world stays empty. `Memory` comes only for want of memory; some device calls of the start may be done.
-    /// `DiskFault` comes only where the disk's count of faults rose: a device call failed, those before it were done, and
-    /// nothing is printed.
+    /// `DiskFault` comes exactly where the disk's count of faults rose: a device call failed, those before it were done, and
+    /// nothing is printed. On `Ok` and on `Memory` the count stands.
     pub fn begin<D: SharedDisk>(
         &mut self,
         alloc: Global,
@@ -136,7 +136,7 @@ impl World {
         ensures same { OnErr result (self.new ≡ self.old) }
         ensures broken { (setup : Setup) (places : ℕ) → Begins line.now setup places →
             LeavesBroken setup (D.files disk.old) (D.files disk.new) result }
-        ensures cause { HasFault (D.faults disk.old) (D.faults disk.new) result }
+        ensures cause { RisesAtFault (D.faults disk.old) (D.faults disk.new) result }
     {
         let (world, deeds) = match started(alloc, line) {
             Ok(made) => made,

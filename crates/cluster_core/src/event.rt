@@ -1,9 +1,6 @@
 //! A line of a script happens to the world.
 ghost use Rattle.std.specs.Prelude.{ℕ, List, IfOk, IfErr};
-ghost use Rattle.plain_service.specs.Setups.{Setup};
 ghost use Rattle.script_language.specs.Lines.{Spells};
-ghost use Rattle.cluster_events.specs.Servers.{State};
-ghost use Rattle.lone_cluster.specs.Lone.{Alone};
 
 use crate::playing::play;
 use crate::{EventAnswer, World};
@@ -14,16 +11,17 @@ use std::alloc::Global;
 use std::mem;
 
 impl World {
-    ghost use Rattle.cluster_core.specs.Worlds.{HasState, Shows, IsGood, TellsFiles};
-    ghost use Rattle.cluster_core.specs.Playing.{IsLoneLine, EventDone, EventBroken};
-    ghost use Rattle.cluster_core.specs.Answers.{HasFault};
+    ghost use Rattle.cluster_core.specs.Worlds.{HasState};
+    ghost use Rattle.cluster_core.specs.Playing.{IsLoneLine, DoesEvent, EventBroken};
+    ghost use Rattle.cluster_core.specs.Answers.{RisesAtFault};
 
     /// Does what a line of a script asks for while no server fails, and answers with the lines that it prints, each with its line
     /// feed. A cluster line, the lines on failures of servers and a time below that in force are no part of it.
     ///
-    /// `DiskFault` comes only where the disk's count of faults rose in the call. A line that shows files leaves all as it was
-    /// then, and has no lines. Otherwise the line is `work` or `settle`: it came to an entry whose deeds were not done, the active
-    /// server is down, and the lines are those of all that was done before, the last one telling that the server is down.
+    /// `DiskFault` comes exactly where the disk's count of faults rose in the call: on `Ok` and on `Memory` the count stands. A
+    /// line that shows files leaves all as it was then, and has no lines. Otherwise the line is `work` or `settle`: it came to an
+    /// entry whose deeds were not done, the active server is down, and the lines are those of all that was done before, the last
+    /// one telling that the server is down.
     ///
     /// `Memory` comes where memory ran out: some of the line was done, without its lines. The history is legal; each client's
     /// calls in it are the first of those that it had sent before, and what came to it is of the time in force, which stays. Each
@@ -39,13 +37,11 @@ impl World {
         requires spelled { (raw : List ℕ) × Spells line.now raw }
         requires lone { IsLoneLine self.old.now line.now }
         requires state { HasState self.old }
-        ensures ok { IfOk result (λ lines. (setup : Setup) (state : State Alone) →
-            IsGood setup state → Shows setup state self.old →
-            TellsFiles setup state (D.files disk.old) →
-            EventDone setup state line.now lines (D.files disk.old) (D.files disk.new) self.new) }
+        ensures ok { IfOk result (λ lines. DoesEvent line.now lines self.old self.new
+            (D.files disk.old) (D.files disk.new)) }
         ensures broken { IfErr result (λ answer. EventBroken answer line.now self.old self.new
             (D.files disk.old) (D.files disk.new)) }
-        ensures cause { HasFault (D.faults disk.old) (D.faults disk.new) result }
+        ensures cause { RisesAtFault (D.faults disk.old) (D.faults disk.new) result }
     {
         let mut lines = Vec::new(alloc);
         match play(alloc, self, &mut lines, line, disk) {

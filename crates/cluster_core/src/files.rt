@@ -1,6 +1,6 @@
 //! What is shown of the files of a disk.
 ghost use Rattle.std.specs.Prelude.{◌≡◌, IfOk, OnOk};
-ghost use Rattle.ais_values.specs.Causes.{HasCauseOf};
+ghost use Rattle.ais_values.specs.Causes.{RoseExactlyOn};
 ghost use Rattle.disk_model.specs.declared.answers.DiskAnswer.{DiskAnswer};
 ghost use Rattle.cluster_core.specs.Shelves.{ListsFiles};
 ghost use Rattle.cluster_core.specs.Listing.{AddsLine};
@@ -20,7 +20,7 @@ fn put_file_of<D: SharedDisk>(
     ensures added { OnOk result (AddsLine (D.files disk.old) name.now lines.old.items
         lines.new.items) }
     ensures same { D.files disk.new ≡ D.files disk.old }
-    ensures cause { HasCauseOf (D.faults disk.old) (D.faults disk.new) result DiskAnswer.Failed }
+    ensures cause { RoseExactlyOn (D.faults disk.old) (D.faults disk.new) result DiskAnswer.Failed }
 {
     match disk.len(name) {
         Ok(Some(len)) => match put_file(alloc, lines, name, len) {
@@ -34,14 +34,14 @@ fn put_file_of<D: SharedDisk>(
 
 /// The lines of the files, in byte order of their names. A name without a length is left out.
 ///
-/// The disk is only read. `Failed` comes only where its count of faults rose.
+/// The disk is only read. `Failed` comes exactly where its count of faults rose.
 pub(crate) fn list_files<D: SharedDisk>(
     alloc: Global,
     disk: &mut D,
 ) -> Result<Vec<Seq<u8>>, DiskAnswer>
     ensures listed { IfOk result (λ lines. ListsFiles (D.files disk.old) lines.items) }
     ensures same { D.files disk.new ≡ D.files disk.old }
-    ensures cause { HasCauseOf (D.faults disk.old) (D.faults disk.new) result DiskAnswer.Failed }
+    ensures cause { RoseExactlyOn (D.faults disk.old) (D.faults disk.new) result DiskAnswer.Failed }
 {
     let names = match disk.names(alloc) {
         Ok(names) => names,

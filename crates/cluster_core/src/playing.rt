@@ -1,6 +1,6 @@
 //! What each line of a script does to the world.
 ghost use Rattle.std.specs.Prelude.{◌≡◌, OnOk, OnErr, IfErr};
-ghost use Rattle.ais_values.specs.Causes.{HasCauseOf};
+ghost use Rattle.ais_values.specs.Causes.{RoseExactlyOn};
 ghost use Rattle.disk_model.specs.declared.answers.DiskAnswer.{DiskAnswer};
 ghost use Rattle.script_lines.specs.declared.line.Line.TheVariants.{Deliver, Push, Work};
 ghost use Rattle.cluster_core.specs.Worlds.{HasState, Does, pushed};
@@ -174,7 +174,7 @@ fn work_line<D: SharedDisk>(
         (D.files disk.old) (D.files disk.new)) }
     ensures broken { IfErr result (λ answer. PlayBroken answer line.now world.old world.new
         lines.old.items lines.new.items (D.files disk.old) (D.files disk.new)) }
-    ensures cause { HasCauseOf (D.faults disk.old) (D.faults disk.new) result DiskAnswer.Failed }
+    ensures cause { RoseExactlyOn (D.faults disk.old) (D.faults disk.new) result DiskAnswer.Failed }
 {
     if world.a.ready() {
         return drain(alloc, world, lines, disk);
@@ -197,7 +197,7 @@ pub(crate) fn play<D: SharedDisk>(
         (D.files disk.old) (D.files disk.new)) }
     ensures broken { IfErr result (λ answer. PlayBroken answer line.now world.old world.new
         lines.old.items lines.new.items (D.files disk.old) (D.files disk.new)) }
-    ensures cause { HasCauseOf (D.faults disk.old) (D.faults disk.new) result DiskAnswer.Failed }
+    ensures cause { RoseExactlyOn (D.faults disk.old) (D.faults disk.new) result DiskAnswer.Failed }
 {
     match line {
         Line::Work => work_line(alloc, world, lines, line, disk),

@@ -1,7 +1,7 @@
 //! A round of `settle`: the servers work, each message that a client sends again is heard and its reply taken, and all items are
 //! pushed and taken. Lines on messages without effect are left out.
 ghost use Rattle.std.specs.Prelude.{◌≡◌, ◌<◌, ◌++◌, ℕ, length, map, slice_get, Some, if◌then◌else◌, IfOk, IfErr, OnOk, OnErr};
-ghost use Rattle.ais_values.specs.Causes.{HasCauseOf};
+ghost use Rattle.ais_values.specs.Causes.{RoseExactlyOn};
 ghost use Rattle.disk_model.specs.declared.answers.DiskAnswer.{DiskAnswer};
 ghost use Rattle.wire_code.specs.Spelling.{IsClient, IsCount};
 ghost use Rattle.cluster_facts.specs.Agents.{Agent as AgentOf, resent};
@@ -154,7 +154,7 @@ fn turn<D: SharedDisk>(
     ensures err { IfErr result (λ answer. BreaksOffIf (StandsIn message.now)
         (StopsInTurn message.now) answer world.old world.new lines.old.items lines.new.items
         (D.files disk.old) (D.files disk.new)) }
-    ensures cause { HasCauseOf (D.faults disk.old) (D.faults disk.new) result DiskAnswer.Failed }
+    ensures cause { RoseExactlyOn (D.faults disk.old) (D.faults disk.new) result DiskAnswer.Failed }
 {
     let heard = match hear_so(alloc, world, lines, message) {
         Ok(heard) => heard,
@@ -185,7 +185,7 @@ fn turn_all<D: SharedDisk>(
     ensures err { IfErr result (λ answer. BreaksOffIf (IsIdleWithAll messages.now)
         (StopsInTurns messages.now) answer world.old world.new lines.old.items lines.new.items
         (D.files disk.old) (D.files disk.new)) }
-    ensures cause { HasCauseOf (D.faults disk.old) (D.faults disk.new) result DiskAnswer.Failed }
+    ensures cause { RoseExactlyOn (D.faults disk.old) (D.faults disk.new) result DiskAnswer.Failed }
 {
     let mut loud = false;
     for message in messages {
@@ -220,7 +220,7 @@ fn turn_client<D: SharedDisk>(
         lines.old.items lines.new.items loud (D.files disk.old) (D.files disk.new)) }
     ensures err { IfErr result (λ answer. BreaksOffIf IsIdle (StopsInClient client) answer world.old
         world.new lines.old.items lines.new.items (D.files disk.old) (D.files disk.new)) }
-    ensures cause { HasCauseOf (D.faults disk.old) (D.faults disk.new) result DiskAnswer.Failed }
+    ensures cause { RoseExactlyOn (D.faults disk.old) (D.faults disk.new) result DiskAnswer.Failed }
 {
     let at = match place_of(world.agents.as_slice(), client) {
         Some(at) => at,
@@ -249,7 +249,7 @@ fn turn_clients<D: SharedDisk>(
         world.new lines.old.items lines.new.items loud (D.files disk.old) (D.files disk.new)) }
     ensures err { IfErr result (λ answer. BreaksOffIf IsIdle (StopsInClients clients.now) answer
         world.old world.new lines.old.items lines.new.items (D.files disk.old) (D.files disk.new)) }
-    ensures cause { HasCauseOf (D.faults disk.old) (D.faults disk.new) result DiskAnswer.Failed }
+    ensures cause { RoseExactlyOn (D.faults disk.old) (D.faults disk.new) result DiskAnswer.Failed }
 {
     let mut loud = false;
     for client in clients {
@@ -284,7 +284,7 @@ fn turn_each<D: SharedDisk>(
         lines.old.items lines.new.items loud (D.files disk.old) (D.files disk.new)) }
     ensures err { IfErr result (λ answer. BreaksOffIf IsIdle StopsInEach answer world.old world.new
         lines.old.items lines.new.items (D.files disk.old) (D.files disk.new)) }
-    ensures cause { HasCauseOf (D.faults disk.old) (D.faults disk.new) result DiskAnswer.Failed }
+    ensures cause { RoseExactlyOn (D.faults disk.old) (D.faults disk.new) result DiskAnswer.Failed }
 {
     match clients_of(alloc, world.agents.as_slice()) {
         Ok(clients) => turn_clients(alloc, world, lines, disk, clients.as_slice()),
@@ -337,7 +337,7 @@ fn push_round(
 
 /// A round. Answers whether it was loud: an entry was committed, or a client took a reply or an item.
 ///
-/// `Failed` comes only where the disk's count of faults rose.
+/// `Failed` comes exactly where the disk's count of faults rose.
 pub(crate) fn round<D: SharedDisk>(
     alloc: Global,
     world: &mut World,
@@ -349,7 +349,7 @@ pub(crate) fn round<D: SharedDisk>(
         lines.old.items lines.new.items loud (D.files disk.old) (D.files disk.new)) }
     ensures err { IfErr result (λ answer. BreaksOffIf any_state StopsInRound answer world.old
         world.new lines.old.items lines.new.items (D.files disk.old) (D.files disk.new)) }
-    ensures cause { HasCauseOf (D.faults disk.old) (D.faults disk.new) result DiskAnswer.Failed }
+    ensures cause { RoseExactlyOn (D.faults disk.old) (D.faults disk.new) result DiskAnswer.Failed }
 {
     match drain(alloc, world, lines, disk) {
         Ok(()) => {}

@@ -1,6 +1,6 @@
 //! `settle`: rounds up to the first in which nothing goes on.
 ghost use Rattle.std.specs.Prelude.{IfErr, OnOk};
-ghost use Rattle.ais_values.specs.Causes.{HasCauseOf};
+ghost use Rattle.ais_values.specs.Causes.{RoseExactlyOn};
 ghost use Rattle.disk_model.specs.declared.answers.DiskAnswer.{DiskAnswer};
 ghost use Rattle.cluster_core.specs.Worlds.{HasState};
 ghost use Rattle.cluster_core.specs.Errors.{BreaksOff};
@@ -15,7 +15,7 @@ use std::alloc::Global;
 
 /// Plays rounds up to the first that is not loud, and adds the lines of all of them, but for those on messages without effect.
 ///
-/// `Failed` comes only where the disk's count of faults rose.
+/// `Failed` comes exactly where the disk's count of faults rose.
 pub(crate) fn settle<D: SharedDisk>(
     alloc: Global,
     world: &mut World,
@@ -27,7 +27,7 @@ pub(crate) fn settle<D: SharedDisk>(
         (D.files disk.old) (D.files disk.new)) }
     ensures err { IfErr result (λ answer. BreaksOff StopsInSettle answer world.old world.new
         lines.old.items lines.new.items (D.files disk.old) (D.files disk.new)) }
-    ensures cause { HasCauseOf (D.faults disk.old) (D.faults disk.new) result DiskAnswer.Failed }
+    ensures cause { RoseExactlyOn (D.faults disk.old) (D.faults disk.new) result DiskAnswer.Failed }
 {
     let mut loud = true;
     while loud {

@@ -1,6 +1,7 @@
 //! What is shown of servers and files, and refusals.
-ghost use Rattle.std.specs.Prelude.{◌≡◌, IfOk, IfSome, OnOk, IsErrOf};
-ghost use Rattle.ais_values.specs.Causes.{HasCauseOf};
+ghost use Rattle.std.specs.Prelude.{◌≡◌, ◌≤◌, length, IfOk, IfSome, OnOk, IsErrOf};
+ghost use Rattle.ais_values.specs.Causes.{RoseExactlyOn};
+ghost use Rattle.disk_model.specs.Disk.{bytes_at};
 ghost use Rattle.disk_model.specs.declared.answers.DiskAnswer.{DiskAnswer};
 ghost use Rattle.script_lines.specs.declared.line.Line.TheVariants.{Cat};
 ghost use Rattle.cluster_core.specs.Shelves.{bytes_of};
@@ -78,7 +79,7 @@ pub(crate) fn show_servers(
     put_server(alloc, lines, Server::B, standing.role_of_b)
 }
 
-/// Adds the lines of all files with their lengths. `Failed` comes only where the disk's count of faults rose.
+/// Adds the lines of all files with their lengths. `Failed` comes exactly where the disk's count of faults rose.
 pub(crate) fn show_files<D: SharedDisk>(
     alloc: Global,
     world: &World,
@@ -89,7 +90,7 @@ pub(crate) fn show_files<D: SharedDisk>(
         (D.files disk.old)) }
     ensures stays { IsErrOf result DiskAnswer.Failed → lines.new.items ≡ lines.old.items }
     ensures same { D.files disk.new ≡ D.files disk.old }
-    ensures cause { HasCauseOf (D.faults disk.old) (D.faults disk.new) result DiskAnswer.Failed }
+    ensures cause { RoseExactlyOn (D.faults disk.old) (D.faults disk.new) result DiskAnswer.Failed }
 {
     let mut listed = match list_files(alloc, disk) {
         Ok(listed) => listed,
@@ -101,7 +102,39 @@ pub(crate) fn show_files<D: SharedDisk>(
     }
 }
 
-/// The bytes of a file; `None` where there is no file of that name. `Failed` comes only where the disk's count of faults rose.
+/// The first bytes of a file, so many of them; fewer where the disk gives fewer. Where none is asked for the disk is not read.
+/// `Failed` comes exactly where the disk's count of faults rose.
+fn read_front<D: SharedDisk>(
+    alloc: Global,
+    disk: &mut D,
+    name: &[u8],
+    size: u64,
+) -> Result<Seq<u8>, DiskAnswer>
+    ensures told { IfOk result (λ bytes. IfSome (D.files disk.old) (λ files.
+        bytes ≡ bytes_at files name.now 0 size)) }
+    ensures bound { IfOk result (λ bytes. length bytes ≤ size) }
+    ensures unread { size ≡ 0 → disk.new ≡ disk.old }
+    ensures same { D.files disk.new ≡ D.files disk.old }
+    ensures cause { RoseExactlyOn (D.faults disk.old) (D.faults disk.new) result DiskAnswer.Failed }
+{
+    if size == 0 {
+        return Ok(Seq::new(alloc));
+    }
+    let mut bytes = match vec![in alloc; 0; size as usize] {
+        Ok(bytes) => bytes,
+        Err(_) => return Err(DiskAnswer::Memory),
+    };
+    match disk.read(name, 0, bytes.as_mut_slice()) {
+        Ok(count) => {
+            bytes.truncate(count);
+            Ok(Seq::from_vec(bytes))
+        }
+        Err(DiskFault::Failed) => Err(DiskAnswer::Failed),
+    }
+}
+
+/// The bytes of a file; `None` where there is no file of that name. `Failed` comes exactly where the disk's count of faults
+/// rose.
 fn read_file<D: SharedDisk>(
     alloc: Global,
     disk: &mut D,
@@ -110,23 +143,16 @@ fn read_file<D: SharedDisk>(
     ensures told { IfOk result (λ bytes. IfSome (D.files disk.old) (λ files.
         bytes ≡ bytes_of files name.now)) }
     ensures same { D.files disk.new ≡ D.files disk.old }
-    ensures cause { HasCauseOf (D.faults disk.old) (D.faults disk.new) result DiskAnswer.Failed }
+    ensures cause { RoseExactlyOn (D.faults disk.old) (D.faults disk.new) result DiskAnswer.Failed }
 {
-    let len = match disk.len(name) {
-        Ok(Some(len)) => len,
+    let size = match disk.len(name) {
+        Ok(Some(size)) => size,
         Ok(None) => return Ok(None),
         Err(DiskFault::Failed) => return Err(DiskAnswer::Failed),
     };
-    let mut bytes = match vec![in alloc; 0; len as usize] {
-        Ok(bytes) => bytes,
-        Err(_) => return Err(DiskAnswer::Memory),
-    };
-    match disk.read(name, 0, bytes.as_mut_slice()) {
-        Ok(count) => {
-            bytes.truncate(count);
-            Ok(Some(Seq::from_vec(bytes)))
-        }
-        Err(DiskFault::Failed) => Err(DiskAnswer::Failed),
+    match read_front(alloc, disk, name, size) {
+        Ok(bytes) => Ok(Some(bytes)),
+        Err(answer) => Err(answer),
     }
 }
 
@@ -148,7 +174,7 @@ fn tell_read(
 }
 
 /// Adds the lines of the file that a `cat` line names. Where there is no file of that name, the line is refused. `Failed` comes
-/// only where the disk's count of faults rose.
+/// exactly where the disk's count of faults rose.
 pub(crate) fn show_file<D: SharedDisk>(
     alloc: Global,
     world: &World,
@@ -162,7 +188,7 @@ pub(crate) fn show_file<D: SharedDisk>(
         lines.new.items (D.files disk.old)) }
     ensures stays { IsErrOf result DiskAnswer.Failed → lines.new.items ≡ lines.old.items }
     ensures same { D.files disk.new ≡ D.files disk.old }
-    ensures cause { HasCauseOf (D.faults disk.old) (D.faults disk.new) result DiskAnswer.Failed }
+    ensures cause { RoseExactlyOn (D.faults disk.old) (D.faults disk.new) result DiskAnswer.Failed }
 {
     let read = match read_file(alloc, disk, name.as_slice()) {
         Ok(read) => read,

@@ -1,11 +1,11 @@
 //! The deeds of the entry in hand.
 ghost use Rattle.std.specs.Prelude.{OnOk, OnErr, IfErr, IsSome};
 ghost use Rattle.std.specs.List.{AllByRecursion};
-ghost use Rattle.ais_values.specs.Causes.{HasCauseOf};
+ghost use Rattle.ais_values.specs.Causes.{RoseExactlyOn};
 ghost use Rattle.disk_model.specs.declared.answers.DiskAnswer.{DiskAnswer};
 ghost use Rattle.wire.specs.MessageSpelling.{MessageInRange};
 ghost use Rattle.cluster_core.specs.Heard.{PostsAll};
-ghost use Rattle.cluster_core.specs.PartlyDone.{PostsSome, IsFaultTold};
+ghost use Rattle.cluster_core.specs.PartlyDone.{PostsSome};
 ghost use Rattle.cluster_core.specs.Errors.{BreaksOff};
 ghost use Rattle.cluster_core.specs.Rounds.{StopsInDrain};
 ghost use Rattle.cluster_core.specs.Worlds.{HasState, DoesOn, drained};
@@ -39,19 +39,10 @@ fn tell_worked(
     posted
 }
 
-/// Tells that the active server went down at a fault of the disk, and answers with the fault. Where memory runs out for the line
-/// it answers so.
-fn tell_fault(alloc: Global, lines: &mut Vec<Seq<u8>>) -> DiskAnswer
-    ensures { IsFaultTold result lines.old.items lines.new.items }
-{
-    match put_server(alloc, lines, Server::A, ServerRole::Down) {
-        Ok(()) => DiskAnswer::Failed,
-        Err(_) => DiskAnswer::Memory,
-    }
-}
-
 /// Works the entry in hand: its deeds are done, and its reply is posted. At a fault of the disk within the deeds the server is
 /// down; where memory runs out within them they can be done again.
+///
+/// The line that tells of a fault is put first and taken back where there was none, so that no fault is lost for want of memory.
 fn work<D: SharedDisk>(
     alloc: Global,
     world: &mut World,
@@ -64,15 +55,23 @@ fn work<D: SharedDisk>(
         (D.files disk.old) (D.files disk.new)) }
     ensures err { IfErr result (λ answer. BreaksOff StopsInDrain answer world.old world.new
         lines.old.items lines.new.items (D.files disk.old) (D.files disk.new)) }
-    ensures cause { HasCauseOf (D.faults disk.old) (D.faults disk.new) result DiskAnswer.Failed }
+    ensures cause { RoseExactlyOn (D.faults disk.old) (D.faults disk.new) result DiskAnswer.Failed }
 {
+    let count = lines.as_slice().len();
+    match put_server(alloc, lines, Server::A, ServerRole::Down) {
+        Ok(()) => {}
+        Err(_) => return Err(DiskAnswer::Memory),
+    }
     match world.a.work(alloc, disk) {
-        Ok(heard) => match tell_worked(alloc, &mut world.net, lines, heard) {
-            Ok(()) => Ok(()),
-            Err(_) => Err(DiskAnswer::Memory),
-        },
+        Ok(heard) => {
+            lines.truncate(count);
+            match tell_worked(alloc, &mut world.net, lines, heard) {
+                Ok(()) => Ok(()),
+                Err(_) => Err(DiskAnswer::Memory),
+            }
+        }
         Err(DiskAnswer::Memory) => Err(DiskAnswer::Memory),
-        Err(DiskAnswer::Failed) => Err(tell_fault(alloc, lines)),
+        Err(DiskAnswer::Failed) => Err(DiskAnswer::Failed),
     }
 }
 
@@ -88,7 +87,7 @@ pub(crate) fn drain<D: SharedDisk>(
         (D.files disk.old) (D.files disk.new)) }
     ensures err { IfErr result (λ answer. BreaksOff StopsInDrain answer world.old world.new
         lines.old.items lines.new.items (D.files disk.old) (D.files disk.new)) }
-    ensures cause { HasCauseOf (D.faults disk.old) (D.faults disk.new) result DiskAnswer.Failed }
+    ensures cause { RoseExactlyOn (D.faults disk.old) (D.faults disk.new) result DiskAnswer.Failed }
 {
     if world.a.ready() {
         return work(alloc, world, lines, disk);

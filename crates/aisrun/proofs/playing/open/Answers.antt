@@ -1,14 +1,15 @@
-use Rattle.std.proofs.Common.{ℕ, List, ◌∷◌, ◌++◌, ◌∙◌, ap, refl, arith}
+use Rattle.std.proofs.Common.{ℕ, List, ◌∷◌, ◌++◌, ◌∙◌, inl, ap, refl}
 use Rattle.aisrun.specs.declared.ending.Status8.TheVariants.{DiskFault}
 use Rattle.aisrun.specs.Edges.{edge, stage}
 use Rattle.aisrun.specs.Endings.{PlayEnds, PlayLacks, Opens, Opening, FaultedSince, AtOpening, fault_line}
-use Rattle.aisrun.specs.Steps.{EventsEnd, LacksBehind, joined_lines}
+use Rattle.aisrun.specs.Steps.{EventsEnd, LacksBehind, joined_lines, unasked}
+use Rattle.aisrun.proofs.CountSteps.{rises-behind, told-rises}
 use Rattle.aisrun.proofs.EndingSteps.{events-lack, events-play, lacked, text-written}
 use Rattle.aisrun.proofs.WritingSteps.{written-as}
 use Rattle.aisrun.proofs.playing.open.Goals as goal
 
-pub returns-in-Ok : goal.returns-in-Ok
-returns-in-Ok g c =
+pub returns-in-Ok-clause-ends : goal.returns-in-Ok-clause-ends
+returns-in-Ok-clause-ends g c =
     let written = g.K.Sink.written in
     let sink_faults = g.K.Sink.faults in
     let files = g.D.SharedDisk.files in
@@ -19,29 +20,43 @@ returns-in-Ok g c =
     let scene = stage sink (edge files faults c.args.disk.now c.play_events.new.disk) c.args.world.now c.play_events.new.world in
     let E = EventsEnd begins.0 begins.1 (files c.args.disk.now) (files c.play_events.new.disk) (FaultedSince (edge files faults c.begin.new.disk c.play_events.new.disk)) c.play_events.new.world c.args.events.now in
     written-as E (PlayEnds (c.args.opening.now ∷ c.args.events.now) scene) (LacksBehind begins.0 begins.1 (files c.args.disk.now) (files c.play_events.new.disk) c.play_events.new.world c.args.events.now) (PlayLacks (c.args.opening.now ∷ c.args.events.now) scene) sink c.play_events.result
-    (events-play written sink_faults c.args.out.now c.play_events.new.out files faults c.args.world.now c.play_events.new.world c.args.disk.now c.begin.new.disk c.play_events.new.disk c.args.opening.now c.args.events.now begins.0 begins.1 begins.2 c.requires.bare c.in-Ok.ensures.cause.later)
+    (events-play written sink_faults c.args.out.now c.play_events.new.out files faults c.args.world.now c.play_events.new.world c.args.disk.now c.begin.new.disk c.play_events.new.disk c.args.opening.now c.args.events.now begins.0 begins.1 begins.2 c.requires.bare c.in-Ok.ensures.cause)
     (events-lack written sink_faults c.args.out.now c.play_events.new.out files faults c.args.world.now c.play_events.new.world c.args.disk.now c.play_events.new.disk c.args.opening.now c.args.events.now begins.0 begins.1 begins.2 c.requires.bare)
-    (c.play_events.ensures begins.0 begins.1 (files c.args.disk.now) begun)
+    (c.play_events.ensures.ends begins.0 begins.1 (files c.args.disk.now) begun)
 
-pub returns-in-Err-Memory : goal.returns-in-Err-Memory
-returns-in-Err-Memory g c =
+pub returns-in-Ok-clause-faults : goal.returns-in-Ok-clause-faults
+returns-in-Ok-clause-faults g c =
+    let sink = g.K.Sink.faults in
+    let disk = g.D.SharedDisk.faults in
+    rises-behind c.play_events.result unasked (sink c.args.out.now) (sink c.args.out.now) (sink c.play_events.new.out) (disk c.args.disk.now) (disk c.begin.new.disk) (disk c.play_events.new.disk) refl c.in-Ok.ensures.cause c.play_events.ensures.faults
+
+pub returns-in-Err-Memory-clause-faults : goal.returns-in-Err-Memory-clause-faults
+returns-in-Err-Memory-clause-faults g c = (inl refl, refl)
+
+pub returns-in-Err-DiskFault-clause-faults : goal.returns-in-Err-DiskFault-clause-faults
+returns-in-Err-DiskFault-clause-faults g c =
+    let sink = g.K.Sink.faults in
+    let disk = g.D.SharedDisk.faults in
+    let rose = rw c.in-Err-DiskFault.field-0-is at c.in-Err-DiskFault.ensures.cause in
+    told-rises DiskFault c.write_broken.result unasked (disk c.args.disk.now, disk c.begin.new.disk) (sink c.args.out.now) (sink c.write_broken.new.out) (refl, refl, rose) c.write_broken.ensures.faults
+
+pub returns-in-Err-Memory-clause-ends : goal.returns-in-Err-Memory-clause-ends
+returns-in-Err-Memory-clause-ends g c =
     let begins = c.requires.script.begins in
     let broke = rw c.in-Err-Memory.field-0-is at (c.in-Err-Memory.ensures.broken begins.0 begins.1 begins.2) in
     let opens : Opens (c.args.opening.now ∷ c.args.events.now) (g.D.SharedDisk.files c.args.disk.now) =
     record { opening = c.args.opening.now; events = c.args.events.now; parts = refl; empty = c.requires.bare; setup = begins.0; places = begins.1; begins = begins.2 } in
     lacked _ _ _ (Opening refl opens broke c.in-Err-Memory.ensures.same) refl
 
-pub returns-in-Err-DiskFault : goal.returns-in-Err-DiskFault
-returns-in-Err-DiskFault g c =
+pub returns-in-Err-DiskFault-clause-ends : goal.returns-in-Err-DiskFault-clause-ends
+returns-in-Err-DiskFault-clause-ends g c =
     let sink = edge g.K.Sink.written g.K.Sink.faults c.args.out.now c.write_broken.new.out in
     let scene = stage sink (edge g.D.SharedDisk.files g.D.SharedDisk.faults c.args.disk.now c.begin.new.disk) c.args.world.now c.begin.new.self in
     let script = c.args.opening.now ∷ c.args.events.now in
     let begins = c.requires.script.begins in
-    let cause = rw c.in-Err-DiskFault.field-0-is at c.in-Err-DiskFault.ensures.cause in
+    let rose = rw c.in-Err-DiskFault.field-0-is at c.in-Err-DiskFault.ensures.cause in
     let broke = rw c.in-Err-DiskFault.field-0-is at (c.in-Err-DiskFault.ensures.broken begins.0 begins.1 begins.2) in
     let opens : Opens script (g.D.SharedDisk.files c.args.disk.now) =
     record { opening = c.args.opening.now; events = c.args.events.now; parts = refl; empty = c.requires.bare; setup = begins.0; places = begins.1; begins = begins.2 } in
     let none = ap (λ (lines : List (List ℕ)). joined_lines lines ++ fault_line) (c.as_slice.ensures ∙ c.in-Err-DiskFault.printed-is ∙ broke.0) in
-    let since : FaultedSince (edge g.D.SharedDisk.files g.D.SharedDisk.faults c.args.disk.now c.begin.new.disk) (g.D.SharedDisk.files c.args.disk.now) =
-    record { mid = c.args.disk.now; stands = refl; later = omega arith; rose = cause.rose } in
-    text-written (PlayEnds script scene) (PlayLacks script scene) DiskFault (joined_lines c.as_slice.result.now ++ fault_line) sink c.write_broken.result (cause.rose, AtOpening opens broke.1 broke.2 since c.in-Err-DiskFault.ensures.same none) c.write_broken.ensures
+    text-written (PlayEnds script scene) (PlayLacks script scene) DiskFault (joined_lines c.as_slice.result.now ++ fault_line) sink c.write_broken.result (rose, AtOpening opens broke.1 broke.2 c.in-Err-DiskFault.ensures.same none) c.write_broken.ensures.ends

@@ -1,4 +1,4 @@
-use Rattle.std.proofs.Common.{◌≤◌, ℕ, Option, drop}
+use Rattle.std.proofs.Common.{◌≡◌, ℕ, Option, drop}
 use Rattle.disk_model.specs.Disk.{Files}
 use Rattle.plain_service.specs.Setups.{Setup}
 use Rattle.cluster_core.specs.Beginning.{Begun}
@@ -10,6 +10,6 @@ abbrev pub invariant-loop-line : goal.invariant-loop-line
 invariant-loop-line g l = record {
   follows : CanFollow l.world.now (drop l.line-index l.events);
   behind : (setup : Setup) (places : ℕ) (held : Option Files) → Begun setup places held (g.D.SharedDisk.files l.fn.disk) l.fn.world → Behind setup places held (g.D.SharedDisk.files l.disk) l.world (edge g.K.Sink.written g.K.Sink.faults l.fn.out l.out) l.events (drop l.line-index l.events);
-  sink : g.K.Sink.faults l.fn.out ≤ g.K.Sink.faults l.out;
-  disk : g.D.SharedDisk.faults l.fn.disk ≤ g.D.SharedDisk.faults l.disk;
+  sink : g.K.Sink.faults l.out ≡ g.K.Sink.faults l.fn.out;
+  disk : g.D.SharedDisk.faults l.disk ≡ g.D.SharedDisk.faults l.fn.disk;
 }

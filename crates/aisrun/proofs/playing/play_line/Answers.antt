@@ -1,10 +1,11 @@
-use Rattle.std.proofs.Common.{ℕ, List, ◌++◌, ◌∙◌, None, refl, sym, subst}
+use Rattle.std.proofs.Common.{ℕ, List, ◌++◌, ◌∙◌, inl, None, refl, sym, subst}
 use Rattle.cluster_core.specs.Playing.{EventDone}
 use Rattle.aisrun.specs.declared.ending.Status8.{Status8}
-use Rattle.aisrun.specs.declared.ending.Status8.TheVariants.{DiskFault}
+use Rattle.aisrun.specs.declared.ending.Status8.TheVariants.{Done, DiskFault}
 use Rattle.aisrun.specs.Edges.{edge}
 use Rattle.aisrun.specs.Endings.{FaultLeft, fault_line}
-use Rattle.aisrun.specs.Steps.{LineEnds, LineLacks, Written, joined_lines}
+use Rattle.aisrun.specs.Steps.{LineEnds, LineLacks, SinkRises, Written, joined_lines, unasked}
+use Rattle.aisrun.proofs.CountSteps.{told-rises, unwritten-rises}
 use Rattle.aisrun.proofs.WritingSteps.{unwritten}
 use Rattle.aisrun.proofs.EndingSteps.{lacked, text-written}
 use Rattle.aisrun.proofs.GoingSteps.{fault-left}
@@ -43,4 +44,23 @@ returns-clause-ends g c setup state good shows tells =
     let left = fault-left setup state c.args.line.now (files c.args.disk.now) (files c.event.new.disk) c.args.world.now c.event.new.self c.in-Err-DiskFault.printed good shows broken in
     let same = c.as_slice-in-Err-DiskFault.ensures ∙ c.in-Err-DiskFault.printed-is in
     let printed = subst (λ (one : List (List ℕ)). FaultLeft setup state c.args.line.now (files c.args.disk.now) (files c.event.new.disk) c.event.new.self (joined_lines one)) (sym same) left in
-    text-written E L DiskFault (joined_lines lines ++ fault_line) sink c.write_broken.result (cause.rose, (joined_lines lines, printed, refl)) c.write_broken.ensures
+    text-written E L DiskFault (joined_lines lines ++ fault_line) sink c.write_broken.result (cause, (joined_lines lines, printed, refl)) c.write_broken.ensures.ends
+
+-- the counts of faults
+
+pub returns-in-Ok-clause-faults : goal.returns-in-Ok-clause-faults
+returns-in-Ok-clause-faults g c =
+    let sink = g.K.Sink.faults in
+    let disk = g.D.SharedDisk.faults in
+    told-rises Done _ unasked (disk c.args.disk.now, disk c.event.new.disk) (sink c.args.out.now) (sink c.write_lines.new.out) (refl, refl, c.in-Ok.ensures.cause)
+    (subst (SinkRises Done (sink c.args.out.now, sink c.write_lines.new.out)) (sym c.unwritten.ensures) (unwritten-rises Done (sink c.args.out.now) (sink c.write_lines.new.out) c.in-Err.answer c.in-Err.ensures.cause))
+
+pub returns-in-Err-Memory-clause-faults : goal.returns-in-Err-Memory-clause-faults
+returns-in-Err-Memory-clause-faults g c = (inl refl, refl)
+
+pub returns-clause-faults : goal.returns-clause-faults
+returns-clause-faults g c =
+    let sink = g.K.Sink.faults in
+    let disk = g.D.SharedDisk.faults in
+    let rose = rw c.in-Err-DiskFault.field-0-is at c.in-Err-DiskFault.ensures.cause in
+    told-rises DiskFault c.write_broken.result unasked (disk c.args.disk.now, disk c.event.new.disk) (sink c.args.out.now) (sink c.write_broken.new.out) (refl, refl, rose) c.write_broken.ensures.faults

@@ -1,6 +1,7 @@
 use Rattle.std.proofs.Common.{subst}
 use Rattle.aisrun.specs.Writes.{AppendsFront}
-use Rattle.aisrun.proofs.WritingSteps.{lines-front, cause-behind}
+use Rattle.cluster_core.proofs.CauseSteps.{rose-behind}
+use Rattle.aisrun.proofs.WritingSteps.{lines-front}
 use Rattle.aisrun.proofs.writing.write_lines.Goals as goal
 
 pub returns-in-Err-clause-bytes : goal.returns-in-Err-clause-bytes
@@ -11,4 +12,4 @@ returns-in-Err-clause-bytes g c =
 pub returns-in-Err-clause-cause : goal.returns-in-Err-clause-cause
 returns-in-Err-clause-cause g c =
     let faults = g.K.Sink.faults in
-    cause-behind (faults c.args.out.now) (faults c.loop-line.out) (faults c.write_all.new.sink) c.in-Err.answer c.loop-line.invariant.risen c.in-Err.ensures.cause
+    rose-behind (faults c.args.out.now) (faults c.loop-line.out) (faults c.write_all.new.sink) _ _ c.loop-line.invariant.stands c.in-Err.ensures.cause

@@ -1,4 +1,4 @@
-use Rattle.std.proofs.Common.{◌≤◌, take}
+use Rattle.std.proofs.Common.{◌≡◌, take}
 use Rattle.std.specs.Io.KnownBytes.{Appends}
 use Rattle.aisrun.specs.Steps.{joined_lines}
 use Rattle.aisrun.proofs.writing.write_lines.Given as goal
@@ -6,5 +6,5 @@ use Rattle.aisrun.proofs.writing.write_lines.Given as goal
 abbrev pub invariant-loop-line : goal.invariant-loop-line
 invariant-loop-line g l = record {
   appended : Appends (g.K.Sink.written l.fn.out) (g.K.Sink.written l.out) (joined_lines (take l.line-index l.lines));
-  risen : g.K.Sink.faults l.fn.out ≤ g.K.Sink.faults l.out;
+  stands : g.K.Sink.faults l.out ≡ g.K.Sink.faults l.fn.out;
 }

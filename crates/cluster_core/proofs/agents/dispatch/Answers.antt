@@ -1,14 +1,15 @@
 use Rattle.std.proofs.Common.{◌≡◌, ◌++◌, ◌∷◌, [], Some, None, length, refl, ap, sym, ◌∙◌, subst}
+use Rattle.std.proofs.lemmas.Result.{on_ok_weaker}
 use Rattle.client_agent.specs.declared.answers.Dispatched.{Dispatched}
 use Rattle.event_text.specs.Texts.{dispatched_line}
 use Rattle.cluster_core.specs.Clients.{place_of, IsDispatchedAt}
-use Rattle.cluster_core.proofs.DispatchSteps.{on-ok, on-err, may-same, may-refused, may-given, lines_for, dispatch-absent, dispatch-refused, dispatch-given}
+use Rattle.cluster_core.proofs.DispatchSteps.{on-err, may-same, may-refused, may-given, lines_for, dispatch-absent, dispatch-refused, dispatch-given}
 use Rattle.cluster_core.proofs.agents.dispatch.Goals as goal
 
 pub returns-in-None-clause-ok : goal.returns-in-None-clause-ok
 returns-in-None-clause-ok c =
     let none : place_of c.args.client c.args.agents.now ≡ None = ap (place_of c.args.client) (sym c.as_slice.ensures) ∙ sym c.in-None.ensures in
-    on-ok c.put_declined.result (λ added. dispatch-absent c.args.how c.args.client c.args.agents.now c.args.agents.now c.args.lines.now.items c.put_declined.new.lines.items none refl added) c.put_declined.ensures.ok
+    on_ok_weaker c.put_declined.result (λ added. dispatch-absent c.args.how c.args.client c.args.agents.now c.args.agents.now c.args.lines.now.items c.put_declined.new.lines.items none refl added) c.put_declined.ensures.ok
 
 pub returns-in-Refused-clause-ok : goal.returns-in-Refused-clause-ok
 returns-in-Refused-clause-ok c =
@@ -16,7 +17,7 @@ returns-in-Refused-clause-ok c =
     let new = c.dispatch_at.new.agents in
     let found : place_of c.args.client old ≡ Some c.in-Some.place = ap (place_of c.args.client) (sym c.as_slice.ensures) ∙ sym c.in-Some.ensures in
     let at = subst (λ (d : Dispatched). IsDispatchedAt c.args.how c.in-Some.place old d new) c.in-Refused.is c.in_ok-status-in-Some.ensures.ok in
-    on-ok c.put_declined-in-Refused.result (λ added. dispatch-refused c.args.how c.args.client c.in-Some.place old new c.args.lines.now.items c.put_declined-in-Refused.new.lines.items c.in-Refused.status found at added) c.put_declined-in-Refused.ensures.ok
+    on_ok_weaker c.put_declined-in-Refused.result (λ added. dispatch-refused c.args.how c.args.client c.in-Some.place old new c.args.lines.now.items c.put_declined-in-Refused.new.lines.items c.in-Refused.status found at added) c.put_declined-in-Refused.ensures.ok
 
 pub returns-in_ok-put_callbacks-in-Given-clause-ok : goal.returns-in_ok-put_callbacks-in-Given-clause-ok
 returns-in_ok-put_callbacks-in-Given-clause-ok c =
@@ -29,7 +30,7 @@ returns-in_ok-put_callbacks-in-Given-clause-ok c =
     let found : place_of c.args.client old ≡ Some c.in-Some.place = ap (place_of c.args.client) (sym c.as_slice.ensures) ∙ sym c.in-Some.ensures in
     let at = subst (λ (d : Dispatched). IsDispatchedAt c.args.how c.in-Some.place old d new) c.in-Given.is c.in_ok-status-in-Some.ensures.ok in
     let first : between ≡ before ++ lines_for c.args.client taken = c.in_ok-put_callbacks-in-Given.ensures ∙ ap (λ t. before ++ lines_for c.args.client t) c.as_slice-in-Given.ensures in
-    on-ok c.put_dispatched.result (λ added. dispatch-given c.args.how c.args.client c.in-Some.place old new before between after taken found at first (added ∙ ap (λ t. between ++ dispatched_line c.args.client (length t) ∷ []) c.as_slice-in-Given-2.ensures)) c.put_dispatched.ensures.ok
+    on_ok_weaker c.put_dispatched.result (λ added. dispatch-given c.args.how c.args.client c.in-Some.place old new before between after taken found at first (added ∙ ap (λ t. between ++ dispatched_line c.args.client (length t) ∷ []) c.as_slice-in-Given-2.ensures)) c.put_dispatched.ensures.ok
 
 pub returns-in-None-clause-err : goal.returns-in-None-clause-err
 returns-in-None-clause-err c =

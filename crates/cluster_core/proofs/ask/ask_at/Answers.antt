@@ -1,7 +1,7 @@
-use Rattle.cluster_core.proofs.DispatchSteps.{on-ok, on-bad}
 use Rattle.cluster_core.proofs.DeliverySteps.{found-within}
 use Rattle.cluster_core.proofs.AskSteps.{fit-at, asks-at, partly-at}
 use Rattle.cluster_core.proofs.ask.ask_at.Goals as goal
+use Rattle.std.proofs.lemmas.Result.{on_ok_weaker, on_err_weaker}
 
 pub tell_sent-requires : goal.tell_sent-requires
 tell_sent-requires c =
@@ -9,8 +9,8 @@ tell_sent-requires c =
 
 pub returns-in-Ok-clause-ok : goal.returns-in-Ok-clause-ok
 returns-in-Ok-clause-ok c =
-    on-ok c.tell_sent.result (λ told. asks-at c.args.callbacks c.args.client c.args.at c.args.asked.now c.args.net.now c.tell_sent.new.net c.args.agents.now c.call_at.new.agents c.args.lines.now.items c.tell_sent.new.lines.items c.in-Ok.sent c.requires.found c.in-Ok.ensures.ok told) c.tell_sent.ensures.ok
+    on_ok_weaker c.tell_sent.result (λ told. asks-at c.args.callbacks c.args.client c.args.at c.args.asked.now c.args.net.now c.tell_sent.new.net c.args.agents.now c.call_at.new.agents c.args.lines.now.items c.tell_sent.new.lines.items c.in-Ok.sent c.requires.found c.in-Ok.ensures.ok told) c.tell_sent.ensures.ok
 
 pub returns-in-Ok-clause-err : goal.returns-in-Ok-clause-err
 returns-in-Ok-clause-err c =
-    on-bad c.tell_sent.result (λ may. partly-at c.args.callbacks c.args.client c.args.at c.args.asked.now c.args.net.now c.tell_sent.new.net c.args.agents.now c.call_at.new.agents c.in-Ok.sent c.requires.found c.in-Ok.ensures.ok may) c.tell_sent.ensures.err
+    on_err_weaker c.tell_sent.result (λ may. partly-at c.args.callbacks c.args.client c.args.at c.args.asked.now c.args.net.now c.tell_sent.new.net c.args.agents.now c.call_at.new.agents c.in-Ok.sent c.requires.found c.in-Ok.ensures.ok may) c.tell_sent.ensures.err

@@ -1,8 +1,9 @@
 use Rattle.std.proofs.Common.{◌≡◌, ◌++◌, ◌∷◌, [], Some, None, refl, ap, sym, ◌∙◌}
+use Rattle.std.proofs.lemmas.Result.{on_ok_weaker}
 use Rattle.event_text.specs.Texts.{ignored_line}
 use Rattle.cluster_core.specs.Clients.{place_of}
 use Rattle.cluster_core.specs.Taken.{receiver_of}
-use Rattle.cluster_core.proofs.DispatchSteps.{on-ok, on-err}
+use Rattle.cluster_core.proofs.DispatchSteps.{on-err}
 use Rattle.cluster_core.proofs.DeliverySteps.{takes-absent}
 use Rattle.cluster_core.proofs.HeedingSteps.{nothing-taken}
 use Rattle.cluster_core.proofs.deliver.take.Goals as goal
@@ -13,7 +14,7 @@ returns-in-None-place_of-clause-ok c =
     let client = c.in-Some.client in
     let receiver : receiver_of c.args.message.now ≡ Some client = sym c.in-Some.ensures in
     let none : place_of client old ≡ None = ap (place_of client) (sym c.as_slice.ensures) ∙ sym c.in-None-place_of.ensures in
-    on-ok c.put_ignored.result (λ added. takes-absent c.args.place client c.args.message.now c.args.net.now c.args.net.now old old c.args.lines.now.items c.put_ignored.new.lines.items receiver none refl refl (added ∙ ap (λ why. c.args.lines.now.items ++ ignored_line c.args.place why ∷ []) c.missed_by_none.ensures)) c.put_ignored.ensures.ok
+    on_ok_weaker c.put_ignored.result (λ added. takes-absent c.args.place client c.args.message.now c.args.net.now c.args.net.now old old c.args.lines.now.items c.put_ignored.new.lines.items receiver none refl refl (added ∙ ap (λ why. c.args.lines.now.items ++ ignored_line c.args.place why ∷ []) c.missed_by_none.ensures)) c.put_ignored.ensures.ok
 
 pub returns-in-None-place_of-clause-err : goal.returns-in-None-place_of-clause-err
 returns-in-None-place_of-clause-err c =

@@ -1,7 +1,7 @@
 use Rattle.std.proofs.Common.{List, sym, subst}
+use Rattle.std.proofs.lemmas.Result.{on_ok_weaker, on_err_weaker}
 use Rattle.client_agent.specs.Seen.{Seen}
 use Rattle.cluster_core.specs.PartlyDone.{TakesPartly}
-use Rattle.cluster_core.proofs.DispatchSteps.{on-ok, on-bad}
 use Rattle.cluster_core.proofs.DeliverySteps.{found-within, found-for, fit-receipt, takes-told}
 use Rattle.cluster_core.proofs.HeedingSteps.{nothing-taken, taken-partly}
 use Rattle.cluster_core.proofs.deliver.take_at.Goals as goal
@@ -16,11 +16,11 @@ tell_taken-requires c =
 
 pub returns-in-Ok-clause-ok : goal.returns-in-Ok-clause-ok
 returns-in-Ok-clause-ok c =
-    on-ok c.tell_taken.result (λ told. takes-told c.args.place c.args.client c.args.at c.args.message.now c.args.net.now c.tell_taken.new.net c.args.agents.now c.receive_at.new.agents c.args.lines.now.items c.tell_taken.new.lines.items c.in-Ok.taken c.requires.receiver c.requires.found c.in-Ok.ensures.ok told) c.tell_taken.ensures.ok
+    on_ok_weaker c.tell_taken.result (λ told. takes-told c.args.place c.args.client c.args.at c.args.message.now c.args.net.now c.tell_taken.new.net c.args.agents.now c.receive_at.new.agents c.args.lines.now.items c.tell_taken.new.lines.items c.in-Ok.taken c.requires.receiver c.requires.found c.in-Ok.ensures.ok told) c.tell_taken.ensures.ok
 
 pub returns-in-Ok-clause-err : goal.returns-in-Ok-clause-err
 returns-in-Ok-clause-err c =
-    on-bad c.tell_taken.result (λ may. taken-partly c.args.place c.args.client c.args.at c.args.message.now c.args.net.now c.tell_taken.new.net c.args.agents.now c.receive_at.new.agents c.in-Ok.taken c.requires.receiver c.requires.found c.in-Ok.ensures.ok may) c.tell_taken.ensures.err
+    on_err_weaker c.tell_taken.result (λ may. taken-partly c.args.place c.args.client c.args.at c.args.message.now c.args.net.now c.tell_taken.new.net c.args.agents.now c.receive_at.new.agents c.in-Ok.taken c.requires.receiver c.requires.found c.in-Ok.ensures.ok may) c.tell_taken.ensures.err
 
 pub returns-in-Err-clause-err : goal.returns-in-Err-clause-err
 returns-in-Err-clause-err c =

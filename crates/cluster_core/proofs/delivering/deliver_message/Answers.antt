@@ -1,5 +1,5 @@
 use Rattle.std.proofs.Common.{sym}
-use Rattle.cluster_core.proofs.DispatchSteps.{on-ok}
+use Rattle.std.proofs.lemmas.Result.{on_ok_weaker}
 use Rattle.cluster_core.proofs.FetchSteps.{fits-server, delivers-server, delivers-none}
 use Rattle.cluster_core.proofs.delivering.deliver_message.Goals as goal
 
@@ -14,7 +14,7 @@ deliver_to_agent-requires c = record { fits = c.requires.fits; agent = sym c.if-
 
 pub returns-then-is_for_server-clause-ok : goal.returns-then-is_for_server-clause-ok
 returns-then-is_for_server-clause-ok c =
-    on-ok c.hear.result (λ hears. delivers-server c.args.place c.args.message.now c.args.world.now c.hear.new.world c.args.lines.now.items c.hear.new.lines.items (sym c.if-is_for_server.ensures) hears) c.hear.ensures.ok
+    on_ok_weaker c.hear.result (λ hears. delivers-server c.args.place c.args.message.now c.args.world.now c.hear.new.world c.args.lines.now.items c.hear.new.lines.items (sym c.if-is_for_server.ensures) hears) c.hear.ensures.ok
 
 pub returns-clause-ok : goal.returns-clause-ok
 returns-clause-ok c =

@@ -1,4 +1,4 @@
-use Rattle.std.proofs.Common.{refl}
+use Rattle.std.proofs.Common.{refl, ◌∙◌}
 use Rattle.cluster_core.proofs.ListingSteps.{listing_next, item_read}
 use Rattle.cluster_core.proofs.files.list_files.Goals as goal
 
@@ -6,4 +6,7 @@ pub loop-name-preserved : goal.loop-name-preserved
 loop-name-preserved g c =
     let now = c.in-Ok-put_file_of.ensures in
     let is = item_read c.as_slice-name-items.result.now c.loop-name.name-index c.loop-name.name-index _ _ c.as_slice.ensures.bytes c.name-item.is refl in
-    listing_next _ _ _ _ _ _ _ _ _ _ _ c.loop-name-test.true is c.loop-name.invariant now.added now.same now.cause.later
+    record {
+      listed = listing_next _ _ _ _ _ _ _ _ c.loop-name-test.true is c.loop-name.invariant.listed now.added now.same;
+      stands = now.cause.stands ∙ c.loop-name.invariant.stands;
+    }

@@ -1,13 +1,14 @@
 use Rattle.std.proofs.Common.{◌<◌, List, length, ap, subst, arith}
+use Rattle.std.proofs.lemmas.Result.{on_ok_weaker, on_err_weaker}
 use Rattle.calls.specs.declared.entry.Entry.{Entry}
 use Rattle.cluster_core.specs.Heard.{IsToldHeard}
 use Rattle.cluster_core.specs.PartlyDone.{IsPartlyTold}
 use Rattle.cluster_core.specs.Worlds.{StandsIn}
-use Rattle.cluster_core.proofs.DispatchSteps.{on-ok, on-err}
+use Rattle.cluster_core.proofs.DispatchSteps.{on-err}
 use Rattle.cluster_core.proofs.ServerSteps.{message-happens, receive-conditions, has-room, heard-by, heard-range}
 use Rattle.cluster_core.proofs.BrokenServers.{hears-break}
 use Rattle.cluster_core.proofs.BrokenClients.{same-breaks-if}
-use Rattle.cluster_core.proofs.PartlySteps.{reserve-breaks, err-step}
+use Rattle.cluster_core.proofs.PartlySteps.{reserve-breaks}
 use Rattle.cluster_core.proofs.hearing.hear.Goals as goal
 
 pub receive-requires : goal.receive-requires
@@ -38,7 +39,7 @@ returns-clause-ok c =
     let few : length old.history.entries < 4000000000 = omega (arith, c.len.ensures, c.if-len-ge-ENTRIES.false) in
     let hears = heard-by old c.args.message.now heard c.receive.new.self c.requires.state c.in_ok-heard.ensures.busy c.in_ok-heard.ensures.rest in
     let T : List Entry → Type 0 = λ entries. IsToldHeard c.args.place heard old.net new_net entries new_history.entries before after in
-    on-ok c.tell_heard.result
+    on_ok_weaker c.tell_heard.result
     (λ told setup state good shows stands. message-happens setup state old c.receive.new.self new_net new_history heard c.args.place c.args.message.now before after good shows stands c.requires.range few hears (subst T c.in_ok-reserve.ensures.entries told))
     c.tell_heard.ensures.ok
 
@@ -50,7 +51,7 @@ returns-clause-err c =
     let new_history = c.tell_heard.new.history in
     let hears = heard-by old c.args.message.now heard c.receive.new.self c.requires.state c.in_ok-heard.ensures.busy c.in_ok-heard.ensures.rest in
     let T : List Entry → Type 0 = λ entries. IsPartlyTold heard old.net new_net entries new_history.entries in
-    err-step c.tell_heard.result
+    on_err_weaker c.tell_heard.result
     (λ partly held setup state good shows stands. hears-break setup state old c.receive.new.self new_net new_history heard c.args.place c.args.message.now held good shows stands hears (subst T c.in_ok-reserve.ensures.entries partly))
     c.tell_heard.ensures.err
 

@@ -1,8 +1,8 @@
 use Rattle.std.proofs.Common.{List, sym, subst}
+use Rattle.std.proofs.lemmas.Result.{IfOk-weaker, on_err_weaker}
 use Rattle.client_agent.specs.Seen.{Seen}
 use Rattle.cluster_core.specs.PartlyDone.{TakesPartly}
 use Rattle.cluster_core.proofs.DeliverySteps.{found-within, found-for, fit-receipt}
-use Rattle.cluster_core.proofs.ResultSteps.{if-ok, on-err}
 use Rattle.cluster_core.proofs.HeedingSteps.{heeds-told, taken-partly, nothing-taken}
 use Rattle.cluster_core.proofs.heeding.heed_at.Goals as goal
 
@@ -16,11 +16,11 @@ tell_taken-requires c =
 
 pub returns-in-Ok-clause-ok : goal.returns-in-Ok-clause-ok
 returns-in-Ok-clause-ok c =
-    if-ok c.tell_taken.result (λ loud told. heeds-told c.args.client c.args.at c.args.message.now c.args.net.now c.tell_taken.new.net c.args.agents.now c.receive_at.new.agents c.args.lines.now.items c.tell_taken.new.lines.items c.in-Ok.taken loud c.requires.receiver c.requires.found c.in-Ok.ensures.ok told) c.tell_taken.ensures.ok
+    IfOk-weaker c.tell_taken.result _ _ (λ loud told. heeds-told c.args.client c.args.at c.args.message.now c.args.net.now c.tell_taken.new.net c.args.agents.now c.receive_at.new.agents c.args.lines.now.items c.tell_taken.new.lines.items c.in-Ok.taken loud c.requires.receiver c.requires.found c.in-Ok.ensures.ok told) c.tell_taken.ensures.ok
 
 pub returns-in-Ok-clause-err : goal.returns-in-Ok-clause-err
 returns-in-Ok-clause-err c =
-    on-err c.tell_taken.result (taken-partly 0 c.args.client c.args.at c.args.message.now c.args.net.now c.tell_taken.new.net c.args.agents.now c.receive_at.new.agents c.in-Ok.taken c.requires.receiver c.requires.found c.in-Ok.ensures.ok) c.tell_taken.ensures.err
+    on_err_weaker c.tell_taken.result (taken-partly 0 c.args.client c.args.at c.args.message.now c.args.net.now c.tell_taken.new.net c.args.agents.now c.receive_at.new.agents c.in-Ok.taken c.requires.receiver c.requires.found c.in-Ok.ensures.ok) c.tell_taken.ensures.err
 
 pub returns-in-Err-clause-err : goal.returns-in-Err-clause-err
 returns-in-Err-clause-err c =

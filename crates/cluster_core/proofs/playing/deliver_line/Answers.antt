@@ -1,6 +1,7 @@
 use Rattle.std.proofs.Common.{Bool, subst}
+use Rattle.std.proofs.lemmas.Result.{on_ok_weaker}
 use Rattle.cluster_core.specs.Delivered.{Delivers}
-use Rattle.cluster_core.proofs.DispatchSteps.{on-ok, on-err}
+use Rattle.cluster_core.proofs.DispatchSteps.{on-err}
 use Rattle.cluster_core.proofs.LineBroken.{alone-as}
 use Rattle.cluster_core.proofs.LineSteps.{delivers-refused-after}
 use Rattle.cluster_core.proofs.playing.deliver_line.Goals as goal
@@ -13,7 +14,7 @@ returns-then-done-clause-ok c =
 pub returns-else-done-clause-ok : goal.returns-else-done-clause-ok
 returns-else-done-clause-ok c =
     let D : Bool → Type 0 = λ done. Delivers c.args.place done c.args.world.now c.deliver.new.world c.args.lines.now.items c.deliver.new.lines.items in
-    on-ok c.refused.result (λ refuses. delivers-refused-after c.args.place c.args.line.now c.args.world.now c.deliver.new.world c.args.lines.now.items c.deliver.new.lines.items c.refused.new.lines.items c.requires.line (subst D c.if-done.false c.in-Ok.ensures.ok) refuses) c.refused.ensures
+    on_ok_weaker c.refused.result (λ refuses. delivers-refused-after c.args.place c.args.line.now c.args.world.now c.deliver.new.world c.args.lines.now.items c.deliver.new.lines.items c.refused.new.lines.items c.requires.line (subst D c.if-done.false c.in-Ok.ensures.ok) refuses) c.refused.ensures
 
 pub returns-else-done-clause-err : goal.returns-else-done-clause-err
 returns-else-done-clause-err c =

@@ -1,8 +1,8 @@
 use Rattle.script_lines.specs.declared.line.Line.TheVariants as line
-use Rattle.cluster_core.proofs.DispatchSteps.{on-ok}
 use Rattle.cluster_core.proofs.LineBroken.{ends-broken, settle-broken, files-broken, cat-broken}
 use Rattle.cluster_core.proofs.LineSteps.{plays-alone, plays-settle, plays-files, plays-cat, played-as, ends-ok, ends-cause}
 use Rattle.cluster_core.proofs.playing.play.Goals as goal
+use Rattle.std.proofs.lemmas.Result.{on_ok_weaker}
 
 pub work_line-requires : goal.work_line-requires
 work_line-requires g c = record { state = c.requires.state; line = c.in-Work.is }
@@ -24,7 +24,7 @@ returns-in-Settle-clause-ok g c =
     let after = c.settle.new.lines.items in
     let held = g.D.SharedDisk.files c.args.disk.now in
     let left = g.D.SharedDisk.files c.settle.new.disk in
-    on-ok c.settle.result (λ does. played-as line.Settle c.args.line.now old new before after held left c.in-Settle.is (plays-settle old new before after held left does)) c.settle.ensures.ok
+    on_ok_weaker c.settle.result (λ does. played-as line.Settle c.args.line.now old new before after held left c.in-Settle.is (plays-settle old new before after held left does)) c.settle.ensures.ok
 
 pub returns-in-Files-clause-ok : goal.returns-in-Files-clause-ok
 returns-in-Files-clause-ok g c =
@@ -33,7 +33,7 @@ returns-in-Files-clause-ok g c =
     let after = c.show_files.new.lines.items in
     let held = g.D.SharedDisk.files c.args.disk.now in
     let left = g.D.SharedDisk.files c.show_files.new.disk in
-    on-ok c.show_files.result (λ shows. played-as line.Files c.args.line.now old old before after held left c.in-Files.is (plays-files old before after held left c.show_files.ensures.same shows)) c.show_files.ensures.ok
+    on_ok_weaker c.show_files.result (λ shows. played-as line.Files c.args.line.now old old before after held left c.in-Files.is (plays-files old before after held left c.show_files.ensures.same shows)) c.show_files.ensures.ok
 
 pub returns-in-Cat-clause-ok : goal.returns-in-Cat-clause-ok
 returns-in-Cat-clause-ok g c =
@@ -42,7 +42,7 @@ returns-in-Cat-clause-ok g c =
     let after = c.show_file.new.lines.items in
     let held = g.D.SharedDisk.files c.args.disk.now in
     let left = g.D.SharedDisk.files c.show_file.new.disk in
-    on-ok c.show_file.result (λ shows. played-as (line.Cat c.in-Cat.name) c.args.line.now old old before after held left c.in-Cat.is (plays-cat c.in-Cat.name old before after held left c.show_file.ensures.same shows)) c.show_file.ensures.ok
+    on_ok_weaker c.show_file.result (λ shows. played-as (line.Cat c.in-Cat.name) c.args.line.now old old before after held left c.in-Cat.is (plays-cat c.in-Cat.name old before after held left c.show_file.ensures.same shows)) c.show_file.ensures.ok
 
 pub returns-in_default-clause-ok : goal.returns-in_default-clause-ok
 returns-in_default-clause-ok g c =

@@ -1,14 +1,15 @@
 use Rattle.std.proofs.Common.{ℤ, sym, subst}
+use Rattle.std.proofs.lemmas.Result.{on_ok_weaker}
 use Rattle.script_lines.specs.declared.line.Line.TheVariants as line
 use Rattle.cluster_core.specs.Worlds.{Does}
 use Rattle.cluster_core.specs.Showing.{refused}
 use Rattle.cluster_core.specs.Playing.{IsLoneLine}
 use Rattle.cluster_core.specs.Steps.{IsInRange, PlaysAlone}
-use Rattle.cluster_core.proofs.DispatchSteps.{on-ok, on-err}
+use Rattle.cluster_core.proofs.DispatchSteps.{on-err}
 use Rattle.cluster_core.proofs.ServerSteps.{moment-same}
-use Rattle.cluster_core.proofs.LineBroken.{alone-same}
 use Rattle.cluster_core.proofs.LineSteps.{plays-as, plays-time, plays-log, plays-ntf, plays-deliver, plays-resend, plays-mirror, plays-ack, plays-push, plays-one, plays-all, plays-servers}
 use Rattle.cluster_core.proofs.playing.play_alone.Goals as goal
+use Rattle.cluster_core.proofs.BrokenClients.{same-breaks}
 
 pub ask_in-requires : goal.ask_in-requires
 ask_in-requires c = record { state = c.requires.state; caller = subst IsInRange c.in-Log.is c.requires.range }
@@ -41,7 +42,7 @@ returns-in-Log-clause-ok c =
     let new = c.ask_in.new.world in
     let before = c.args.lines.now.items in
     let after = c.ask_in.new.lines.items in
-    on-ok c.ask_in.result (λ does. plays-as (line.Log c.in-Log.client c.in-Log.ask) c.args.line.now old new before after c.in-Log.is (plays-log c.in-Log.client c.in-Log.ask old new before after does)) c.ask_in.ensures.ok
+    on_ok_weaker c.ask_in.result (λ does. plays-as (line.Log c.in-Log.client c.in-Log.ask) c.args.line.now old new before after c.in-Log.is (plays-log c.in-Log.client c.in-Log.ask old new before after does)) c.ask_in.ensures.ok
 
 pub returns-in-Ntf-clause-ok : goal.returns-in-Ntf-clause-ok
 returns-in-Ntf-clause-ok c =
@@ -49,7 +50,7 @@ returns-in-Ntf-clause-ok c =
     let new = c.ask_in-in-Ntf.new.world in
     let before = c.args.lines.now.items in
     let after = c.ask_in-in-Ntf.new.lines.items in
-    on-ok c.ask_in-in-Ntf.result (λ does. plays-as (line.Ntf c.in-Ntf.client c.in-Ntf.ask) c.args.line.now old new before after c.in-Ntf.is (plays-ntf c.in-Ntf.client c.in-Ntf.ask old new before after does)) c.ask_in-in-Ntf.ensures.ok
+    on_ok_weaker c.ask_in-in-Ntf.result (λ does. plays-as (line.Ntf c.in-Ntf.client c.in-Ntf.ask) c.args.line.now old new before after c.in-Ntf.is (plays-ntf c.in-Ntf.client c.in-Ntf.ask old new before after does)) c.ask_in-in-Ntf.ensures.ok
 
 pub returns-in-Deliver-clause-ok : goal.returns-in-Deliver-clause-ok
 returns-in-Deliver-clause-ok c =
@@ -57,7 +58,7 @@ returns-in-Deliver-clause-ok c =
     let new = c.deliver_line.new.world in
     let before = c.args.lines.now.items in
     let after = c.deliver_line.new.lines.items in
-    on-ok c.deliver_line.result (λ does. plays-as (line.Deliver c.in-Deliver.place) c.args.line.now old new before after c.in-Deliver.is (plays-deliver c.in-Deliver.place old new before after does)) c.deliver_line.ensures.ok
+    on_ok_weaker c.deliver_line.result (λ does. plays-as (line.Deliver c.in-Deliver.place) c.args.line.now old new before after c.in-Deliver.is (plays-deliver c.in-Deliver.place old new before after does)) c.deliver_line.ensures.ok
 
 pub returns-in-Resend-clause-ok : goal.returns-in-Resend-clause-ok
 returns-in-Resend-clause-ok c =
@@ -65,7 +66,7 @@ returns-in-Resend-clause-ok c =
     let new = c.resend.new.world in
     let before = c.args.lines.now.items in
     let after = c.resend.new.lines.items in
-    on-ok c.resend.result (λ does. plays-as (line.Resend c.in-Resend.client) c.args.line.now old new before after c.in-Resend.is (plays-resend c.in-Resend.client old new before after does)) c.resend.ensures.ok
+    on_ok_weaker c.resend.result (λ does. plays-as (line.Resend c.in-Resend.client) c.args.line.now old new before after c.in-Resend.is (plays-resend c.in-Resend.client old new before after does)) c.resend.ensures.ok
 
 pub returns-in-Push-clause-ok : goal.returns-in-Push-clause-ok
 returns-in-Push-clause-ok c =
@@ -73,7 +74,7 @@ returns-in-Push-clause-ok c =
     let new = c.push_line.new.world in
     let before = c.args.lines.now.items in
     let after = c.push_line.new.lines.items in
-    on-ok c.push_line.result (λ does. plays-as (line.Push) c.args.line.now old new before after c.in-Push.is (plays-push old new before after does)) c.push_line.ensures.ok
+    on_ok_weaker c.push_line.result (λ does. plays-as (line.Push) c.args.line.now old new before after c.in-Push.is (plays-push old new before after does)) c.push_line.ensures.ok
 
 pub returns-in-DispatchOne-clause-ok : goal.returns-in-DispatchOne-clause-ok
 returns-in-DispatchOne-clause-ok c =
@@ -81,7 +82,7 @@ returns-in-DispatchOne-clause-ok c =
     let new = c.dispatch_in.new.world in
     let before = c.args.lines.now.items in
     let after = c.dispatch_in.new.lines.items in
-    on-ok c.dispatch_in.result (λ does. plays-as (line.DispatchOne c.in-DispatchOne.client) c.args.line.now old new before after c.in-DispatchOne.is (plays-one c.in-DispatchOne.client old new before after does)) c.dispatch_in.ensures.ok
+    on_ok_weaker c.dispatch_in.result (λ does. plays-as (line.DispatchOne c.in-DispatchOne.client) c.args.line.now old new before after c.in-DispatchOne.is (plays-one c.in-DispatchOne.client old new before after does)) c.dispatch_in.ensures.ok
 
 pub returns-in-DispatchAll-clause-ok : goal.returns-in-DispatchAll-clause-ok
 returns-in-DispatchAll-clause-ok c =
@@ -89,7 +90,7 @@ returns-in-DispatchAll-clause-ok c =
     let new = c.dispatch_in-in-DispatchAll.new.world in
     let before = c.args.lines.now.items in
     let after = c.dispatch_in-in-DispatchAll.new.lines.items in
-    on-ok c.dispatch_in-in-DispatchAll.result (λ does. plays-as (line.DispatchAll c.in-DispatchAll.client c.in-DispatchAll.workers) c.args.line.now old new before after c.in-DispatchAll.is (plays-all c.in-DispatchAll.client c.in-DispatchAll.workers old new before after does)) c.dispatch_in-in-DispatchAll.ensures.ok
+    on_ok_weaker c.dispatch_in-in-DispatchAll.result (λ does. plays-as (line.DispatchAll c.in-DispatchAll.client c.in-DispatchAll.workers) c.args.line.now old new before after c.in-DispatchAll.is (plays-all c.in-DispatchAll.client c.in-DispatchAll.workers old new before after does)) c.dispatch_in-in-DispatchAll.ensures.ok
 
 pub returns-in-Servers-clause-ok : goal.returns-in-Servers-clause-ok
 returns-in-Servers-clause-ok c =
@@ -97,7 +98,7 @@ returns-in-Servers-clause-ok c =
     let new = c.args.world.now in
     let before = c.args.lines.now.items in
     let after = c.show_servers.new.lines.items in
-    on-ok c.show_servers.result (λ does. plays-as (line.Servers) c.args.line.now old new before after c.in-Servers.is (plays-servers old new before after does)) c.show_servers.ensures
+    on_ok_weaker c.show_servers.result (λ does. plays-as (line.Servers) c.args.line.now old new before after c.in-Servers.is (plays-servers old new before after does)) c.show_servers.ensures
 
 pub returns-in-Mirror-clause-ok : goal.returns-in-Mirror-clause-ok
 returns-in-Mirror-clause-ok c =
@@ -105,7 +106,7 @@ returns-in-Mirror-clause-ok c =
     let new = c.args.world.now in
     let before = c.args.lines.now.items in
     let after = c.refused.new.lines.items in
-    on-ok c.refused.result (λ does. plays-as (line.Mirror) c.args.line.now old new before after c.in-Mirror.is (plays-mirror old new before after (subst (λ next. Does (refused next) old old before after) c.in-Mirror.is does))) c.refused.ensures
+    on_ok_weaker c.refused.result (λ does. plays-as (line.Mirror) c.args.line.now old new before after c.in-Mirror.is (plays-mirror old new before after (subst (λ next. Does (refused next) old old before after) c.in-Mirror.is does))) c.refused.ensures
 
 pub returns-in-Ack-clause-ok : goal.returns-in-Ack-clause-ok
 returns-in-Ack-clause-ok c =
@@ -113,7 +114,7 @@ returns-in-Ack-clause-ok c =
     let new = c.args.world.now in
     let before = c.args.lines.now.items in
     let after = c.refused-in-Ack.new.lines.items in
-    on-ok c.refused-in-Ack.result (λ does. plays-as (line.Ack) c.args.line.now old new before after c.in-Ack.is (plays-ack old new before after (subst (λ next. Does (refused next) old old before after) c.in-Ack.is does))) c.refused-in-Ack.ensures
+    on_ok_weaker c.refused-in-Ack.result (λ does. plays-as (line.Ack) c.args.line.now old new before after c.in-Ack.is (plays-ack old new before after (subst (λ next. Does (refused next) old old before after) c.in-Ack.is does))) c.refused-in-Ack.ensures
 
 pub returns-in-Log-clause-err : goal.returns-in-Log-clause-err
 returns-in-Log-clause-err c = c.ask_in.ensures.err
@@ -137,13 +138,13 @@ pub returns-in-DispatchAll-clause-err : goal.returns-in-DispatchAll-clause-err
 returns-in-DispatchAll-clause-err c = c.dispatch_in-in-DispatchAll.ensures.err
 
 pub returns-in-Mirror-clause-err : goal.returns-in-Mirror-clause-err
-returns-in-Mirror-clause-err c = on-err c.refused.result (alone-same c.args.world.now)
+returns-in-Mirror-clause-err c = on-err c.refused.result (same-breaks c.args.world.now)
 
 pub returns-in-Ack-clause-err : goal.returns-in-Ack-clause-err
-returns-in-Ack-clause-err c = on-err c.refused-in-Ack.result (alone-same c.args.world.now)
+returns-in-Ack-clause-err c = on-err c.refused-in-Ack.result (same-breaks c.args.world.now)
 
 pub returns-in-Servers-clause-err : goal.returns-in-Servers-clause-err
-returns-in-Servers-clause-err c = on-err c.show_servers.result (alone-same c.args.world.now)
+returns-in-Servers-clause-err c = on-err c.show_servers.result (same-breaks c.args.world.now)
 
 pub returns-in_default-clause-err : goal.returns-in_default-clause-err
-returns-in_default-clause-err c = alone-same c.args.world.now
+returns-in_default-clause-err c = same-breaks c.args.world.now

@@ -1,13 +1,15 @@
 use Rattle.std.proofs.Common.{◌∙◌, sym, subst}
+use Rattle.std.proofs.lemmas.Result.{on_ok_weaker}
 use Rattle.script_lines.specs.declared.line.Line.{Line}
 use Rattle.script_lines.specs.declared.line.Line.TheVariants as line
 use Rattle.cluster_core.specs.Worlds.{Does}
 use Rattle.cluster_core.specs.Showing.{refused}
-use Rattle.cluster_core.proofs.DispatchSteps.{on-ok, on-err}
+use Rattle.cluster_core.proofs.DispatchSteps.{on-err}
 use Rattle.cluster_core.proofs.WorkSteps.{is-some, is-none}
-use Rattle.cluster_core.proofs.LineBroken.{alone-same, ends-broken, work-broken}
+use Rattle.cluster_core.proofs.LineBroken.{ends-broken, work-broken}
 use Rattle.cluster_core.proofs.LineSteps.{plays-as, plays-alone, plays-idle, plays-work, played-as, ends-ok, ends-cause}
 use Rattle.cluster_core.proofs.playing.work_line.Goals as goal
+use Rattle.cluster_core.proofs.BrokenClients.{same-breaks}
 
 pub drain-requires : goal.drain-requires
 drain-requires g c = c.requires.state
@@ -20,7 +22,7 @@ returns-then-ready-clause-ok g c =
     let after = c.drain.new.lines.items in
     let held = g.D.SharedDisk.files c.args.disk.now in
     let left = g.D.SharedDisk.files c.drain.new.disk in
-    on-ok c.drain.result (λ does. played-as line.Work c.args.line.now old new before after held left c.requires.line (plays-work old new before after held left (is-some old.a.owed c.if-ready.ensures) does)) c.drain.ensures.ok
+    on_ok_weaker c.drain.result (λ does. played-as line.Work c.args.line.now old new before after held left c.requires.line (plays-work old new before after held left (is-some old.a.owed c.if-ready.ensures) does)) c.drain.ensures.ok
 
 pub returns-clause-ok : goal.returns-clause-ok
 returns-clause-ok g c =
@@ -43,4 +45,4 @@ returns-then-ready-clause-broken g c =
 
 pub returns-clause-broken : goal.returns-clause-broken
 returns-clause-broken g c =
-    ends-broken c.refused.result c.as_answer.result c.args.line.now c.args.world.now c.args.world.now c.args.lines.now.items c.refused.new.lines.items (g.D.SharedDisk.files c.args.disk.now) c.as_answer.ensures (on-err c.refused.result (alone-same c.args.world.now))
+    ends-broken c.refused.result c.as_answer.result c.args.line.now c.args.world.now c.args.world.now c.args.lines.now.items c.refused.new.lines.items (g.D.SharedDisk.files c.args.disk.now) c.as_answer.ensures (on-err c.refused.result (same-breaks c.args.world.now))

@@ -1,16 +1,9 @@
-use Rattle.std.proofs.Common.{◌≡◌, Bool, true, false, not, refl, ap, sym, ◌∙◌}
+use Rattle.std.proofs.Common.{◌≡◌, true, false, not, refl, ap, sym, ◌∙◌}
+use Rattle.std.proofs.lemmas.Bool.{not-true, not-false}
 use Rattle.message_net.specs.Nets as bytes
 use Rattle.cluster_core.proofs.DispatchSteps.{on-err}
 use Rattle.cluster_core.proofs.PostingSteps.{posts-some, posts-known, posts-new}
 use Rattle.cluster_core.proofs.posting.post.Goals as goal
-
-off : (b : Bool) → not b ≡ true → b ≡ false
-off true is = sym is
-off false is = refl
-
-on : (b : Bool) → not b ≡ false → b ≡ true
-on true is = refl
-on false is = sym is
 
 pub returns-in_err-put_post-clause-err : goal.returns-in_err-put_post-clause-err
 returns-in_err-put_post-clause-err c =
@@ -23,7 +16,7 @@ returns-then-not-posted-clause-ok c =
     let string = c.in_ok-bytes.bytes.items in
     let old = c.args.net.now in
     let is = c.in_ok-posted.ensures.net ∙ ap (λ b. bytes.posted b old) c.as_slice.ensures.value in
-    let same : c.in_ok-posted.posted.new ≡ false = off c.in_ok-posted.posted.new c.if-not-posted.true in
+    let same : c.in_ok-posted.posted.new ≡ false = not-true c.in_ok-posted.posted.new c.if-not-posted.true in
     let first : false ≡ not (bytes.knows string old) = sym same ∙ c.in_ok-posted.ensures.first ∙ ap (λ b. not (bytes.knows b old)) c.as_slice.ensures.value in
     posts-known c.law_of_spellings.ensures c.args.message.now string old c.post.new.self c.args.lines.now.items c.args.lines.now.items c.in_ok-bytes.ensures is first refl
 
@@ -33,6 +26,6 @@ returns-clause-ok c =
     let old = c.args.net.now in
     let is = c.in_ok-posted.ensures.net ∙ ap (λ b. bytes.posted b old) c.as_slice.ensures.value in
     let found = ap (λ b. bytes.place_of b c.post.new.self) (sym c.as_slice.ensures.value) ∙ c.in_ok-posted.ensures.place in
-    let same : c.in_ok-posted.posted.new ≡ true = on c.in_ok-posted.posted.new c.if-not-posted.false in
+    let same : c.in_ok-posted.posted.new ≡ true = not-false c.in_ok-posted.posted.new c.if-not-posted.false in
     let first : true ≡ not (bytes.knows string old) = sym same ∙ c.in_ok-posted.ensures.first ∙ ap (λ b. not (bytes.knows b old)) c.as_slice.ensures.value in
     posts-new c.law_of_spellings.ensures c.args.message.now string old c.post.new.self c.args.lines.now.items c.put_post.new.lines.items c.in_ok-posted.posted.place c.in_ok-bytes.ensures is found first c.in_ok-put_post.ensures.ok

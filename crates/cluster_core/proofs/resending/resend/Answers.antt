@@ -1,13 +1,12 @@
 use Rattle.std.proofs.Common.{◌≡◌, Some, List, get_or, ap, sym, ◌∙◌, subst}
+use Rattle.std.proofs.lemmas.Result.{on_ok_weaker, on_err_weaker}
 use Rattle.wire.specs.declared.message.Message.{Message}
 use Rattle.client_agent.specs.Seen.{Seen}
 use Rattle.cluster_core.specs.Clients.{place_of}
 use Rattle.cluster_core.specs.Delivered.{HearsAll, StandAll}
-use Rattle.cluster_core.proofs.DispatchSteps.{on-ok, on-bad}
 use Rattle.cluster_core.specs.PartlyDone.{AllStandIn}
 use Rattle.cluster_core.specs.Broken.{BreaksAloneIf}
-use Rattle.cluster_core.proofs.BrokenClients.{resends-break}
-use Rattle.cluster_core.proofs.LineBroken.{alone-same}
+use Rattle.cluster_core.proofs.BrokenClients.{resends-break, same-breaks}
 use Rattle.cluster_core.proofs.ChainSteps.{resent-standing, resends, resends-nothing}
 use Rattle.cluster_core.proofs.resending.resend.Goals as goal
 
@@ -32,7 +31,7 @@ returns-in-Ok-clause-ok c =
     let found : place_of c.args.client old.agents ≡ Some c.in-Some.at = ap (place_of c.args.client) (sym c.as_slice.ensures) ∙ sym c.in-Some.ensures in
     let is : agent ≡ get_or old.agents c.in-Some.at agent = c.index-as_slice-at.is ∙ ap (λ (s : List Seen). get_or s c.in-Some.at agent) c.as_slice-2.ensures in
     let H : List Message → Type 0 = λ messages. HearsAll messages old new c.args.lines.now.items c.hear_all-heard.new.lines.items in
-    on-ok c.hear_all-heard.result (λ hears. resends c.args.client c.in-Some.at old new agent c.in-Ok.messages c.args.lines.now.items c.hear_all-heard.new.lines.items found is c.in-Ok.ensures (subst H c.as_slice-in-Ok.ensures hears)) c.hear_all-heard.ensures.ok
+    on_ok_weaker c.hear_all-heard.result (λ hears. resends c.args.client c.in-Some.at old new agent c.in-Ok.messages c.args.lines.now.items c.hear_all-heard.new.lines.items found is c.in-Ok.ensures (subst H c.as_slice-in-Ok.ensures hears)) c.hear_all-heard.ensures.ok
 
 pub returns-in-Ok-clause-err : goal.returns-in-Ok-clause-err
 returns-in-Ok-clause-err c =
@@ -42,7 +41,7 @@ returns-in-Ok-clause-err c =
     let found : place_of c.args.client old.agents ≡ Some c.in-Some.at = ap (place_of c.args.client) (sym c.as_slice.ensures) ∙ sym c.in-Some.ensures in
     let is : agent ≡ get_or old.agents c.in-Some.at agent = c.index-as_slice-at.is ∙ ap (λ (s : List Seen). get_or s c.in-Some.at agent) c.as_slice-2.ensures in
     let B : List Message → Type 0 = λ messages. BreaksAloneIf (AllStandIn messages) old new in
-    on-bad c.hear_all-heard.result (λ breaks. resends-break c.args.client c.in-Some.at old new agent c.in-Ok.messages found is c.in-Ok.ensures (subst B c.as_slice-in-Ok.ensures breaks)) c.hear_all-heard.ensures.err
+    on_err_weaker c.hear_all-heard.result (λ breaks. resends-break c.args.client c.in-Some.at old new agent c.in-Ok.messages found is c.in-Ok.ensures (subst B c.as_slice-in-Ok.ensures breaks)) c.hear_all-heard.ensures.err
 
 pub returns-in-Err-clause-err : goal.returns-in-Err-clause-err
-returns-in-Err-clause-err c = alone-same c.args.world.now
+returns-in-Err-clause-err c = same-breaks c.args.world.now

@@ -1,8 +1,8 @@
 use Rattle.std.proofs.Common.{◌≡◌, Bool, ◌||◌, nat_lt, if◌then◌else◌, List, ℕ, [], ◌++◌, length, ap, sym, ◌∙◌, subst}
+use Rattle.std.proofs.lemmas.Bool.{or_left, lt-ltb, le-ltb}
 use Rattle.cluster_core.specs.Worlds.{DoesIf, heard_by, StandsIn}
 use Rattle.cluster_core.specs.Rounds.{Plays, heard_so}
-use Rattle.cluster_core.proofs.SettlingLines.{less-on, less-off}
-use Rattle.cluster_core.proofs.RoundSteps.{stands-range, hear-plays, flag-on, flag-off}
+use Rattle.cluster_core.proofs.RoundSteps.{stands-range, hear-plays, flag-off}
 use Rattle.cluster_core.proofs.ErrorTurns.{hear-untold}
 use Rattle.cluster_core.proofs.rounds.hear_so.Goals as goal
 use Rattle.cluster_core.proofs.rounds.hear_so.Goals.{then-committed, else-committed}
@@ -25,12 +25,12 @@ returns-in-Ok-keep_lines-clause-ok c =
     let keep : c.if-committed.keep_lines ≡ (nat_lt c.len-entries.result c.len.result || nat_lt c.len-messages.result c.len-2.result) = elim c.if-committed.branch [
       | then-committed w ↦
           let is = w.keep_lines-is in
-          let on = less-on c.len-entries.result c.len.result w.if-committed.true in
-          let both = flag-on (nat_lt c.len-entries.result c.len.result) (nat_lt c.len-messages.result c.len-2.result) on in
+          let on = lt-ltb c.len-entries.result c.len.result w.if-committed.true in
+          let both = or_left (nat_lt c.len-entries.result c.len.result) (nat_lt c.len-messages.result c.len-2.result) on in
           cc
       | else-committed w ↦
           let is = w.keep_lines-is in
-          let both = flag-off (nat_lt c.len-entries.result c.len.result) (nat_lt c.len-messages.result c.len-2.result) (less-off c.len-entries.result c.len.result w.if-committed.false) in
+          let both = flag-off (nat_lt c.len-entries.result c.len.result) (nat_lt c.len-messages.result c.len-2.result) (le-ltb c.len-entries.result c.len.result w.if-committed.false) in
           cc
     ] in
     let added : after ≡ (if nat_lt (length old.history.entries) (length new.history.entries) || nat_lt (length old.net) (length new.net) then before ++ part else before) =

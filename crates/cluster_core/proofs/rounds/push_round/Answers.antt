@@ -1,8 +1,8 @@
 use Rattle.std.proofs.Common.{List, sym, subst}
+use Rattle.std.proofs.lemmas.Result.{IfOk-weaker, on_err_weaker}
 use Rattle.wire.specs.declared.message.Message.{Message}
 use Rattle.cluster_core.specs.Broken.{BreaksAloneIf}
 use Rattle.cluster_core.specs.Rounds.{HasStateOf, IsIdle, IsIdleWithItems, Plays, items_taken}
-use Rattle.cluster_core.proofs.ResultSteps.{if-ok, on-err}
 use Rattle.cluster_core.proofs.RoundSteps.{push-ready, push-plays}
 use Rattle.cluster_core.proofs.BrokenClients.{breaks-if}
 use Rattle.cluster_core.proofs.ErrorTurns.{push-lacks}
@@ -18,13 +18,13 @@ returns-in-Ok-clause-ok c =
     let new = c.take_items-taken.new.world in
     let between = c.push.new.lines.items in
     let after = c.take_items-taken.new.lines.items in
-    if-ok c.take_items-taken.result (λ loud takes. push-plays c.in-Ok.items c.args.world.now middle new c.args.lines.now.items between after loud c.in-Ok.ensures.ok (subst (λ (l : List Message). Plays (IsIdleWithItems l) (items_taken l) middle new between after loud) c.as_slice.ensures takes)) c.take_items-taken.ensures.ok
+    IfOk-weaker c.take_items-taken.result _ _ (λ loud takes. push-plays c.in-Ok.items c.args.world.now middle new c.args.lines.now.items between after loud c.in-Ok.ensures.ok (subst (λ (l : List Message). Plays (IsIdleWithItems l) (items_taken l) middle new between after loud) c.as_slice.ensures takes)) c.take_items-taken.ensures.ok
 
 pub returns-in-Ok-clause-err : goal.returns-in-Ok-clause-err
 returns-in-Ok-clause-err c =
     let middle = c.push.new.world in
     let new = c.take_items-taken.new.world in
-    on-err c.take_items-taken.result (λ breaks. push-lacks c.in-Ok.items c.args.world.now middle new c.args.lines.now.items c.push.new.lines.items c.in-Ok.ensures.ok (subst (λ (l : List Message). BreaksAloneIf (IsIdleWithItems l) middle new) c.as_slice.ensures breaks)) c.take_items-taken.ensures.err
+    on_err_weaker c.take_items-taken.result (λ breaks. push-lacks c.in-Ok.items c.args.world.now middle new c.args.lines.now.items c.push.new.lines.items c.in-Ok.ensures.ok (subst (λ (l : List Message). BreaksAloneIf (IsIdleWithItems l) middle new) c.as_slice.ensures breaks)) c.take_items-taken.ensures.err
 
 pub returns-in-Err-clause-err : goal.returns-in-Err-clause-err
 returns-in-Err-clause-err c = breaks-if IsIdle c.args.world.now c.push.new.world c.in-Err.ensures.err

@@ -1,6 +1,7 @@
 use Rattle.std.proofs.Common.{Bool, sym, ◌∙◌, subst}
+use Rattle.std.proofs.lemmas.Bool.{or_left}
 use Rattle.cluster_core.specs.Rounds.{PlaysOn, any_state, round_played}
-use Rattle.cluster_core.proofs.RoundSteps.{drained-ready, turned-ready, round-plays, flag-on, flag-off}
+use Rattle.cluster_core.proofs.RoundSteps.{drained-ready, turned-ready, round-plays, flag-off}
 use Rattle.cluster_core.proofs.ErrorTurns.{round-start-off, round-turn-off, round-push-lacks}
 use Rattle.cluster_core.proofs.rounds.round.Goals as goal
 
@@ -23,7 +24,7 @@ returns-then-turned-clause-ok g c =
     let left = g.D.SharedDisk.files c.drain.new.disk in
     let last = g.D.SharedDisk.files c.turn_each.new.disk in
     let plays = round-plays old c.drain.new.world c.turn_each.new.world new before c.drain.new.lines.items c.turn_each.new.lines.items after c.in-Ok-turn_each.turned c.in-Ok-push_round.taken held left last c.in-Ok.ensures.ok c.in-Ok-turn_each.ensures.ok c.in-Ok-push_round.ensures.ok in
-    subst (λ (b : Bool). PlaysOn any_state round_played old new before after b held last) (flag-on c.in-Ok-turn_each.turned c.in-Ok-push_round.taken c.if-turned.true ∙ sym c.if-turned.true) plays
+    subst (λ (b : Bool). PlaysOn any_state round_played old new before after b held last) (or_left c.in-Ok-turn_each.turned c.in-Ok-push_round.taken c.if-turned.true ∙ sym c.if-turned.true) plays
 
 pub returns-else-turned-clause-ok : goal.returns-else-turned-clause-ok
 returns-else-turned-clause-ok g c =

@@ -1,9 +1,10 @@
 use Rattle.std.proofs.Common.{◌≡◌, ◌+◌, Bool, ◌||◌, List, length, take, None, ap, ◌∙◌, subst, arith}
 use Rattle.std.proofs.Math.Seq.{take-length}
+use Rattle.std.proofs.lemmas.Bool.{or_left}
 use Rattle.wire.specs.declared.message.Message.{Message}
 use Rattle.cluster_core.specs.Worlds.{StandsIn}
 use Rattle.cluster_core.specs.Rounds.{Plays, IsItem, IsIdleWithItems, item_taken, items_taken}
-use Rattle.cluster_core.proofs.RoundSteps.{state-so, stands-of, loop-plays, items-reach, item-plays, flag-on, flag-off}
+use Rattle.cluster_core.proofs.RoundSteps.{state-so, stands-of, loop-plays, items-reach, item-plays, flag-off}
 use Rattle.cluster_core.proofs.ErrorSteps.{lacks-after}
 use Rattle.cluster_core.proofs.ErrorTurns.{items-lead}
 use Rattle.cluster_core.proofs.rounds.take_items.Goals as goal
@@ -29,7 +30,7 @@ loop-item-preserved c =
       | then-loud w ↦
           let is = w.loud-is in
           let on = w.if-loud.true in
-          let both = flag-on c.loop-item.loud c.in-Ok.more on in
+          let both = or_left c.loop-item.loud c.in-Ok.more on in
           cc
       | else-loud w ↦
           let is = w.loud-is in

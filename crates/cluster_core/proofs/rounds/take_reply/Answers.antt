@@ -1,8 +1,8 @@
 use Rattle.std.proofs.Common.{Option, Some, subst}
+use Rattle.std.proofs.lemmas.Result.{IfOk-weaker, on_err_weaker}
 use Rattle.wire.specs.declared.message.Message.{Message}
 use Rattle.cluster_core.specs.Worlds.{StandsIn}
 use Rattle.cluster_core.specs.Rounds.{any_state, FindsReply}
-use Rattle.cluster_core.proofs.ResultSteps.{if-ok, on-err}
 use Rattle.cluster_core.proofs.BrokenClients.{same-breaks-if}
 use Rattle.cluster_core.proofs.ErrorSteps.{alone-so}
 use Rattle.cluster_core.proofs.ErrorTurns.{reply-follows}
@@ -18,13 +18,13 @@ pub returns-in-Ok-Some-clause-ok : goal.returns-in-Ok-Some-clause-ok
 returns-in-Ok-Some-clause-ok c =
     let F : Option Message → Type 0 = λ o. FindsReply c.args.client c.args.seq c.args.world.now.net o in
     let finds : F (Some c.in-Ok-Some.reply) = subst F c.in-Ok-Some.field-0-is c.in-Ok-Some.ensures in
-    if-ok c.take_owned.result (λ loud plays. reply-taken c.args.client c.args.seq c.in-Ok-Some.reply c.args.world.now c.take_owned.new.world c.args.lines.now.items c.take_owned.new.lines.items loud finds plays) c.take_owned.ensures.ok
+    IfOk-weaker c.take_owned.result _ _ (λ loud plays. reply-taken c.args.client c.args.seq c.in-Ok-Some.reply c.args.world.now c.take_owned.new.world c.args.lines.now.items c.take_owned.new.lines.items loud finds plays) c.take_owned.ensures.ok
 
 pub returns-in-Ok-Some-clause-err : goal.returns-in-Ok-Some-clause-err
 returns-in-Ok-Some-clause-err c =
     let F : Option Message → Type 0 = λ o. FindsReply c.args.client c.args.seq c.args.world.now.net o in
     let finds : F (Some c.in-Ok-Some.reply) = subst F c.in-Ok-Some.field-0-is c.in-Ok-Some.ensures in
-    on-err c.take_owned.result (alone-so any_state (StandsIn c.in-Ok-Some.reply) c.args.world.now c.take_owned.new.world (reply-follows c.args.client c.args.seq c.in-Ok-Some.reply c.args.world.now finds)) c.take_owned.ensures.err
+    on_err_weaker c.take_owned.result (alone-so any_state (StandsIn c.in-Ok-Some.reply) c.args.world.now c.take_owned.new.world (reply-follows c.args.client c.args.seq c.in-Ok-Some.reply c.args.world.now finds)) c.take_owned.ensures.err
 
 pub returns-in-Err-clause-err : goal.returns-in-Err-clause-err
 returns-in-Err-clause-err c = same-breaks-if any_state c.args.world.now

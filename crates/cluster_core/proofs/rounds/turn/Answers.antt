@@ -1,7 +1,8 @@
 use Rattle.std.proofs.Common.{Bool, sym, ◌∙◌, subst}
+use Rattle.std.proofs.lemmas.Bool.{or_left}
 use Rattle.cluster_core.specs.Worlds.{StandsIn}
 use Rattle.cluster_core.specs.Rounds.{PlaysOn, turned}
-use Rattle.cluster_core.proofs.RoundSteps.{state-of, heard-ready, drained-stands, turn-plays, flag-on, flag-off}
+use Rattle.cluster_core.proofs.RoundSteps.{state-of, heard-ready, drained-stands, turn-plays, flag-off}
 use Rattle.cluster_core.proofs.ErrorTurns.{turn-drain-off, turn-take-lacks}
 use Rattle.cluster_core.proofs.rounds.turn.Goals as goal
 
@@ -26,7 +27,7 @@ returns-then-heard-clause-ok g c =
     let held = g.D.SharedDisk.files c.args.disk.now in
     let left = g.D.SharedDisk.files c.drain.new.disk in
     let plays = turn-plays message old c.hear_so.new.world c.drain.new.world new before c.hear_so.new.lines.items c.drain.new.lines.items after c.in-Ok.heard c.in-Ok-take_answer.taken held left c.in-Ok.ensures.ok c.in-Ok-drain.ensures.ok c.in-Ok-take_answer.ensures.ok in
-    subst (λ (b : Bool). PlaysOn (StandsIn message) (turned message) old new before after b held left) (flag-on c.in-Ok.heard c.in-Ok-take_answer.taken c.if-heard.true ∙ sym c.if-heard.true) plays
+    subst (λ (b : Bool). PlaysOn (StandsIn message) (turned message) old new before after b held left) (or_left c.in-Ok.heard c.in-Ok-take_answer.taken c.if-heard.true ∙ sym c.if-heard.true) plays
 
 pub returns-else-heard-clause-ok : goal.returns-else-heard-clause-ok
 returns-else-heard-clause-ok g c =

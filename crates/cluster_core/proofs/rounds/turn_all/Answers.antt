@@ -1,7 +1,8 @@
-use Rattle.std.proofs.Common.{◌≡◌, ◌+◌, Bool, ◌||◌, take, subst, arith}
+use Rattle.std.proofs.Common.{◌≡◌, ◌+◌, Bool, ◌||◌, take, ◌∙◌, subst}
+use Rattle.std.proofs.lemmas.Bool.{or_left}
 use Rattle.cluster_core.specs.Worlds.{StandsIn}
 use Rattle.cluster_core.specs.Rounds.{PlaysOn, IsIdleWithAll, turned, all_turned, StopsInTurn, StopsInTurns}
-use Rattle.cluster_core.proofs.RoundSteps.{state-so, loop-plays, turns-reach, flag-on, flag-off}
+use Rattle.cluster_core.proofs.RoundSteps.{state-so, loop-plays, turns-reach, flag-off}
 use Rattle.cluster_core.proofs.ErrorSteps.{off-after}
 use Rattle.cluster_core.proofs.ErrorTurns.{turns-lead, turns-stop}
 use Rattle.cluster_core.proofs.rounds.turn_all.Goals as goal
@@ -29,7 +30,7 @@ loop-message-preserved g c =
       | then-loud w ↦
           let is = w.loud-is in
           let on = w.if-loud.true in
-          let both = flag-on c.loop-message.loud c.in-Ok.more on in
+          let both = or_left c.loop-message.loud c.in-Ok.more on in
           cc
       | else-loud w ↦
           let is = w.loud-is in
@@ -39,7 +40,7 @@ loop-message-preserved g c =
     let plays = loop-plays (IsIdleWithAll messages) StandsIn turned messages index one old c.loop-message.world new before c.loop-message.lines.items after c.loop-message.loud c.in-Ok.more held (g.D.SharedDisk.files c.loop-message.disk) left (turns-reach messages index one c.loop-message-test.true c.message-item.is) c.loop-message-test.true c.message-item.is c.loop-message.invariant.plays c.in-Ok.ensures.ok in
     record {
       plays = subst (λ (b : Bool). PlaysOn (IsIdleWithAll messages) (all_turned (take (index + 1) messages)) old new before after b held left) flag plays;
-      later = omega (arith, c.loop-message.invariant.later, c.in-Ok.ensures.cause.later);
+      stands = c.in-Ok.ensures.cause.stands ∙ c.loop-message.invariant.stands;
     }
 
 pub returns-in-Err-clause-err : goal.returns-in-Err-clause-err

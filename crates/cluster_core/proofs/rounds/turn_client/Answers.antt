@@ -1,11 +1,11 @@
 use Rattle.std.proofs.Common.{◌≡◌, ℕ, Some, None, List, slice_get, ap, sym, ◌∙◌, subst}
+use Rattle.std.proofs.lemmas.Result.{IfOk-weaker, IfErr-weaker}
 use Rattle.wire.specs.declared.message.Message.{Message}
 use Rattle.cluster_facts.specs.Agents.{Agent, resent}
 use Rattle.client_agent.specs.Seen.{Seen, seen_of}
 use Rattle.cluster_core.specs.Clients.{place_of}
 use Rattle.cluster_core.specs.Errors.{BreaksOffIf}
 use Rattle.cluster_core.specs.Rounds.{HasStateOf, PlaysOn, IsIdle, IsIdleWithAll, all_turned, StopsInTurns, StopsInClient}
-use Rattle.cluster_core.proofs.ResultSteps.{if-ok, if-err}
 use Rattle.cluster_core.proofs.RoundSteps.{client-absent, sent-are, client-ready, client-plays}
 use Rattle.cluster_core.proofs.BrokenClients.{same-breaks-if}
 use Rattle.cluster_core.proofs.ErrorSteps.{off-so}
@@ -39,7 +39,7 @@ returns-in-Ok-clause-ok g c =
     let after = c.turn_all-turned.new.lines.items in
     let held = g.D.SharedDisk.files c.args.disk.now in
     let left = g.D.SharedDisk.files c.turn_all-turned.new.disk in
-    if-ok c.turn_all-turned.result (λ loud plays. client-plays c.args.client messages old new before after loud held left (sent-are c.args.client c.in-Some.at messages old found sent) (subst (λ (l : List Message). PlaysOn (IsIdleWithAll l) (all_turned l) old new before after loud held left) c.as_slice-in-Ok.ensures plays)) c.turn_all-turned.ensures.ok
+    IfOk-weaker c.turn_all-turned.result _ _ (λ loud plays. client-plays c.args.client messages old new before after loud held left (sent-are c.args.client c.in-Some.at messages old found sent) (subst (λ (l : List Message). PlaysOn (IsIdleWithAll l) (all_turned l) old new before after loud held left) c.as_slice-in-Ok.ensures plays)) c.turn_all-turned.ensures.ok
 
 pub returns-in-Ok-clause-err : goal.returns-in-Ok-clause-err
 returns-in-Ok-clause-err g c =
@@ -57,7 +57,7 @@ returns-in-Ok-clause-err g c =
     let are = sent-are c.args.client c.in-Some.at messages old found sent in
     let stops = client-stops c.args.client messages old are in
     let follows = client-follows c.args.client messages old are in
-    if-err c.turn_all-turned.result (λ answer breaks. off-so IsIdle (IsIdleWithAll messages) (StopsInTurns messages) (StopsInClient c.args.client) answer old new before after held left stops follows (subst (λ (l : List Message). BreaksOffIf (IsIdleWithAll l) (StopsInTurns l) answer old new before after held left) c.as_slice-in-Ok.ensures breaks)) c.turn_all-turned.ensures.err
+    IfErr-weaker c.turn_all-turned.result _ _ (λ answer breaks. off-so IsIdle (IsIdleWithAll messages) (StopsInTurns messages) (StopsInClient c.args.client) answer old new before after held left stops follows (subst (λ (l : List Message). BreaksOffIf (IsIdleWithAll l) (StopsInTurns l) answer old new before after held left) c.as_slice-in-Ok.ensures breaks)) c.turn_all-turned.ensures.err
 
 pub returns-in-Err-clause-err : goal.returns-in-Err-clause-err
 returns-in-Err-clause-err g c = same-breaks-if IsIdle c.args.world.now (g.D.SharedDisk.files c.args.disk.now)

@@ -1,6 +1,8 @@
-use Rattle.std.proofs.Common.{◌≡◌, ◌+◌, Bool, ◌||◌, take, get_or, subst, arith}
+use Rattle.std.proofs.Common.{◌≡◌, ◌+◌, Bool, ◌||◌, take, get_or, ◌∙◌, subst}
+use Rattle.std.proofs.lemmas.Bool.{or_left}
+use Rattle.std.proofs.lemmas.List.{get_or_default}
 use Rattle.cluster_core.specs.Rounds.{PlaysOn, IsIdle, client_turned, clients_turned, StopsInClient, StopsInClients}
-use Rattle.cluster_core.proofs.RoundSteps.{state-so, loop-plays, clients-reach, read-any, flag-on, flag-off}
+use Rattle.cluster_core.proofs.RoundSteps.{state-so, loop-plays, clients-reach, flag-off}
 use Rattle.cluster_core.proofs.ErrorSteps.{off-after}
 use Rattle.cluster_core.proofs.ErrorTurns.{clients-lead, clients-stop}
 use Rattle.cluster_core.proofs.rounds.turn_clients.Goals as goal
@@ -28,17 +30,17 @@ loop-client-preserved g c =
       | then-loud w ↦
           let is = w.loud-is in
           let on = w.if-loud.true in
-          let both = flag-on c.loop-client.loud c.in-Ok.more on in
+          let both = or_left c.loop-client.loud c.in-Ok.more on in
           cc
       | else-loud w ↦
           let is = w.loud-is in
           let both = flag-off c.loop-client.loud c.in-Ok.more w.if-loud.false in
           cc
     ] in
-    let plays = loop-plays IsIdle (λ client. IsIdle) client_turned clients index one old c.loop-client.world new before c.loop-client.lines.items after c.loop-client.loud c.in-Ok.more held (g.D.SharedDisk.files c.loop-client.disk) left (λ setup state good idle. clients-reach (take index clients) setup state good idle) c.loop-client-test.true (read-any clients index 0 one c.loop-client-test.true) c.loop-client.invariant.plays c.in-Ok.ensures.ok in
+    let plays = loop-plays IsIdle (λ client. IsIdle) client_turned clients index one old c.loop-client.world new before c.loop-client.lines.items after c.loop-client.loud c.in-Ok.more held (g.D.SharedDisk.files c.loop-client.disk) left (λ setup state good idle. clients-reach (take index clients) setup state good idle) c.loop-client-test.true (get_or_default clients index 0 one c.loop-client-test.true) c.loop-client.invariant.plays c.in-Ok.ensures.ok in
     record {
       plays = subst (λ (b : Bool). PlaysOn IsIdle (clients_turned (take (index + 1) clients)) old new before after b held left) flag plays;
-      later = omega (arith, c.loop-client.invariant.later, c.in-Ok.ensures.cause.later);
+      stands = c.in-Ok.ensures.cause.stands ∙ c.loop-client.invariant.stands;
     }
 
 pub returns-in-Err-clause-err : goal.returns-in-Err-clause-err
@@ -47,4 +49,4 @@ returns-in-Err-clause-err g c =
     let index = c.loop-client.client-index in
     let one = get_or clients index 0 in
     let front = take index clients in
-    off-after IsIdle IsIdle (StopsInClient one) (StopsInClients clients) (clients_turned front) c.in-Err.answer c.args.world.now c.loop-client.world c.turn_client.new.world c.args.lines.now.items c.loop-client.lines.items c.turn_client.new.lines.items c.loop-client.loud (g.D.SharedDisk.files c.args.disk.now) (g.D.SharedDisk.files c.loop-client.disk) (g.D.SharedDisk.files c.turn_client.new.disk) (clients-stop clients index one c.loop-client-test.true (read-any clients index 0 one c.loop-client-test.true)) (clients-lead front) c.loop-client.invariant.plays c.in-Err.ensures.err
+    off-after IsIdle IsIdle (StopsInClient one) (StopsInClients clients) (clients_turned front) c.in-Err.answer c.args.world.now c.loop-client.world c.turn_client.new.world c.args.lines.now.items c.loop-client.lines.items c.turn_client.new.lines.items c.loop-client.loud (g.D.SharedDisk.files c.args.disk.now) (g.D.SharedDisk.files c.loop-client.disk) (g.D.SharedDisk.files c.turn_client.new.disk) (clients-stop clients index one c.loop-client-test.true (get_or_default clients index 0 one c.loop-client-test.true)) (clients-lead front) c.loop-client.invariant.plays c.in-Err.ensures.err

@@ -1,4 +1,4 @@
-use Rattle.std.proofs.Common.{Bool, true, ◌+◌, ◌<◌, if◌then◌else◌, sym, subst, arith}
+use Rattle.std.proofs.Common.{Bool, true, ◌+◌, ◌<◌, if◌then◌else◌, refl, sym, ◌∙◌, subst}
 use Rattle.cluster_core.specs.Rounds.{SettlesSo}
 use Rattle.cluster_core.proofs.MeasureSteps.{left, settling-begins, settling-next, round-less, settling-ends}
 use Rattle.cluster_core.proofs.ErrorSteps.{settling-off}
@@ -7,7 +7,7 @@ use Rattle.cluster_core.proofs.settling.settle.Goals as goal
 pub loop-loud-init : goal.loop-loud-init
 loop-loud-init g c = record {
   settles = settling-begins c.args.world.now c.args.lines.now.items (g.D.SharedDisk.files c.args.disk.now);
-  later = omega arith;
+  stands = refl;
 }
 
 pub loop-loud-smaller : goal.loop-loud-smaller
@@ -36,7 +36,7 @@ loop-loud-preserved g c =
     let settles : SettlesSo old now before between true held told = subst (λ (b : Bool). SettlesSo old now before between b held told) c.loop-loud-test.true c.loop-loud.invariant.settles in
     record {
       settles = settling-next old now c.round.new.world before between c.round.new.lines.items c.in-Ok.more held told (g.D.SharedDisk.files c.round.new.disk) settles c.in-Ok.ensures.ok;
-      later = omega (arith, c.loop-loud.invariant.later, c.in-Ok.ensures.cause.later);
+      stands = c.in-Ok.ensures.cause.stands ∙ c.loop-loud.invariant.stands;
     }
 
 pub returns-clause-ok : goal.returns-clause-ok

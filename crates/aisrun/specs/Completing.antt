@@ -1,0 +1,44 @@
+-- Words of public clauses: what a run takes to its end where nothing fails and memory is there.
+use Rattle.std.specs.Prelude.{◌≡◌, ℕ, ◌≤◌, ◌⊎◌, false, List, [], ◌∷◌, length, Option, Some, codes}
+use Rattle.ais_values.specs.declared.kind.StreamKind.{StreamKind}
+use Rattle.disk_model.specs.Disk.{Files, no_files}
+use Rattle.format_expr.specs.declared.fault.ExprFault.{ExprFault}
+use Rattle.format_expr.specs.Faults.{IsFault}
+use Rattle.script_lines.specs.declared.line.Line.{Line}
+use Rattle.script_language.specs.Scripts.{IsScriptOf}
+use Rattle.aisrun.specs.declared.command.Command.TheVariants.{Expr}
+use Rattle.aisrun.specs.declared.ending.Status8.{Status8}
+use Rattle.aisrun.specs.declared.ending.Status8.TheVariants.{Done, Memory}
+use Rattle.aisrun.specs.Commands.{command_of, text_of}
+use Rattle.aisrun.specs.Playing.{has_failures}
+
+-- a source has the script of these lines to give, which is not longer than 16 MiB
+pub record HoldsScript (left : Option (List ℕ)) (lines : List Line) : Type 0 where
+  pub bytes : List ℕ
+  pub told : left ≡ Some bytes
+  pub short : length bytes ≤ 16777216
+  pub script : IsScriptOf lines bytes
+
+-- the words `run`, a script without lines on servers that fail, and a disk without files
+pub record CanRun (words : List (List ℕ)) (left : Option (List ℕ)) (held : Option Files) : Type 0 where
+  pub asked : words ≡ codes "run" ∷ []
+  pub lines : List Line
+  pub script : HoldsScript left lines
+  pub built : has_failures lines ≡ false
+  pub empty : held ≡ Some no_files
+
+-- the words `check`, and a script
+pub record CanCheck (words : List (List ℕ)) (left : Option (List ℕ)) : Type 0 where
+  pub asked : words ≡ codes "check" ∷ []
+  pub lines : List Line
+  pub script : HoldsScript left lines
+
+-- words that are the command `expr`, and a text without a fault
+pub record CanParse (words : List (List ℕ)) : Type 0 where
+  pub kind : StreamKind
+  pub asked : command_of words ≡ Some (Expr kind)
+  pub faultless : (fault : ExprFault) → IsFault kind (text_of words) fault → ⊥
+
+-- all was done, or memory ran out
+abbrev pub IsDoneOrMemory : Status8 → Type 0
+IsDoneOrMemory status = (status ≡ Done) ⊎ (status ≡ Memory)
