@@ -1,14 +1,15 @@
 //! Whole runs over objects in memory: what they print, and the calls outside failing in turn.
 mod rows;
+mod short_disk;
 
 use crate::{Status8, run};
 use cluster_core::World;
-use disk_model::MemDisk;
+use disk_model::{MemDisk, SharedDisk};
 use io_edge::{MemSink, MemSource, Sink, SinkAnswer};
 use rows::PLAYED;
-use std::alloc::{AllocError, Global};
+use short_disk::ShortDisk;
+use std::alloc::Global;
 use std::process::Abort;
-use std::test::Fail;
 
 const CLUSTER: &str = "cluster start=1704067200000000000 queue=2 callbacks=8\n";
 
@@ -120,37 +121,50 @@ struct Stage {
     disk: MemDisk,
 }
 
-// The input, an empty disk, and the calls that fail.
-fn prepared(alloc: Global, input: Vec<u8>, failing: Failing) -> Result<Stage, AllocError> {
-    let source = MemSource::new(input, [failing.read].to_vec(alloc)?);
-    let inner = MemSink::new(alloc, [failing.write].to_vec(alloc)?);
-    let changes = [failing.change].to_vec(alloc)?;
-    let looks = [failing.look].to_vec(alloc)?;
+/// One number.
+fn only(rt: &impl Abort, alloc: Global, number: u64) -> Vec<u64> {
+    [number].to_vec(alloc).expect(rt, "memory")
+}
+
+/// The input, an empty disk, and the calls that fail.
+fn prepared(rt: &impl Abort, alloc: Global, input: Vec<u8>, failing: Failing) -> Stage {
+    let source = MemSource::new(input, only(rt, alloc, failing.read));
+    let inner = MemSink::new(alloc, only(rt, alloc, failing.write));
+    let changes = only(rt, alloc, failing.change);
+    let looks = only(rt, alloc, failing.look);
     let disk = MemDisk::new(alloc, changes, looks, Vec::new(alloc));
     let out = Narrow { inner };
-    Ok(Stage { source, out, disk })
+    Stage { source, out, disk }
 }
 
-// The words, parted by commas, are run over the stage and an empty world.
-fn play(alloc: Global, stage: &mut Stage, words: &str) -> Result<Status8, AllocError> {
+/// The words, which commas part.
+fn parted(rt: &impl Abort, alloc: Global, words: &str) -> Vec<String> {
     let mut list = Vec::new(alloc);
     for word in words.split(',') {
-        list.push(String::from_str(alloc, word)?)?;
+        let word = String::from_str(alloc, word).expect(rt, "memory");
+        list.push(word).expect(rt, "memory");
     }
-    let mut world = World::empty(alloc);
-    let status = run(
-        alloc,
-        list.as_slice(),
-        &mut stage.source,
-        &mut stage.out,
-        &mut stage.disk,
-        &mut world,
-    );
-    drop(world);
-    Ok(status)
+    list
 }
 
-// The words are run over the stage, and end with this status and this text.
+/// The words are run over an empty world.
+fn play<D: SharedDisk>(
+    rt: &impl Abort,
+    alloc: Global,
+    source: &mut MemSource,
+    out: &mut Narrow,
+    disk: &mut D,
+    words: &str,
+) -> u8 {
+    let list = parted(rt, alloc, words);
+    let mut world = World::empty(alloc);
+    let status = run(alloc, list.as_slice(), source, out, disk, &mut world);
+    drop(world);
+    drop(list);
+    status.code()
+}
+
+/// The words are run over the stage, and end with this status and this text.
 fn ends(
     rt: &impl Abort,
     alloc: Global,
@@ -158,136 +172,132 @@ fn ends(
     words: &str,
     status: u8,
     printed: &[u8],
-) -> Result<(), AllocError> {
-    let found = play(alloc, stage, words)?;
-    assert_eq!(rt; found.code(), status, "{words}");
-    assert_eq!(rt; stage.out.inner.written(), printed, "{words}");
-    Ok(())
+) {
+    let Stage { source, out, disk } = stage;
+    let found = play(rt, alloc, source, out, disk, words);
+    assert!(rt; found == status, "{words}: {found}");
+    assert!(rt; out.inner.written() == printed, "{words}");
 }
 
-// The number that one digit writes.
+/// The number that one digit writes.
 fn digit(text: &[u8], place: usize) -> u8 {
     text.get(place).copied().unwrap_or(b'9').wrapping_sub(b'0')
 }
 
-// The script of a row prints the row's text.
-fn row_plays(rt: &impl Abort, alloc: Global, row: &str) -> Result<(), Fail> {
-    let (script, text) = row.split_once('^').ok_or("a row has a script and a text")?;
-    let mut stage = prepared(alloc, script.as_bytes().to_vec(alloc)?, NONE)?;
-    ends(rt, alloc, &mut stage, "run", 0, text.as_bytes())?;
-    Ok(())
+/// The input of these lines behind the cluster line.
+fn behind_cluster(rt: &impl Abort, alloc: Global, rest: &str) -> Vec<u8> {
+    let input = format!(in alloc; "{CLUSTER}{rest}").expect(rt, "memory");
+    input.into_bytes()
+}
+
+/// The script of a row prints the row's text.
+fn row_plays(rt: &impl Abort, alloc: Global, row: &str) {
+    let (script, text) = row.split_once('^').expect(rt, "a script and a text");
+    let input = script.as_bytes().to_vec(alloc).expect(rt, "memory");
+    let mut stage = prepared(rt, alloc, input, NONE);
+    ends(rt, alloc, &mut stage, "run", 0, text.as_bytes());
+    drop(stage);
 }
 
 #[test]
-fn scripts_are_played(rt: HostRuntime) -> Result<(), Fail> {
+fn scripts_are_played(rt: HostRuntime) {
     for row in PLAYED.split('`') {
-        row_plays(&rt, rt.alloc(), row)?;
+        row_plays(&rt, rt.alloc(), row);
     }
-    Ok(())
 }
 
-// The words, over the input of a row, end as it says.
-fn row_ends(rt: &impl Abort, alloc: Global, row: &str) -> Result<(), Fail> {
-    let (words, row) = row.split_once('|').ok_or("a row has words")?;
-    let (rest, row) = row.split_once('|').ok_or("a row has an input")?;
-    let (status, text) = row.split_once('|').ok_or("a row has a status and a text")?;
-    let input = format!(in alloc; "{CLUSTER}{rest}")?;
-    let mut stage = prepared(alloc, input.into_bytes(), NONE)?;
-    ends(
-        rt,
-        alloc,
-        &mut stage,
-        words,
-        digit(status.as_bytes(), 0),
-        text.as_bytes(),
-    )?;
-    Ok(())
+/// The words, over the input of a row, end as it says.
+fn row_ends(rt: &impl Abort, alloc: Global, row: &str) {
+    let (words, row) = row.split_once('|').expect(rt, "words");
+    let (rest, row) = row.split_once('|').expect(rt, "an input");
+    let (status, text) = row.split_once('|').expect(rt, "a status and a text");
+    let status = digit(status.as_bytes(), 0);
+    let input = behind_cluster(rt, alloc, rest);
+    let mut stage = prepared(rt, alloc, input, NONE);
+    ends(rt, alloc, &mut stage, words, status, text.as_bytes());
+    drop(stage);
 }
 
 #[test]
-fn scripts_and_expressions_are_judged(rt: HostRuntime) -> Result<(), Fail> {
+fn scripts_and_expressions_are_judged(rt: HostRuntime) {
     for row in ENDS.split(';') {
-        row_ends(&rt, rt.alloc(), row)?;
+        row_ends(&rt, rt.alloc(), row);
     }
-    Ok(())
+}
+
+/// The words are refused, and nothing is read.
+fn refused(rt: &impl Abort, alloc: Global, words: &str) {
+    let input = behind_cluster(rt, alloc, "");
+    let mut stage = prepared(rt, alloc, input, NONE);
+    ends(rt, alloc, &mut stage, words, 2, USAGE.as_bytes());
+    assert!(rt; stage.source.unread() == CLUSTER.as_bytes(), "{words}");
+    drop(stage);
 }
 
 #[test]
-fn other_words_are_refused(rt: HostRuntime) -> Result<(), Fail> {
-    let alloc = rt.alloc();
+fn other_words_are_refused(rt: HostRuntime) {
     for words in OTHER_WORDS.split('\n') {
-        let mut stage = prepared(alloc, CLUSTER.as_bytes().to_vec(alloc)?, NONE)?;
-        ends(&rt, alloc, &mut stage, words, 2, USAGE.as_bytes())?;
-        assert_eq!(rt; stage.source.unread(), CLUSTER.as_bytes(), "{words}");
+        refused(&rt, rt.alloc(), words);
     }
-    Ok(())
 }
 
-// The run with the failing calls of a row ends as it says.
-fn reason_ends(rt: &impl Abort, alloc: Global, row: &str) -> Result<(), Fail> {
-    let (digits, row) = row.split_once('|').ok_or("a row has digits")?;
-    let (words, text) = row.split_once('|').ok_or("a row has words and a text")?;
-    let digits = digits.as_bytes();
-    let failing = Failing {
+/// The failing calls that the digits of a row tell.
+fn failing_by(digits: &[u8]) -> Failing {
+    Failing {
         read: u64::from(digit(digits, 0)),
         write: u64::from(digit(digits, 1)),
         change: 1,
         look: u64::from(digit(digits, 2)),
-    };
+    }
+}
+
+/// The run with the failing calls of a row ends as it says.
+fn reason_ends(rt: &impl Abort, alloc: Global, row: &str) {
+    let (digits, row) = row.split_once('|').expect(rt, "digits");
+    let (words, text) = row.split_once('|').expect(rt, "words and a text");
+    let digits = digits.as_bytes();
     let rest = if digit(digits, 3) == 1 {
         "crash a\n"
     } else {
         WRITE
     };
-    let input = format!(in alloc; "{CLUSTER}{rest}")?;
-    let mut stage = prepared(alloc, input.into_bytes(), failing)?;
+    let input = behind_cluster(rt, alloc, rest);
+    let mut stage = prepared(rt, alloc, input, failing_by(digits));
     if digit(digits, 4) == 1 {
-        stage.disk.hold(b"x", Vec::new(alloc))?;
+        stage.disk.hold(b"x", Vec::new(alloc)).expect(rt, "memory");
     }
-    ends(
-        rt,
-        alloc,
-        &mut stage,
-        words,
-        digit(digits, 5),
-        text.as_bytes(),
-    )?;
-    Ok(())
+    let status = digit(digits, 5);
+    ends(rt, alloc, &mut stage, words, status, text.as_bytes());
+    drop(stage);
 }
 
 #[test]
-fn the_first_reason_ends_the_run(rt: HostRuntime) -> Result<(), Fail> {
+fn the_first_reason_ends_the_run(rt: HostRuntime) {
     for row in REASONS.split(';') {
-        reason_ends(&rt, rt.alloc(), row)?;
+        reason_ends(&rt, rt.alloc(), row);
     }
-    Ok(())
 }
 
-// The lines before the record's deeds, and those behind them.
+/// The lines before the record's deeds, and the one behind them.
 const BEFORE: &str =
-    "post 1 req 1 1\npost 2 req 1 2\npost 3 req 1 3\nacc 1 call 1 1 1704067200000000000\npost 4 rep 1 1\nreply 1 1 ok\nacc 2 call 1 2 1704067200000000000\npost 5 rep 1 2\nreply 1 2 ok\nacc 3 call 1 3 1704067200000000000\n";
+    "post 1 req 1 1\npost 2 req 1 2\npost 3 req 1 3\nacc 1 call 1 1 1704067200000000000\npost 4 rep 1 1\nreply 1 1 ok\nacc 2 call 1 2 1704067200000000000\npost 5 rep 1 2\nreply 1 2 ok\nacc 3 call 1 3 1704067200000000000\nserver a down\n";
 
-// This changing call of the disk fails, and the run ends behind the lines before it.
-fn breaks_off(rt: &impl Abort, alloc: Global, change: u64) -> Result<(), Fail> {
-    let input = format!(in alloc; "{CLUSTER}{WRITE}")?;
-    let failing = Failing { change, ..NONE };
-    let mut stage = prepared(alloc, input.into_bytes(), failing)?;
-    // The opening makes twelve changing calls, and the record two.
-    let text = if change <= 12 {
-        format!(in alloc; "disk fault\n")?
-    } else {
-        format!(in alloc; "{BEFORE}server a down\ndisk fault\n")?
-    };
-    ends(rt, alloc, &mut stage, "run", 6, text.as_bytes())?;
-    Ok(())
+/// With this failing call the lines print this text, and then the disk's fault.
+fn breaks(rt: &impl Abort, alloc: Global, rest: &str, failing: Failing, shown: &str) {
+    let input = behind_cluster(rt, alloc, rest);
+    let mut stage = prepared(rt, alloc, input, failing);
+    let text = format!(in alloc; "{shown}disk fault\n").expect(rt, "memory");
+    ends(rt, alloc, &mut stage, "run", 6, text.as_bytes());
+    drop(stage);
 }
 
+/// The opening makes twelve changing calls, and the record two.
 #[test]
-fn each_change_of_the_disk_fails_in_turn(rt: HostRuntime) -> Result<(), Fail> {
+fn each_change_of_the_disk_fails_in_turn(rt: HostRuntime) {
     for change in 1..15 {
-        breaks_off(&rt, rt.alloc(), change)?;
+        let shown = if change <= 12 { "" } else { BEFORE };
+        breaks(&rt, rt.alloc(), WRITE, Failing { change, ..NONE }, shown);
     }
-    Ok(())
 }
 
 const SHOWING: &str = "files\ncat \"saLogSystem.cfg\"\n";
@@ -295,30 +305,55 @@ const SHOWING: &str = "files\ncat \"saLogSystem.cfg\"\n";
 const FILES: &str =
     "file saLogAlarm.cfg 156\nfile saLogAlarm_20240101_000000.log 0\nfile saLogNotification.cfg 163\nfile saLogNotification_20240101_000001.log 0\nfile saLogSystem.cfg 164\nfile saLogSystem_20240101_000002.log 0\n";
 
-// This reading call of the disk fails, and its line prints nothing.
-fn shows_nothing(rt: &impl Abort, alloc: Global, look: u64) -> Result<(), Fail> {
-    let input = format!(in alloc; "{CLUSTER}{SHOWING}")?;
-    let failing = Failing { look, ..NONE };
-    let mut stage = prepared(alloc, input.into_bytes(), failing)?;
-    // The start asks for the names, `files` for the names and six lengths, and `cat` for a length and bytes.
-    let shown = if look <= 8 { "" } else { FILES };
-    let text = format!(in alloc; "{shown}disk fault\n")?;
-    ends(rt, alloc, &mut stage, "run", 6, text.as_bytes())?;
-    Ok(())
-}
-
+/// The start asks for the names, `files` for the names and six lengths, and `cat` for a length and bytes. The line
+/// whose reading call fails prints nothing.
 #[test]
-fn each_look_at_the_disk_fails_in_turn(rt: HostRuntime) -> Result<(), Fail> {
+fn each_look_at_the_disk_fails_in_turn(rt: HostRuntime) {
     for look in 1..11 {
-        shows_nothing(&rt, rt.alloc(), look)?;
+        let shown = if look <= 8 { "" } else { FILES };
+        breaks(&rt, rt.alloc(), SHOWING, Failing { look, ..NONE }, shown);
     }
-    Ok(())
+}
+
+/// Where the reading call of this number fails, the line prints this all the same: it does not make that call.
+fn makes_fewer(rt: &impl Abort, alloc: Global, line: &str, look: u64, shown: &str) {
+    let input = behind_cluster(rt, alloc, line);
+    let mut stage = prepared(rt, alloc, input, Failing { look, ..NONE });
+    ends(rt, alloc, &mut stage, "run", 0, shown.as_bytes());
+    drop(stage);
+}
+
+/// Of an empty file nothing is read.
+#[test]
+fn no_other_look_is_taken_at_the_disk(rt: HostRuntime) {
+    let alloc = rt.alloc();
+    makes_fewer(&rt, alloc, "files\n", 9, FILES);
+    let empty = "cat \"saLogAlarm_20240101_000000.log\"\n";
+    makes_fewer(&rt, alloc, empty, 3, "");
+    let look = Failing { look: 3, ..NONE };
+    breaks(&rt, alloc, "cat \"saLogAlarm.cfg\"\n", look, "");
+}
+
+/// What a read did not give is not shown.
+#[test]
+fn a_short_read_is_shown_short(rt: HostRuntime) {
+    let alloc = rt.alloc();
+    let input = behind_cluster(&rt, alloc, "cat \"saLogSystem.cfg\"\n");
+    let mut source = MemSource::new(input, Vec::new(alloc));
+    let inner = MemSink::new(alloc, Vec::new(alloc));
+    let mut out = Narrow { inner };
+    let mut disk = ShortDisk {};
+    let status = play(&rt, alloc, &mut source, &mut out, &mut disk, "run");
+    assert!(rt; status == 0 && out.inner.written() == b"text ab\n".as_slice());
+    drop(source);
+    drop(out);
 }
 
 #[test]
-fn an_input_has_at_most_16_mebibytes(rt: HostRuntime) -> Result<(), Fail> {
+fn an_input_has_at_most_16_mebibytes(rt: HostRuntime) {
     let alloc = rt.alloc();
-    let mut stage = prepared(alloc, vec![in alloc; b'#'; 16_777_217]?, NONE)?;
-    ends(&rt, alloc, &mut stage, "run", 8, b"script too long\n")?;
-    Ok(())
+    let input = vec![in alloc; b'#'; 16_777_217].expect(&rt, "memory");
+    let mut stage = prepared(&rt, alloc, input, NONE);
+    ends(&rt, alloc, &mut stage, "run", 8, b"script too long\n");
+    drop(stage);
 }

@@ -714,6 +714,27 @@ pub const PLAYED: &str = "\
     callback 1 2 ntf 9 alarm id=2 type=0x4001 obj=\"node1\" by=\"hw\" class=1.2.3 time=100 text=\"g\" cause=5 sev=4\n\
     reply 1 - ok dispatched=1\n\
     `\
+    cluster start=0 queue=2 callbacks=8\nntf 1 init A.1.1\nntf 1 subscribe 9 filter alarm\nsettle\nntf 2 init A.1.1\n\
+    ntf 2 send alarm type=0x4001 obj=\"o\" by=\"n\" class=0.0.0 time=0 text=\"\" cause=5 sev=4\n\
+    ntf 2 send alarm type=0x4001 obj=\"o\" by=\"n\" class=0.0.0 time=0 text=\"\" cause=5 sev=4\n\
+    ntf 2 send alarm type=0x4001 obj=\"o\" by=\"n\" class=0.0.0 time=0 text=\"\" cause=5 sev=4\n\
+    settle\ndispatch 1 all workers=1\nntf 1 unsubscribe 9\nsettle\n\
+    ntf 2 send alarm type=0x4001 obj=\"o\" by=\"n\" class=0.0.0 time=0 text=\"\" cause=5 sev=4\n\
+    settle\ndispatch 1 all workers=1\n\
+    ^\
+    post 1 req 1 1\npost 2 req 1 2\nacc 1 call 1 1 0\npost 3 rep 1 1\nreply 1 1 ok\nacc 2 call 1 2 0\n\
+    post 4 rep 1 2\nreply 1 2 ok\npost 5 req 2 1\npost 6 req 2 2\npost 7 req 2 3\npost 8 req 2 4\n\
+    acc 3 call 2 1 0\npost 9 rep 2 1\nreply 2 1 ok\nacc 4 call 2 2 0\npost 10 rep 2 2\n\
+    reply 2 2 ok id=1\nacc 5 call 2 3 0\npost 11 rep 2 3\nreply 2 3 ok id=2\nacc 6 call 2 4 0\n\
+    post 12 rep 2 4\nreply 2 4 ok id=3\npost 13 item 1 2 1\npost 14 item 1 2 2\n\
+    post 15 rcpt 1 2 1\npost 16 rcpt 1 2 2\nacc 7 rcpt 1 2 2 0\npost 17 item 1 2 3\n\
+    post 18 rcpt 1 2 3\nacc 8 rcpt 1 2 3 0\n\
+    callback 1 1 ntf 9 alarm id=1 type=0x4001 obj=\"o\" by=\"n\" class=0.0.0 time=0 text=\"\" cause=5 sev=4\n\
+    callback 1 2 ntf 9 alarm id=2 type=0x4001 obj=\"o\" by=\"n\" class=0.0.0 time=0 text=\"\" cause=5 sev=4\n\
+    callback 1 3 lost 9 alarm count=1 ids=3\nreply 1 - ok dispatched=3\npost 19 req 1 3\n\
+    acc 9 call 1 3 0\npost 20 rep 1 3\nreply 1 3 ok\npost 21 req 2 5\nacc 10 call 2 5 0\n\
+    post 22 rep 2 5\nreply 2 5 ok id=4\nreply 1 - ok dispatched=0\n\
+    `\
     cluster start=0 queue=1 callbacks=1\nntf 1 init A.1.1\nsettle\nntf 1 endread\n\
     ntf 1 endread\nntf 1 endread\nntf 1 endread\nntf 1 endread\nntf 1 endread\nntf 1 endread\n\
     ntf 1 endread\nntf 1 endread\nntf 1 endread\nntf 1 endread\nntf 1 endread\nntf 1 endread\n\
