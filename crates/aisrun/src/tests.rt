@@ -305,6 +305,9 @@ const SHOWING: &str = "files\ncat \"saLogSystem.cfg\"\n";
 const FILES: &str =
     "file saLogAlarm.cfg 156\nfile saLogAlarm_20240101_000000.log 0\nfile saLogNotification.cfg 163\nfile saLogNotification_20240101_000001.log 0\nfile saLogSystem.cfg 164\nfile saLogSystem_20240101_000002.log 0\n";
 
+const SYSTEM: &str =
+    "text STREAM: system\ntext VERSION: A.02.01\ntext FORMAT: @Cr @Ch:@Cn:@Cs @Cm/@Cd/@CY @Sv @Sl \"@Cb\"\ntext MAX_FILE_SIZE: 262144\ntext RECORD_SIZE: 256\ntext FULL_ACTION: ROTATE\ntext ROTATED_FILES: 4\ntext HA: 0\n";
+
 /// The start asks for the names, `files` for the names and six lengths, and `cat` for a length and bytes. The line
 /// whose reading call fails prints nothing.
 #[test]
@@ -328,6 +331,8 @@ fn makes_fewer(rt: &impl Abort, alloc: Global, line: &str, look: u64, shown: &st
 fn no_other_look_is_taken_at_the_disk(rt: HostRuntime) {
     let alloc = rt.alloc();
     makes_fewer(&rt, alloc, "files\n", 9, FILES);
+    let both = format!(in alloc; "{FILES}{SYSTEM}").expect(&rt, "memory");
+    makes_fewer(&rt, alloc, SHOWING, 11, both.as_str());
     let empty = "cat \"saLogAlarm_20240101_000000.log\"\n";
     makes_fewer(&rt, alloc, empty, 3, "");
     let look = Failing { look: 3, ..NONE };
