@@ -3,6 +3,7 @@ mod rows;
 mod short_disk;
 
 use crate::{Status8, run};
+use ais_values::Duplicate;
 use cluster_core::World;
 use disk_model::{MemDisk, SharedDisk};
 use io_edge::{MemSink, MemSource, Sink, SinkAnswer};
@@ -361,4 +362,10 @@ fn an_input_has_at_most_16_mebibytes(rt: HostRuntime) {
     let mut stage = prepared(&rt, alloc, input, NONE);
     ends(&rt, alloc, &mut stage, "run", 8, b"script too long\n");
     drop(stage);
+}
+
+#[test]
+fn statuses_are_copied(rt: HostRuntime) {
+    let status = Status8::TooLong;
+    assert!(rt; status.copy(rt.alloc()).expect(&rt, "memory") == status);
 }
