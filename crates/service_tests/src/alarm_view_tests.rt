@@ -1,31 +1,76 @@
-//! Searches of stored alarms by each mode and in both directions, against the written rules.
-ghost use Rattle.std.specs.Prelude.{◌+◌, ◌<◌};
-ghost use Rattle.alarm_view.specs.Alarms.{IsAboveAll};
+ghost use Rattle.std.specs.Prelude.{◌≡◌, ◌+◌, ◌<◌, IfOk, OnOk};
+ghost use Rattle.alarm_view.specs.Alarms.{IsAlarm, IsAboveAll};
 
-use crate::fixtures::{alarm, alarms_by};
-use ais_values::Duplicate;
+use ais_values::{ClassId, Duplicate, Name, Seq, Text};
 use alarm_view::{AlarmView, Cursor, Direction, SearchMode};
-use ntf_filters::FilterSet;
-use std::alloc::Global;
+use ntf_filters::{Filter, FilterSet};
+use ntf_types::{Body, Notification};
+use std::alloc::{AllocError, Global};
 use std::process::Abort;
+use std::test::Fail;
 
-/// Keeps an alarm whose severity is its id.
-fn add(rt: &impl Abort, alloc: Global, view: &mut AlarmView, number: u32, id: u8, time: i64)
+/// An alarm of severity `id`, by its event time.
+fn alarm(alloc: Global, id: u8, event_time: i64) -> Result<Notification, Fail>
+    ensures id { IfOk result (λ alarm. alarm.id ≡ id) }
+    ensures alarm { IfOk result (λ alarm. IsAlarm alarm.body) }
+{
+    Ok(Notification {
+        id: u64::from(id),
+        event_type: 0x4001,
+        object: Name::new(alloc, b"object")?,
+        notifier: Name::new(alloc, b"notifier")?,
+        class: ClassId {
+            vendor: 1,
+            major: 2,
+            minor: 3,
+        },
+        event_time,
+        correlated: Seq::new(alloc),
+        text: Text::new(alloc, b"")?,
+        info: Seq::new(alloc),
+        body: Body::Alarm {
+            cause: 1,
+            severity: u16::from(id),
+        },
+    })
+}
+
+/// Filters that ask for alarms of these severities, or of all where the list is empty.
+fn alarms_of(alloc: Global, severities: &[u16]) -> Result<FilterSet, AllocError> {
+    Ok(FilterSet {
+        objects: None,
+        attributes: None,
+        states: None,
+        alarms: Some(Filter {
+            types: Seq::new(alloc),
+            objects: Seq::new(alloc),
+            notifiers: Seq::new(alloc),
+            classes: Seq::new(alloc),
+            sources: Seq::new(alloc),
+            causes: Seq::new(alloc),
+            severities: Seq::from_vec(severities.to_vec(alloc)?),
+        }),
+        security: None,
+    })
+}
+
+fn add(alloc: Global, view: &mut AlarmView, number: u32, id: u8, time: i64) -> Result<(), Fail>
     requires bound { number < 1000 }
     requires above { IsAboveAll number id view.old }
-    ensures { IsAboveAll (number + 1) (id + 1) view.new }
+    ensures { OnOk result (IsAboveAll (number + 1) (id + 1) view.new) }
 {
-    let alarm = alarm(rt, alloc, u64::from(id), time, u16::from(id));
-    view.add(number, alarm).expect(rt, "memory");
+    let alarm = alarm(alloc, id, time)?;
+    view.add(number, alarm)?;
+    Ok(())
 }
 
 /// The alarms 1, 2 and 3 of the times 100, 100 and 200, in records 4, 5 and 6.
-fn three_alarms(rt: &impl Abort, alloc: Global) -> AlarmView {
+fn three_alarms(alloc: Global) -> Result<AlarmView, Fail> {
     let mut view = AlarmView::new(alloc);
-    add(rt, alloc, &mut view, 4, 1, 100);
-    add(rt, alloc, &mut view, 5, 2, 100);
-    add(rt, alloc, &mut view, 6, 3, 200);
-    view
+    add(alloc, &mut view, 4, 1, 100)?;
+    add(alloc, &mut view, 5, 2, 100)?;
+    add(alloc, &mut view, 6, 3, 200)?;
+    Ok(view)
 }
 
 /// The id of the alarm at which a search of this code starts, or 0 where there is none.
@@ -56,10 +101,10 @@ fn read(view: &AlarmView, cursor: &mut Cursor, code: u32, filters: &FilterSet) -
 
 /// The starting alarms of all modes, and of codes that are none.
 #[test]
-fn starts_by_each_mode(rt: HostRuntime) {
+fn starts_by_each_mode(rt: HostRuntime) -> Result<(), Fail> {
     let alloc = rt.alloc();
-    let view = three_alarms(&rt, alloc);
-    let filters = alarms_by(&rt, alloc, &[]);
+    let view = three_alarms(alloc)?;
+    let filters = alarms_of(alloc, &[])?;
     // code, value, id of the starting alarm
     let cases = [
         (0, 100, 0),
@@ -74,13 +119,13 @@ fn starts_by_each_mode(rt: HostRuntime) {
         (8, 100, 0),
     ];
     for (code, value, id) in cases {
-        assert!(rt;
-            start_of(&view, code, value, &filters) == id,
+        assert_eq!(rt;
+            start_of(&view, code, value, &filters),
+            id,
             "{code} {value}"
         );
     }
-    drop(view);
-    drop(filters);
+    Ok(())
 }
 
 fn walk(
@@ -98,8 +143,9 @@ fn walk(
         fresh: true,
     };
     for id in ids {
-        assert!(rt;
-            read(view, &mut cursor, code, filters) == id,
+        assert_eq!(rt;
+            read(view, &mut cursor, code, filters),
+            id,
             "{start} {code}"
         );
     }
@@ -107,10 +153,10 @@ fn walk(
 
 /// Walks from each alarm in both directions, of which the middle one does not match.
 #[test]
-fn walks_past_what_is_not_asked_for(rt: HostRuntime) {
+fn walks_past_what_is_not_asked_for(rt: HostRuntime) -> Result<(), Fail> {
     let alloc = rt.alloc();
-    let view = three_alarms(&rt, alloc);
-    let filters = alarms_by(&rt, alloc, &[1, 3]);
+    let view = three_alarms(alloc)?;
+    let filters = alarms_of(alloc, &[1, 3])?;
     // id of the starting alarm, code of the direction, ids that are read
     let cases = [
         (1, 1, [1, 0, 0]),
@@ -124,33 +170,29 @@ fn walks_past_what_is_not_asked_for(rt: HostRuntime) {
     for (start, code, ids) in cases {
         walk(&rt, &view, start, code, &filters, ids);
     }
-    drop(view);
-    drop(filters);
+    Ok(())
 }
 
 /// An alarm goes under a cursor, which keeps its point and stays fresh.
 #[test]
-fn drops_early_records(rt: HostRuntime) {
+fn drops_early_records(rt: HostRuntime) -> Result<(), Fail> {
     let alloc = rt.alloc();
-    let mut view = three_alarms(&rt, alloc);
-    let filters = alarms_by(&rt, alloc, &[]);
+    let mut view = three_alarms(alloc)?;
+    let filters = alarms_of(alloc, &[])?;
     view.keep_from(5);
-    let first = view
-        .alarm_at(0)
-        .is_some_and(|found| found.0 == 5 && found.1.id == 2);
-    assert!(rt; first && view.count() == 2 && view.alarm_at(2).is_none());
-    walk(&rt, &view, 1, 1, &filters, [0, 0, 0]);
-    walk(&rt, &view, 1, 2, &filters, [2, 3, 0]);
-    drop(view);
-    drop(filters);
-}
-
-#[test]
-fn cursors_are_copied(rt: HostRuntime) {
+    assert_eq!(rt; view.count(), 2);
+    assert!(rt;
+        view.alarm_at(0)
+            .is_some_and(|found| found.0 == 5 && found.1.id == 2)
+    );
+    assert!(rt; view.alarm_at(2).is_none());
     let cursor = Cursor {
         time: 100,
         id: 2,
         fresh: false,
     };
-    assert!(rt; cursor.copy(rt.alloc()).expect(&rt, "memory") == cursor);
+    assert_eq!(rt; cursor.copy(alloc)?, cursor);
+    walk(&rt, &view, 1, 1, &filters, [0, 0, 0]);
+    walk(&rt, &view, 1, 2, &filters, [2, 3, 0]);
+    Ok(())
 }
