@@ -29,7 +29,8 @@ pub trait SharedDisk {
     fn names(&mut self, alloc: Global) -> Result<Seq<Text>, DiskAnswer>
         ensures listed { IfOk result (λ names. IfSome (files self.old) (λ f. names ≡ map.keys f)) }
         ensures same { files self.new ≡ files self.old }
-        ensures cause { RoseExactlyOn (faults self.old) (faults self.new) result DiskAnswer.Failed };
+        ensures cause { RoseExactlyOn (faults self.old) (faults self.new) result
+            DiskAnswer.Failed };
 
     /// The length of a file in bytes; `None` exactly where no file has that name.
     fn len(&mut self, name: &[u8]) -> Result<Option<u64>, DiskFault>
@@ -56,7 +57,8 @@ pub trait SharedDisk {
         ensures memory { IsErrOf result DiskAnswer.Memory → files self.new ≡ files self.old }
         ensures failed { IsErrOf result DiskAnswer.Failed →
             WhereTold (LeftByCreate name.now) (files self.old) (files self.new) }
-        ensures cause { RoseExactlyOn (faults self.old) (faults self.new) result DiskAnswer.Failed };
+        ensures cause { RoseExactlyOn (faults self.old) (faults self.new) result
+            DiskAnswer.Failed };
 
     /// Puts bytes at a place of a file, over what stands there and past its end. Their range is loose until
     /// the next `sync`. Where the name is absent or the place is past the file's end, nothing changes.
@@ -69,7 +71,8 @@ pub trait SharedDisk {
         ensures memory { IsErrOf result DiskAnswer.Memory → files self.new ≡ files self.old }
         ensures failed { IsErrOf result DiskAnswer.Failed →
             WhereTold (LeftByWrite name.now at bytes.now) (files self.old) (files self.new) }
-        ensures cause { RoseExactlyOn (faults self.old) (faults self.new) result DiskAnswer.Failed };
+        ensures cause { RoseExactlyOn (faults self.old) (faults self.new) result
+            DiskAnswer.Failed };
 
     /// Makes all bytes of a file durable: it has no loose range then. Of an absent name nothing changes.
     ///
@@ -81,7 +84,8 @@ pub trait SharedDisk {
         ensures memory { IsErrOf result DiskAnswer.Memory → files self.new ≡ files self.old }
         ensures failed { IsErrOf result DiskAnswer.Failed →
             WhereTold (LeftBySync name.now) (files self.old) (files self.new) }
-        ensures cause { RoseExactlyOn (faults self.old) (faults self.new) result DiskAnswer.Failed };
+        ensures cause { RoseExactlyOn (faults self.old) (faults self.new) result
+            DiskAnswer.Failed };
 
     /// Gives a file another name, with its loose ranges; a file of that name is replaced. Where the file is
     /// absent, or both names are equal, nothing changes. A failed call was done wholly or not at all.
@@ -92,7 +96,8 @@ pub trait SharedDisk {
         ensures memory { IsErrOf result DiskAnswer.Memory → files self.new ≡ files self.old }
         ensures failed { IsErrOf result DiskAnswer.Failed →
             WhereTold (LeftByRename from.now to.now) (files self.old) (files self.new) }
-        ensures cause { RoseExactlyOn (faults self.old) (faults self.new) result DiskAnswer.Failed };
+        ensures cause { RoseExactlyOn (faults self.old) (faults self.new) result
+            DiskAnswer.Failed };
 
     /// Removes a file. Where it is absent nothing changes. A failed call was done wholly or not at all.
     fn remove(&mut self, name: &[u8]) -> Result<(), DiskAnswer>
@@ -101,5 +106,6 @@ pub trait SharedDisk {
         ensures memory { IsErrOf result DiskAnswer.Memory → files self.new ≡ files self.old }
         ensures failed { IsErrOf result DiskAnswer.Failed →
             WhereTold (LeftByRemove name.now) (files self.old) (files self.new) }
-        ensures cause { RoseExactlyOn (faults self.old) (faults self.new) result DiskAnswer.Failed };
+        ensures cause { RoseExactlyOn (faults self.old) (faults self.new) result
+            DiskAnswer.Failed };
 }

@@ -61,7 +61,8 @@ impl Source for MemSource {
     fn read(&mut self, buf: &mut [u8]) -> Result<usize, IoFault>
         ensures bound { ReadsAtMost result buf.new }
         ensures bytes { ReadConsumes (Some self.old.left) (Some self.new.left) result buf.new }
-        ensures cause { RoseExactlyOn self.old.plan.faults self.new.plan.faults result IoFault.Failed }
+        ensures cause { RoseExactlyOn self.old.plan.faults self.new.plan.faults result
+            IoFault.Failed }
         ensures fails { IsErrOf result IoFault.Failed ↔ FailsNext self.old.plan }
         ensures count { IfOk result (λ count. count ≡ min (length buf.old) (length self.old.left)) }
         ensures plan { MatchResult result (λ _. self.new.plan ≡ after_call self.old.plan)

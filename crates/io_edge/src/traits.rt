@@ -40,5 +40,6 @@ pub trait Sink {
         ensures bound { WritesAtMost result bytes.now }
         ensures some { IfOk result (λ count. 0 < length bytes.now → 1 ≤ count) }
         ensures bytes { WriteAppends (written self.old) (written self.new) result bytes.now }
-        ensures cause { RoseExactlyOn (faults self.old) (faults self.new) result SinkAnswer.Failed };
+        ensures cause { RoseExactlyOn (faults self.old) (faults self.new) result
+            SinkAnswer.Failed };
 }

@@ -7,8 +7,8 @@ use crate::{Sink, SinkAnswer};
 /// Writes all of `bytes`, piece by piece.
 ///
 /// `Failed` comes exactly where the sink's count of faults rose, `Memory` where memory ran out. On both a
-/// front of `bytes` was written, and not all of it. On `Ok` and `Memory` the count stands: nothing is
-/// written after a fault.
+/// front of `bytes` was written, and not all of it. On `Ok` and `Memory` the count stands, so
+/// no write had failed.
 pub fn write_all<K: Sink>(sink: &mut K, bytes: &[u8]) -> Result<(), SinkAnswer>
     ensures bytes { WritesAll (K.written sink.old) (K.written sink.new) bytes.now result }
     ensures cause { RoseExactlyOn (K.faults sink.old) (K.faults sink.new) result SinkAnswer.Failed }

@@ -14,7 +14,7 @@ use stream_layout::Deed;
 /// `Ok`: the files are those after all calls. `Failed`, which comes exactly where the disk's count of
 /// faults rose: they are those after some calls from the front and a failure of the next one. `Memory`:
 /// they are those after some calls from the front, fewer than all. On `Ok` and `Memory` the count stands,
-/// so no call is made after one that failed. What is said speaks of the files that the disk tells; how
+/// so no call had failed. What is said speaks of the files that the disk tells; how
 /// many calls it was asked for is no part of it.
 pub fn perform<D: SharedDisk>(disk: &mut D, deeds: &Seq<Deed>) -> Result<(), DiskAnswer>
     ensures done { OnOk result (D.files disk.new
