@@ -1,13 +1,14 @@
 -- Words of public clauses on a disk in memory: when its calls fail, and what a failed call leaves of a file.
 use Rattle.std.specs.Prelude.{◌≡◌, ℕ, zero, suc, ◌+◌, ◌-◌, ◌/◌, ◌%◌, min, Bool, true, false, ◌==◌, nat_le, if◌then◌else◌}
 use Rattle.std.specs.Prelude.{List, [], ◌∷◌, ◌++◌, length, take, slice_index, Result, Ok, Err}
+use Rattle.std.specs.FinMap as map
 use Rattle.std.specs.List.{list_any}
 use Rattle.ais_values.specs.Causes.{one_more}
 use Rattle.disk_model.specs.declared.answers.DiskFault.{DiskFault}
 use Rattle.disk_model.specs.declared.answers.DiskFault.TheVariants as fault
 use Rattle.disk_model.specs.declared.answers.DiskAnswer.{DiskAnswer}
 use Rattle.disk_model.specs.declared.answers.DiskAnswer.TheVariants.{Memory, Failed}
-use Rattle.disk_model.specs.Disk.{File, Files, overwritten, file_written}
+use Rattle.disk_model.specs.Disk.{File, Files, no_files, settled_file, overwritten, file_written}
 
 -- the byte at a place of a torn range, from the range's start: from the list in turn, 0 where it is empty
 abbrev pub torn_byte : List ℕ → ℕ → ℕ
@@ -64,6 +65,22 @@ pub record MemState : Type 0 where
   pub failing : List ℕ
   pub failing_reads : List ℕ
   pub torn : List ℕ
+
+-- a disk without files, of which no call was made yet
+abbrev pub fresh_disk : (failing failing_reads torn : List ℕ) → MemState
+fresh_disk failing failing_reads torn = record {
+  files = no_files;
+  changes = 0;
+  reads = 0;
+  faults = 0;
+  failing = failing;
+  failing_reads = failing_reads;
+  torn = torn;
+}
+
+-- a disk with this file, of which nothing is loose, whatever had the name
+abbrev pub with_settled : MemState → (name bytes : List ℕ) → MemState
+with_settled disk name bytes = record disk { files = map.insert disk.files name (settled_file bytes) }
 
 -- whether the next changing call, or reading call, is one that fails
 abbrev pub fails_next : MemState → Bool

@@ -3,9 +3,9 @@ ghost use Rattle.std.specs.Prelude.{◌≡◌, ◌≤◌, List, ℕ, length, Opt
 ghost use Rattle.std.specs.FinMap as map;
 ghost use Rattle.ais_values.specs.Causes.{one_more, RoseExactlyOn};
 ghost use Rattle.ais_values.specs.Texts.{IsText};
-ghost use Rattle.disk_model.specs.Disk.{Files, no_files, settled_file, created, written_at, synced, renamed, removed, adjusted, length_of, bytes_at, Gives};
+ghost use Rattle.disk_model.specs.Disk.{Files, created, written_at, synced, renamed, removed, adjusted, length_of, bytes_at, Gives};
 ghost use Rattle.disk_model.specs.Failures.{WhereTold, LeftByCreate, LeftByWrite, LeftBySync, LeftByRename, LeftByRemove};
-ghost use Rattle.disk_model.specs.Memory.{Changes, Reads, ReadsAt, fails_next, read_fails_next, file_torn_by_write, file_torn_by_sync};
+ghost use Rattle.disk_model.specs.Memory.{Changes, Reads, ReadsAt, fresh_disk, with_settled, fails_next, read_fails_next, file_torn_by_write, file_torn_by_sync};
 ghost use Rattle.disk_model.specs.declared.answers.DiskAnswer.{DiskAnswer};
 ghost use Rattle.disk_model.specs.declared.answers.DiskFault.{DiskFault};
 
@@ -61,15 +61,7 @@ impl MemDisk {
     /// A disk without files, of which these changing calls and these reading calls fail, and whose torn
     /// ranges hold these bytes in turn.
     pub fn new(alloc: Global, failing: Vec<u64>, failing_reads: Vec<u64>, torn: Vec<u8>) -> MemDisk
-        ensures { result ≡ record {
-          files = no_files;
-          changes = 0;
-          reads = 0;
-          faults = 0;
-          failing = failing.items;
-          failing_reads = failing_reads.items;
-          torn = torn.items;
-        } }
+        ensures { result ≡ fresh_disk failing.items failing_reads.items torn.items }
     {
         MemDisk {
             alloc,
@@ -86,10 +78,7 @@ impl MemDisk {
     /// Puts a file with these bytes on the disk, of which nothing is loose. It counts as no call.
     pub fn hold(&mut self, name: &[u8], bytes: Vec<u8>) -> Result<(), AllocError>
         requires { IsText name.now }
-        ensures ok { OnOk result (self.new ≡ record self.old {
-          files = map.insert self.old.files
-              name.now (settled_file bytes.items);
-        }) }
+        ensures ok { OnOk result (self.new ≡ with_settled self.old name.now bytes.items) }
         ensures err { OnErr result (self.new ≡ self.old) }
     {
         let file = StoredFile::holding(self.alloc, bytes);
