@@ -9,11 +9,6 @@ one_more count = min (count + 1) (2 ^ 64 - 1)
 abbrev pub Rose : ℕ → ℕ → Type 0
 Rose before now = one_more before ≤ now
 
--- the count has not fallen, and rose where the answer is this error
-pub record HasCauseOf {T E : Type 0} (before now : ℕ) (result : Result T E) (error : E) : Type 0 where
-  pub later : before ≤ now
-  pub rose : IsErrOf result error → Rose before now
-
 -- the count rose exactly on this error: on every other answer it is what it was
 pub record RoseExactlyOn {T E : Type 0} (before now : ℕ) (result : Result T E) (error : E) : Type 0 where
   pub later : before ≤ now
