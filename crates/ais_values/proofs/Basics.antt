@@ -26,6 +26,9 @@ pub true_from_T : (b : Bool) → T b → b ≡ true
 true_from_T true h = refl
 true_from_T false h = absurd h
 
+pub eqb_self : (n : ℕ) → (n == n) ≡ true
+eqb_self n = grind (arith, nat_tests)
+
 pub pair_same : (a b c d : ℕ) → (a == c && b == d) ≡ true → (a ≡ c) × (b ≡ d)
 pair_same a b c d same = (grind (arith, nat_tests), grind (arith, nat_tests))
 

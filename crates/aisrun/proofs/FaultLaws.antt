@@ -1,5 +1,5 @@
 -- What is promised where a fault of the disk ended a run holds.
-use Rattle.std.proofs.Common.{◌≡◌, ℕ, inl, inr, Bool, true, false, ◌==◌, if◌then◌else◌, ℤ, List, [], ◌∷◌, ◌++◌, Option, Some, None, ap, sym, subst, arith}
+use Rattle.std.proofs.Common.{◌≡◌, ℕ, ℤ, List, ◌∷◌, ◌++◌, Option, Some, None, ap, sym, subst, arith}
 use Rattle.std.specs.Prelude.{IfSome}
 use Rattle.std.specs.List.{AllByRecursion}
 use Rattle.disk_model.specs.Disk.{Files}
@@ -34,27 +34,12 @@ use Rattle.aisrun.specs.Endings.{FaultLeft, Showing, Working}
 use Rattle.aisrun.specs.Playing.{files_told, Goes}
 use Rattle.aisrun.proofs.GoingSteps.{told-same}
 use Rattle.aisrun.proofs.TellingLaws.{each-told}
-use Rattle.aisrun.proofs.PlayLaws.{at-end, answered-range, played-files, played-says, played-stays}
+use Rattle.aisrun.proofs.PlayLaws.{answered-range, played-files, played-says, played-stays}
 use Rattle.cluster_core.proofs.WorkSteps.{own-number}
+use Rattle.cluster_events.proofs.Quiet.{answers-called}
+use Rattle.cluster_events.proofs.Promised.{at-end}
 
 -- The entry in hand is unanswered.
-
--- a reply of the history is to a call that stands there
-answers-called : (plain : Plain) (client number : ℕ) (reply : Reply) (past : List Entry) → Stands (number, reply) (answers_in plain client past) → (call : Call) × Stands (number, call) (calls_in client past)
-answers-called plain client number reply [] stands = elim stands [ ]
-answers-called plain client number reply (Called caller other time asked ∷ past) stands =
-    let told : Reply = plain.reply past caller other time asked in
-    let A : Bool → List (ℕ × Reply) = λ b. if b then (other, told) ∷ answers_in plain client past else answers_in plain client past in
-    let C : Bool → List (ℕ × Call) = λ b. if b then (other, asked) ∷ calls_in client past else calls_in client past in
-    let cases : (b : Bool) → Stands (number, reply) (A b) → (call : Call) × Stands (number, call) (C b) = elim [
-      | true ↦ elim [
-        | inl here ↦ (asked, inl (ap (λ (p : ℕ × Reply). (p.0, asked)) here))
-        | inr there ↦ let deeper = answers-called plain client number reply past there in (deeper.0, inr deeper.1)
-      ]
-      | false ↦ λ there. answers-called plain client number reply past there
-    ] in
-    cases (caller == client) stands
-answers-called plain client number reply (Receipted sender key through time ∷ past) stands = answers-called plain client number reply past stands
 
 -- so its history has no reply to it
 not-answered : (plain : Plain) (now : ℤ) (client number : ℕ) (time : ℤ) (call : Call) (past : List Entry) → IsLegal plain now (Called client number time call ∷ past) → (reply : Reply) → Stands (number, reply) (answers_in plain client past) → ⊥

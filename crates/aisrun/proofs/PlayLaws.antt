@@ -1,20 +1,16 @@
 -- What lines that are played lead to: facts, promises, files and times.
-use Rattle.std.proofs.Common.{◌≡◌, ℕ, ℤ, List, [], ◌∷◌, ◌++◌, Option, Some, None, refl, ap, sym, ◌∙◌, subst, append-nil}
+use Rattle.std.proofs.Common.{◌≡◌, ℕ, ℤ, List, [], ◌∷◌, ◌++◌, Option, Some, None, refl, ap, sym, ◌∙◌, subst}
 use Rattle.disk_model.specs.Disk.{Files}
 use Rattle.script_lines.specs.declared.line.Line.{Line}
 use Rattle.script_lines.specs.declared.line.Line.TheVariants as line
 use Rattle.plain_service.specs.Setups.{Setup, CanBegin}
-use Rattle.cluster_facts.specs.Types.{Call, Reply, ReaderRead, Status, Entry, Message}
-use Rattle.cluster_facts.specs.Lists.{Stands}
-use Rattle.cluster_facts.specs.Messages.{sent_by, receipts_of}
+use Rattle.cluster_facts.specs.Types.{Call, Status, Entry, Message}
 use Rattle.cluster_facts.specs.Service.{Plain}
-use Rattle.cluster_facts.specs.Storage.{all_applied, dealt_in}
-use Rattle.cluster_facts.specs.Agents.{fed_of, call_of, refusal, dispatch_refusal}
+use Rattle.cluster_facts.specs.Storage.{all_applied}
+use Rattle.cluster_facts.specs.Agents.{call_of, refusal, dispatch_refusal}
 use Rattle.cluster_facts.specs.History.{Hand, Empty, Waiting, Applied, Ready, IsLegal, accepted_by}
 use Rattle.cluster_facts.specs.Ranges.{AreInRange}
 use Rattle.cluster_facts.specs.World.{World, empty_world, message_at}
-use Rattle.cluster_facts.specs.Facts.{IsSound}
-use Rattle.cluster_facts.proofs.Words.{All-at}
 use Rattle.cluster_facts.proofs.Growing.{IsLegal-before}
 use Rattle.cluster_facts.proofs.Keeping.{IsSound-start}
 use Rattle.cluster_facts.proofs.Posting.{message_at-stands}
@@ -24,16 +20,14 @@ use Rattle.cluster_events.specs.Servers.{State}
 use Rattle.cluster_events.specs.ClientEvents.{ask_by, dispatch_one_by, dispatch_all_by}
 use Rattle.cluster_events.specs.Events.{deliver_by, step_or_refuse, push_by}
 use Rattle.cluster_events.specs.Running.{Shelf, show_by, Happens}
-use Rattle.cluster_events.specs.Saying.{deals_told, writes_told, Says}
+use Rattle.cluster_events.specs.Saying.{Says}
 use Rattle.cluster_events.specs.Serving.{IsSteady, IsServing}
 use Rattle.cluster_events.specs.Promises.{AtEnd}
 use Rattle.cluster_events.specs.OnDisk.{performed}
 use Rattle.cluster_events.specs.Filing.{RecordsStay}
 use Rattle.cluster_events.proofs.Telling.{Says-same, Says-both}
-use Rattle.cluster_events.proofs.Promised.{committed-legal, committed-order, happens-kept}
+use Rattle.cluster_events.proofs.Promised.{happens-kept, at-end}
 use Rattle.cluster_events.proofs.Carrying.{delivered-goes, resend-goes, post_all-goes, held-made, rounds-carry}
-use Rattle.cluster_events.proofs.Items.{taken-begins}
-use Rattle.cluster_events.proofs.Dealing.{dealt-answered, deals-answered}
 use Rattle.cluster_events.proofs.Filed.{answered-legal, records-stay}
 use Rattle.lone_cluster.specs.Lone.{Alone, lone, lone_start, work_by, IsGoodAlone}
 use Rattle.lone_cluster.proofs.Serving.{lone-serves, lone-says, lone-works, never-steps}
@@ -66,25 +60,6 @@ played-says setup places held (Went {state = state} {told = told} next shelf out
     let before = played-says setup places held run in
     let kept = line-kept setup shelf next state outcome before.0 happens in
     (kept.0, Says-both (plain_of setup) (empty_world setup.start places) state.world outcome.state.world told outcome.told before.1 kept.1)
-
--- so all promises hold
-pub at-end : (plain : Plain) (world : World) (told : List Told) (now : ℤ) (places : ℕ) → IsSound plain world → Says plain (empty_world now places) world told → AtEnd plain world told
-at-end plain world told now places sound says = record {
-  history = record {
-    legal = committed-legal plain world.now world.core.answered world.core.hand sound.facts.legal;
-    printed = says.entries;
-  };
-  order = λ client. committed-order client (sent_by client world.net) world.core.answered world.core.hand (sound.facts.clients client).sends.first;
-  posts = says.posts;
-  replies = record {
-    once = λ client. (says.replies client).once;
-    right = λ client. deals-answered plain client world.core.answered (deals_told client told) (says.deals client);
-  };
-  readers = λ client number direction reply stands. dealt-answered plain client world.core.answered (number, ReaderRead direction, reply) (All-at (λ (deal : ℕ × Call × Reply). Stands deal (dealt_in plain client world.core.answered)) (number, ReaderRead direction, reply) (deals_told client told) (says.deals client) stands);
-  callbacks = says.callbacks;
-  items = λ client key. taken-begins plain world.core.answered (sent_by client world.net) client key (receipts_of client world.net) (fed_of (world.agents client)) (sound.facts.clients client).sends.numbered (sound.facts.clients client).follows.counted (sound.facts.told client);
-  writes = λ client. says.writes client ∙ append-nil (writes_told client told);
-}
 
 pub played-keeps : (setup : Setup) (places : ℕ) (held : Option Files) {lines : List Line} {state : State Alone} {told : List Told} {files : Files} → Played setup places held lines state told files → AtEnd (plain_of setup) state.world told
 played-keeps setup places held {state = state} {told = told} run =

@@ -25,6 +25,7 @@ use Rattle.cluster_core.specs.Asked.{CanCallAt, IsSentAt, HasFitRequest, IsToldS
 use Rattle.cluster_core.specs.PartlyDone.{PartlyShows, AsksPartly}
 use Rattle.cluster_core.proofs.DispatchSteps.{absent, first-above, others-same, seen-at, set-same, handed-shows}
 use Rattle.cluster_core.proofs.DeliverySteps.{Ends, found-own, seen-some, agent_for, get-some}
+use Rattle.cluster_events.proofs.Sound.{put-keeps, put-stands}
 
 -- The request of a call can be posted.
 
@@ -111,34 +112,6 @@ inserted client places next agents (first ∷ clients) rising nowhere =
       ]
     ]
 
-stands-put : (client other : ℕ) (clients : List ℕ) → Stands other clients → Stands other (put nat_lt client clients)
-stands-put client other [] stands = elim stands [ ]
-stands-put client other (first ∷ clients) stands =
-    let whole : Bool → Bool → List ℕ = λ a b. if a then client ∷ first ∷ clients else if b then first ∷ put nat_lt client clients else client ∷ clients in
-    let deeper : Stands other clients → Stands other (put nat_lt client clients) = λ there. stands-put client other clients there in
-    elim (leb_tells (suc client) first) [
-      | inl lower ↦ subst (λ a. Stands other (whole a (nat_lt first client))) (sym lower.0) (inr stands)
-      | inr higher ↦ elim (leb_tells (suc first) client) [
-        | inl lower ↦
-            let goal : Stands other (whole false true) = elim stands [ inl here ↦ inl here | inr there ↦ inr (deeper there) ] in
-            subst (λ a. Stands other (whole a (nat_lt first client))) (sym higher.0) (subst (λ b. Stands other (whole false b)) (sym lower.0) goal)
-        | inr level ↦
-            let one_way = higher.1 in
-            let other_way = level.1 in
-            let same : first ≡ client = omega arith in
-            let goal : Stands other (whole false false) = elim stands [ inl here ↦ inl (here ∙ same) | inr there ↦ inr there ] in
-            subst (λ a. Stands other (whole a (nat_lt first client))) (sym higher.0) (subst (λ b. Stands other (whole false b)) (sym level.0) goal)
-      ]
-    ]
-
-own-put : (client : ℕ) (clients : List ℕ) → Stands client (put nat_lt client clients)
-own-put client [] = inl refl
-own-put client (first ∷ clients) =
-    let whole : Bool → Bool → List ℕ = λ a b. if a then client ∷ first ∷ clients else if b then first ∷ put nat_lt client clients else client ∷ clients in
-    let deeper = own-put client clients in
-    let cases : (a b : Bool) → Stands client (whole a b) = elim [ true ↦ λ b. inl refl | false ↦ elim [ true ↦ inr deeper | false ↦ inl refl ] ] in
-    cases (nat_lt client first) (nat_lt first client)
-
 -- What asking comes to.
 
 asked-by : (plain : Plain) (client : ℕ) (asked : Ask) (world : World) (status : Option Status) → refusal asked (world.agents client) ≡ status → ask plain client asked world ≡ ask_by plain client (call_of asked) status world
@@ -204,9 +177,9 @@ asks-first-sent callbacks client asked message seen old_net new_net old new befo
       shown = shown_now;
       rising = IsRising-put nat_lt IsOrder-nat_lt client world.clients shows.rising;
       listed = λ other. elim (eqb_tells client other) [
-        | inl same ↦ inl (subst (λ c. Stands c (put nat_lt client world.clients)) same.1 (own-put client world.clients))
+        | inl same ↦ inl (subst (λ c. Stands c (put nat_lt client world.clients)) same.1 (put-stands client world.clients))
         | inr different ↦ elim (shows.listed other) [
-          | inl stands ↦ inl (stands-put client other world.clients stands)
+          | inl stands ↦ inl (put-keeps client other world.clients stands)
           | inr is_fresh ↦ inr (other-agent client other next world.agents different.1 ∙ is_fresh)
         ]
       ];
@@ -279,9 +252,9 @@ first-shows callbacks client asked plain seen old new world none shows places is
       shown = shown_now;
       rising = IsRising-put nat_lt IsOrder-nat_lt client world.clients shows.rising;
       listed = λ other. elim (eqb_tells client other) [
-        | inl same ↦ inl (subst (λ c. Stands c (put nat_lt client world.clients)) same.1 (own-put client world.clients))
+        | inl same ↦ inl (subst (λ c. Stands c (put nat_lt client world.clients)) same.1 (put-stands client world.clients))
         | inr different ↦ elim (shows.listed other) [
-          | inl stands ↦ inl (stands-put client other world.clients stands)
+          | inl stands ↦ inl (put-keeps client other world.clients stands)
           | inr is_fresh ↦ inr (other-agent client other next world.agents different.1 ∙ is_fresh)
         ]
       ];

@@ -1,5 +1,5 @@
 -- Events in which no client asks anything: each step of the active server and of a round is one.
-use Rattle.std.proofs.Common.{◌≡◌, ℕ, ℤ, suc, true, false, ◌==◌, if◌then◌else◌, List, [], ◌∷◌, ◌++◌, length, refl, ap, sym, ◌∙◌, subst, arith}
+use Rattle.std.proofs.Common.{◌≡◌, ℕ, ℤ, suc, true, false, if◌then◌else◌, List, [], ◌∷◌, ◌++◌, length, refl, ap, sym, ◌∙◌, subst, arith}
 use Rattle.std.specs.List.{AllByRecursion}
 use Rattle.std.proofs.lemmas.List.{length-append}
 use Rattle.cluster_facts.specs.Types.{Call, Reply, Entry, Called, Receipted, Message, Answer}
@@ -8,13 +8,12 @@ use Rattle.cluster_facts.specs.Service.{Plain}
 use Rattle.cluster_facts.specs.Storage.{dealt_in}
 use Rattle.cluster_facts.specs.History.{Hand, Empty, Waiting, Applied, Ready, time_of}
 use Rattle.cluster_facts.specs.World.{World, knows}
-use Rattle.cluster_facts.proofs.Words.{All-map, All-append, EndsIn-same, EndsIn-stands}
+use Rattle.cluster_facts.proofs.Words.{All-map, All-append, EndsIn-stands}
 use Rattle.cluster_events.specs.Lines.{Told, Posted}
 use Rattle.cluster_events.specs.Servers.{State, drain}
 use Rattle.cluster_events.specs.Saying.{seconds, entry_in, deal_in, deals_told, entries_told}
 use Rattle.cluster_events.specs.Serving.{IsCarried}
-use Rattle.cluster_events.proofs.Carrying.{EndsIn-both}
-use Rattle.cluster_events.proofs.Telling.{gathered-append, Says-same}
+use Rattle.cluster_events.proofs.Telling.{gathered-append, Says-same, dealt-more}
 use Rattle.lone_cluster.specs.Lone.{Alone, lone, IsLone, IsGoodAlone, lines_answering}
 use Rattle.lone_cluster.proofs.Serving.{lone-says, posted-sent}
 use Rattle.cluster_core.specs.PartlyDone.{AsksNone, SaysUnasked}
@@ -101,20 +100,6 @@ pub unasked-same : (plain : Plain) (world : World) → SaysUnasked plain world w
 unasked-same plain world = record { says = Says-same plain world; asks = asks-none world }
 
 -- Deals of events, one after another.
-
-dealt-step : (plain : Plain) (client : ℕ) (entry : Entry) (past : List Entry) → EndsIn (dealt_in plain client (entry ∷ past)) (dealt_in plain client past)
-dealt-step plain client (Called caller number time call) past =
-    let deal : ℕ × Call × Reply = (number, call, plain.reply past caller number time call) in
-    elim (caller == client) as (λ b. EndsIn (if b then deal ∷ dealt_in plain client past else dealt_in plain client past) (dealt_in plain client past)) [
-      | true ↦ (deal ∷ [], refl)
-      | false ↦ EndsIn-same (dealt_in plain client past)
-    ]
-dealt-step plain client _ past = EndsIn-same (dealt_in plain client past)
-
-dealt-more : (plain : Plain) (client : ℕ) (more past : List Entry) → EndsIn (dealt_in plain client (more ++ past)) (dealt_in plain client past)
-dealt-more plain client [] past = EndsIn-same (dealt_in plain client past)
-dealt-more plain client (entry ∷ more) past =
-    EndsIn-both (dealt_in plain client past) (dealt_in plain client (more ++ past)) (dealt_in plain client (entry ∷ (more ++ past))) (dealt-more plain client more past) (dealt-step plain client entry (more ++ past))
 
 pub deals-both : (plain : Plain) (client : ℕ) (before after : List Entry) (first second : List Told) → EndsIn after before → AllByRecursion (λ (deal : ℕ × Call × Reply). Stands deal (dealt_in plain client before)) (deals_told client first) → AllByRecursion (λ (deal : ℕ × Call × Reply). Stands deal (dealt_in plain client after)) (deals_told client second) → AllByRecursion (λ (deal : ℕ × Call × Reply). Stands deal (dealt_in plain client after)) (deals_told client (second ++ first))
 deals-both plain client before after first second ends early late =

@@ -1,6 +1,6 @@
 -- Rounds lower what is left to do.
-use Rattle.std.proofs.Common.{◌≡◌, ℕ, suc, ◌+◌, ◌<◌, ◌≤◌, inl, inr, Bool, true, false, ◌&&◌, ◌||◌, ◌==◌, nat_lt, nat_le, if◌then◌else◌, ℤ, Some, None, List, [], ◌∷◌, ◌++◌, length, refl, ap, sym, ◌∙◌, subst, arith, length-append}
-use Rattle.std.proofs.lemmas.Bool.Decides.{eqb_tells, leb_tells}
+use Rattle.std.proofs.Common.{◌≡◌, ℕ, suc, ◌+◌, ◌<◌, ◌≤◌, inl, inr, Bool, true, false, ◌&&◌, ◌||◌, ◌==◌, nat_lt, nat_le, if◌then◌else◌, ℤ, Some, None, List, [], ◌∷◌, ◌++◌, length, ap, sym, ◌∙◌, subst, arith, length-append}
+use Rattle.std.proofs.lemmas.Bool.Decides.{leb_tells}
 use Rattle.std.proofs.lemmas.Bool.{and_parts, eqb-true, cases_Bool}
 use Rattle.cluster_facts.specs.Types.{Call, Reply, Item, Entry, Called, Receipted, Message, Request, Receipt}
 use Rattle.cluster_facts.specs.Lists.{Stands, IsNumbered, without}
@@ -17,6 +17,7 @@ use Rattle.cluster_events.specs.Servers.{State, Servers, drain}
 use Rattle.cluster_events.specs.Settling.{is_loud}
 use Rattle.cluster_events.specs.Serving.{IsSteady, IsCarried}
 use Rattle.cluster_events.specs.Measure.{is_acceptance, is_accepted, waiting, unheard, untaken, all_untaken, progress, Spends}
+use Rattle.ais_values.proofs.Basics.{eqb_self}
 
 -- Which messages the history has.
 
@@ -39,13 +40,10 @@ unheard-later (message ∷ net) entry past =
     let there = unheard-later net entry past in
     omega arith
 
-pub self : (n : ℕ) → (n == n) ≡ true
-self n = elim (eqb_tells n n) [ inl same ↦ same.0 | inr other ↦ absurd (other.1 refl) ]
-
 -- an entry is the acceptance of its message
 acceptance-own : (entry : Entry) → is_acceptance (message_of entry) entry ≡ true
-acceptance-own (Called client number time call) = ap (λ b. b && (number == number)) (self client) ∙ self number
-acceptance-own (Receipted client key through time) = ap (λ b. b && ((key == key) && (through == through))) (self client) ∙ ap (λ b. b && (through == through)) (self key) ∙ self through
+acceptance-own (Called client number time call) = ap (λ b. b && (number == number)) (eqb_self client) ∙ eqb_self number
+acceptance-own (Receipted client key through time) = ap (λ b. b && ((key == key) && (through == through))) (eqb_self client) ∙ ap (λ b. b && (through == through)) (eqb_self key) ∙ eqb_self through
 
 -- with an entry whose message waited, one message fewer waits
 waiting-accepted : (entry : Entry) (past : List Entry) → is_accepted (message_of entry) past ≡ false → suc (waiting (message_of entry) (entry ∷ past)) ≡ waiting (message_of entry) past

@@ -219,7 +219,7 @@ committed-order client sent past (Waiting entry) first = calls-before client sen
 committed-order client sent past (Applied entry) first = first
 committed-order client sent past (Ready entry) first = first
 
-at-end : (plain : Plain) (world : World) (told : List Told) (now : ℤ) (places : ℕ) → IsSound plain world → Says plain (empty_world now places) world told → AtEnd plain world told
+pub at-end : (plain : Plain) (world : World) (told : List Told) (now : ℤ) (places : ℕ) → IsSound plain world → Says plain (empty_world now places) world told → AtEnd plain world told
 at-end plain world told now places sound says = record {
   history = record {
     legal = committed-legal plain world.now world.core.answered world.core.hand sound.facts.legal;

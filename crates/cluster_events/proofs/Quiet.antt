@@ -31,7 +31,7 @@ use Rattle.cluster_events.specs.Settled.{IsSettled}
 use Rattle.cluster_events.proofs.Carrying.{posted-unknown, post_answer-goes, in_world-rests, Keeps-sent, Stays-same, Stays-both, IsAtRest, IsCounted-at, reply_at-stands, resent-posted, turn-goes, push-goes, push-stands, take_pushed-rests, drain-goes}
 use Rattle.cluster_facts.proofs.Keeping.{receipt-new}
 use Rattle.cluster_events.proofs.Sound.{fate_of-takes}
-use Rattle.cluster_events.proofs.Measuring.{self}
+use Rattle.ais_values.proofs.Basics.{eqb_self}
 
 -- What follows from the facts where nothing is in hand.
 
@@ -46,7 +46,7 @@ Keeps-cases x {heard = heard} (answered call reply told rest) (inl same) =
 Keeps-cases x (answered call reply told rest) (inr stands) = Keeps-cases x rest stands
 
 -- a call that is answered was accepted, and the other way round
-answers-called : (plain : Plain) (client number : ℕ) (reply : Reply) (past : List Entry) → Stands (number, reply) (answers_in plain client past) → (call : Call) × Stands (number, call) (calls_in client past)
+pub answers-called : (plain : Plain) (client number : ℕ) (reply : Reply) (past : List Entry) → Stands (number, reply) (answers_in plain client past) → (call : Call) × Stands (number, call) (calls_in client past)
 answers-called plain client number reply [] stands = elim stands [ ]
 answers-called plain client number reply (Called caller other time asked ∷ past) stands =
     let A : Bool → List (ℕ × Reply) = λ b. if b then (other, plain.reply past caller other time asked) ∷ answers_in plain client past else answers_in plain client past in
@@ -79,7 +79,7 @@ calls-answered plain client number call (Called caller other time asked ∷ past
 calls-answered plain client number call (Receipted sender key through time ∷ past) stands = calls-answered plain client number call past stands
 
 judged-next : (count : ℕ) → judged (suc count) count ≡ New
-judged-next count = ap (λ b. if b then New else if nat_lt count (suc count) then Ahead else if nat_le (suc count + 32) count then Old else Repeat) (self (suc count))
+judged-next count = ap (λ b. if b then New else if nat_lt count (suc count) then Ahead else if nat_le (suc count + 32) count then Old else Repeat) (eqb_self (suc count))
 
 judged-again : (number count : ℕ) → number ≤ count → count < number + 32 → judged number count ≡ Repeat
 judged-again number count within near =

@@ -41,7 +41,7 @@ pub refusal-open : (asked : Ask) (agent : Agent) → refusal asked agent ≡ Non
 refusal-open (Start service version) agent none = second_row (not (can_serve service version)) (is_shut agent.next agent.kept) VersionRefused TryAgain none
 refusal-open (Other call) agent none = second_row (not (has_handle (service_of call) agent)) (is_shut agent.next agent.kept) BadHandle TryAgain none
 
-put-stands : (client : ℕ) (clients : List ℕ) → Stands client (put nat_lt client clients)
+pub put-stands : (client : ℕ) (clients : List ℕ) → Stands client (put nat_lt client clients)
 put-stands client [] = inl refl
 put-stands client (other ∷ clients) =
     let P : Bool → Bool → Type 0 = λ b c. Stands client (if b then client ∷ other ∷ clients else if c then other ∷ put nat_lt client clients else client ∷ clients) in
@@ -49,7 +49,7 @@ put-stands client (other ∷ clients) =
     let cases : (b c : Bool) → P b c = elim [ true ↦ λ c. inl refl | false ↦ elim [ true ↦ inr deeper | false ↦ inl refl ] ] in
     cases (nat_lt client other) (nat_lt other client)
 
-put-keeps : (client known : ℕ) (clients : List ℕ) → Stands known clients → Stands known (put nat_lt client clients)
+pub put-keeps : (client known : ℕ) (clients : List ℕ) → Stands known clients → Stands known (put nat_lt client clients)
 put-keeps client known [] stands = elim stands [ ]
 put-keeps client known (other ∷ clients) stands =
     let P : Bool → Bool → Type 0 = λ b c. Stands known (if b then client ∷ other ∷ clients else if c then other ∷ put nat_lt client clients else client ∷ clients) in

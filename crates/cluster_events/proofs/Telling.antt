@@ -111,7 +111,7 @@ dealt-step plain client (Called caller number time call) past =
     ]
 dealt-step plain client _ past = EndsIn-same (dealt_in plain client past)
 
-dealt-more : (plain : Plain) (client : ℕ) (more past : List Entry) → EndsIn (dealt_in plain client (more ++ past)) (dealt_in plain client past)
+pub dealt-more : (plain : Plain) (client : ℕ) (more past : List Entry) → EndsIn (dealt_in plain client (more ++ past)) (dealt_in plain client past)
 dealt-more plain client [] past = EndsIn-same (dealt_in plain client past)
 dealt-more plain client (entry ∷ more) past =
     EndsIn-both (dealt_in plain client past) (dealt_in plain client (more ++ past)) (dealt_in plain client (entry ∷ (more ++ past))) (dealt-more plain client more past) (dealt-step plain client entry (more ++ past))

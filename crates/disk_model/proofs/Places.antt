@@ -1,5 +1,5 @@
 -- Where a key stands, or would stand, in a list of entries whose keys rise.
-use Rattle.std.proofs.Common.{◌≡◌, ◌≢◌, ℕ, zero, suc, ◌<◌, ◌≤◌, Bool, true, false, T, Some, None, List, [], ◌∷◌, length, get_or, set, refl, sym, ap, subst, ◌∙◌, arith}
+use Rattle.std.proofs.Common.{◌≡◌, ◌≢◌, ℕ, zero, suc, ◌<◌, ◌≤◌, true, false, Some, None, List, [], ◌∷◌, length, get_or, set, refl, sym, ap, subst, ◌∙◌, arith}
 use Rattle.std.specs.List.{insert, remove}
 use Rattle.std.proofs.lemmas.Bool.{and_parts}
 use Rattle.std.proofs.lemmas.List.{get_or_read}
@@ -13,10 +13,6 @@ use Rattle.std.specs.FinMap.Entries.{put, find, is_sorted, below_all}
 use Rattle.disk_model.specs.Shelf.{place_of, without, KeyStandsAt, KeyLacksAt}
 
 -- a test that passes, from std's older form
-pub passed : (b : Bool) → T b → b ≡ true
-passed true h = refl
-passed false h = absurd h
-
 is_less : (r : Ordering) → is_lt r ≡ true → r ≡ Less
 is_less r e = grind arith
 

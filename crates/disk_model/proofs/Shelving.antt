@@ -9,7 +9,7 @@ use Rattle.std.specs.Option.{option_map_or}
 use Rattle.std.specs.FinMap.Entries.{put, find, is_sorted, is_sorted-put, is_sorted-where_key, find-where_key}
 use Rattle.std.proofs.lemmas.Float.{T_from_true}
 use Rattle.disk_model.specs.Shelf.{without, adjusted_in}
-use Rattle.disk_model.proofs.Places.{passed}
+use Rattle.ais_values.proofs.Basics.{true_from_T}
 
 -- names tie only where they are equal
 pub names_differ : IsAntisymmetric (slice_cmp nat_cmp)
@@ -22,11 +22,11 @@ turned false x y = refl
 module _ {K X : Type 0} {R : K → K → Ordering} (o : IsTotalOrder R) (same : IsAntisymmetric R) where
   -- an entry put in its place keeps the list rising
   pub sorted_put : (k : K) (v : X) (es : List (K × X)) → is_sorted R es ≡ true → is_sorted R (put R k v es) ≡ true
-  sorted_put k v es sorted = passed _ (is_sorted-put R o k v es (T_from_true _ sorted))
+  sorted_put k v es sorted = true_from_T _ (is_sorted-put R o k v es (T_from_true _ sorted))
 
   -- entries left out keep the list rising
   pub sorted_without : (k : K) (es : List (K × X)) → is_sorted R es ≡ true → is_sorted R (without R k es) ≡ true
-  sorted_without k es sorted = passed _ (is_sorted-where_key R (λ x. not (eq_by_cmp R k x)) es (T_from_true _ sorted))
+  sorted_without k es sorted = true_from_T _ (is_sorted-where_key R (λ x. not (eq_by_cmp R k x)) es (T_from_true _ sorted))
 
   -- what is found in the map is found in the list
   pub find_shelved : (k : K) (es : List (K × X)) → is_sorted R es ≡ true → get (from_sorted {R = R} es) k ≡ find R k es

@@ -6,6 +6,7 @@ use Rattle.std.specs.Str.{bytes_eq}
 use Rattle.std.specs.List.{list_any, position_from, IsDistinct, AllByRecursion}
 use Rattle.std.specs.Cmp.Lexicographic.{bytes_decides}
 use Rattle.std.proofs.lemmas.Bool.Decides.{eqb_tells}
+use Rattle.std.proofs.Math.Bool.{or-false}
 use mathlib.Core.List.{reverse_aux}
 use Rattle.message_net.specs.Nets.{knows, posted, bytes_at, place_of}
 
@@ -27,13 +28,9 @@ knows_all bytes [] net = refl
 knows_all bytes (string ∷ strings) net =
     knows_all bytes strings (string.items ∷ net) ∙ either (is_of bytes string) (list_any (is_of bytes) strings) (knows bytes net)
 
-or_false : (b : Bool) → (b || false) ≡ b
-or_false true = refl
-or_false false = refl
-
 -- whether bytes stand in the net is whether some string has them
 pub knows-strings : (bytes : List ℕ) (strings : List (Vec ℕ)) → knows bytes (reverse_aux (bytes_of strings) []) ≡ list_any (is_of bytes) strings
-knows-strings bytes strings = knows_all bytes strings [] ∙ or_false (list_any (is_of bytes) strings)
+knows-strings bytes strings = knows_all bytes strings [] ∙ or-false (list_any (is_of bytes) strings)
 
 -- a place counted from 0 among the strings, or the place in the net below them
 abbrev above : Option ℕ → Option ℕ → Option ℕ

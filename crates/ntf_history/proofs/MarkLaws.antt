@@ -1,6 +1,7 @@
 -- The items of a subscription, and what was lost since the last, tell of the notifications for which it asked while it lasted, each once and in order.
 use Rattle.std.proofs.Common.{◌≡◌, ℕ, ◌==◌, Bool, true, false, ◌&&◌, cond, ◌⊎◌, inl, inr, List, [], ◌∷◌, ◌++◌, map, refl, ap, sym, subst, ◌∙◌, append_assoc}
 use Rattle.std.specs.Prelude.{Option, Some, None, filter}
+use Rattle.std.proofs.lemmas.Bool.{or_parts}
 use Rattle.std.proofs.lemmas.List.{append-nil, map-append}
 use Rattle.std.proofs.lemmas.List.Elements.{filter-append}
 use Rattle.std.proofs.lemmas.Grind.{flat_map-append}
@@ -20,7 +21,7 @@ use Rattle.ntf_history.specs.Changes.NtfChange.{Began, Ended, Subscribed, Unsubs
 use Rattle.ntf_history.specs.Subscriptions.{has_key, has_id, is_of, comes_first, subs, sub_at, lasts, offered_to, happened, account, made, lost_of, is_known, sent_since, asked_since, asked_by, asked_while, dropped_while, losses_of, losses_in}
 use Rattle.ntf_history.specs.Possible.{ArePossible}
 use Rattle.ntf_history.proofs.KeyLaws.{has_key-is, sub_at-stands, sub_at-named, sub_at-member}
-use Rattle.ntf_history.proofs.TableLaws.{or_none, unknown-absent}
+use Rattle.ntf_history.proofs.TableLaws.{unknown-absent}
 
 -- What was offered is what it asked for.
 
@@ -118,7 +119,7 @@ unknown-unasked [] client key new = refl
 unknown-unasked (Began other ∷ past) client key new = unknown-unasked past client key new
 unknown-unasked (Ended other ∷ past) client key new = unknown-unasked past client key new
 unknown-unasked (Subscribed sub ∷ past) client key new =
-    unknown-unasked past client key (or_none (has_key client key sub) (is_known past client key) new)
+    unknown-unasked past client key (or_parts (has_key client key sub) (is_known past client key) new).1
 unknown-unasked (Unsubscribed other id ∷ past) client key new = unknown-unasked past client key new
 unknown-unasked (Sent notification record_number ∷ past) client key new =
     ap (λ o. asked_while past client key ++ asked_by o notification) (unknown-absent past client key new) ∙ append-nil (asked_while past client key) ∙ unknown-unasked past client key new

@@ -4,24 +4,15 @@ use Rattle.std.specs.Prelude.{Option, Some, None, find, option_map}
 use Rattle.std.proofs.lemmas.Bool.Decides.{nat_tests}
 use Rattle.alarm_view.specs.declared.cursor.Cursor.{Cursor}
 use Rattle.client_set.specs.Rising.{put, without, ComesFirst, IsRising, IsOrder}
-use Rattle.client_set.proofs.RisingLaws.{IsRising-put, IsRising-without}
+use Rattle.client_set.proofs.RisingLaws.{IsOrder-nat_lt, IsRising-put, IsRising-without}
 use Rattle.ntf_history.specs.Readers.{Reader, ReaderChange, moved_to, reader_of, reader_first, is_reader_of, move, readers}
 use Rattle.ntf_history.specs.Readers.ReaderChange.{Started, Told, Stopped}
 
-lt_self : (x : ℕ) → nat_lt x x ≡ false
-lt_self x = grind (arith, nat_tests)
-
-lt_onward : (x y z : ℕ) → nat_lt x y ≡ true → nat_lt y z ≡ true → nat_lt x z ≡ true
-lt_onward x y z one other = grind (arith, nat_tests)
-
-lt_beside : (x y z : ℕ) → nat_lt x y ≡ false → nat_lt y x ≡ false → nat_lt y z ≡ true → nat_lt x z ≡ true
-lt_beside x y z one other last = grind (arith, nat_tests)
-
 IsOrder-reader_first : IsOrder reader_first
 IsOrder-reader_first = record {
-  self = λ x. lt_self x.client;
-  onward = λ x y z. lt_onward x.client y.client z.client;
-  beside = λ x y z. lt_beside x.client y.client z.client;
+  self = λ x. IsOrder-nat_lt.self x.client;
+  onward = λ x y z. IsOrder-nat_lt.onward x.client y.client z.client;
+  beside = λ x y z. IsOrder-nat_lt.beside x.client y.client z.client;
 }
 
 ComesFirst-moved : (client : ℕ) (cursor : Cursor) (x : Reader) (xs : List Reader) → ComesFirst reader_first x xs → ComesFirst reader_first (move client cursor x) (map (move client cursor) xs)

@@ -1,9 +1,9 @@
 -- What is kept after one more change is what the call makes of what was kept.
-use Rattle.std.proofs.Common.{◌≡◌, ℕ, suc, ◌==◌, nat_lt, nat_le, Bool, true, false, ◌&&◌, ◌||◌, cond, inl, inr, List, [], ◌∷◌, ◌++◌, map, refl, ap, sym, subst, ◌∙◌}
+use Rattle.std.proofs.Common.{◌≡◌, ℕ, suc, ◌==◌, nat_lt, nat_le, Bool, true, false, ◌&&◌, cond, inl, inr, List, [], ◌∷◌, ◌++◌, map, refl, ap, sym, subst, ◌∙◌}
 use Rattle.std.specs.Prelude.{Option, Some, None, is_some, Decides}
 use Rattle.std.specs.Bool.{one_answer}
 use Rattle.std.specs.Cmp.Derive.{both_true}
-use Rattle.std.proofs.lemmas.Bool.{leb-true, le-leb, and_parts, and_right, or_left, or_right}
+use Rattle.std.proofs.lemmas.Bool.{leb-true, le-leb, and_parts, and_right, or_left, or_parts, or_right}
 use Rattle.ntf_types.specs.declared.notification.Notification.{Notification}
 use Rattle.ntf_filters.specs.Matching.{matches}
 use Rattle.sub_queue.specs.Items.{discarded}
@@ -77,10 +77,6 @@ queue-receipted capacity through before true =
       has false is =
           ap (queue_for capacity) (receipted-account through (account_of capacity before) (sym (has_item-queue_for capacity through (account_of capacity before)) ∙ is))
 
-pub or_none : (a b : Bool) → (a || b) ≡ false → b ≡ false
-or_none true b e = cc
-or_none false b e = e
-
 and_true : (a b : Bool) → b ≡ true → (a && b) ≡ a
 and_true true b e = e
 and_true false b e = refl
@@ -128,7 +124,7 @@ unknown-nothing [] client key new = refl
 unknown-nothing (Began other ∷ past) client key new = unknown-nothing past client key new
 unknown-nothing (Ended other ∷ past) client key new = unknown-nothing past client key new
 unknown-nothing (Subscribed sub ∷ past) client key new =
-    unknown-nothing past client key (or_none (has_key client key sub) (is_known past client key) new)
+    unknown-nothing past client key (or_parts (has_key client key sub) (is_known past client key) new).1
 unknown-nothing (Unsubscribed other id ∷ past) client key new = unknown-nothing past client key new
 unknown-nothing (Sent notification record_number ∷ past) client key new =
     ap (λ o. offered_to o notification (happened past client key)) (unknown-absent past client key new) ∙ unknown-nothing past client key new

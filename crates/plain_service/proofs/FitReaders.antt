@@ -4,7 +4,7 @@ use Rattle.std.specs.Prelude.{ℤ, pos, int_lt, Option, Some, None, is_some, is_
 use Rattle.std.specs.List.{AllByRecursion, cons_option}
 use Rattle.std.proofs.lemmas.Bool.Decides.{nat_tests}
 use Rattle.std.proofs.lemmas.List.{length-map}
-use Rattle.std.proofs.lemmas.Bool.{or_right}
+use Rattle.std.proofs.lemmas.Bool.{leb-false, or_right}
 use Rattle.ais_values.specs.declared.status.Status.TheVariants as status
 use Rattle.client_set.specs.Rising.{without, ComesFirst, IsRising}
 use Rattle.ntf_types.specs.declared.notification.Notification.{Notification}
@@ -95,9 +95,6 @@ told client past (Some alarm) before = record {
   few = omega (arith, length-map (readers past.readings) (move client (cursor_after alarm)), before.few);
 }
 
-few-below : (count : ℕ) → nat_le 16 count ≡ false → count < 16
-few-below count is = grind (arith, nat_tests)
-
 readers-called : (setup : Setup) (past : Past) (client seq : ℕ) (now : ℤ) (call : Call) → IsClient client → status_of setup past client call ≡ status.Ok → HaveRightReaders past → HaveRightReaders (past_after setup past client seq now call status.Ok)
 readers-called setup past client seq now NtfInit caller ok before = record {
   each = right-using (ntf.is_using past.ntf) (λ other. client == other || ntf.is_using past.ntf other) (readers past.readings) (λ other is. or_right (client == other) (ntf.is_using past.ntf other) is) before.each;
@@ -109,7 +106,7 @@ readers-called setup past client seq now (NtfUnsubscribe id) caller ok before = 
 readers-called setup past client seq now (ReaderStart mode value asked) caller ok before =
     let found = start_by (mode_of mode) value asked (alarms_stored setup past) in
     let is = start-ok (ntf.is_using past.ntf client) (is_none (mode_of mode)) (int_lt value (pos 0) && not (mode == 7)) (is_fit asked) (asks_for_alarms asked) (is_some (reader_of past.readings client)) (nat_le 16 (length (readers past.readings))) (is_none found) ok in
-    started client asked past found is.5 (few-below (length (readers past.readings)) is.4) caller is.0 ((is_fit-decides asked).0 is.1) is.2 before
+    started client asked past found is.5 (leb-false 16 (length (readers past.readings)) is.4) caller is.0 ((is_fit-decides asked).0 is.1) is.2 before
 readers-called setup past client seq now (ReaderRead direction) caller ok before =
     told client past (read_by (reader_of past.readings client) direction (alarms_stored setup past)) before
 readers-called setup past client seq now ReaderEnd caller ok before = record {

@@ -1,12 +1,12 @@
 -- What is kept of the Log Service after every history: who has a stream open uses the service, somebody has each application's
 -- stream open, at most 64 of these live, and no two streams have one place.
-use Rattle.std.proofs.Common.{◌≡◌, ℕ, ◌+◌, ◌<◌, ◌≤◌, ◌==◌, nat_lt, nat_le, Bool, true, false, not, ◌&&◌, ◌||◌, cond, List, [], ◌∷◌, ◌++◌, length, refl, ap, sym, ◌∙◌, subst, arith, length-append}
+use Rattle.std.proofs.Common.{◌≡◌, ℕ, ◌+◌, ◌<◌, ◌≤◌, ◌==◌, nat_lt, Bool, true, false, not, ◌&&◌, ◌||◌, cond, List, [], ◌∷◌, ◌++◌, length, refl, ap, sym, ◌∙◌, subst, arith, length-append}
 use Rattle.std.specs.Prelude.{ℤ, Some, None, filter, ⊤}
 use Rattle.std.specs.List.{AllByRecursion, count_by}
 use Rattle.std.proofs.lemmas.Bool.Decides.{nat_tests}
 use Rattle.std.proofs.lemmas.List.Elements.{filter-append}
 use Rattle.std.proofs.lemmas.List.Sums.{length-filter}
-use Rattle.std.proofs.lemmas.Bool.{and_from, not-true}
+use Rattle.std.proofs.lemmas.Bool.{and_from, leb-false, not-true}
 use Rattle.std.proofs.Math.Bool.{and-false}
 use Rattle.ais_values.specs.Codes.{all_differ}
 use Rattle.ais_values.specs.declared.status.Status.TheVariants as status
@@ -24,7 +24,7 @@ use Rattle.calls.specs.declared.entry.Entry.{Entry}
 use Rattle.calls.specs.declared.entry.Entry.TheVariants.{Called, Receipted}
 use Rattle.log_history.specs.Names.{is_application}
 use Rattle.log_history.specs.Changes.{LogChange, Began, Opened, Stored, Closed, Ended}
-use Rattle.log_history.specs.Chronicle.{LogSetup, is_empty}
+use Rattle.log_history.specs.Chronicle.{LogSetup}
 use Rattle.log_history.specs.KeptAnswers.{has_place, is_of_application}
 use Rattle.log_history.specs.Legal.{IsLogHistory}
 use Rattle.log_history.specs.Table.{OpenStream, LogTable, table, is_named, has_nobody, with_opener, without_opener, with_stored, closed_streams, left_streams, kept_streams, opened_stream, table_after}
@@ -39,6 +39,7 @@ use Rattle.plain_service.specs.Fitness.{AreClients, IsAmong}
 use Rattle.plain_service.specs.Legal.{IsClient, IsHistory}
 use Rattle.plain_service.proofs.ListLaws.{each-put, each-without, each-weaker, each-push, each-filter, each-change_first, each-mapped, differ-changed, differ-filtered, differ-pushed, differ-mapped, count-changed, count-filtered}
 use Rattle.plain_service.proofs.Possible.{past_after-by}
+use Rattle.log_history.proofs.FitTableLaws.{some-put}
 
 -- a change by which a client joins a list has the number of one
 abbrev pub IsByClient : LogChange → Type 0
@@ -102,15 +103,6 @@ IsUsed-more client using stream is = record {
   users = each-weaker (IsAmong using) (IsAmong (put nat_lt client using)) (among-put client using) stream.openers is.users;
   somebody = is.somebody;
 }
-
--- nobody is missing where one was put
-some-put : (client : ℕ) (clients : List ℕ) → is_empty (put nat_lt client clients) ≡ false
-some-put client [] = refl
-some-put client (other ∷ clients) = by_case (nat_lt client other) (nat_lt other client) where
-  by_case : (below above : Bool) → is_empty (cond below (client ∷ other ∷ clients) (cond above (other ∷ put nat_lt client clients) (client ∷ clients))) ≡ false
-  by_case true above = refl
-  by_case false true = refl
-  by_case false false = refl
 
 IsUsed-opened : (client : ℕ) (using : List ℕ) (stream : OpenStream) → IsClient client → IsAmong using client → IsUsed using stream → IsUsed using (with_opener client stream)
 IsUsed-opened client using stream caller user is = record {
@@ -241,9 +233,6 @@ module _ (kept : LogTable) (sound : IsSoundLog kept) where
             more (is_of_application stream) (without_opener client stream) stream (filter is_of_application (left_streams client streams)) (filter is_of_application streams) (count-left streams)
 
 -- the last change of a history could follow: what it asks of what is kept
-room-few : (count : ℕ) → nat_le 64 count ≡ false → count < 64
-room-few count is = grind (arith, nat_tests)
-
 -- **what is kept after every history**
 pub sound-log : (setup : LogSetup) (past : List LogChange) → IsLogHistory setup past → AllByRecursion IsByClient past → IsSoundLog (table setup past)
 sound-log setup [] legal clients = record {
@@ -265,7 +254,7 @@ sound-log setup (Opened client name None second ∷ past) legal clients =
 sound-log setup (Opened client name (Some attrs) second ∷ past) legal clients =
     let makes = makes-stream setup past client name attrs legal.0.0 legal.0.1 in
     let streams = (table setup past).streams in
-    let few = room-few (count_by is_of_application streams) (is-crowd setup past ∙ makes.room) in
+    let few = leb-false 64 (count_by is_of_application streams) (is-crowd setup past ∙ makes.room) in
     subst IsSoundLog (sym (table-after setup (Opened client name (Some attrs) second) past legal))
     (sound-made (table setup past) (sound-log setup past legal.1 clients.1) client name attrs second clients.0 (has-users past client ∙ makes.using)
     (omega (arith, length-filter is_of_application streams, few)) (has-place setup past attrs ∙ makes.free))

@@ -3,6 +3,7 @@ use Rattle.std.proofs.Common.{◌≡◌, ℕ, ◌+◌, ◌<◌, ◌≤◌, ◌==
 use Rattle.std.specs.Prelude.{Option, Some, None, option_map, is_some, is_none, ℤ}
 use Rattle.std.specs.Option.{option_map_or}
 use Rattle.std.specs.List.{list_any}
+use Rattle.std.proofs.lemmas.Bool.{leb-false}
 use Rattle.std.proofs.lemmas.Bool.Decides.{nat_tests}
 use Rattle.ais_values.specs.declared.status.Status.{Status}
 use Rattle.ais_values.specs.declared.status.Status.TheVariants as status
@@ -99,9 +100,6 @@ log-follows setup past client seq now _ legal ok = legal
 
 -- the Notification Service
 
-few-below : (count : ℕ) → nat_le 64 count ≡ false → count < 64
-few-below count is = grind (arith, nat_tests)
-
 pub ntf-follows : (setup : Setup) (past : Past) (client seq : ℕ) (now : ℤ) (call : Call) → ArePossible past.ntf → length past.log < 4294967295 → HaveNumbersBelow (stored_in name.Alarm past.log) (alarms_sent past.ntf) → is_known past.ntf client seq ≡ false → status_of setup past client call ≡ status.Ok → ArePossible (past_after setup past client seq now call status.Ok).ntf
 ntf-follows setup past client seq now NtfInit possible few below new ok = (tt, possible)
 ntf-follows setup past client seq now (NtfSend notification) possible few below new ok =
@@ -117,7 +115,7 @@ ntf-follows setup past client seq now (NtfSend notification) possible few below 
           below
 ntf-follows setup past client seq now (NtfSubscribe id filters) possible few below new ok =
     let told = subscribe-ok (ntf.is_using past.ntf client) (is_fit filters) (list_any (has_id client id) (subs past.ntf)) (nat_le 64 (length (subs past.ntf))) ok in
-    (record { user = told.0; new = new; id = told.2; few = few-below (length (subs past.ntf)) told.3 }, possible)
+    (record { user = told.0; new = new; id = told.2; few = leb-false 64 (length (subs past.ntf)) told.3 }, possible)
 ntf-follows setup past client seq now (NtfUnsubscribe id) possible few below new ok = (tt, possible)
 ntf-follows setup past client seq now NtfFini possible few below new ok = (tt, possible)
 ntf-follows setup past client seq now _ possible few below new ok = possible

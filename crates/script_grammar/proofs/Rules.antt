@@ -8,7 +8,7 @@ use Rattle.std.proofs.lemmas.Bool.Decides.{Decides-eqb}
 use Rattle.std.proofs.lemmas.List.{append-nil}
 use Rattle.std.proofs.lemmas.Option.{cond_some}
 use Rattle.std.proofs.lemmas.Bool.{and_parts, or_cases, or_right}
-use Rattle.ais_values.proofs.Basics.{some_of}
+use Rattle.ais_values.proofs.Basics.{some_of, eqb_self}
 use Rattle.script_grammar.specs.Grammar.{Known, Word, Part, OneOf, Optional, Such, BehindCommas, Listed, Maybe, Unless, MaybeList}
 use Rattle.script_grammar.specs.Reading.{skipped, known, word, part, one_of, with_made, optional, passing, such, with_first, behind_commas, listed, maybe, unless, maybe_list, alone, whole}
 
@@ -103,9 +103,6 @@ skipped-sound (w ∷ front) (b ∷ bytes) rest h =
       | false ↦ λ test here. cc
     ] in
     at (b == w) refl h
-
-pub eqb_self : (b : ℕ) → (b == b) ≡ true
-eqb_self b = (Decides-eqb b b).1 refl
 
 pub skipped-append : (front rest : List ℕ) → skipped front (front ++ rest) ≡ Some rest
 skipped-append [] rest = refl

@@ -1,4 +1,3 @@
-use Rattle.std.proofs.Common.{◌≡◌}
 use Rattle.std.proofs.lemmas.List.Sorted.{searched}
 use Rattle.client_set.proofs.Places.{found, non_decreasing}
 use Rattle.client_set.proofs.client_set.place_of.Goals as goal

@@ -1,4 +1,4 @@
-use Rattle.std.proofs.Common.{◌≡◌, List, ℕ, length, Err, ap, ◌∙◌, subst}
+use Rattle.std.proofs.Common.{◌≡◌, List, ℕ, length, Err, ap, subst}
 use Rattle.cluster_core.specs.Heard.{PostsAll}
 use Rattle.cluster_core.proofs.BrokenClients.{same-breaks-if}
 use Rattle.cluster_core.proofs.BrokenServers.{work-lacks, work-untold, work-faults}

@@ -1,4 +1,4 @@
-use Rattle.std.proofs.Common.{◌≡◌, ℕ, ◌+◌, ◌<◌, List, ◌∷◌, [], ◌++◌, sym, subst, arith}
+use Rattle.std.proofs.Common.{ℕ, ◌+◌, List, sym, subst, arith}
 use Rattle.alarm_view.specs.declared.alarm.KeptAlarm.{KeptAlarm}
 use Rattle.alarm_view.specs.Alarms.{IsAboveAll}
 use Rattle.alarm_view.proofs.Keeping.{IsAboveAll-added}

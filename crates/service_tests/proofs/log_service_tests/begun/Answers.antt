@@ -1,8 +1,7 @@
-use Rattle.std.proofs.Common.{◌≡◌, ℕ, Bool, true, false, ◌&&◌, List, [], ◌∷◌, ◌++◌, refl, ap, sym, ◌∙◌}
+use Rattle.std.proofs.Common.{◌≡◌, ℕ, Bool, true, false, ◌&&◌, List, [], ◌∷◌, ◌++◌, refl, ap, ◌∙◌}
 use Rattle.std.specs.Str.{bytes_eq}
-use Rattle.ais_values.specs.declared.kind.StreamKind.{StreamKind}
 use Rattle.ais_values.specs.declared.kind.StreamKind.TheVariants as kind
-use Rattle.stream_config.specs.WellKnown.{default_file, default_attrs}
+use Rattle.stream_config.specs.WellKnown.{default_file}
 use Rattle.stream_config.specs.AttributeTests.{have_one_place}
 use Rattle.stream_config.specs.declared.attrs.StreamAttrs.{StreamAttrs}
 use Rattle.log_history.specs.Chronicle.{LogSetup}

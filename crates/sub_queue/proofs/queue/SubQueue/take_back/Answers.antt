@@ -1,7 +1,7 @@
 use Rattle.std.proofs.Common.{◌≡◌, [], length, refl, ap, ◌∙◌, arith}
 use Rattle.std.specs.Prelude.{vec_len}
 use Rattle.sub_queue.specs.Queue.{queue_of_parts}
-use Rattle.sub_queue.specs.Inside.{contents_of, held_before, retracted, queue_of}
+use Rattle.sub_queue.specs.Inside.{contents_of, retracted, queue_of}
 use Rattle.sub_queue.proofs.Retracting.{nothing_lost, kept-front, contents_of-front, front-none, taken_back}
 use Rattle.sub_queue.proofs.queue.SubQueue.take_back.Goals as goal
 
