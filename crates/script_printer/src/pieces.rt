@@ -25,14 +25,14 @@ pub(crate) enum Piece<'a> {
     Class(ClassId),
 }
 
-/// Adds bytes at the end. Where memory runs out a front of it may have been added.
+/// Adds bytes at the end. On want of memory nothing is said of `out`.
 pub fn put(out: &mut Vec<u8>, bytes: &[u8]) -> Result<(), AllocError>
     ensures { OnOk result (out.new.items ≡ out.old.items ++ bytes.now) }
 {
     out.extend_from_slice(bytes)
 }
 
-/// Adds a number in decimal. Where memory runs out a front of it may have been added.
+/// Adds a number in decimal. On want of memory nothing is said of `out`.
 pub fn put_number(alloc: Global, out: &mut Vec<u8>, number: u64) -> Result<(), AllocError>
     ensures { OnOk result (out.new.items ≡ out.old.items ++ decimal number) }
 {
@@ -40,7 +40,7 @@ pub fn put_number(alloc: Global, out: &mut Vec<u8>, number: u64) -> Result<(), A
     put(out, text.as_bytes())
 }
 
-/// Adds a signed number in decimal. Where memory runs out a front of it may have been added.
+/// Adds a signed number in decimal. On want of memory nothing is said of `out`.
 pub fn put_signed(alloc: Global, out: &mut Vec<u8>, number: i64) -> Result<(), AllocError>
     ensures { OnOk result (out.new.items ≡ out.old.items ++ signed_decimal number) }
 {
@@ -167,7 +167,7 @@ pub trait Printable {
     /// The text.
     ghost text: { Self → List ℕ };
 
-    /// Adds the text. Where memory runs out a front of it may have been added.
+    /// Adds the text. On want of memory nothing is said of `out`.
     fn print(&self, alloc: Global, out: &mut Vec<u8>) -> Result<(), AllocError>
         ensures { OnOk result (out.new.items ≡ out.old.items ++ text self.now) };
 }
@@ -182,7 +182,7 @@ impl Printable for Piece<'_> {
     }
 }
 
-/// Adds the texts of pieces, one behind the other. Where memory runs out a front of them may have been added.
+/// Adds the texts of pieces, one behind the other. On want of memory nothing is said of `out`.
 pub fn put_all<P: Printable>(
     alloc: Global,
     out: &mut Vec<u8>,
