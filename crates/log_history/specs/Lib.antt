@@ -14,3 +14,4 @@ pub mod Deeds
 pub mod AllNames
 pub mod Places
 pub mod FitTables
+pub mod Laws

@@ -1,5 +1,5 @@
 //! Laws of the Log Service over all that may happen to it.
-ghost use Rattle.std.specs.Prelude.{◌≡◌, ◌⊎◌, ℕ, ◌≤◌, List, [], ◌∷◌, length, Some, option_map};
+ghost use Rattle.std.specs.Prelude.{◌≡◌, ◌⊎◌, ℕ, ◌≤◌, List, [], ◌∷◌, Some, option_map};
 ghost use Rattle.std.specs.List.{AllByRecursion};
 ghost use Rattle.std.specs.FinMap.{get};
 ghost use Rattle.client_set.specs.Members.{Stands};
@@ -11,16 +11,17 @@ ghost use Rattle.record_print.specs.declared.record.LogRecord.{LogRecord};
 ghost use Rattle.stream_layout.specs.Names.{cfg_name};
 ghost use Rattle.stream_layout.specs.Deeds.{calls_of_all};
 ghost use Rattle.stream_layout.specs.Carrying.{IsFitEvent};
-ghost use Rattle.log_history.specs.Changes.{LogChange, Stored};
+ghost use Rattle.log_history.specs.Changes.{LogChange};
 ghost use Rattle.log_history.specs.Chronicle.{LogSetup, Stream, chronicle};
-ghost use Rattle.log_history.specs.Table.{state_of, bytes_in, table, table_after, events_of};
+ghost use Rattle.log_history.specs.Table.{table, table_after, events_of};
 ghost use Rattle.log_history.specs.FitTables.{IsFitTable};
 ghost use Rattle.log_history.specs.Legal.{IsSetup, IsLogHistory};
 ghost use Rattle.log_history.specs.Files.{file_at, disk_files};
 ghost use Rattle.log_history.specs.Stamps.{second_in, CanStamp, stamps_of_all};
-ghost use Rattle.log_history.specs.Deeds.{deeds_by, opening_deeds};
+ghost use Rattle.log_history.specs.Deeds.{opening_deeds};
 ghost use Rattle.log_history.specs.Answers.{living_stream};
-ghost use Rattle.log_history.specs.Places.{record_in, place_in, stream_number, IsAt};
+ghost use Rattle.log_history.specs.Places.{record_in};
+ghost use Rattle.log_history.specs.Laws.{DeedsGiveFiles, StandsLast, RecordsStand, PlacesDiffer};
 ghost use Rattle.log_history.specs.AllNames.{NoneTwice, names_ever};
 
 /// What is kept after one more change is what the change makes of what was kept; it is fit, so that
@@ -60,8 +61,7 @@ pub fn law_of_files()
         get (disk_files setup past) name ≡ option_map settled_file (file_at setup past name) }
     ensures changes { (setup : LogSetup) (past : List LogChange) (change : LogChange) →
         IsLogHistory setup (change ∷ past) → CanStamp setup past (second_in change) →
-        all_applied (calls_of_all (deeds_by setup change past)) (disk_files setup past)
-        ≡ disk_files setup (change ∷ past) }
+        DeedsGiveFiles setup change past }
     ensures start { (setup : LogSetup) → IsSetup setup → setup.start ≤ 20000000000 →
         all_applied (calls_of_all (opening_deeds setup)) no_files ≡ disk_files setup [] }
 {}
@@ -71,22 +71,13 @@ pub fn law_of_files()
 /// given away or its file removed, and no other record stands there.
 pub fn law_of_records()
     ensures stored { (setup : LogSetup) (past : List LogChange) (name : StreamName)
-        (rec : LogRecord)
-        (second : ℕ) (stream : Stream) → living_stream setup past name ≡ Some stream →
-        record_in setup (Stored name rec second ∷ past) (stream_number setup past name)
-        (length stream.records)
-        ≡ Some (bytes_in (state_of stream) rec) }
+        (rec : LogRecord) (second : ℕ) (stream : Stream) →
+        living_stream setup past name ≡ Some stream → StandsLast setup past name rec second stream }
     ensures kept { (setup : LogSetup) (past : List LogChange) (change : LogChange)
         (stream number : ℕ) (bytes : List ℕ) → record_in setup past stream number ≡ Some bytes →
         record_in setup (change ∷ past) stream number ≡ Some bytes }
-    ensures stands { (setup : LogSetup) (past : List LogChange) (stream number : ℕ) (bytes : List ℕ)
-        (place : List ℕ × ℕ) → IsLogHistory setup past →
-        (chronicle setup past).last ≤ 20000000100 →
-        record_in setup past stream number ≡ Some bytes →
-        place_in setup past stream number ≡ Some place → IsAt bytes place (disk_files setup past) }
-    ensures alone { (setup : LogSetup) (past : List LogChange) (one other number second : ℕ)
-        (place : List ℕ × ℕ) → IsLogHistory setup past →
-        (chronicle setup past).last ≤ 20000000100 →
-        place_in setup past one number ≡ Some place →
-        place_in setup past other second ≡ Some place → (one ≡ other) × (number ≡ second) }
+    ensures stands { (setup : LogSetup) (past : List LogChange) → IsLogHistory setup past →
+        (chronicle setup past).last ≤ 20000000100 → RecordsStand setup past }
+    ensures alone { (setup : LogSetup) (past : List LogChange) → IsLogHistory setup past →
+        (chronicle setup past).last ≤ 20000000100 → PlacesDiffer setup past }
 {}

@@ -4,3 +4,5 @@ pub mod Inside
 pub mod State
 pub mod Kept
 pub mod Beginning
+pub mod Opening
+pub mod Laws

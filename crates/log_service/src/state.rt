@@ -6,12 +6,13 @@ ghost use Rattle.stream_config.specs.AttributeTests.{passes_attrs};
 ghost use Rattle.log_history.specs.Names.{is_application};
 ghost use Rattle.record_print.specs.Printing.{can_print};
 ghost use Rattle.log_history.specs.Chronicle.{LogSetup};
-ghost use Rattle.log_history.specs.Changes.{Began, Opened, Stored, Closed, Ended};
+ghost use Rattle.log_history.specs.Changes.{Began, Stored, Closed, Ended};
 ghost use Rattle.log_history.specs.Times.{filled_time, filled_header, record_at};
 ghost use Rattle.log_history.specs.Table.{OpenStream, LogTable, events_of};
-ghost use Rattle.log_history.specs.KeptAnswers.{begin_status, open_status, write_status, close_status, end_status, store_status, has_opener, is_filled, is_crowd, kept_attrs, making_in};
+ghost use Rattle.log_history.specs.KeptAnswers.{begin_status, open_status, write_status, close_status, end_status, store_status, has_opener, is_filled, is_crowd, kept_attrs};
 ghost use Rattle.log_service.specs.Moments.{IsTimeOfCall, second_of};
 ghost use Rattle.log_service.specs.State.{HasJustStored, IsCallTime, HasNumberLeft, Made, Left, stream_of_kind, IsNotified, BeginsWith, CanBeginWith, HasBegun, table_with, joined_streams, IsSoundTable};
+ghost use Rattle.log_service.specs.Opening.{opening_in};
 ghost use Rattle.log_service.specs.Changing.{making_status};
 
 use crate::live::LiveStream;
@@ -312,9 +313,8 @@ impl LogState {
         requires { IsCallTime self.old now }
         ensures status { IfOk result (λ step. step.status
             ≡ open_status self.old client name.now (option_copied create.entry)) }
-        ensures ok { IfOk result (λ step. step.status ≡ Status.Ok
-            → Made (Opened client name.now
-            (making_in self.old.streams name.now (option_copied create.entry)) (second_of now))
+        ensures ok { IfOk result (λ step. step.status ≡ Status.Ok → Made
+            (opening_in self.old.streams client name.now (option_copied create.entry) now)
             self.old self.new step.events) }
         ensures refused { IfOk result (λ step. step.status ≢ Status.Ok
             → Left self.old self.new step.events) }
@@ -353,11 +353,8 @@ impl LogState {
         requires { IsCallTime self.now now }
         ensures status { IfOk result (λ step. step.status
             ≡ open_status self.now client name.now (option_copied create.entry)) }
-        ensures ok { IfOk result (λ step. step.status ≡ Status.Ok
-            → step.events ≡ events_of
-            (Opened client name.now
-            (making_in self.now.streams name.now (option_copied create.entry))
-            (second_of now))
+        ensures ok { IfOk result (λ step. step.status ≡ Status.Ok → step.events ≡ events_of
+            (opening_in self.now.streams client name.now (option_copied create.entry) now)
             self.now) }
         ensures refused { IfOk result (λ step. step.status ≢ Status.Ok → step.events ≡ []) }
     {

@@ -5,3 +5,4 @@ pub mod Possible
 pub mod Tables
 pub mod Readers
 pub mod Rows
+pub mod Laws

@@ -4,13 +4,14 @@ ghost use Rattle.std.specs.List.{list_any};
 ghost use Rattle.ntf_types.specs.declared.notification.Notification.{Notification};
 ghost use Rattle.sub_queue.specs.Items.{mark_of, marks_in};
 ghost use Rattle.sub_queue.specs.Queue.{IsCapacity, IsSound};
-ghost use Rattle.alarm_view.specs.Alarms.{kept_alarm, AreInOrder, CanAdd, from_record};
+ghost use Rattle.alarm_view.specs.Alarms.{AreInOrder, CanAdd, from_record};
 ghost use Rattle.client_set.specs.Members.{Stands, has};
 ghost use Rattle.client_set.specs.Rising.{IsRising};
 ghost use Rattle.ntf_history.specs.Changes.{Sub, NtfChange, is_using, users, last_id};
 ghost use Rattle.ntf_history.specs.Changes.NtfChange.{Subscribed, Sent, Receipted};
 ghost use Rattle.ntf_history.specs.Subscriptions.{has_id, subs, made, lost_of, through_of, is_new, asked_since, asked_while, dropped_while, losses_in, comes_first, Extends};
 ghost use Rattle.ntf_history.specs.StoredAlarms.{is_alarm, stored_alarms};
+ghost use Rattle.ntf_history.specs.Laws.{AddsAlarm};
 ghost use Rattle.ntf_history.specs.Possible.{HaveIds, CanSend, CanFollow, ArePossible};
 ghost use Rattle.ntf_history.specs.Tables.{after_change, empty_table, is_kept_under, is_new_in, IsSoundTable, kept_of, table_of};
 ghost use Rattle.ntf_history.specs.Readers.{Reader, ReaderChange, reader_of, reader_first, is_reader_of, readers};
@@ -102,16 +103,14 @@ pub fn law_of_users()
 pub fn law_of_stored()
     ensures sent { (first number : ℕ) (notification : Notification) (past : List NtfChange) →
         is_alarm notification.body ≡ true → first ≤ number →
-        stored_alarms first (Sent notification number ∷ past)
-        ≡ stored_alarms first past ++ kept_alarm number notification ∷ [] }
+        AddsAlarm first notification number past }
     ensures other { (first number : ℕ) (notification : Notification) (past : List NtfChange) →
         is_alarm notification.body ≡ false →
         stored_alarms first (Sent notification number ∷ past) ≡ stored_alarms first past }
     ensures later { (first later : ℕ) (past : List NtfChange) → first ≤ later →
         from_record later (stored_alarms first past) ≡ stored_alarms later past }
-    ensures can_add { (first : ℕ) (past : List NtfChange) (notification : Notification)
-        (number : ℕ) → ArePossible past → CanSend notification number past →
-        is_alarm notification.body ≡ true →
+    ensures can_add { (first number : ℕ) (notification : Notification) (past : List NtfChange) →
+        ArePossible past → CanSend notification number past → is_alarm notification.body ≡ true →
         CanAdd number notification (stored_alarms first past) }
     ensures order { (first : ℕ) (past : List NtfChange) → ArePossible past →
         AreInOrder (stored_alarms first past) }

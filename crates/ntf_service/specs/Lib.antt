@@ -1,3 +1,4 @@
 pub mod State
 pub mod Editing
 pub mod Inside
+pub mod Laws

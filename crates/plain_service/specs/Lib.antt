@@ -11,3 +11,4 @@ pub mod Legal
 pub mod Values
 pub mod Fitness
 pub mod Records
+pub mod Laws

@@ -1,8 +1,6 @@
 //! Laws of the whole service over all histories, the newest entry first.
 ghost use Rattle.std.specs.Prelude.{◌≡◌, ◌≢◌, ◌⊎◌, ◌↔◌, ℕ, ℤ, ◌+◌, ◌≤◌, true, List, [], ◌∷◌, ◌++◌, length};
 ghost use Rattle.std.specs.List.{AllByRecursion};
-ghost use Rattle.std.specs.Option.{option_map_or};
-ghost use Rattle.ais_values.specs.declared.status.Status.{Status as StatusOf};
 ghost use Rattle.ais_values.specs.declared.status.Status.TheVariants as status;
 ghost use Rattle.client_set.specs.Members.{Stands};
 ghost use Rattle.stream_layout.specs.Carrying.{IsFitEvent};
@@ -11,22 +9,22 @@ ghost use Rattle.calls.specs.declared.entry.Entry.{Entry as EntryOf};
 ghost use Rattle.calls.specs.declared.entry.Entry.TheVariants.{Called, Receipted};
 ghost use Rattle.calls.specs.declared.entry.Held.{Held as HeldOf};
 ghost use Rattle.calls.specs.declared.reply.Reply.TheVariants.{Refused, Sent};
-ghost use Rattle.log_history.specs.Table.{table, table_after};
 ghost use Rattle.client_set.specs.Rising.{IsRising};
 ghost use Rattle.sub_queue.specs.Items.{marks_in};
 ghost use Rattle.ntf_history.specs.Subscriptions.{Extends, losses_in};
-ghost use Rattle.ntf_history.specs.Tables.{table_of, after_change, after_receipt};
-ghost use Rattle.plain_service.specs.Setups.{Setup, log_setup};
+ghost use Rattle.ntf_history.specs.Tables.{after_receipt};
+ghost use Rattle.plain_service.specs.Setups.{Setup};
 ghost use Rattle.plain_service.specs.Alarms.{first_standing};
 ghost use Rattle.plain_service.specs.Answers.{status_of};
-ghost use Rattle.plain_service.specs.Changing.{past_of, ntf_change, if_ok};
+ghost use Rattle.plain_service.specs.Changing.{past_of};
 ghost use Rattle.plain_service.specs.Replies.{ok_reply, reply_of, calls_of, replies_to, ids_told, AreCounted, EndsIn};
 ghost use Rattle.plain_service.specs.Items.{items_of, made_for, through_for, is_new_receipt, IsHeldItem, Leaves};
 ghost use Rattle.plain_service.specs.Asked.{lost_for, sends_asked, sends_dropped, lower_id};
-ghost use Rattle.plain_service.specs.Storing.{log_change_by, events_by};
+ghost use Rattle.plain_service.specs.Storing.{events_by};
 ghost use Rattle.plain_service.specs.Legal.{IsHistory};
 ghost use Rattle.plain_service.specs.Values.{saved_of};
 ghost use Rattle.plain_service.specs.Fitness.{IsFit};
+ghost use Rattle.plain_service.specs.Laws.{log_table, log_table_after, ntf_table, ntf_table_after, MovesByReceipt};
 
 /// A reply stands once it is given: a longer history changes no earlier one. A client's replies are
 /// one for each of its calls; each is the refusal of the first row of the table that holds, and
@@ -39,10 +37,9 @@ pub fn law_of_replies()
         ≡ reply_of setup past client call ∷ replies_to setup client past }
     ensures count { (setup : Setup) (client : ℕ) (past : List EntryOf) →
         length (replies_to setup client past) ≡ length (calls_of client past) }
-    ensures refused { (setup : Setup) (past : List EntryOf) (client : ℕ) (call : CallOf)
-        (refusal : StatusOf) → refusal ≢ status.Ok →
-        status_of setup (past_of setup past) client call ≡ refusal →
-        reply_of setup past client call ≡ Refused refusal }
+    ensures refused { (setup : Setup) (past : List EntryOf) (client : ℕ) (call : CallOf) →
+        let answered = status_of setup (past_of setup past) client call in
+        answered ≢ status.Ok → reply_of setup past client call ≡ Refused answered }
     ensures told { (setup : Setup) (past : List EntryOf) (client : ℕ) (call : CallOf) →
         status_of setup (past_of setup past) client call ≡ status.Ok →
         reply_of setup past client call ≡ ok_reply setup (past_of setup past) client call }
@@ -71,9 +68,7 @@ pub fn law_of_items()
         Stands held (items_of setup (entry ∷ past)) ⊎ Leaves setup entry past held }
     ensures begins { (setup : Setup) (client key : ℕ) → through_for setup [] client key ≡ 0 }
     ensures moves { (setup : Setup) (entry : EntryOf) (past : List EntryOf) (client key : ℕ) →
-        (through_for setup (entry ∷ past) client key ≡ through_for setup past client key)
-        ⊎ ((now : ℤ) ×
-        (entry ≡ Receipted client key (through_for setup (entry ∷ past) client key) now)) }
+        MovesByReceipt setup entry past client key }
     ensures received { (setup : Setup) (past : List EntryOf) (client key through : ℕ) (now : ℤ) →
         is_new_receipt setup past client key through ≡ true →
         through_for setup (Receipted client key through now ∷ past) client key ≡ through }
@@ -106,23 +101,13 @@ pub fn law_of_values()
 pub fn law_of_steps()
     ensures log { (setup : Setup) (entry : EntryOf) (past : List EntryOf) →
         IsHistory setup (entry ∷ past) →
-        table (log_setup setup) (past_of setup (entry ∷ past)).log
-        ≡ option_map_or
-        (λ change. table_after change (table (log_setup setup) (past_of setup past).log))
-        (log_change_by setup (past_of setup past) entry)
-        (table (log_setup setup) (past_of setup past).log) }
+        log_table setup (entry ∷ past) ≡ log_table_after setup entry past }
     ensures ntf { (setup : Setup) (client seq : ℕ) (now : ℤ) (call : CallOf) (past : List EntryOf) →
-        IsHistory setup (Called client seq now call ∷ past) →
-        table_of setup.capacity (past_of setup (Called client seq now call ∷ past)).ntf
-        ≡ option_map_or
-        (λ change. after_change change (table_of setup.capacity (past_of setup past).ntf))
-        (if_ok (status_of setup (past_of setup past) client call)
-        (ntf_change setup (past_of setup past) client seq now call))
-        (table_of setup.capacity (past_of setup past).ntf) }
+        let later = Called client seq now call ∷ past in IsHistory setup later →
+        ntf_table setup later ≡ ntf_table_after setup client seq now call past }
     ensures receipt { (setup : Setup) (client key through : ℕ) (now : ℤ) (past : List EntryOf) →
-        IsHistory setup (Receipted client key through now ∷ past) →
-        table_of setup.capacity (past_of setup (Receipted client key through now ∷ past)).ntf
-        ≡ after_receipt client key through (table_of setup.capacity (past_of setup past).ntf) }
+        let later = Receipted client key through now ∷ past in IsHistory setup later →
+        ntf_table setup later ≡ after_receipt client key through (ntf_table setup past) }
     ensures first { (setup : Setup) (entry : EntryOf) (past : List EntryOf) → IsHistory setup past →
         first_standing setup (past_of setup past).log
         ≤ first_standing setup (past_of setup (entry ∷ past)).log }

@@ -2,3 +2,4 @@ pub mod Figures
 pub mod Printing
 pub mod Records
 pub mod Sheets
+pub mod Laws

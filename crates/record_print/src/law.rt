@@ -1,10 +1,10 @@
 //! Laws of printed records.
-ghost use Rattle.std.specs.Prelude.{◌≡◌, ◌↔◌, ◌-◌, ◌<◌, ◌≤◌, ℕ, Bool, List, length, IsTrue};
+ghost use Rattle.std.specs.Prelude.{◌≡◌, ◌↔◌, ℕ, Bool, List, IsTrue};
 ghost use Rattle.format_expr.specs.declared.token.Moment.{Moment};
 ghost use Rattle.format_expr.specs.declared.piece.Piece.{Piece};
 ghost use Rattle.record_print.specs.declared.record.Header.{Header as HeaderOf};
 ghost use Rattle.record_print.specs.declared.record.LogRecord.{LogRecord as RecordOf};
-ghost use Rattle.record_print.specs.Printing.{pieces_text, cut_mark};
+ghost use Rattle.record_print.specs.Laws.{TellsCut, TellsWhole};
 
 use crate::{Header, LogRecord};
 
@@ -12,13 +12,9 @@ use crate::{Header, LogRecord};
 /// the line feed, and else `C`.
 pub fn law_of_cut_marks()
     ensures cut { (half : Moment → Bool) (number : ℕ) (rec : RecordOf) (pieces : List Piece)
-        (size : ℕ) →
-        let mark = cut_mark (λ mark. pieces_text half number mark rec pieces) size in
-        (mark ≡ 84) ↔ (size - 1 < length (pieces_text half number mark rec pieces)) }
+        (size : ℕ) → TellsCut half number rec pieces size }
     ensures whole { (half : Moment → Bool) (number : ℕ) (rec : RecordOf) (pieces : List Piece)
-        (size : ℕ) →
-        let mark = cut_mark (λ mark. pieces_text half number mark rec pieces) size in
-        (mark ≡ 67) ↔ (length (pieces_text half number mark rec pieces) ≤ size - 1) }
+        (size : ℕ) → TellsWhole half number rec pieces size }
 {}
 
 /// Two headers, and two records, are told equal by `==` exactly where they are equal.

@@ -14,6 +14,7 @@ ghost use Rattle.service_table.specs.Tables.{is_reader_for, reader_for, reader_b
 ghost use Rattle.service_table.specs.Answering.{start_rows_by, read_rows_by, stop_rows_by, read_in};
 ghost use Rattle.service_table.specs.Steps.{readers_after, where_ok};
 ghost use Rattle.service_parts.specs.Telling.{IsTold, read_answer, reader_at};
+ghost use Rattle.service_parts.specs.Starting.{start_answer};
 
 use crate::Told;
 use crate::readers::{add_reader, point_of, reader_of, stop_reader, tell_reader};
@@ -152,10 +153,8 @@ pub fn start_reading(
     value: i64,
     filters: &FilterSet,
 ) -> Result<Status, AllocError>
-    ensures status { IfOk result (λ status. status ≡ answer (start_rows_by is_user
-        (is_some (reader_for client readers.old.items)) (nat_le 16 (length readers.old.items))
-        (is_none (start_by (mode_of code) value filters.now alarms.now))
-        code value filters.now)) }
+    ensures status { IfOk result (λ status. status
+        ≡ start_answer is_user client readers.old.items alarms.now code value filters.now) }
     ensures readers { IfOk result (λ status. readers.new.items ≡ where_ok status
         (readers_after alarms.now client (ReaderStart code value filters.now) readers.old.items)
         readers.old.items) }

@@ -6,8 +6,9 @@ ghost use Rattle.sub_queue.specs.declared.item.Content.{Content as ContentOf};
 ghost use Rattle.sub_queue.specs.declared.item.Item.{Item as ItemOf};
 ghost use Rattle.sub_queue.specs.Items.{numbered, marks_in};
 ghost use Rattle.sub_queue.specs.Queue.{empty_queue, next_number, IsCapacity, IsSound, IsNew, offered, received};
-ghost use Rattle.sub_queue.specs.History.{Happening, account_of, is_new_receipt, marks_offered, queue_for};
+ghost use Rattle.sub_queue.specs.History.{Happening, account_of, is_new_receipt, marks_offered};
 ghost use Rattle.sub_queue.specs.History.Happening.{Offered, Receipted};
+ghost use Rattle.sub_queue.specs.Laws.{queue_after};
 
 use crate::{Content, Item};
 
@@ -22,21 +23,18 @@ pub fn law_of_marks()
 /// A queue goes with what happened to its subscription: a new one stands for nothing, and each call makes
 /// of the queue that stands for what happened before the one that stands for that and the call.
 pub fn law_of_calls()
-    ensures new { (capacity : ℕ) → empty_queue capacity
-        ≡ queue_for capacity (account_of capacity []) }
+    ensures new { (capacity : ℕ) → empty_queue capacity ≡ queue_after capacity [] }
     ensures offer { (capacity : ℕ) (past : List Happening) (notification : Notification) →
-        offered notification (queue_for capacity (account_of capacity past))
-        ≡ queue_for capacity (account_of capacity (Offered notification ∷ past)) }
+        offered notification (queue_after capacity past)
+        ≡ queue_after capacity (Offered notification ∷ past) }
     ensures receipt { (capacity : ℕ) (past : List Happening) (through : ℕ) →
-        IsNew through (queue_for capacity (account_of capacity past)) →
-        received through (queue_for capacity (account_of capacity past))
-        ≡ queue_for capacity (account_of capacity (Receipted through ∷ past)) }
+        IsNew through (queue_after capacity past) → received through (queue_after capacity past)
+        ≡ queue_after capacity (Receipted through ∷ past) }
     ensures newness { (capacity : ℕ) (past : List Happening) (through : ℕ) →
         IsTrue (is_new_receipt through (account_of capacity past))
-        ↔ IsNew through (queue_for capacity (account_of capacity past)) }
+        ↔ IsNew through (queue_after capacity past) }
     ensures items { (capacity : ℕ) (past : List Happening) →
-        numbered (queue_for capacity (account_of capacity past)).first
-        (queue_for capacity (account_of capacity past)).held
+        numbered (queue_after capacity past).first (queue_after capacity past).held
         ≡ drop (account_of capacity past).through (numbered 1 (account_of capacity past).made) }
 {}
 
@@ -47,13 +45,12 @@ pub fn law_of_counts()
     ensures receipts { (capacity : ℕ) (past : List Happening) →
         (account_of capacity past).through ≤ length (account_of capacity past).made }
     ensures places { (capacity : ℕ) (past : List Happening) →
-        length (queue_for capacity (account_of capacity past)).held ≤ capacity }
+        length (queue_after capacity past).held ≤ capacity }
     ensures numbers { (capacity : ℕ) (past : List Happening) →
-        next_number (queue_for capacity (account_of capacity past))
-        ≡ length (account_of capacity past).made + 1 }
+        next_number (queue_after capacity past) ≡ length (account_of capacity past).made + 1 }
     ensures sound { (capacity : ℕ) (past : List Happening) →
         IsCapacity capacity → length (account_of capacity past).made < 4294967295 →
-        IsSound (queue_for capacity (account_of capacity past)) }
+        IsSound (queue_after capacity past) }
 {}
 
 /// Two items are told equal by `==` exactly where they are equal; likewise what they hold.

@@ -6,6 +6,6 @@ returns c = record {
   sent = stored-sent;
   other = stored-other;
   later = stored-later;
-  can_add = stored-can_add;
+  can_add = λ first number notification past. stored-can_add first past notification number;
   order = stored-order;
 }

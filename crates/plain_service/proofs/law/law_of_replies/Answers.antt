@@ -1,3 +1,6 @@
+use Rattle.std.specs.Prelude.{refl}
+use Rattle.plain_service.specs.Answers.{status_of}
+use Rattle.plain_service.specs.Changing.{past_of}
 use Rattle.plain_service.proofs.ReplyLaws.{replies-stand, replies-own, length-replies, reply-refused, reply-ok}
 use Rattle.plain_service.proofs.law.law_of_replies.Goals as goal
 
@@ -6,6 +9,7 @@ returns c = record {
   stand = replies-stand;
   own = replies-own;
   count = length-replies;
-  refused = reply-refused;
+  refused = λ setup past client call refused.
+      reply-refused setup past client call (status_of setup (past_of setup past) client call) refused refl;
   told = reply-ok;
 }
