@@ -16,9 +16,10 @@ use Rattle.plain_service.specs.Items.{made_for}
 use Rattle.plain_service.specs.Asked.{lost_for, sends_asked, sends_dropped, lower_id}
 use Rattle.plain_service.proofs.AskedLaws.{items-asked, items-dropped, sends-rising}
 use Rattle.cluster_facts.specs.Agents.{callback_of}
-use Rattle.cluster_events.specs.Taking.{in_order, AreFirstItems}
+use Rattle.cluster_events.specs.Taking.{items_in, taken_of, in_order, AreFirstItems}
+use Rattle.cluster_events.proofs.Items.{taken-begins}
 use Rattle.service_laws.specs.PlainOf.{plain_of}
-use Rattle.service_laws.specs.Telling.{marks_told, losses_told, TellSends}
+use Rattle.service_laws.specs.Telling.{marks_told, losses_told, TellSends, IsFedBy, callbacks_of}
 
 -- an item's callback tells what the item holds
 
@@ -72,3 +73,8 @@ first-told setup past sent client key [] first = record {
 }
 first-told setup past sent client key (last ∷ taken) first =
     told-sends setup past client key first.0 (in_order (last ∷ taken)) first.2.0 first.2.1
+
+-- **and so do those that a client was fed of it**
+pub fed-told : (setup : Setup) (past : List Entry) (sent : List (ℕ × Call)) (client key : ℕ) (marks : List (ℕ × ℕ)) (fed : List Callback) → IsFedBy setup past sent client marks fed → TellSends setup past client key (callbacks_of key marks fed)
+fed-told setup past sent client key marks fed is =
+    first-told setup past sent client key (taken_of key marks (items_in fed)) (taken-begins (plain_of setup) past sent client key marks fed is.numbered is.counted is.items)

@@ -4,12 +4,17 @@ use Rattle.std.specs.List.{flat_map}
 use Rattle.client_set.specs.Rising.{IsRising}
 use Rattle.sub_queue.specs.declared.item.Lost.{Lost}
 use Rattle.sub_queue.specs.Items.{mark_of}
+use Rattle.calls.specs.declared.call.Call.{Call}
 use Rattle.calls.specs.declared.entry.Entry.{Entry}
 use Rattle.calls.specs.declared.reply.Callback.{Callback}
 use Rattle.calls.specs.declared.reply.Callback.TheVariants.{Written, Notified, Discarded}
 use Rattle.ntf_history.specs.Subscriptions.{Extends}
 use Rattle.plain_service.specs.Setups.{Setup}
 use Rattle.plain_service.specs.Asked.{sends_asked, sends_dropped, lower_id}
+use Rattle.cluster_facts.specs.Lists.{IsNumbered, IsCounted}
+use Rattle.cluster_facts.specs.Facts.{Fits, IsToldItem}
+use Rattle.cluster_events.specs.Taking.{items_in, taken_of, in_order}
+use Rattle.service_laws.specs.PlainOf.{plain_of}
 
 -- the marks of the notifications that a callback tells, by themselves or as lost, in order
 abbrev pub marks_told : Callback → List Lost
@@ -28,3 +33,15 @@ pub record TellSends (setup : Setup) (past : List Entry) (client key : ℕ) (cal
   pub asked : Extends (flat_map marks_told callbacks) (sends_asked setup past client key)
   pub dropped : Extends (flat_map losses_told callbacks) (sends_dropped setup past client key)
   pub once : IsRising lower_id (flat_map marks_told callbacks)
+
+-- what a client of these calls was fed are the callbacks of the items with these marks, a subscription's key and a number that goes
+-- through 1, 2, 3 and so on of each, with those of writes between them; the newest comes first
+pub record IsFedBy (setup : Setup) (past : List Entry) (sent : List (ℕ × Call)) (client : ℕ) (marks : List (ℕ × ℕ)) (fed : List Callback) : Type 0 where
+  pub numbered : IsNumbered sent
+  pub counted : IsCounted marks
+  pub items : Fits (IsToldItem (plain_of setup) past sent client) marks fed
+
+-- those of them that came of the subscription of this key, the first one first; each callback of an item has its mark, so none is
+-- left out
+abbrev pub callbacks_of : (key : ℕ) → (marks : List (ℕ × ℕ)) → (fed : List Callback) → List Callback
+callbacks_of key marks fed = in_order (taken_of key marks (items_in fed))

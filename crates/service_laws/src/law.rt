@@ -12,7 +12,7 @@ ghost use Rattle.cluster_events.specs.Taking.{in_order, AreFirstItems};
 ghost use Rattle.service_laws.specs.Disks.{service_disk};
 ghost use Rattle.service_laws.specs.PlainOf.{plain_of};
 ghost use Rattle.service_laws.specs.StorageOf.{storage_of};
-ghost use Rattle.service_laws.specs.Telling.{TellSends};
+ghost use Rattle.service_laws.specs.Telling.{IsFedBy, TellSends, callbacks_of};
 ghost use Rattle.cluster_facts.specs.Ranges.{AreInRange};
 
 /// The plain service keeps all that the cluster asks of a service: items that were made stay, a
@@ -31,6 +31,15 @@ pub fn law_of_telling()
     ensures { (setup : Setup) (past : List EntryOf) (sent : List (ℕ × CallOf)) (client key : ℕ)
         (taken : List CallbackOf) → AreFirstItems (plain_of setup) past sent client key taken →
         TellSends setup past client key (in_order taken) }
+{}
+
+/// The same is told by what a client was fed, of which the items are those numbered 1, 2, 3 and so on of
+/// each subscription that it had asked for: so also where an event broke off, behind which the receipt of
+/// the last item need not be posted.
+pub fn law_of_feeding()
+    ensures { (setup : Setup) (past : List EntryOf) (sent : List (ℕ × CallOf)) (client key : ℕ)
+        (marks : List (ℕ × ℕ)) (fed : List CallbackOf) → IsFedBy setup past sent client marks fed →
+        TellSends setup past client key (callbacks_of key marks fed) }
 {}
 
 /// The files of the plain service keep all that the cluster asks of files. The deeds of the start
