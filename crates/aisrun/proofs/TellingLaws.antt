@@ -4,19 +4,30 @@ use Rattle.disk_model.specs.Disk.{Files}
 use Rattle.plain_service.specs.Setups.{Setup}
 use Rattle.cluster_facts.specs.Messages.{sent_by, receipts_of}
 use Rattle.cluster_facts.specs.Agents.{fed_of}
-use Rattle.cluster_facts.specs.World.{World}
+use Rattle.cluster_facts.specs.World.{World as WorldOf}
+use Rattle.cluster_core.specs.declared.world.World.{World}
 use Rattle.cluster_events.specs.Promises.{ItemsInOrder}
 use Rattle.cluster_events.specs.Taking.{items_in, taken_of}
 use Rattle.service_laws.specs.PlainOf.{plain_of}
-use Rattle.service_laws.proofs.TellingLaws.{first-told}
+use Rattle.service_laws.proofs.TellingLaws.{first-told, fed-told}
 use Rattle.aisrun.specs.Promises.{Throughout}
-use Rattle.aisrun.specs.Telling.{TellsEach, TellsOnce}
+use Rattle.aisrun.specs.Telling.{TellsEach, TellsOnce, TellsAtWant}
 use Rattle.aisrun.proofs.PlayLaws.{played-keeps}
 use Rattle.aisrun.proofs.PromiseLaws.{throughout}
 
-pub each-told : (setup : Setup) (world : World) → ItemsInOrder (plain_of setup) world → TellsEach setup world
+pub each-told : (setup : Setup) (world : WorldOf) → ItemsInOrder (plain_of setup) world → TellsEach setup world
 each-told setup world items client key =
     first-told setup world.core.answered (sent_by client world.net) client key (taken_of key (receipts_of client world.net) (items_in (fed_of (world.agents client)))) (items client key)
 
 pub tells-once : (held : Option Files) → Throughout held TellsOnce
 tells-once held = throughout held TellsOnce (λ setup places told_first can lines state told files run range. each-told setup state.world (played-keeps setup places told_first run).items)
+
+pub tells-at-want : (held left : Option Files) (world : World) → TellsAtWant held left world
+tells-at-want held left world script done rest next text front broken client key =
+    let state = front.goes.state in
+    let fed = broken.fed client in
+    fed-told front.setup broken.rest.core.answered (sent_by client state.world.net) client key fed.marks (fed_of (broken.rest.agents client)) (record {
+      numbered = (front.goes.good.steady.sound.facts.clients client).sends.numbered;
+      counted = fed.counted;
+      items = fed.items;
+    })

@@ -129,8 +129,8 @@ pub data FaultLeft (setup : Setup) (state : State Alone) (next : Line) (held lef
   Showing : shows_files next ≡ true → Shows setup state world → left ≡ held → lines ≡ [] → FaultLeft setup state next held left world lines
   Working : (told : List Told) → FaultedIn setup next state told held left world → lines ≡ text_of told → FaultLeft setup state next held left world lines
 
--- the disk's count of faults rose since some moment at which it told these files and had the count of the start: an event that
--- is done leaves the count
+-- some value of the disk that told these files had the count of the start, and from it the count rose: a disk without steps cannot
+-- say that the run passed through it, and an event that is done leaves the count
 pub record FaultedSince {D : Type 0} (disk : Edge D Files) (held : Option Files) : Type 0 where
   pub mid : D
   pub told : disk.told mid ≡ held

@@ -1,24 +1,45 @@
 -- Words of public clauses: what callbacks promise of the sends that they tell.
-use Rattle.std.specs.Prelude.{ℕ, List}
+use Rattle.std.specs.Prelude.{ℕ, List, ◌∷◌, Option}
+use Rattle.disk_model.specs.Disk.{Files}
+use Rattle.script_lines.specs.declared.line.Line.{Line}
 use Rattle.plain_service.specs.Setups.{Setup}
 use Rattle.cluster_facts.specs.Types.{Callback}
 use Rattle.cluster_facts.specs.Messages.{receipts_of}
 use Rattle.cluster_facts.specs.Agents.{fed_of}
-use Rattle.cluster_facts.specs.World.{World}
-use Rattle.cluster_events.specs.Taking.{items_in, taken_of, in_order}
-use Rattle.service_laws.specs.Telling.{TellSends}
+use Rattle.cluster_facts.specs.World.{World as WorldOf}
+use Rattle.cluster_events.specs.Servers.{State}
+use Rattle.lone_cluster.specs.Lone.{Alone}
+use Rattle.service_laws.specs.Telling.{TellSends, callbacks_of}
+use Rattle.cluster_core.specs.declared.world.World.{World}
+use Rattle.cluster_core.specs.Broken.{Broken}
+use Rattle.aisrun.specs.Playing.{PlaysFront, files_told}
 use Rattle.aisrun.specs.Promises.{Sentence}
 
--- the callbacks that a client got of its subscription of this key, handed out or not, the first one first
-abbrev pub got_of : World → (client key : ℕ) → List Callback
-got_of world client key =
-    in_order (taken_of key (receipts_of client world.net) (items_in (fed_of (world.agents client))))
+-- the callbacks that a client got of its subscription of this key, handed out or not, the first one first; each of an item came
+-- with its receipt, so none is left out
+abbrev pub callbacks_got : WorldOf → (client key : ℕ) → List Callback
+callbacks_got world client key = callbacks_of key (receipts_of client world.net) (fed_of (world.agents client))
 
--- of every subscription ever made, the callbacks that its client got tell of the first ok sends for which it asked while it lasted, each once and in order, and
--- tell as lost the first of those that were dropped
-abbrev pub TellsEach : Setup → World → Type 0
+-- of every subscription ever made, the callbacks that its client got tell of the first ok sends for which it asked while it lasted,
+-- each once and in order, and tell as lost the first of those that were dropped
+abbrev pub TellsEach : Setup → WorldOf → Type 0
 TellsEach setup world =
-    (client key : ℕ) → TellSends setup world.core.answered client key (got_of world client key)
+    (client key : ℕ) → TellSends setup world.core.answered client key (callbacks_got world client key)
 
 abbrev pub TellsOnce : Setup → Sentence
 TellsOnce setup lines state told files = TellsEach setup state.world
+
+-- the same where an event broke off, by the marks of the items that clients were fed
+abbrev pub TellsBroken :
+    (setup : Setup) (state : State Alone) (held left : Option Files) (world : World) → Broken setup state held left world → Type 0
+TellsBroken setup state held left world broken =
+    (client key : ℕ)
+    → TellSends setup broken.rest.core.answered client key (callbacks_of key (broken.fed client).marks (fed_of (broken.rest.agents client)))
+
+-- so it is behind each front of a script that was played on a disk that told these files before, wherever want of memory in the
+-- next line left the world and the disk as they are now
+abbrev pub TellsAtWant : (held left : Option Files) (world : World) → Type 0
+TellsAtWant held left world =
+    (script done rest : List Line) (next : Line) (text : List ℕ) (front : PlaysFront held script done (next ∷ rest) text)
+    (broken : Broken front.setup front.goes.state (files_told front.goes.files held) left world)
+    → TellsBroken front.setup front.goes.state (files_told front.goes.files held) left world broken

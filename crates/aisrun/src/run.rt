@@ -8,7 +8,7 @@ ghost use Rattle.aisrun.specs.declared.ending.Status8.{Status8};
 ghost use Rattle.aisrun.specs.Edges.{around, edge, stage};
 ghost use Rattle.aisrun.specs.Endings.{Ends, EndsBy};
 ghost use Rattle.aisrun.specs.Promises.{OfAllLines, Throughout, CallsBack, CommitsInTime, DeclinesRightly, KeepsFiles, KeepsOneHistory, KeepsRecords, PrintsPosts, ReadsRightly, RepliesRightly, SettlesAll, StandsOnce};
-ghost use Rattle.aisrun.specs.Telling.{TellsOnce};
+ghost use Rattle.aisrun.specs.Telling.{TellsAtWant, TellsOnce};
 ghost use Rattle.aisrun.specs.Scripting.{BytesEnd, BytesLack};
 ghost use Rattle.aisrun.specs.RunSteps.{EndRises, EndWritten, InputEnds, InputLacks, WordsLack};
 ghost use Rattle.aisrun.specs.Steps.{Written, unasked};
@@ -132,7 +132,7 @@ fn run_words<S: Source, K: Sink, D: SharedDisk>(
 /// have a record at one place. Where a fault of the disk ended it in an entry's work, the same holds of history, replies,
 /// callbacks and posts up to the fault, the entry is committed and has no reply, and what was answered as stored before it
 /// stands, unless the entry gives its place away; where the fault came in a line that shows files, all stands as at the end
-/// of the line before.
+/// of the line before. Where memory ran out in an event, what clients were fed up to there tells the same of the sends.
 pub fn run<S: Source, K: Sink, D: SharedDisk>(
     alloc: Global,
     words: &[String],
@@ -168,6 +168,9 @@ pub fn run<S: Source, K: Sink, D: SharedDisk>(
 
     // What holds where a fault of the disk ended the run in an event.
     ensures fault_keeps { KeepsAtFault (D.files disk.old) (D.files disk.new) world.new }
+
+    // What holds where memory ran out in an event.
+    ensures want_tells { TellsAtWant (D.files disk.old) (D.files disk.new) world.new }
 
     // Where nothing fails, a script without lines on failures is played, a script is checked, and an expression is taken apart:
     // only memory may be missing.

@@ -1,6 +1,6 @@
 use Rattle.aisrun.proofs.StatusLaws.{ends-by}
 use Rattle.aisrun.proofs.PromiseLaws.{keeps-one-history, replies-rightly, reads-rightly, calls-back, prints-posts, keeps-files, keeps-records, stands-once, settles-all}
-use Rattle.aisrun.proofs.TellingLaws.{tells-once}
+use Rattle.aisrun.proofs.TellingLaws.{tells-once, tells-at-want}
 use Rattle.aisrun.proofs.RefusalLaws.{declines-rightly}
 use Rattle.aisrun.proofs.TimeLaws.{commits-in-time}
 use Rattle.aisrun.proofs.FaultLaws.{keeps-at-fault}
@@ -48,6 +48,9 @@ returns-clause-settles g c = settles-all _
 
 pub returns-clause-fault_keeps : goal.returns-clause-fault_keeps
 returns-clause-fault_keeps g c = keeps-at-fault _ _ _
+
+pub returns-clause-want_tells : goal.returns-clause-want_tells
+returns-clause-want_tells g c = tells-at-want _ _ _
 
 pub returns-clause-completes : goal.returns-clause-completes
 returns-clause-completes g c can none =
