@@ -1,7 +1,7 @@
 -- What a message that the active server hears, its work and a push come to in the world of the code.
 use Rattle.std.proofs.Common.{◌≡◌, ℕ, suc, ◌<◌, Bool, true, false, ℤ, pos, negsuc, Option, List, [], ◌∷◌, ◌++◌, length, refl, ap, sym, ◌∙◌, subst, arith, append-nil}
 use Rattle.std.proofs.lemmas.Bool.{leb-true}
-use Rattle.disk_model.proofs.Places.{passed}
+use Rattle.ais_values.proofs.Basics.{true_from_T}
 use Rattle.std.proofs.lemmas.Int.{to_z-of_z}
 use mir.Syntax.{w64}
 use mir.Val.{to_z, of_z}
@@ -288,7 +288,7 @@ pub moment-of : (old : Kept) → HasState old → IsMoment old.now
 moment-of old stands = subst IsMoment (sym stands.shows.now) stands.good.moment
 
 pub moment-same : (now : ℤ) → IsMoment now → to_z w64 (of_z w64 now) ≡ now
-moment-same (pos n) moment = let to = leb-true n 9000000000000000000 (passed _ moment.to.le) in to_z-of_z w64 (pos n) (record { sfits = omega arith })
+moment-same (pos n) moment = let to = leb-true n 9000000000000000000 (true_from_T _ moment.to.le) in to_z-of_z w64 (pos n) (record { sfits = omega arith })
 moment-same (negsuc n) moment = absurd moment.from.le
 
 pub receive-conditions : (old : Kept) (message : Message) → HasState old → MessageInRange message → CanHear message (to_z w64 (of_z w64 old.now))
