@@ -20,13 +20,13 @@ use Rattle.log_history.specs.KeptAnswers.{is_filled, store_status}
 use Rattle.log_history.specs.Times.{filled_time}
 use Rattle.log_history.specs.Table.{OpenStream, LogTable, table_after, events_of}
 use Rattle.ntf_history.specs.Changes.{NtfChange as ntf}
-use Rattle.ntf_history.specs.Rows.{answer}
+use Rattle.ntf_history.specs.Rows.{answer, send_by}
 use Rattle.ntf_history.specs.StoredAlarms.{is_alarm}
 use Rattle.ntf_history.specs.Tables.{after_send}
 use Rattle.plain_service.specs.Alarms.{stream_for, record_for}
 use Rattle.plain_service.specs.Replies.{reply_by}
 use Rattle.service_table.specs.Tables.{ServiceTable}
-use Rattle.service_table.specs.Answering.{status_in, send_by}
+use Rattle.service_table.specs.Answering.{status_in}
 use Rattle.service_table.specs.Steps.{accepted_in, taken_in, standing_from, alarms_with, where_ok, changed}
 use Rattle.service_table.specs.Ready.{IsAlarmFirst, alarm_count}
 use Rattle.service_table.proofs.LogSteps.{count-is}

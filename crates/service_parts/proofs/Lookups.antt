@@ -22,9 +22,9 @@ use Rattle.ais_values.specs.declared.status.Status.{Status}
 use Rattle.alarm_view.specs.Modes.{mode_of}
 use Rattle.client_set.specs.Rising.{IsRising}
 use Rattle.calls.specs.declared.saved.SavedReader.{SavedReader}
-use Rattle.ntf_history.specs.Rows.{answer, start_by}
+use Rattle.ntf_history.specs.Rows.{answer, start_rows_by, start_by}
 use Rattle.service_table.specs.Tables.{client_window, is_window_for, window_before, reader_for}
-use Rattle.service_table.specs.Answering.{start_rows_by}
+use Rattle.service_table.specs.Answering.{start_answer}
 use Rattle.service_table.specs.Steps.{window_for, with_reply, answered}
 use Rattle.service_parts.proofs.ClientPlaces.{place_in, find-here, find-none, known-place, set-put, insert-put}
 
@@ -63,13 +63,13 @@ missing-is None false is = cc
 missing-is (Some cursor) true is = cc
 missing-is (Some cursor) false is = refl
 
-pub start-answered : (is_user : Bool) (client code : ℕ) (value seen : ℤ) (filters : FilterSet) (alarms : List KeptAlarm) (readers slice : List SavedReader) (missing : Bool) (found : Option Cursor) (result : Status) → seen ≡ value → slice ≡ readers → found ≡ option_map cursor_before (start_by (mode_of code) seen filters alarms) → is_some found ≡ not missing → result ≡ answer (start_rows_by is_user (is_some (reader_for client slice)) (nat_le 16 (length slice)) missing code seen filters) → result ≡ answer (start_rows_by is_user (is_some (reader_for client readers)) (nat_le 16 (length readers)) (is_none (start_by (mode_of code) value filters alarms)) code value filters)
+pub start-answered : (is_user : Bool) (client code : ℕ) (value seen : ℤ) (filters : FilterSet) (alarms : List KeptAlarm) (readers slice : List SavedReader) (missing : Bool) (found : Option Cursor) (result : Status) → seen ≡ value → slice ≡ readers → found ≡ option_map cursor_before (start_by (mode_of code) seen filters alarms) → is_some found ≡ not missing → result ≡ answer (start_rows_by is_user (is_some (reader_for client slice)) (nat_le 16 (length slice)) missing code seen filters) → result ≡ start_answer is_user client readers alarms code value filters
 start-answered is_user client code value seen filters alarms readers slice missing found result same these at is answered =
     let first = start_by (mode_of code) seen filters alarms in
     answered
     ∙ ap (λ rs. answer (start_rows_by is_user (is_some (reader_for client rs)) (nat_le 16 (length rs)) missing code seen filters)) these
     ∙ ap (λ b. answer (start_rows_by is_user (is_some (reader_for client readers)) (nat_le 16 (length readers)) b code seen filters)) (missing-is found missing is ∙ ap is_none at ∙ mapped first)
-    ∙ ap (λ v. answer (start_rows_by is_user (is_some (reader_for client readers)) (nat_le 16 (length readers)) (is_none (start_by (mode_of code) v filters alarms)) code v filters)) same where
+    ∙ ap (λ v. start_answer is_user client readers alarms code v filters) same where
       mapped : (o : Option Notification) → is_none (option_map cursor_before o) ≡ is_none o
       mapped None = refl
       mapped (Some alarm) = refl

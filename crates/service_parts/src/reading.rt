@@ -8,13 +8,12 @@ ghost use Rattle.calls.specs.declared.call.Call.TheVariants.{ReaderStart, Reader
 ghost use Rattle.calls.specs.declared.reply.Reply.TheVariants.{Found};
 ghost use Rattle.client_set.specs.Rising.{put, without};
 ghost use Rattle.ntf_filters.specs.FitTests.{is_fit};
-ghost use Rattle.ntf_history.specs.Rows.{answer, start_by, asks_for_alarms};
+ghost use Rattle.ntf_history.specs.Rows.{answer, start_rows_by, read_rows_by, start_by, asks_for_alarms};
 ghost use Rattle.plain_service.specs.Replies.{found_reply};
 ghost use Rattle.service_table.specs.Tables.{is_reader_for, reader_for, reader_before};
-ghost use Rattle.service_table.specs.Answering.{start_rows_by, read_rows_by, stop_rows_by, read_in};
+ghost use Rattle.service_table.specs.Answering.{start_answer, read_in, read_answer, stop_answer};
 ghost use Rattle.service_table.specs.Steps.{readers_after, where_ok};
-ghost use Rattle.service_parts.specs.Telling.{IsTold, read_answer, reader_at};
-ghost use Rattle.service_parts.specs.Starting.{start_answer};
+ghost use Rattle.service_parts.specs.Telling.{IsTold, reader_at};
 
 use crate::Told;
 use crate::readers::{add_reader, point_of, reader_of, stop_reader, tell_reader};
@@ -295,8 +294,7 @@ pub fn read_on(
 
 /// A client stops its reader. With another answer than ok nothing changes. It takes no memory.
 pub fn end_reading(readers: &mut Vec<SavedReader>, is_user: bool, client: u16) -> Status
-    ensures status { result ≡ answer (stop_rows_by is_user
-        (is_none (reader_for client readers.old.items))) }
+    ensures status { result ≡ stop_answer is_user client readers.old.items }
     ensures readers { readers.new.items ≡ where_ok result
         (without (is_reader_for client) readers.old.items) readers.old.items }
 {

@@ -22,7 +22,7 @@ use Rattle.log_history.proofs.TableLaws.{find-living}
 use Rattle.log_history.proofs.KeptLaws as kept
 use Rattle.ntf_history.specs.Changes as ntf
 use Rattle.ntf_history.specs.Readers.{Reader, ReaderChange, reader_of, is_reader_of, readers}
-use Rattle.ntf_history.specs.Rows.{answer, start_by, read_by}
+use Rattle.ntf_history.specs.Rows.{answer, send_by, start_rows_by, read_rows_by, stop_rows_by, start_by, read_by}
 use Rattle.ntf_history.proofs.FitLaws.{has-users}
 use Rattle.ntf_history.proofs.ReaderLaws.{find-reader}
 use Rattle.ntf_service.proofs.HistoryLaws as service
@@ -33,7 +33,7 @@ use Rattle.plain_service.specs.Answers.{status_of}
 use Rattle.plain_service.specs.Replies.{found_reply, reply_by, ok_reply, reply_after}
 use Rattle.plain_service.specs.Values.{saved_reader}
 use Rattle.service_table.specs.Tables.{is_reader_for, reader_for}
-use Rattle.service_table.specs.Answering.{send_by, start_rows_by, read_rows_by, stop_rows_by, read_in, status_in, told_in, reply_in}
+use Rattle.service_table.specs.Answering.{read_in, status_in, told_in, reply_in}
 use Rattle.service_table.specs.Steps.{taken_in}
 use Rattle.service_table.specs.Histories.{table_with}
 

@@ -12,6 +12,7 @@ use Rattle.calls.specs.declared.saved.SavedSub.{SavedSub}
 use Rattle.calls.specs.declared.saved.SavedReader.{SavedReader}
 use Rattle.log_history.specs.Table.{OpenStream, LogTable}
 use Rattle.ntf_history.specs.declared.subscription.Subscription.{Subscription}
+use Rattle.ntf_history.specs.Readers.{Reader}
 use Rattle.ntf_history.specs.Tables.{NtfTable}
 use Rattle.plain_service.specs.Values.{saved_stream, saved_alarm}
 use Rattle.service_table.specs.declared.caller.ClientWindow.{ClientWindow}
@@ -100,6 +101,12 @@ table_of_saved saved = record {
   windows = map kept_window saved.windows;
 }
 
+abbrev pub point_of_reader : SavedReader → Cursor
+point_of_reader saved = record { time = saved.time; id = saved.id; fresh = saved.fresh }
+
+abbrev pub kept_reader_of : SavedReader → Reader
+kept_reader_of saved = record { client = saved.client; filters = saved.filters; cursor = point_of_reader saved }
+
 -- readers and windows by their clients
 
 abbrev pub is_reader_for : ℕ → SavedReader → Bool
@@ -110,9 +117,6 @@ reader_for client readers = find (is_reader_for client) readers
 
 abbrev pub reader_before : SavedReader → SavedReader → Bool
 reader_before one other = nat_lt one.client other.client
-
-abbrev pub point_of_reader : SavedReader → Cursor
-point_of_reader reader = record { time = reader.time; id = reader.id; fresh = reader.fresh }
 
 abbrev pub is_window_for : ℕ → ClientWindow → Bool
 is_window_for client caller = caller.client == client

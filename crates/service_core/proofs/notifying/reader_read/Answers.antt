@@ -2,8 +2,7 @@ use Rattle.std.proofs.Common.{refl, ap}
 use Rattle.calls.specs.declared.call.Call.TheVariants.{ReaderRead}
 use Rattle.plain_service.specs.Replies.{found_reply}
 use Rattle.service_table.specs.Tables.{reader_for}
-use Rattle.service_table.specs.Answering.{read_in}
-use Rattle.service_parts.specs.Telling.{read_answer}
+use Rattle.service_table.specs.Answering.{read_in, read_answer}
 use Rattle.service_core.specs.Acting.{table_of}
 use Rattle.service_core.proofs.NtfActs.{quiet-acted, same-notified}
 use Rattle.service_core.proofs.notifying.reader_read.Goals as goal

@@ -1,12 +1,8 @@
-use Rattle.std.proofs.Common.{nat_le, length, refl, ap, ◌∙◌}
-use Rattle.std.specs.Prelude.{is_some, is_none}
+use Rattle.std.proofs.Common.{refl, ap, ◌∙◌}
 use Rattle.std.proofs.lemmas.Int.{to_z-of_z}
-use Rattle.alarm_view.specs.Modes.{mode_of}
 use Rattle.calls.specs.declared.call.Call.TheVariants.{ReaderStart}
 use Rattle.calls.specs.declared.reply.Reply.TheVariants.{Done}
-use Rattle.ntf_history.specs.Rows.{answer, start_by}
-use Rattle.service_table.specs.Tables.{reader_for}
-use Rattle.service_table.specs.Answering.{start_rows_by}
+use Rattle.service_table.specs.Answering.{start_answer}
 use Rattle.service_core.specs.Acting.{table_of}
 use Rattle.service_core.proofs.NtfActs.{quiet-acted, same-notified}
 use Rattle.service_core.proofs.notifying.reader_start.Goals as goal
@@ -18,5 +14,5 @@ returns-clause-ok c =
     let answered = c.in_ok-status.status in
     let status = simp to_z-of_z at c.in_ok-status.ensures.status in
     let readers = simp to_z-of_z at c.in_ok-status.ensures.readers in
-    let user = ap (λ using. answer (start_rows_by using (is_some (reader_for c.args.client parts.readers.items)) (nat_le 16 (length parts.readers.items)) (is_none (start_by (mode_of c.args.code) c.args.value c.args.filters.now parts.alarms)) c.args.code c.args.value c.args.filters.now)) c.is_user-is_user.ensures in
+    let user = ap (λ using. start_answer using c.args.client parts.readers.items parts.alarms c.args.code c.args.value c.args.filters.now) c.is_user-is_user.ensures in
     λ seq now. quiet-acted (table_of parts) c.args.client seq now (ReaderStart c.args.code c.args.value c.args.filters.now) answered Done parts.ntf c.start_reading.new.readers.items c.act_of.result tt (status ∙ user) refl (same-notified answered parts.ntf) readers c.act_of.ensures.told (c.act_of.ensures.deeds ∙ c.new.ensures)
