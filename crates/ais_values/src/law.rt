@@ -2,7 +2,10 @@
 ghost use Rattle.std.specs.Prelude.{◌≡◌};
 ghost use Rattle.ais_values.specs.Codes.{HasRow};
 ghost use Rattle.ais_values.specs.Statuses.{status_code, status_word};
-ghost use Rattle.ais_values.specs.Tables.{IsTable, status_rows, log_severity_rows, full_action_rows, notification_type_rows, event_type_rows, perceived_severity_rows, source_indicator_rows, search_mode_rows, month_rows};
+ghost use Rattle.ais_values.specs.Tables.{IsTable, status_rows, log_severity_rows};
+ghost use Rattle.ais_values.specs.Tables.{full_action_rows, notification_type_rows};
+ghost use Rattle.ais_values.specs.Tables.{event_type_rows, perceived_severity_rows};
+ghost use Rattle.ais_values.specs.Tables.{source_indicator_rows, search_mode_rows, month_rows};
 ghost use Rattle.ais_values.specs.Times.{unknown_time};
 ghost use Rattle.ais_values.specs.declared.status.Status.{Status};
 
