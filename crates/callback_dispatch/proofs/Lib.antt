@@ -1,0 +1,9 @@
+pub mod Elements
+pub mod Unions
+pub mod Passes
+pub mod Steps
+pub mod Joins
+pub mod Looks
+pub mod Order
+pub mod Crews
+pub mod Sharing

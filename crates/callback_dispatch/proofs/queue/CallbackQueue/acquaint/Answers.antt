@@ -1,0 +1,25 @@
+use Rattle.std.proofs.Common.{rules}
+use Rattle.callback_dispatch.proofs.Steps.{learns}
+use Rattle.callback_dispatch.proofs.Joins.{forks-fed, forks-taken, merges-told}
+use Rattle.callback_dispatch.proofs.queue.CallbackQueue.acquaint.Goals as goal
+
+pub another-note-requires-clause-rule : goal.another-note-requires-clause-rule
+another-note-requires-clause-rule c = forks-taken _ _
+
+pub absorb-requires-clause-rule : goal.absorb-requires-clause-rule
+absorb-requires-clause-rule c = merges-told _ _ _ _ (search rules)
+
+pub learn_as-requires-clause-rule : goal.learn_as-requires-clause-rule
+learn_as-requires-clause-rule c = learns _ _
+
+pub another-note-requires-2-clause-rule : goal.another-note-requires-2-clause-rule
+another-note-requires-2-clause-rule c = forks-fed _ _ (search rules)
+
+pub absorb-requires-2-clause-rule : goal.absorb-requires-2-clause-rule
+absorb-requires-2-clause-rule c = merges-told _ _ _ _ (search rules)
+
+pub learn_as-requires-2-clause-rule : goal.learn_as-requires-2-clause-rule
+learn_as-requires-2-clause-rule c = learns _ _
+
+pub returns-clause-exact : goal.returns-clause-exact
+returns-clause-exact c = ?

@@ -1,0 +1,5 @@
+pub mod Seen
+pub mod Rule
+pub mod Inside
+pub mod Crew
+pub mod Law

@@ -1,0 +1,108 @@
+//! All that waits is handed out by many workers.
+ghost use Rattle.std.specs.Prelude.{◌≡◌, ◌+◌, ◌<◌, ◌≤◌, [], ◌++◌, length, IsPermutation, IfOk, IfErr, vec_len, vec_capacity};
+ghost use Rattle.std.specs.List.Sorted.{IsNonDecreasingBy};
+ghost use Rattle.callback_dispatch.specs.Seen.{numbered};
+ghost use Rattle.callback_dispatch.specs.Crew.{AreFree};
+
+use crate::workers::{free_rooms, gather, pour, take_left};
+use crate::{CallbackQueue, Feeder, Gate, Numbered, Taker};
+use ais_values::Seq;
+use std::alloc::{AllocError, Global};
+use std::sync::Wait;
+use std::thread::Threads;
+
+// The memory of a dispatch: an empty room for each worker, and an empty vector with room for all that waits.
+fn free_memory(
+    alloc: Global,
+    workers: u32,
+    places: usize,
+    waiting: usize,
+) -> Result<(Vec<Vec<Numbered>>, Vec<Numbered>), AllocError>
+    ensures rooms { IfOk result (λ free. (vec_len free.0 ≡ workers) × AreFree places free.0.items) }
+    ensures answer { IfOk result (λ free. (free.1.items ≡ []) × (waiting ≤ vec_capacity free.1)) }
+{
+    let answer = Vec::with_capacity(alloc, waiting)?;
+    let rooms = free_rooms(alloc, workers, places)?;
+    Ok((rooms, answer))
+}
+
+// The elements by number.
+fn by_number(taken: Vec<Numbered>) -> Vec<Numbered>
+    ensures same { IsPermutation taken.items result.items }
+    ensures rises { IsNonDecreasingBy (λ x. x.number) result.items }
+{
+    let mut taken = taken;
+    taken.sort_unstable_by_key(|element| element.number);
+    taken
+}
+
+// The workers take, and then the taker itself takes what they left, so that its `None` is exact.
+fn take_all<R: Threads + Wait + Sync, G: Gate>(
+    rt: &R,
+    queue: &CallbackQueue,
+    feeder: &mut Feeder,
+    taker: Taker,
+    waiting: usize,
+    free: (Vec<Vec<Numbered>>, Vec<Numbered>),
+    gate: &G,
+) -> (Taker, Vec<Numbered>)
+    requires feeder { feeder.old.queue ≡ queue.now.name }
+    requires taker { (taker.queue ≡ queue.now.name) × (taker.share ≡ 8) × (taker.known ≡ feeder.old.list) }
+    requires waiting { length feeder.old.list ≤ length taker.list + waiting }
+    requires rooms { (vec_len free.0 ≤ 8) × AreFree queue.now.capacity free.0.items }
+    requires answer { (free.1.items ≡ []) × (waiting ≤ vec_capacity free.1) }
+    ensures feeder { (feeder.new.queue ≡ feeder.old.queue) × (feeder.new.list ≡ feeder.old.list)
+        × (feeder.old.count ≤ feeder.new.count) × (feeder.new.count ≡ length feeder.old.list) }
+    ensures taker { (result.0.queue ≡ taker.queue) × (result.0.share ≡ 8)
+        × (result.0.list ≡ numbered 1 feeder.old.list) × (result.0.known ≡ feeder.old.list) }
+    ensures took { IsPermutation (taker.list ++ result.1.items) (numbered 1 feeder.old.list) }
+{
+    let (rooms, answer) = free;
+    let (mut taker, rooms) = gather(rt, queue, taker, 0, queue.capacity(), rooms, gate);
+    queue.acquaint(feeder, &mut taker);
+    let answer = pour(rooms, answer);
+    let left = waiting - answer.len();
+    let answer = take_left(rt, queue, &mut taker, answer, left);
+    queue.acquaint(feeder, &mut taker);
+    (taker, answer)
+}
+
+impl CallbackQueue {
+    /// Hands out all that was fed and not taken, by so many workers in threads of their own, in order of numbers.
+    ///
+    /// Each worker passes the gate first, and takes until it finds nothing or has taken as many elements as the
+    /// queue has places; then the taker itself takes what they left. The answer is the same for every number of
+    /// workers. All memory is taken first: where it runs out nothing is taken, and the taker comes back with the
+    /// error. The feeder is lent, so that nothing is fed meanwhile.
+    pub fn dispatch_all<R: Threads + Wait + Sync, G: Gate>(
+        &self,
+        rt: &R,
+        alloc: Global,
+        feeder: &mut Feeder,
+        taker: Taker,
+        workers: u32,
+        gate: &G,
+    ) -> Result<(Taker, Seq<Numbered>), (Taker, AllocError)>
+        requires feeder { feeder.old.queue ≡ self.now.name }
+        requires taker { (taker.queue ≡ self.now.name) × (taker.share ≡ 8) }
+        requires workers { (1 ≤ workers) × (workers ≤ 8) }
+        ensures feeder { (feeder.new.queue ≡ feeder.old.queue) × (feeder.new.list ≡ feeder.old.list)
+            × (feeder.old.count ≤ feeder.new.count) }
+        ensures given { IfOk result (λ done. taker.list ++ done.1 ≡ numbered 1 feeder.old.list) }
+        ensures taker { IfOk result (λ done. (done.0.queue ≡ taker.queue) × (done.0.share ≡ 8)
+            × (done.0.list ≡ numbered 1 feeder.old.list) × (done.0.known ≡ feeder.old.list)) }
+        ensures count { IfOk result (λ _. feeder.new.count ≡ length feeder.old.list) }
+        ensures err { IfErr result (λ failed. (failed.0.queue ≡ taker.queue) × (failed.0.share ≡ 8)
+            × (failed.0.list ≡ taker.list)) }
+    {
+        let mut taker = taker;
+        self.acquaint(feeder, &mut taker);
+        let waiting = self.waiting(rt, &mut taker);
+        let free = match free_memory(alloc, workers, self.capacity(), waiting) {
+            Ok(free) => free,
+            Err(error) => return Err((taker, error)),
+        };
+        let (taker, answer) = take_all(rt, self, feeder, taker, waiting, free, gate);
+        Ok((taker, Seq::from_vec(by_number(answer))))
+    }
+}

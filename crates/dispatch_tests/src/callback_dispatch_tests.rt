@@ -1,0 +1,168 @@
+//! What no clause says: that calls succeed while there is memory, and that workers run at the same time.
+ghost use Rattle.std.specs.Prelude.{◌≡◌, ◌+◌, ◌≤◌, [], length};
+
+use ais_values::{Seq, Status};
+use callback_dispatch::{CallbackQueue, Feeder, Gate, Numbered, OpenGate, Taker};
+use calls::Callback;
+use std::process::Abort;
+use std::sync::Wait;
+use std::sync::atomic::AtomicU32;
+use std::sync::atomic::Ordering::SeqCst;
+use std::test::Fail;
+use std::thread;
+
+fn written(invocation: u64) -> Callback {
+    Callback::Written {
+        invocation,
+        status: Status::Ok,
+    }
+}
+
+// The invocation of a callback that tells of a write.
+fn invocation_of(callback: &Callback) -> Option<u64> {
+    match callback {
+        Callback::Written { invocation, .. } => Some(*invocation),
+        _ => None,
+    }
+}
+
+// Feeds so many callbacks, each with its number as invocation.
+fn feed_all<R: Wait + Abort>(rt: &R, queue: &CallbackQueue, feeder: &mut Feeder, count: u32)
+    requires queue { feeder.old.queue ≡ queue.now.name }
+    requires fresh { feeder.old.list ≡ [] }
+    ensures { feeder.new.queue ≡ feeder.old.queue }
+{
+    for fed in 0..count {
+        let invocation = u64::from(fed) + 1;
+        match queue.feed(rt, feeder, written(invocation)) {
+            Ok(number) => assert_eq!(rt; number, invocation),
+            Err(back) => {
+                drop(back);
+                assert!(rt; false, "{invocation} has no place");
+            }
+        }
+    }
+}
+
+// Takes the element of this number, which has the number as invocation too.
+fn takes<R: Wait + Abort>(rt: &R, queue: &CallbackQueue, taker: &mut Taker, number: u64)
+    requires { taker.old.queue ≡ queue.now.name }
+    ensures { (taker.new.queue ≡ taker.old.queue) × (taker.new.share ≡ taker.old.share) }
+{
+    match queue.dispatch_one(rt, taker) {
+        Some(element) => {
+            assert_eq!(rt; element.number, number);
+            assert_eq!(rt; invocation_of(&element.callback), Some(number));
+            drop(element);
+        }
+        None => assert!(rt; false, "{number} is not there"),
+    }
+}
+
+// The elements have the numbers from the first on, and as many as there should be.
+fn are_from<R: Abort>(rt: &R, taken: Seq<Numbered>, first: u64, count: usize) {
+    assert_eq!(rt; taken.as_slice().len(), count);
+    let mut number = first;
+    for element in taken.as_slice() {
+        assert_eq!(rt; element.number, number);
+        assert_eq!(rt; invocation_of(&element.callback), Some(number));
+        number = number.wrapping_add(1);
+    }
+    drop(taken);
+}
+
+#[test]
+fn a_full_queue_hands_the_callback_back(rt: HostRuntime) -> Result<(), Fail> {
+    let (queue, mut feeder, mut taker) = CallbackQueue::make(&rt, rt.alloc(), 1)?;
+    assert!(rt; queue.feed(&rt, &mut feeder, written(1)) == Ok(1));
+    assert!(rt; queue.feed(&rt, &mut feeder, written(2)) == Err(written(2)));
+    takes(&rt, &queue, &mut taker, 1);
+    assert!(rt; queue.feed(&rt, &mut feeder, written(2)) == Ok(2));
+    takes(&rt, &queue, &mut taker, 2);
+    assert!(rt; queue.dispatch_one(&rt, &mut taker).is_none());
+    Ok(())
+}
+
+#[test]
+fn two_takers_are_joined(rt: HostRuntime) -> Result<(), Fail> {
+    let alloc = rt.alloc();
+    let (queue, mut feeder, mut one) = CallbackQueue::make(&rt, alloc, 4)?;
+    feed_all(&rt, &queue, &mut feeder, 3);
+    let mut two = queue.split(&rt, alloc, &mut one)?;
+    takes(&rt, &queue, &mut one, 1);
+    takes(&rt, &queue, &mut two, 2);
+    takes(&rt, &queue, &mut one, 3);
+    let mut both = queue.join_takers(&rt, one, two);
+    queue.meet(&rt, alloc, &mut feeder, &mut both)?;
+    assert!(rt; queue.dispatch_one(&rt, &mut both).is_none());
+    Ok(())
+}
+
+// One of nine is taken, then all others by so many workers, and then nothing is left.
+fn hands_out_nine<R: thread::Threads + Wait + Abort + Sync>(
+    rt: &R,
+    alloc: std::alloc::Global,
+    workers: u32,
+) -> Result<(), Fail>
+    requires { (1 ≤ workers) × (workers ≤ 8) }
+{
+    let (queue, mut feeder, mut taker) = CallbackQueue::make(rt, alloc, 16)?;
+    feed_all(rt, &queue, &mut feeder, 9);
+    takes(rt, &queue, &mut taker, 1);
+    let Ok((taker, taken)) = queue.dispatch_all(rt, alloc, &mut feeder, taker, workers, &OpenGate)
+    else {
+        return Err(Fail::new("no memory"));
+    };
+    are_from(rt, taken, 2, 8);
+    let Ok((_, taken)) = queue.dispatch_all(rt, alloc, &mut feeder, taker, workers, &OpenGate)
+    else {
+        return Err(Fail::new("no memory"));
+    };
+    are_from(rt, taken, 10, 0);
+    Ok(())
+}
+
+#[test]
+fn any_number_of_workers_gives_the_same(rt: HostRuntime) -> Result<(), Fail> {
+    for workers in 1..9 {
+        hands_out_nine(&rt, rt.alloc(), workers)?;
+    }
+    Ok(())
+}
+
+// Holds each worker until a second one is here, or a million turns have passed.
+struct SecondComer {
+    here: AtomicU32,
+    missed: AtomicU32,
+}
+
+impl Gate for SecondComer {
+    fn hold(&self, _worker: u32) {
+        self.here.fetch_add(1, SeqCst);
+        for _ in 0..1_000_000 {
+            if self.here.load(SeqCst) >= 2 {
+                return;
+            }
+            thread::yield_now();
+        }
+        self.missed.fetch_add(1, SeqCst);
+    }
+}
+
+#[test]
+fn two_workers_are_there_at_once(rt: HostRuntime) -> Result<(), Fail> {
+    let alloc = rt.alloc();
+    let (queue, mut feeder, taker) = CallbackQueue::make(&rt, alloc, 4)?;
+    feed_all(&rt, &queue, &mut feeder, 4);
+    let gate = SecondComer {
+        here: AtomicU32::new(0),
+        missed: AtomicU32::new(0),
+    };
+    let Ok((_, taken)) = queue.dispatch_all(&rt, alloc, &mut feeder, taker, 2, &gate) else {
+        return Err(Fail::new("no memory"));
+    };
+    are_from(&rt, taken, 1, 4);
+    assert_eq!(rt; gate.here.load(SeqCst), 2);
+    assert_eq!(rt; gate.missed.load(SeqCst), 0);
+    Ok(())
+}
