@@ -1,5 +1,5 @@
 -- What a look at the queue tells a taker that took all.
-use Rattle.std.proofs.Common.{◌≡◌, ℕ, suc, ◌+◌, ◌≤◌, Option, Some, None, MatchOption, IfNone, List, [], ◌∷◌, ◌++◌, length, take, refl, sym, ap, subst, ◌∙◌, append-nil, length-append, arith}
+use Rattle.std.proofs.Common.{◌≡◌, ℕ, suc, ◌+◌, ◌≤◌, max, Option, Some, None, MatchOption, IfNone, List, [], ◌∷◌, ◌++◌, length, take, refl, sym, ap, subst, ◌∙◌, append-nil, length-append, arith}
 use Rattle.std.proofs.Math.Seq.{take-append_seam}
 use mathlib.Core.List.{IsPrefix}
 use Rattle.crossbeam_queue.specs.Fifo.{Held}
@@ -7,7 +7,7 @@ use Rattle.calls.specs.declared.reply.Callback.{Callback}
 use Rattle.callback_dispatch.specs.declared.numbered.Numbered.{Numbered}
 use Rattle.callback_dispatch.specs.declared.rule.View.{View}
 use Rattle.callback_dispatch.specs.Seen.{numbered}
-use Rattle.callback_dispatch.specs.Rule.{TookAll, Learned, Popped}
+use Rattle.callback_dispatch.specs.Rule.{TookAll, Learned, Popped, told}
 use Rattle.callback_dispatch.proofs.Elements.{numbered-append, take-numbered, take-prefix_of, length-numbered, length-prefix}
 
 prefix-numbered : (known all : List Callback) → IsPrefix known all → IsPrefix (numbered 1 known) (numbered 1 all)
@@ -47,3 +47,9 @@ exactly v fed count items learned whole known low high within =
       omega arith,
       first ∙ ap (take length_taken) took.in_order ∙ take-numbered length_taken 1 took.all ∙ ap (numbered 1) (take-prefix_of length_taken fed took.all begins (omega arith)),
     )
+
+pub exactly-told : (v w old new : View) (fed : List Callback) (count : ℕ) (items : List Numbered) → old ≡ told v w → new ≡ old → Learned old items → v.share ≡ 8 → w.known ≡ fed → w.count ≡ count → length v.taken ≤ count → count ≤ length fed → (count ≡ length new.taken) × (new.taken ≡ numbered 1 (take (length new.taken) fed))
+exactly-told v w old new fed count items is same learned whole known counted high within =
+    let Exact : View → Type 0 = λ u. (count ≡ length u.taken) × (u.taken ≡ numbered 1 (take (length u.taken) fed)) in
+    let low : count ≤ max v.count w.count = grind (arith, counted) in
+    subst Exact (sym (same ∙ is)) (exactly (told v w) fed count items (subst (λ u. Learned u items) is learned) whole known low high within)

@@ -18,15 +18,19 @@ times : ℕ → List Numbered → ℕ
 times number xs = sum_by (is_at number) xs
 
 is_at-here : (number : ℕ) (x : Numbered) → x.number ≡ number → is_at number x ≡ 1
+unfolding is_at
 is_at-here number x is = ap (λ b. cond b 1 0) (eq-eqb x.number number is)
 
 is_at-else : (number : ℕ) (x : Numbered) → x.number ≢ number → is_at number x ≡ 0
+unfolding is_at
 is_at-else number x other = ap (λ b. cond b 1 0) (ne_eqb x.number number other)
 
 times-cons : (number : ℕ) (x : Numbered) (xs : List Numbered) → times number (x ∷ xs) ≡ is_at number x + times number xs
+unfolding times
 times-cons number x xs = sum_by-cons (is_at number) x xs
 
 times-low : (low number : ℕ) (callbacks : List Callback) → low < number → times low (numbered number callbacks) ≡ 0
+unfolding times
 times-low low number [] lt = refl
 times-low low number (callback ∷ callbacks) lt =
     let rest = times-low low (suc number) callbacks (omega arith) in
@@ -35,6 +39,7 @@ times-low low number (callback ∷ callbacks) lt =
     omega arith
 
 times-none : (low : ℕ) (xs : List Numbered) → All (λ x. low < x.number) xs → times low xs ≡ 0
+unfolding times
 times-none low [] above = refl
 times-none low (x ∷ xs) above =
     let Above : Numbered → Type 0 = λ y. low < y.number in
@@ -49,6 +54,7 @@ Stands : List Callback → Numbered → Type 0
 Stands all x = (place : ℕ) × (x.number ≡ suc place) × (slice_get all place ≡ Some x.callback)
 
 stand_all : (front callbacks : List Callback) → All (Stands (front ++ callbacks)) (numbered (suc (length front)) callbacks)
+unfolding Stands
 stand_all front [] = All-nil (Stands (front ++ []))
 stand_all front (callback ∷ callbacks) =
     let number = suc (length front) in
@@ -60,6 +66,7 @@ stand_all front (callback ∷ callbacks) =
 
 -- numbers that do not fall, each as often as among those from this one on
 in_order : (all front callbacks : List Callback) (xs : List Numbered) → all ≡ front ++ callbacks → IsNonDecreasingBy (λ x. x.number) xs → All (Stands all) xs → ((k : ℕ) → times k xs ≡ times k (numbered (suc (length front)) callbacks)) → xs ≡ numbered (suc (length front)) callbacks
+unfolding times Stands
 in_order all front [] [] is rises stand as_often = refl
 in_order all front [] (x ∷ xs) is rises stand as_often =
     let here = is_at-here x.number x refl in
@@ -115,6 +122,7 @@ all_behind P (x ∷ xs) ys all = all_behind P xs ys (All-tail P x (xs ++ ys) all
 
 -- what was taken of all behind their beginning, in whatever order, and sorted
 pub sorted_behind : (all : List Callback) (count : ℕ) (before taken sorted : List Numbered) → before ≡ numbered 1 (take count all) → IsPermutation (before ++ taken) (numbered 1 all) → IsPermutation taken sorted → IsNonDecreasingBy (λ x. x.number) sorted → before ++ sorted ≡ numbered 1 all
+unfolding times
 sorted_behind all count before taken sorted begins whole shuffled rises =
     let front = take count all in
     let back = drop count all in

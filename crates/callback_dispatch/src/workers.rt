@@ -114,7 +114,7 @@ pub fn gather<R: Threads + Wait + Sync, G: Gate>(
 
 // What the workers took, in one vector that has room for it.
 pub fn pour(rooms: Vec<Vec<Numbered>>, answer: Vec<Numbered>) -> Vec<Numbered>
-    requires fits { vec_len answer + length (gathered rooms.items) ≤ vec_capacity answer }
+    requires { vec_len answer + length (gathered rooms.items) ≤ vec_capacity answer }
     ensures items { result.items ≡ answer.items ++ gathered rooms.items }
     ensures capacity { vec_capacity answer ≤ vec_capacity result }
 {

@@ -2,11 +2,11 @@ use Rattle.std.proofs.Common.{◌≡◌, ◌+◌, ◌-◌, ◌≤◌, vec_len, v
 use Rattle.callback_dispatch.specs.Crew.{TookMore}
 use Rattle.callback_dispatch.proofs.workers.take_left.Given as goal
 
-abbrev pub invariant-loop-answer : goal.invariant-loop-answer
-invariant-loop-answer g l =
+abbrev pub invariant-loop-taker : goal.invariant-loop-taker
+invariant-loop-taker g l =
     (l.taker.queue ≡ l.initial.taker.queue) × (l.taker.share ≡ l.initial.taker.share) × (l.taker.known ≡ l.initial.taker.known)
     × TookMore l.initial.taker.list l.initial.answer.items l.taker.list l.answer.items × (l.full ≤ vec_capacity l.answer)
     × (vec_len l.answer ≤ l.full)
 
-abbrev pub decreases-loop-answer : goal.decreases-loop-answer
-decreases-loop-answer g l = l.full - vec_len l.answer
+abbrev pub decreases-loop-taker : goal.decreases-loop-taker
+decreases-loop-taker g l = l.full - vec_len l.answer

@@ -1,5 +1,7 @@
 use Rattle.std.proofs.Common.{rules}
+use Rattle.crossbeam_queue.specs.Passes.{view}
 use Rattle.callback_dispatch.proofs.Steps.{learns}
+use Rattle.callback_dispatch.proofs.Looks.{exactly-told}
 use Rattle.callback_dispatch.proofs.Joins.{forks-fed, forks-taken, merges-told}
 use Rattle.callback_dispatch.proofs.queue.CallbackQueue.acquaint.Goals as goal
 
@@ -22,4 +24,8 @@ pub learn_as-requires-2-clause-rule : goal.learn_as-requires-2-clause-rule
 learn_as-requires-2-clause-rule c = learns _ _
 
 pub returns-clause-exact : goal.returns-clause-exact
-returns-clause-exact c = ?
+returns-clause-exact c whole =
+    let fed = (view c.another-note-2.new.pass).fed in
+    let count = (view c.another-note-2.new.pass).count in
+    exactly-told (view c.another-note.new.pass) (view c.another-note-2.result) (view c.absorb-2.new.pass) (view c.learn_as-2.new.pass) fed count c.learn_as-2.ensures.rule.0 c.absorb-2.ensures.rule c.learn_as-2.ensures.queue.1 c.learn_as-2.ensures.rule.1
+        (search rules) (search rules) (search rules) (search rules) (search rules)
