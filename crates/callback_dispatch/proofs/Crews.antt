@@ -1,12 +1,12 @@
 -- What workers took together.
-use Rattle.std.proofs.Common.{◌≡◌, ℕ, ◌+◌, ◌≤◌, IsPermutation, List, [], ◌∷◌, ◌++◌, length, take, drop, take_all, take-append-drop, length-append, refl, sym, ap, subst, ◌∙◌, append-nil, append_assoc, arith}
+use Rattle.std.proofs.Common.{◌≡◌, ℕ, ◌+◌, ◌≤◌, IsPermutation, true, false, cond, ltb, List, [], ◌∷◌, ◌++◌, length, take, drop, take_all, take-append-drop, length-append, refl, sym, ap, subst, ◌∙◌, append-nil, append_assoc, arith}
 use Rattle.std.proofs.lemmas.Grind.{flat_map-append}
 use Rattle.std.proofs.lemmas.List.Sorted.{length_permutation, IsPermutation-refl, IsPermutation-trans, IsPermutation-append_left}
 use mathlib.Core.List.{IsPrefix}
 use Rattle.std.specs.Global.{Vec}
 use Rattle.callback_dispatch.specs.declared.numbered.Numbered.{Numbered}
 use Rattle.calls.specs.declared.reply.Callback.{Callback}
-use Rattle.callback_dispatch.specs.Seen.{numbered, union}
+use Rattle.callback_dispatch.specs.Seen.{numbered, union, longer_of}
 use Rattle.callback_dispatch.specs.Crew.{gathered, TookMore}
 use Rattle.callback_dispatch.proofs.Elements.{length-numbered, length-prefix}
 use Rattle.callback_dispatch.proofs.Unions.{union-permutes}
@@ -29,11 +29,18 @@ one_took list new rooms more room none is took =
     same_permutes (list ++ gathered more) new (took ∙ sym (ap (λ (l : List Numbered). list ++ l) all))
 
 -- a worker beside others
-pub both_took : (list mine theirs : List Numbered) (rooms more : List (Vec Numbered)) (room : Vec Numbered) → more ≡ rooms ++ room ∷ [] → mine ≡ room.items → IsPermutation (list ++ gathered rooms) theirs → IsPermutation (list ++ gathered more) (union theirs mine)
-both_took list mine theirs rooms more room is took others =
-    let all : list ++ gathered more ≡ (list ++ gathered rooms) ++ mine = ap (λ (l : List Numbered). list ++ l) (gathered-more rooms more room is) ∙ sym (append_assoc list (gathered rooms) room.items) ∙ ap (λ (l : List Numbered). (list ++ gathered rooms) ++ l) (sym took) in
-    let first = IsPermutation-append_left mine (list ++ gathered rooms) theirs others in
-    subst (λ (l : List Numbered). IsPermutation l (union theirs mine)) (sym all) (IsPermutation-trans ((list ++ gathered rooms) ++ mine) (theirs ++ mine) (union theirs mine) first (union-permutes theirs mine))
+pub both_took : (list old other mine theirs new : List Numbered) (rooms more : List (Vec Numbered)) (room : Vec Numbered) → more ≡ rooms ++ room ∷ [] → other ≡ [] → mine ≡ other ++ room.items → old ≡ list → IsPermutation (old ++ gathered rooms) theirs → new ≡ union theirs mine → IsPermutation (list ++ gathered more) new
+both_took list old other mine theirs new rooms more room is empty took same others joined =
+    let own : mine ≡ room.items = took ∙ ap (λ (l : List Numbered). l ++ room.items) empty in
+    let all : list ++ gathered more ≡ (old ++ gathered rooms) ++ mine = ap (λ (l : List Numbered). list ++ l) (gathered-more rooms more room is) ∙ sym (append_assoc list (gathered rooms) room.items) ∙ ap (λ (l : List Numbered). (l ++ gathered rooms) ++ room.items) (sym same) ∙ ap (λ (l : List Numbered). (old ++ gathered rooms) ++ l) (sym own) in
+    let first = IsPermutation-append_left mine (old ++ gathered rooms) theirs others in
+    let whole = IsPermutation-trans ((old ++ gathered rooms) ++ mine) (theirs ++ mine) (union theirs mine) first (union-permutes theirs mine) in
+    subst (λ (y : List Numbered × List Numbered). IsPermutation y.0 y.1) (λ i. (sym all i, sym joined i)) whole
+
+-- takers that know the same know it when they are joined
+pub joined_known : (one two known new : List Callback) → new ≡ longer_of one two → one ≡ known → two ≡ known → new ≡ known
+joined_known one two known new joined first second =
+    joined ∙ elim (ltb (length one) (length two)) as (λ b. cond b two one ≡ known) [ true ↦ second | false ↦ first ]
 
 -- a room fits into what all rooms fit into
 pub room_fits : (answer all : List Numbered) (rooms rest : List (Vec Numbered)) (room : Vec Numbered) → rooms ≡ room ∷ rest → answer ++ gathered rooms ≡ all → length answer + length room.items ≤ length all
@@ -70,15 +77,41 @@ known_taken known list begins =
     omega arith
 
 -- what is as long as what was fed, and its beginning, is all of it
-pub all_taken : (fed : List Callback) (list : List Numbered) → list ≡ numbered 1 (take (length list) fed) → length fed ≤ length list → list ≡ numbered 1 fed
-all_taken fed list is enough = is ∙ ap (numbered 1) (take_all (length list) fed enough)
+pub all_taken : (fed known : List Callback) (list new : List Numbered) → new ≡ numbered 1 (take (length new) fed) → new ≡ list → known ≡ fed → length known ≤ length list → new ≡ numbered 1 fed
+all_taken fed known list new is same told enough =
+    let one = ap length same in
+    let two = ap length told in
+    is ∙ ap (numbered 1) (take_all (length new) fed (omega arith))
 
--- what was taken fits into a vector with places for what waited
-pub took_waiting : (fed : List Callback) (before list taken : List Numbered) (waiting : ℕ) → list ≡ numbered 1 (take (length list) fed) → IsPermutation (before ++ taken) list → length fed ≤ length before + waiting → length taken ≤ waiting
-took_waiting fed before list taken waiting is shuffled enough =
-    let long = length-numbered 1 (take (length list) fed) in
-    let same = ap length is in
-    let within = length-prefix (take (length list) fed) fed (drop (length list) fed, take-append-drop (length list) fed) in
+-- what was taken fits where there is room for all that waited
+pub took_waiting : (fed : List Callback) (before list new taken given : List Numbered) (waiting room : ℕ) → new ≡ numbered 1 (take (length new) fed) → new ≡ list → IsPermutation (before ++ taken) list → given ≡ taken → length fed ≤ length before + waiting → waiting ≤ room → length given ≤ room
+took_waiting fed before list new taken given waiting room is same shuffled handed enough fits =
+    let long = length-numbered 1 (take (length new) fed) in
+    let whole = ap length is in
+    let again = ap length same in
+    let all = ap length handed in
+    let within = length-prefix (take (length new) fed) fed (drop (length new) fed, take-append-drop (length new) fed) in
     let both = length_permutation (before ++ taken) list shuffled in
     let parts = length-append before taken in
     omega arith
+
+pub length_together : (before taken given list new : List Numbered) → IsPermutation (before ++ taken) list → given ≡ taken → new ≡ list → length new ≡ length before + length given
+length_together before taken given list new shuffled handed same =
+    let again = ap length same in
+    let all = ap length handed in
+    let both = length_permutation (before ++ taken) list shuffled in
+    let parts = length-append before taken in
+    omega arith
+
+pub took_same : (before taken given list new : List Numbered) → IsPermutation (before ++ taken) list → given ≡ taken → new ≡ list → IsPermutation (before ++ given) new
+took_same before taken given list new shuffled handed same =
+    subst (λ (y : List Numbered × List Numbered). IsPermutation (before ++ y.0) y.1) (λ i. (sym handed i, sym same i)) shuffled
+
+-- the rest that one taker takes comes behind what the workers took
+pub took_rest : (fed known : List Callback) (before taken list left new more : List Numbered) → IsPermutation (before ++ taken) list → TookMore list taken left more → new ≡ numbered 1 (take (length new) fed) → new ≡ left → known ≡ fed → length known ≤ length left → IsPermutation (before ++ more) (numbered 1 fed)
+took_rest fed known before taken list left new more shuffled took is same told enough =
+    let rest = took.0 in
+    let whole : left ≡ numbered 1 fed = sym same ∙ all_taken fed known left new is same told enough in
+    let one : (before ++ taken) ++ rest ≡ before ++ more = append_assoc before taken rest ∙ ap (λ (l : List Numbered). before ++ l) (sym took.2) in
+    let two : list ++ rest ≡ numbered 1 fed = sym took.1 ∙ whole in
+    subst (λ (y : List Numbered × List Numbered). IsPermutation y.0 y.1) (λ i. (one i, two i)) (IsPermutation-append_left rest (before ++ taken) list shuffled)

@@ -121,7 +121,7 @@ all_behind P [] ys all = all
 all_behind P (x ∷ xs) ys all = all_behind P xs ys (All-tail P x (xs ++ ys) all)
 
 -- what was taken of all behind their beginning, in whatever order, and sorted
-pub sorted_behind : (all : List Callback) (count : ℕ) (before taken sorted : List Numbered) → before ≡ numbered 1 (take count all) → IsPermutation (before ++ taken) (numbered 1 all) → IsPermutation taken sorted → IsNonDecreasingBy (λ x. x.number) sorted → before ++ sorted ≡ numbered 1 all
+sorted_behind : (all : List Callback) (count : ℕ) (before taken sorted : List Numbered) → before ≡ numbered 1 (take count all) → IsPermutation (before ++ taken) (numbered 1 all) → IsPermutation taken sorted → IsNonDecreasingBy (λ x. x.number) sorted → before ++ sorted ≡ numbered 1 all
 unfolding times
 sorted_behind all count before taken sorted begins whole shuffled rises =
     let front = take count all in
@@ -142,3 +142,9 @@ sorted_behind all count before taken sorted begins whole shuffled rises =
             let counts : times k (numbered number back) ≡ sum_by (is_at k) taken = omega arith in
             again ∙ sym counts) in
     ap (λ l. before ++ l) behind ∙ sym in_two
+
+-- the same of lists that stayed what they were
+pub given_in_order : (fed told : List Callback) (before settled still taken sorted given : List Numbered) → settled ≡ numbered 1 (take (length settled) fed) → settled ≡ before → still ≡ settled → IsPermutation (still ++ taken) (numbered 1 told) → told ≡ fed → IsPermutation taken sorted → IsNonDecreasingBy (λ x. x.number) sorted → given ≡ sorted → before ++ given ≡ numbered 1 fed
+given_in_order fed told before settled still taken sorted given begins was stays whole same shuffled rises is =
+    let all : IsPermutation (before ++ taken) (numbered 1 fed) = subst (λ (y : List Numbered × List Callback). IsPermutation (y.0 ++ taken) (numbered 1 y.1)) (λ i. ((stays ∙ was) i, same i)) whole in
+    ap (λ l. before ++ l) is ∙ sorted_behind fed (length settled) before taken sorted (sym was ∙ begins) all shuffled rises

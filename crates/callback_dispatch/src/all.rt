@@ -1,5 +1,5 @@
 //! All that waits is handed out by many workers.
-ghost use Rattle.std.specs.Prelude.{◌≡◌, ◌+◌, ◌<◌, ◌≤◌, [], ◌++◌, length, IsPermutation, IfOk, IfErr, vec_len, vec_capacity};
+ghost use Rattle.std.specs.Prelude.{◌≡◌, ◌+◌, ◌<◌, ◌≤◌, [], ◌++◌, length, take, IsPermutation, IfOk, IfErr, vec_len, vec_capacity};
 ghost use Rattle.std.specs.List.Sorted.{IsNonDecreasingBy};
 ghost use Rattle.callback_dispatch.specs.Seen.{numbered};
 ghost use Rattle.callback_dispatch.specs.Crew.{AreFree};
@@ -36,7 +36,53 @@ fn by_number(taken: Vec<Numbered>) -> Vec<Numbered>
     taken
 }
 
-// The workers take, and then the taker itself takes what they left, so that its `None` is exact.
+// The feeder and the only taker tell each other all that they know.
+fn settle(queue: &CallbackQueue, feeder: &mut Feeder, taker: &mut Taker)
+    requires feeder { feeder.old.queue ≡ queue.now.name }
+    requires taker { (taker.old.queue ≡ queue.now.name) × (taker.old.share ≡ 8) }
+    ensures feeder { (feeder.new.queue ≡ feeder.old.queue) × (feeder.new.list ≡ feeder.old.list)
+        × (feeder.old.count ≤ feeder.new.count) × (feeder.new.count ≡ length taker.new.list) }
+    ensures taker { (taker.new.queue ≡ taker.old.queue) × (taker.new.list ≡ taker.old.list)
+        × (taker.new.share ≡ 8) × (taker.new.known ≡ feeder.old.list) }
+    ensures exact { taker.new.list ≡ numbered 1 (take (length taker.new.list) feeder.old.list) }
+{
+    queue.acquaint(feeder, taker);
+}
+
+// The workers take. They may leave something: what one of them learns where it finds nothing is lost as it is joined.
+#[tactic(auto, using(crate::proofs::Crews::took_waiting, crate::proofs::Crews::length_together, crate::proofs::Crews::took_same))]
+fn take_by_workers<R: Threads + Wait + Sync, G: Gate>(
+    rt: &R,
+    queue: &CallbackQueue,
+    feeder: &mut Feeder,
+    taker: Taker,
+    waiting: usize,
+    free: (Vec<Vec<Numbered>>, Vec<Numbered>),
+    gate: &G,
+) -> (Taker, Vec<Numbered>)
+    requires feeder { feeder.old.queue ≡ queue.now.name }
+    requires taker { (taker.queue ≡ queue.now.name) × (taker.share ≡ 8) }
+    requires waiting { length feeder.old.list ≤ length taker.list + waiting }
+    requires rooms { (vec_len free.0 ≤ 8) × AreFree queue.now.capacity free.0.items }
+    requires answer { (free.1.items ≡ []) × (waiting ≤ vec_capacity free.1) }
+    ensures feeder { (feeder.new.queue ≡ feeder.old.queue) × (feeder.new.list ≡ feeder.old.list)
+        × (feeder.old.count ≤ feeder.new.count) }
+    ensures taker { (result.0.queue ≡ taker.queue) × (result.0.share ≡ 8)
+        × (result.0.known ≡ feeder.old.list) }
+    ensures took { IsPermutation (taker.list ++ result.1.items) result.0.list }
+    ensures long { length result.0.list ≡ length taker.list + length result.1.items }
+    ensures few { length result.1.items ≤ waiting }
+    ensures room { waiting ≤ vec_capacity result.1 }
+{
+    let (rooms, answer) = free;
+    let (mut taker, rooms) = gather(rt, queue, taker, 0, queue.capacity(), rooms, gate);
+    settle(queue, feeder, &mut taker);
+    let answer = pour(rooms, answer);
+    (taker, answer)
+}
+
+// All is taken: the workers take, and then the taker itself takes what they left, so that its `None` is exact.
+#[tactic(auto, using(crate::proofs::Crews::all_taken, crate::proofs::Crews::took_rest))]
 fn take_all<R: Threads + Wait + Sync, G: Gate>(
     rt: &R,
     queue: &CallbackQueue,
@@ -47,23 +93,21 @@ fn take_all<R: Threads + Wait + Sync, G: Gate>(
     gate: &G,
 ) -> (Taker, Vec<Numbered>)
     requires feeder { feeder.old.queue ≡ queue.now.name }
-    requires taker { (taker.queue ≡ queue.now.name) × (taker.share ≡ 8) × (taker.known ≡ feeder.old.list) }
+    requires taker { (taker.queue ≡ queue.now.name) × (taker.share ≡ 8) }
     requires waiting { length feeder.old.list ≤ length taker.list + waiting }
     requires rooms { (vec_len free.0 ≤ 8) × AreFree queue.now.capacity free.0.items }
     requires answer { (free.1.items ≡ []) × (waiting ≤ vec_capacity free.1) }
     ensures feeder { (feeder.new.queue ≡ feeder.old.queue) × (feeder.new.list ≡ feeder.old.list)
         × (feeder.old.count ≤ feeder.new.count) × (feeder.new.count ≡ length feeder.old.list) }
     ensures taker { (result.0.queue ≡ taker.queue) × (result.0.share ≡ 8)
-        × (result.0.list ≡ numbered 1 feeder.old.list) × (result.0.known ≡ feeder.old.list) }
+        × (result.0.known ≡ feeder.old.list) }
+    ensures list { result.0.list ≡ numbered 1 feeder.old.list }
     ensures took { IsPermutation (taker.list ++ result.1.items) (numbered 1 feeder.old.list) }
 {
-    let (rooms, answer) = free;
-    let (mut taker, rooms) = gather(rt, queue, taker, 0, queue.capacity(), rooms, gate);
-    queue.acquaint(feeder, &mut taker);
-    let answer = pour(rooms, answer);
+    let (mut taker, answer) = take_by_workers(rt, queue, feeder, taker, waiting, free, gate);
     let left = waiting - answer.len();
     let answer = take_left(rt, queue, &mut taker, answer, left);
-    queue.acquaint(feeder, &mut taker);
+    settle(queue, feeder, &mut taker);
     (taker, answer)
 }
 
@@ -74,6 +118,7 @@ impl CallbackQueue {
     /// queue has places; then the taker itself takes what they left. The answer is the same for every number of
     /// workers. All memory is taken first: where it runs out nothing is taken, and the taker comes back with the
     /// error. The feeder is lent, so that nothing is fed meanwhile.
+    #[tactic(auto, using(crate::proofs::Order::given_in_order))]
     pub fn dispatch_all<R: Threads + Wait + Sync, G: Gate>(
         &self,
         rt: &R,
@@ -96,7 +141,7 @@ impl CallbackQueue {
             × (failed.0.list ≡ taker.list)) }
     {
         let mut taker = taker;
-        self.acquaint(feeder, &mut taker);
+        settle(self, feeder, &mut taker);
         let waiting = self.waiting(rt, &mut taker);
         let free = match free_memory(alloc, workers, self.capacity(), waiting) {
             Ok(free) => free,

@@ -66,6 +66,7 @@ fn work<R: Wait, G: Gate>(
 
 // A worker for each room, each with a share of the taker's. All of them are joined again.
 #[cycle(crew)]
+#[tactic(auto, using(crate::proofs::Crews::none_took, crate::proofs::Crews::one_took, crate::proofs::Crews::both_took, crate::proofs::Crews::joined_known))]
 pub fn gather<R: Threads + Wait + Sync, G: Gate>(
     rt: &R,
     queue: &CallbackQueue,
@@ -112,10 +113,11 @@ pub fn gather<R: Threads + Wait + Sync, G: Gate>(
     (queue.join_takers(rt, two, one), rooms)
 }
 
-// What the workers took, in one vector that has room for it.
+// What the workers took, in an empty vector that has room for it.
 pub fn pour(rooms: Vec<Vec<Numbered>>, answer: Vec<Numbered>) -> Vec<Numbered>
-    requires { vec_len answer + length (gathered rooms.items) ≤ vec_capacity answer }
-    ensures items { result.items ≡ answer.items ++ gathered rooms.items }
+    requires empty { answer.items ≡ [] }
+    requires fits { length (gathered rooms.items) ≤ vec_capacity answer }
+    ensures items { result.items ≡ gathered rooms.items }
     ensures capacity { vec_capacity answer ≤ vec_capacity result }
 {
     let mut answer = answer;
@@ -129,6 +131,7 @@ pub fn pour(rooms: Vec<Vec<Numbered>>, answer: Vec<Numbered>) -> Vec<Numbered>
 }
 
 // Takes what is left, at most so many elements.
+#[tactic(auto, using(crate::proofs::Crews::took_nothing, crate::proofs::Crews::took_one_more, crate::proofs::Crews::known_taken))]
 pub fn take_left<R: Wait>(
     rt: &R,
     queue: &CallbackQueue,

@@ -6,5 +6,5 @@ use Rattle.callback_dispatch.proofs.workers.pour.Given as goal
 abbrev pub invariant-loop-room : goal.invariant-loop-room
 invariant-loop-room l =
     (goal.iterator-loop-room).can_next l.room-iterator × (goal.iterator-loop-room).is_finite l.room-iterator
-    × (l.answer.items ++ gathered (into_iter_items l.room-iterator) ≡ l.initial.answer.items ++ gathered l.fn.rooms.items)
+    × (l.answer.items ++ gathered (into_iter_items l.room-iterator) ≡ gathered l.fn.rooms.items)
     × (vec_capacity l.initial.answer ≤ vec_capacity l.answer)

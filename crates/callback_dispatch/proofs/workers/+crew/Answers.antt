@@ -1,0 +1,1 @@
+use Rattle.callback_dispatch.proofs.workers.+crew.Goals as goal
