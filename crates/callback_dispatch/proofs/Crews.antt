@@ -60,45 +60,40 @@ took_one_more list answer one two x new_one new_two so_far is also = (
       also ∙ ap (λ (l : List Numbered). l ++ x ∷ []) so_far.2 ∙ append_assoc answer so_far.0 (x ∷ []),
     )
 
--- where the answer is full, enough was taken
-pub enough_taken : (list answer new_list new_answer : List Numbered) (most wanted : ℕ) → TookMore list answer new_list new_answer → wanted ≤ length list + most → length answer + most ≤ length new_answer → wanted ≤ length new_list
-enough_taken list answer new_list new_answer most wanted took enough full =
-    let one = ap length took.1 in
-    let two = ap length took.2 in
-    let three = length-append list took.0 in
-    let four = length-append answer took.0 in
-    omega arith
-
 -- where nothing waits, all that is known was taken
-pub known_taken : (known : List Callback) (list : List Numbered) → IsPrefix (numbered 1 known) list → length known ≤ length list
-known_taken known list begins =
+pub known_taken : (known new_known : List Callback) (list new_list : List Numbered) → IsPrefix (numbered 1 known) list → new_known ≡ known → new_list ≡ list → length new_known ≤ length new_list
+known_taken known new_known list new_list begins told same =
     let within = length-prefix (numbered 1 known) list begins in
     let long = length-numbered 1 known in
+    let one = ap length told in
+    let two = ap length same in
     omega arith
 
 -- what is as long as what was fed, and its beginning, is all of it
-pub all_taken : (fed known : List Callback) (list new : List Numbered) → new ≡ numbered 1 (take (length new) fed) → new ≡ list → known ≡ fed → length known ≤ length list → new ≡ numbered 1 fed
-all_taken fed known list new is same told enough =
+pub all_taken : (fed told known : List Callback) (list new : List Numbered) → new ≡ numbered 1 (take (length new) told) → new ≡ list → known ≡ told → told ≡ fed → length known ≤ length list → new ≡ numbered 1 fed
+all_taken fed told known list new is same knows still enough =
     let one = ap length same in
-    let two = ap length told in
-    is ∙ ap (numbered 1) (take_all (length new) fed (omega arith))
+    let two = ap length knows in
+    is ∙ ap (numbered 1) (take_all (length new) told (omega arith) ∙ still)
+
+pub all_counted : (fed told known : List Callback) (list new : List Numbered) (count : ℕ) → count ≡ length new → new ≡ numbered 1 (take (length new) told) → new ≡ list → known ≡ told → told ≡ fed → length known ≤ length list → count ≡ length fed
+all_counted fed told known list new count counted is same knows still enough =
+    counted ∙ ap length (all_taken fed told known list new is same knows still enough) ∙ length-numbered 1 fed
 
 -- what was taken fits where there is room for all that waited
-pub took_waiting : (fed : List Callback) (before list new taken given : List Numbered) (waiting room : ℕ) → new ≡ numbered 1 (take (length new) fed) → new ≡ list → IsPermutation (before ++ taken) list → given ≡ taken → length fed ≤ length before + waiting → waiting ≤ room → length given ≤ room
-took_waiting fed before list new taken given waiting room is same shuffled handed enough fits =
+pub took_waiting : (fed : List Callback) (before list new taken : List Numbered) (count waiting room : ℕ) → new ≡ numbered 1 (take (length new) fed) → new ≡ list → IsPermutation (before ++ taken) list → count ≡ length taken → length fed ≤ length before + waiting → waiting ≤ room → count ≤ room
+took_waiting fed before list new taken count waiting room is same shuffled counted enough fits =
     let long = length-numbered 1 (take (length new) fed) in
     let whole = ap length is in
     let again = ap length same in
-    let all = ap length handed in
     let within = length-prefix (take (length new) fed) fed (drop (length new) fed, take-append-drop (length new) fed) in
     let both = length_permutation (before ++ taken) list shuffled in
     let parts = length-append before taken in
     omega arith
 
-pub length_together : (before taken given list new : List Numbered) → IsPermutation (before ++ taken) list → given ≡ taken → new ≡ list → length new ≡ length before + length given
-length_together before taken given list new shuffled handed same =
+pub length_together : (before taken list new : List Numbered) (count : ℕ) → IsPermutation (before ++ taken) list → count ≡ length taken → new ≡ list → length new ≡ length before + count
+length_together before taken list new count shuffled counted same =
     let again = ap length same in
-    let all = ap length handed in
     let both = length_permutation (before ++ taken) list shuffled in
     let parts = length-append before taken in
     omega arith
@@ -108,10 +103,10 @@ took_same before taken given list new shuffled handed same =
     subst (λ (y : List Numbered × List Numbered). IsPermutation (before ++ y.0) y.1) (λ i. (sym handed i, sym same i)) shuffled
 
 -- the rest that one taker takes comes behind what the workers took
-pub took_rest : (fed known : List Callback) (before taken list left new more : List Numbered) → IsPermutation (before ++ taken) list → TookMore list taken left more → new ≡ numbered 1 (take (length new) fed) → new ≡ left → known ≡ fed → length known ≤ length left → IsPermutation (before ++ more) (numbered 1 fed)
-took_rest fed known before taken list left new more shuffled took is same told enough =
+pub took_rest : (fed told known : List Callback) (before taken list left new more : List Numbered) → IsPermutation (before ++ taken) list → TookMore list taken left more → new ≡ numbered 1 (take (length new) told) → new ≡ left → known ≡ told → told ≡ fed → length known ≤ length left → IsPermutation (before ++ more) (numbered 1 fed)
+took_rest fed told known before taken list left new more shuffled took is same knows still enough =
     let rest = took.0 in
-    let whole : left ≡ numbered 1 fed = sym same ∙ all_taken fed known left new is same told enough in
+    let whole : left ≡ numbered 1 fed = sym same ∙ all_taken fed told known left new is same knows still enough in
     let one : (before ++ taken) ++ rest ≡ before ++ more = append_assoc before taken rest ∙ ap (λ (l : List Numbered). before ++ l) (sym took.2) in
     let two : list ++ rest ≡ numbered 1 fed = sym took.1 ∙ whole in
     subst (λ (y : List Numbered × List Numbered). IsPermutation y.0 y.1) (λ i. (one i, two i)) (IsPermutation-append_left rest (before ++ taken) list shuffled)

@@ -70,8 +70,8 @@ fn take_by_workers<R: Threads + Wait + Sync, G: Gate>(
     ensures taker { (result.0.queue ≡ taker.queue) × (result.0.share ≡ 8)
         × (result.0.known ≡ feeder.old.list) }
     ensures took { IsPermutation (taker.list ++ result.1.items) result.0.list }
-    ensures long { length result.0.list ≡ length taker.list + length result.1.items }
-    ensures few { length result.1.items ≤ waiting }
+    ensures long { length result.0.list ≡ length taker.list + vec_len result.1 }
+    ensures few { vec_len result.1 ≤ waiting }
     ensures room { waiting ≤ vec_capacity result.1 }
 {
     let (rooms, answer) = free;
@@ -82,7 +82,7 @@ fn take_by_workers<R: Threads + Wait + Sync, G: Gate>(
 }
 
 // All is taken: the workers take, and then the taker itself takes what they left, so that its `None` is exact.
-#[tactic(auto, using(crate::proofs::Crews::all_taken, crate::proofs::Crews::took_rest))]
+#[tactic(auto, using(crate::proofs::Crews::all_taken, crate::proofs::Crews::all_counted, crate::proofs::Crews::took_rest))]
 fn take_all<R: Threads + Wait + Sync, G: Gate>(
     rt: &R,
     queue: &CallbackQueue,

@@ -118,6 +118,7 @@ pub fn pour(rooms: Vec<Vec<Numbered>>, answer: Vec<Numbered>) -> Vec<Numbered>
     requires empty { answer.items ≡ [] }
     requires fits { length (gathered rooms.items) ≤ vec_capacity answer }
     ensures items { result.items ≡ gathered rooms.items }
+    ensures len { vec_len result ≡ length (gathered rooms.items) }
     ensures capacity { vec_capacity answer ≤ vec_capacity result }
 {
     let mut answer = answer;
