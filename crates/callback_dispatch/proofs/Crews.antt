@@ -55,10 +55,10 @@ took_nothing list answer = ([], sym (append-nil list), sym (append-nil answer))
 
 pub took_one_more : (list answer one two : List Numbered) (x : Numbered) (new_one new_two : List Numbered) → TookMore list answer one two → new_one ≡ one ++ x ∷ [] → new_two ≡ two ++ x ∷ [] → TookMore list answer new_one new_two
 took_one_more list answer one two x new_one new_two so_far is also = (
-      so_far.0 ++ x ∷ [],
-      is ∙ ap (λ (l : List Numbered). l ++ x ∷ []) so_far.1 ∙ append_assoc list so_far.0 (x ∷ []),
-      also ∙ ap (λ (l : List Numbered). l ++ x ∷ []) so_far.2 ∙ append_assoc answer so_far.0 (x ∷ []),
-    )
+  so_far.0 ++ x ∷ [],
+  is ∙ ap (λ (l : List Numbered). l ++ x ∷ []) so_far.1 ∙ append_assoc list so_far.0 (x ∷ []),
+  also ∙ ap (λ (l : List Numbered). l ++ x ∷ []) so_far.2 ∙ append_assoc answer so_far.0 (x ∷ []),
+)
 
 -- where nothing waits, all that is known was taken
 pub known_taken : (known new_known : List Callback) (list new_list : List Numbered) → IsPrefix (numbered 1 known) list → new_known ≡ known → new_list ≡ list → length new_known ≤ length new_list

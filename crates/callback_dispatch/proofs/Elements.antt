@@ -86,7 +86,7 @@ taken_else taker pass number callback callbacks other =
 pub taken_cases : (F : List Numbered → Type 0) (taker : ℕ → ℕ) (pass number : ℕ) (callback : Callback) (callbacks : List Callback) → (taker number ≡ pass → F (element number callback ∷ taken_by taker pass (suc number) callbacks)) → (taker number ≢ pass → F (taken_by taker pass (suc number) callbacks)) → F (taken_by taker pass number (callback ∷ callbacks))
 taken_cases F taker pass number callback callbacks here other =
     ⊎_elim (λ is. subst F (sym (taken_here taker pass number callback callbacks is)) (here is))
-        (λ not. subst F (sym (taken_else taker pass number callback callbacks not)) (other not)) (same_or_not (taker number) pass)
+    (λ not. subst F (sym (taken_else taker pass number callback callbacks not)) (other not)) (same_or_not (taker number) pass)
 
 pub taken-below : (taker : ℕ → ℕ) (pass number : ℕ) (callbacks : List Callback) (high : ℕ) → number + length callbacks ≤ high → AllBelow high (taken_by taker pass number callbacks)
 taken-below taker pass number [] high le = All-nil (λ x. x.number < high)
@@ -117,9 +117,9 @@ taken-alone taker pass number [] none = refl
 taken-alone taker pass number (callback ∷ callbacks) none =
     let first = element number callback in
     ⊎_elim
-        (λ mine. taken_here taker pass number callback callbacks mine ∙ ap (λ (r : List Numbered). first ∷ r) (taken-alone taker pass (suc number) callbacks (λ other apart. sym (taken_else taker other number callback callbacks (λ is. apart (sym is ∙ mine))) ∙ none other apart)))
-        (λ another. absurd (cons-ne-nil first (taken_by taker (taker number) (suc number) callbacks) (sym (taken_here taker (taker number) number callback callbacks refl) ∙ none (taker number) another)))
-        (same_or_not (taker number) pass)
+    (λ mine. taken_here taker pass number callback callbacks mine ∙ ap (λ (r : List Numbered). first ∷ r) (taken-alone taker pass (suc number) callbacks (λ other apart. sym (taken_else taker other number callback callbacks (λ is. apart (sym is ∙ mine))) ∙ none other apart)))
+    (λ another. absurd (cons-ne-nil first (taken_by taker (taker number) (suc number) callbacks) (sym (taken_here taker (taker number) number callback callbacks refl) ∙ none (taker number) another)))
+    (same_or_not (taker number) pass)
 
 -- the next number goes to a pass
 abbrev pub after : (ℕ → ℕ) → ℕ → ℕ → ℕ → ℕ
@@ -141,9 +141,9 @@ taken-mine taker pass number (one ∷ callbacks) callback next is =
     let stays = after-else taker next pass number (λ e. omega arith) in
     let all = callbacks ++ callback ∷ [] in
     ⊎_elim
-        (λ mine. taken_here (after taker next pass) pass number one all (stays ∙ mine) ∙ ap (λ (r : List Numbered). element number one ∷ r) more ∙ sym (ap (λ (r : List Numbered). r ++ last ∷ []) (taken_here taker pass number one callbacks mine)))
-        (λ other. taken_else (after taker next pass) pass number one all (λ e. other (sym stays ∙ e)) ∙ more ∙ sym (ap (λ (r : List Numbered). r ++ last ∷ []) (taken_else taker pass number one callbacks other)))
-        (same_or_not (taker number) pass)
+    (λ mine. taken_here (after taker next pass) pass number one all (stays ∙ mine) ∙ ap (λ (r : List Numbered). element number one ∷ r) more ∙ sym (ap (λ (r : List Numbered). r ++ last ∷ []) (taken_here taker pass number one callbacks mine)))
+    (λ other. taken_else (after taker next pass) pass number one all (λ e. other (sym stays ∙ e)) ∙ more ∙ sym (ap (λ (r : List Numbered). r ++ last ∷ []) (taken_else taker pass number one callbacks other)))
+    (same_or_not (taker number) pass)
 
 -- two functions that send the same numbers to a pass
 pub taken-agree : (one two : ℕ → ℕ) (pass number : ℕ) (callbacks : List Callback) → ((n : ℕ) → one n ≡ pass → two n ≡ pass) → ((n : ℕ) → one n ≢ pass → two n ≢ pass) → taken_by two pass number callbacks ≡ taken_by one pass number callbacks
@@ -151,9 +151,9 @@ taken-agree one two pass number [] same other = refl
 taken-agree one two pass number (callback ∷ callbacks) same other =
     let rest = taken-agree one two pass (suc number) callbacks same other in
     ⊎_elim
-        (λ mine. taken_here two pass number callback callbacks (same number mine) ∙ ap (λ (r : List Numbered). element number callback ∷ r) rest ∙ sym (taken_here one pass number callback callbacks mine))
-        (λ apart. taken_else two pass number callback callbacks (other number apart) ∙ rest ∙ sym (taken_else one pass number callback callbacks apart))
-        (same_or_not (one number) pass)
+    (λ mine. taken_here two pass number callback callbacks (same number mine) ∙ ap (λ (r : List Numbered). element number callback ∷ r) rest ∙ sym (taken_here one pass number callback callbacks mine))
+    (λ apart. taken_else two pass number callback callbacks (other number apart) ∙ rest ∙ sym (taken_else one pass number callback callbacks apart))
+    (same_or_not (one number) pass)
 
 pub taken-none : (taker : ℕ → ℕ) (pass number : ℕ) (callbacks : List Callback) → ((n : ℕ) → taker n ≢ pass) → taken_by taker pass number callbacks ≡ []
 taken-none taker pass number [] other = refl
@@ -170,6 +170,6 @@ taken-theirs taker pass other number (one ∷ callbacks) callback next apart is 
     let stays = after-else taker next other number (λ e. omega arith) in
     let all = callbacks ++ callback ∷ [] in
     ⊎_elim
-        (λ mine. taken_here (after taker next other) pass number one all (stays ∙ mine) ∙ ap (λ (r : List Numbered). element number one ∷ r) more ∙ sym (taken_here taker pass number one callbacks mine))
-        (λ not. taken_else (after taker next other) pass number one all (λ e. not (sym stays ∙ e)) ∙ more ∙ sym (taken_else taker pass number one callbacks not))
-        (same_or_not (taker number) pass)
+    (λ mine. taken_here (after taker next other) pass number one all (stays ∙ mine) ∙ ap (λ (r : List Numbered). element number one ∷ r) more ∙ sym (taken_here taker pass number one callbacks mine))
+    (λ not. taken_else (after taker next other) pass number one all (λ e. not (sym stays ∙ e)) ∙ more ∙ sym (taken_else taker pass number one callbacks not))
+    (same_or_not (taker number) pass)

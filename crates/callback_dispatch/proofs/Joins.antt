@@ -51,14 +51,14 @@ forks pass v left right is items views rule at =
       beyond = λ other le. rule.beyond other (omega arith);
       fits = each_snoc (Fits rule.feeder rule.taker rule.front rule.back) old right
           (each_set (Fits rule.feeder rule.taker rule.front rule.back) views pass left
-              (record {
-                feeds = λ f. ((mine.feeds (sym is.feeds ∙ f)).0, is.fed ∙ (mine.feeds (sym is.feeds ∙ f)).1);
-                takes = is.taken ∙ mine.takes;
-                idle = λ none. is.taken ∙ ⊎_elim (λ (v_none : v.share ≡ 0). mine.idle v_none) (λ (empty : v.taken ≡ []). empty) (is.idle none);
-                known = subst (λ (l : List Callback). IsPrefix l all) (sym is.known) mine.known;
-                count = (let count = is.count in omega arith);
-              })
-              (λ other u apart there. rule.fits other u there))
+          (record {
+            feeds = λ f. ((mine.feeds (sym is.feeds ∙ f)).0, is.fed ∙ (mine.feeds (sym is.feeds ∙ f)).1);
+            takes = is.taken ∙ mine.takes;
+            idle = λ none. is.taken ∙ ⊎_elim (λ (v_none : v.share ≡ 0). mine.idle v_none) (λ (empty : v.taken ≡ []). empty) (is.idle none);
+            known = subst (λ (l : List Callback). IsPrefix l all) (sym is.known) mine.known;
+            count = (let count = is.count in omega arith);
+          })
+          (λ other u apart there. rule.fits other u there))
           (record {
             feeds = λ f. absurd (true≢false (sym f ∙ is.new_feeds));
             takes = is.new_taken ∙ sym (rule.beyond (length old) (omega arith));
@@ -176,23 +176,23 @@ merged items views rule pass v other w both at at_other apart is taker on takes 
             count = omega arith;
           })
           (λ third u not_other found. each_set Stays views pass both
-              (λ _. record {
-                feeds = λ f. ((mine.feeds (sym is.feeds ∙ f)).0, is.fed ∙ (mine.feeds (sym is.feeds ∙ f)).1);
-                takes = takes;
-                idle = idle;
-                known = is.known all mine.known theirs.known;
-                count = is.count (length rule.front) mine.count theirs.count;
-              })
-              (λ one u_there not_pass found_there not.
-                  let fits = rule.fits one u_there found_there in
-                  record {
-                    feeds = fits.feeds;
-                    takes = fits.takes ∙ sym (on.stays one not_pass not);
-                    idle = fits.idle;
-                    known = fits.known;
-                    count = fits.count;
-                  })
-              third u found not_other);
+          (λ _. record {
+            feeds = λ f. ((mine.feeds (sym is.feeds ∙ f)).0, is.fed ∙ (mine.feeds (sym is.feeds ∙ f)).1);
+            takes = takes;
+            idle = idle;
+            known = is.known all mine.known theirs.known;
+            count = is.count (length rule.front) mine.count theirs.count;
+          })
+          (λ one u_there not_pass found_there not.
+          let fits = rule.fits one u_there found_there in
+          record {
+            feeds = fits.feeds;
+            takes = fits.takes ∙ sym (on.stays one not_pass not);
+            idle = fits.idle;
+            known = fits.known;
+            count = fits.count;
+          })
+          third u found not_other);
     }
 
 was_there : (views : List View) (pass other : ℕ) (both w : View) → other ≢ pass → get_elem? (set views pass both) other ≡ some w → get_elem? views other ≡ some w
@@ -208,16 +208,16 @@ merges-told pass v other w none items views rule at apart at_other =
     let mine = rule.fits pass v at in
     let theirs = rule.fits other w found in
     merged items views rule pass v other w (told v w) at found apart
-        (record {
-          feeds = refl;
-          fed = refl;
-          parts = omega arith;
-          known = λ all _ known. known;
-          count = λ most first second. most_of v.count w.count most first second;
-        })
-        rule.taker
-        (record { none = sym theirs.takes ∙ theirs.idle none; stays = λ third _ _. refl })
-        mine.takes mine.idle
+    (record {
+      feeds = refl;
+      fed = refl;
+      parts = omega arith;
+      known = λ all _ known. known;
+      count = λ most first second. most_of v.count w.count most first second;
+    })
+    rule.taker
+    (record { none = sym theirs.takes ∙ theirs.idle none; stays = λ third _ _. refl })
+    mine.takes mine.idle
 
 -- two takers become one
 pub merges-joined : (pass : ℕ) (v : View) (other : ℕ) (w : View) → Merges Dispatch pass v other w (joined v w) spent_view
@@ -228,16 +228,16 @@ merges-joined pass v other w items views rule at apart at_other =
     let taker = handed rule.taker other pass in
     let none : (v.share + w.share ≡ 0) → union v.taken w.taken ≡ [] = λ both. ap₂ union (mine.idle (omega arith)) (theirs.idle (omega arith)) in
     merged items views rule pass v other w (joined v w) at found apart
-        (record {
-          feeds = refl;
-          fed = refl;
-          parts = refl;
-          known = λ all first second. prefix-longer v.known w.known all first second;
-          count = λ most first second. first;
-        })
-        taker
-        (record {
-          none = taken-handed_from rule.taker pass other 1 rule.front apart;
-          stays = λ third not_pass not_other. taken-handed_else rule.taker pass other third 1 rule.front not_pass not_other;
-        })
-        (ap₂ union mine.takes theirs.takes ∙ union-taken rule.taker pass other 1 rule.front apart) none
+    (record {
+      feeds = refl;
+      fed = refl;
+      parts = refl;
+      known = λ all first second. prefix-longer v.known w.known all first second;
+      count = λ most first second. first;
+    })
+    taker
+    (record {
+      none = taken-handed_from rule.taker pass other 1 rule.front apart;
+      stays = λ third not_pass not_other. taken-handed_else rule.taker pass other third 1 rule.front not_pass not_other;
+    })
+    (ap₂ union mine.takes theirs.takes ∙ union-taken rule.taker pass other 1 rule.front apart) none

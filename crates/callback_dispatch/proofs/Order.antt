@@ -84,18 +84,18 @@ in_order all front (callback ∷ callbacks) (x ∷ xs) is rises stand as_often =
     let first = element number callback in
     let rest = numbered (suc number) callbacks in
     let not_below : suc x.number ≤ number → ⊥ = λ below.
-        let here = is_at-here x.number x refl in
-        let both = times-cons x.number x xs in
-        let none = times-low x.number number (callback ∷ callbacks) (omega arith) in
-        let same = as_often x.number in
-        omega arith in
+    let here = is_at-here x.number x refl in
+    let both = times-cons x.number x xs in
+    let none = times-low x.number number (callback ∷ callbacks) (omega arith) in
+    let same = as_often x.number in
+    omega arith in
     let not_above : suc number ≤ x.number → ⊥ = λ above.
-        let least : All (λ y. number < y.number) xs = All-from_get_or (λ y. number < y.number) xs x (λ i lt. let le = rises 0 (suc i) x (omega arith) (omega arith) in omega (arith, le)) in
-        let none = times-none number (x ∷ xs) (All-cons (λ y. number < y.number) x xs (omega arith) least) in
-        let here = is_at-here number first refl in
-        let both = times-cons number first rest in
-        let same = as_often number in
-        omega arith in
+    let least : All (λ y. number < y.number) xs = All-from_get_or (λ y. number < y.number) xs x (λ i lt. let le = rises 0 (suc i) x (omega arith) (omega arith) in omega (arith, le)) in
+    let none = times-none number (x ∷ xs) (All-cons (λ y. number < y.number) x xs (omega arith) least) in
+    let here = is_at-here number first refl in
+    let both = times-cons number first rest in
+    let same = as_often number in
+    omega arith in
     let low = lt_of_not-le not_below in
     let high = lt_of_not-le not_above in
     let same : x.number ≡ number = omega arith in
@@ -107,13 +107,13 @@ in_order all front (callback ∷ callbacks) (x ∷ xs) is rises stand as_often =
     let longer = length-append front (callback ∷ []) in
     let next : suc (length (front ++ callback ∷ [])) ≡ suc number = omega arith in
     let rests = in_order all (front ++ callback ∷ []) callbacks xs (is ∙ sym (append_assoc front (callback ∷ []) callbacks)) (λ i j d le lt. rises (suc i) (suc j) d (omega arith) (omega arith)) (All-tail (Stands all) x xs stand)
-        (λ k.
-            let mine = times-cons k x xs in
-            let theirs = times-cons k first rest in
-            let both = as_often k in
-            let here = ap (is_at k) head in
-            let left : times k xs ≡ times k rest = omega arith in
-            left ∙ ap (λ n. times k (numbered n callbacks)) (sym next)) in
+    (λ k.
+    let mine = times-cons k x xs in
+    let theirs = times-cons k first rest in
+    let both = as_often k in
+    let here = ap (is_at k) head in
+    let left : times k xs ≡ times k rest = omega arith in
+    left ∙ ap (λ n. times k (numbered n callbacks)) (sym next)) in
     λ i. head i ∷ (rests ∙ ap (λ n. numbered n callbacks) next) i
 
 all_behind : (P : Numbered → Type 0) (xs ys : List Numbered) → All P (xs ++ ys) → All P ys
@@ -130,17 +130,17 @@ sorted_behind all count before taken sorted begins whole shuffled rises =
     let number = suc (length front) in
     let number_is : number ≡ 1 + length front = omega arith in
     let in_two : numbered 1 all ≡ before ++ numbered number back =
-        ap (numbered 1) parts ∙ numbered-append 1 front back number number_is ∙ ap (λ l. l ++ numbered number back) (sym begins) in
+    ap (numbered 1) parts ∙ numbered-append 1 front back number number_is ∙ ap (λ l. l ++ numbered number back) (sym begins) in
     let stand = All-permutation (Stands all) taken sorted shuffled (all_behind (Stands all) before taken (All-permutation (Stands all) (numbered 1 all) (before ++ taken) (IsPermutation-sym (before ++ taken) (numbered 1 all) whole) (stand_all [] all))) in
     let behind = in_order all front back sorted parts rises stand
-        (λ k.
-            let sums = sum_by-IsPermutation (is_at k) (before ++ taken) (numbered 1 all) whole in
-            let again = sum_by-IsPermutation (is_at k) taken sorted shuffled in
-            let one = sum_by-append (is_at k) before taken in
-            let two = ap (times k) in_two in
-            let three = sum_by-append (is_at k) before (numbered number back) in
-            let counts : times k (numbered number back) ≡ sum_by (is_at k) taken = omega arith in
-            again ∙ sym counts) in
+    (λ k.
+    let sums = sum_by-IsPermutation (is_at k) (before ++ taken) (numbered 1 all) whole in
+    let again = sum_by-IsPermutation (is_at k) taken sorted shuffled in
+    let one = sum_by-append (is_at k) before taken in
+    let two = ap (times k) in_two in
+    let three = sum_by-append (is_at k) before (numbered number back) in
+    let counts : times k (numbered number back) ≡ sum_by (is_at k) taken = omega arith in
+    again ∙ sym counts) in
     ap (λ l. before ++ l) behind ∙ sym in_two
 
 -- the same of lists that stayed what they were

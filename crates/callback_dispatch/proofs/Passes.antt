@@ -12,7 +12,7 @@ Each F views = (pass : ℕ) (v : View) → get_elem? views pass ≡ some v → F
 pub each_set : (F : ℕ → View → Type 0) (views : List View) (pass : ℕ) (w : View) → F pass w → ((other : ℕ) (u : View) → other ≢ pass → get_elem? views other ≡ some u → F other u) → Each F (set views pass w)
 each_set F views pass w mine others other u at =
     ⊎_elim (λ (x : (other ≡ pass) × (w ≡ u)). subst (λ (y : ℕ × View). F y.0 y.1) (λ i. (sym x.0 i, x.1 i)) mine)
-        (λ (x : (other ≢ pass) × (get_elem? views other ≡ some u)). others other u x.0 x.1) (at_set views pass other w u at)
+    (λ (x : (other ≢ pass) × (get_elem? views other ≡ some u)). others other u x.0 x.1) (at_set views pass other w u at)
 
 -- a view stands at the end, or before it
 snoc_cases : (views : List View) (v u : View) (pass : ℕ) → get_elem? (views ++ v ∷ []) pass ≡ some u → (get_elem? views pass ≡ some u) ⊎ ((pass ≡ length views) × (v ≡ u))
@@ -25,7 +25,7 @@ snoc_cases (x ∷ views) v u (suc pass) at =
 pub each_snoc : (F : ℕ → View → Type 0) (views : List View) (v : View) → Each F views → F (length views) v → Each F (views ++ v ∷ [])
 each_snoc F views v all mine pass u at =
     ⊎_elim (λ (before : get_elem? views pass ≡ some u). all pass u before)
-        (λ (last : (pass ≡ length views) × (v ≡ u)). subst (λ (y : ℕ × View). F y.0 y.1) (λ i. (sym last.0 i, last.1 i)) mine) (snoc_cases views v u pass at)
+    (λ (last : (pass ≡ length views) × (v ≡ u)). subst (λ (y : ℕ × View). F y.0 y.1) (λ i. (sym last.0 i, last.1 i)) mine) (snoc_cases views v u pass at)
 
 pub at-within : (views : List View) (pass : ℕ) (v : View) → get_elem? views pass ≡ some v → pass < length views
 at-within [] pass v at = absurd (some-ne-none v (sym at))

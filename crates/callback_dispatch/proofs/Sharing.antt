@@ -37,8 +37,8 @@ taken-has taker pass number (one ∷ callbacks) zero callback its is found mine 
     let x = element its callback in
     let head : x ≡ element number one = λ i. record { number = same i; callback = sym callbacks_same i } in
     taken_cases (λ xs. Contains xs x) taker pass number one callbacks
-        (λ _. subst (λ y. Contains (y ∷ taken_by taker pass (suc number) callbacks) x) head (Contains-append_left (x ∷ []) (taken_by taker pass (suc number) callbacks) x (Contains-push [] x)))
-        (λ other. absurd (other (ap taker (sym same) ∙ mine)))
+    (λ _. subst (λ y. Contains (y ∷ taken_by taker pass (suc number) callbacks) x) head (Contains-append_left (x ∷ []) (taken_by taker pass (suc number) callbacks) x (Contains-push [] x)))
+    (λ other. absurd (other (ap taker (sym same) ∙ mine)))
 taken-has taker pass number (one ∷ callbacks) (suc place) callback its is found mine =
     let x = element its callback in
     let rest = taken-has taker pass (suc number) callbacks place callback its (omega arith) found mine in
@@ -56,7 +56,7 @@ stands_once items views rule place callback found =
     let is : number ≡ 1 + place = omega arith in
     let Nothing : Numbered → Type 0 = λ _. ⊥ in
     let within : ¬ (length views ≤ pass) = λ beyond.
-        All-contains Nothing [] x (All-nil Nothing) (subst (λ xs. Contains xs x) (rule.beyond pass beyond) (taken-has rule.taker pass 1 rule.front place callback number is found refl)) in (
+    All-contains Nothing [] x (All-nil Nothing) (subst (λ xs. Contains xs x) (rule.beyond pass beyond) (taken-has rule.taker pass 1 rule.front place callback number is found refl)) in (
       pass,
       lt_of_not-le within,
       (λ other v at.

@@ -64,14 +64,14 @@ pushes capacity pass v x may next items views room rule at =
               count = mine.count;
             })
             (λ other u apart there.
-                let theirs = rule.fits other u there in
-                record {
-                  feeds = λ f. absurd (apart ((theirs.feeds f).0 ∙ sym (mine.feeds may).0));
-                  takes = theirs.takes;
-                  idle = theirs.idle;
-                  known = subst (IsPrefix u.known) more (prefix-more u.known (rule.front ++ rule.back) (x.callback ∷ []) theirs.known);
-                  count = theirs.count;
-                });
+            let theirs = rule.fits other u there in
+            record {
+              feeds = λ f. absurd (apart ((theirs.feeds f).0 ∙ sym (mine.feeds may).0));
+              takes = theirs.takes;
+              idle = theirs.idle;
+              known = subst (IsPrefix u.known) more (prefix-more u.known (rule.front ++ rule.back) (x.callback ∷ []) theirs.known);
+              count = theirs.count;
+            });
       },
       refl,
     )
@@ -80,12 +80,12 @@ pushes capacity pass v x may next items views room rule at =
 pub took_all : (items : List Numbered) (views : List View) (rule : Dispatch items views) (pass : ℕ) (v : View) → get_elem? views pass ≡ some v → v.share ≡ 8 → v.taken ≡ numbered 1 rule.front
 took_all items views rule pass v at all =
     (rule.fits pass v at).takes ∙ taken-alone rule.taker pass 1 rule.front
-        (λ other apart. ⊎_elim
-            (λ (found : (u : View) × (get_elem? views other ≡ some u)).
-                let theirs = rule.fits other found.0 found.1 in
-                sym theirs.takes ∙ theirs.idle (others_idle views pass other v found.0 at found.1 apart (all ∙ sym rule.whole)))
-            (λ (beyond : length views ≤ other). rule.beyond other beyond)
-            (at_or_beyond views other))
+    (λ other apart. ⊎_elim
+    (λ (found : (u : View) × (get_elem? views other ≡ some u)).
+    let theirs = rule.fits other found.0 found.1 in
+    sym theirs.takes ∙ theirs.idle (others_idle views pass other v found.0 at found.1 apart (all ∙ sym rule.whole)))
+    (λ (beyond : length views ≤ other). rule.beyond other beyond)
+    (at_or_beyond views other))
 
 pops_first : (pass : ℕ) (v : View) (x : Numbered) (items : List Numbered) (views : List View) → 0 < v.share → (rule : Dispatch (x ∷ items) views) → get_elem? views pass ≡ some v → (back : List Callback) → rule.back ≡ back → (w : View) × Dispatch items (set views pass w) × Popped v x w
 pops_first pass v x items views may rule at [] is =
@@ -126,14 +126,14 @@ pops_first pass v x items views may rule at (callback ∷ back) is =
               count = (let count = mine.count in omega arith);
             })
             (λ other u apart there.
-                let theirs = rule.fits other u there in
-                record {
-                  feeds = λ f. ((theirs.feeds f).0, (theirs.feeds f).1 ∙ shift);
-                  takes = theirs.takes ∙ sym (taken-theirs rule.taker other pass 1 rule.front callback number apart place);
-                  idle = theirs.idle;
-                  known = (theirs.known.0, theirs.known.1 ∙ shift);
-                  count = (let count = theirs.count in omega arith);
-                });
+            let theirs = rule.fits other u there in
+            record {
+              feeds = λ f. ((theirs.feeds f).0, (theirs.feeds f).1 ∙ shift);
+              takes = theirs.takes ∙ sym (taken-theirs rule.taker other pass 1 rule.front callback number apart place);
+              idle = theirs.idle;
+              known = (theirs.known.0, theirs.known.1 ∙ shift);
+              count = (let count = theirs.count in omega arith);
+            });
       },
       (
         refl,

@@ -44,38 +44,38 @@ union-taken taker pass other number (callback ∷ callbacks) apart =
     let rest = union-taken taker pass other (suc number) callbacks apart in
     let above = taken-above both pass (suc number) callbacks number (omega arith) in
     ⊎_elim
-        (λ (is : taker number ≡ pass).
-            let not : taker number ≢ other = λ e. apart (sym e ∙ is) in
-            ap (λ l. union l (taken_by taker other number (callback ∷ callbacks))) (taken_here taker pass number callback callbacks is)
-                ∙ ap (λ l. put_by_number first (union mine l)) (taken_else taker other number callback callbacks not)
-                ∙ ap (put_by_number first) rest
-                ∙ put_before first (taken_by both pass (suc number) callbacks) above
-                ∙ sym (taken_here both pass number callback callbacks (handed-else taker other pass number not ∙ is)))
-        (λ (not_mine : taker number ≢ pass).
-            ap (λ l. union l (taken_by taker other number (callback ∷ callbacks))) (taken_else taker pass number callback callbacks not_mine)
-                ∙ ⊎_elim
-                    (λ (is : taker number ≡ other).
-                        ap (union mine) (taken_here taker other number callback callbacks is)
-                            ∙ union-later mine first theirs (taken-above taker pass (suc number) callbacks number (omega arith))
-                            ∙ ap (λ (r : List Numbered). first ∷ r) rest
-                            ∙ sym (taken_here both pass number callback callbacks (handed-from taker other pass number is)))
-                    (λ (not : taker number ≢ other).
-                        ap (union mine) (taken_else taker other number callback callbacks not)
-                            ∙ rest
-                            ∙ sym (taken_else both pass number callback callbacks (λ e. not_mine (sym (handed-else taker other pass number not) ∙ e))))
-                    (same_or_not (taker number) other))
-        (same_or_not (taker number) pass)
+    (λ (is : taker number ≡ pass).
+    let not : taker number ≢ other = λ e. apart (sym e ∙ is) in
+    ap (λ l. union l (taken_by taker other number (callback ∷ callbacks))) (taken_here taker pass number callback callbacks is)
+    ∙ ap (λ l. put_by_number first (union mine l)) (taken_else taker other number callback callbacks not)
+    ∙ ap (put_by_number first) rest
+    ∙ put_before first (taken_by both pass (suc number) callbacks) above
+    ∙ sym (taken_here both pass number callback callbacks (handed-else taker other pass number not ∙ is)))
+    (λ (not_mine : taker number ≢ pass).
+    ap (λ l. union l (taken_by taker other number (callback ∷ callbacks))) (taken_else taker pass number callback callbacks not_mine)
+    ∙ ⊎_elim
+    (λ (is : taker number ≡ other).
+    ap (union mine) (taken_here taker other number callback callbacks is)
+    ∙ union-later mine first theirs (taken-above taker pass (suc number) callbacks number (omega arith))
+    ∙ ap (λ (r : List Numbered). first ∷ r) rest
+    ∙ sym (taken_here both pass number callback callbacks (handed-from taker other pass number is)))
+    (λ (not : taker number ≢ other).
+    ap (union mine) (taken_else taker other number callback callbacks not)
+    ∙ rest
+    ∙ sym (taken_else both pass number callback callbacks (λ e. not_mine (sym (handed-else taker other pass number not) ∙ e))))
+    (same_or_not (taker number) other))
+    (same_or_not (taker number) pass)
 
 pub taken-handed_else : (taker : ℕ → ℕ) (pass other third number : ℕ) (callbacks : List Callback) → third ≢ pass → third ≢ other → taken_by (handed taker other pass) third number callbacks ≡ taken_by taker third number callbacks
 taken-handed_else taker pass other third number callbacks not_pass not_other =
     taken-agree taker (handed taker other pass) third number callbacks
-        (λ n is. handed-else taker other pass n (λ e. not_other (sym is ∙ e)) ∙ is)
-        (λ n not is. ⊎_elim (λ e. not_pass (sym is ∙ handed-from taker other pass n e)) (λ e. not (sym (handed-else taker other pass n e) ∙ is)) (same_or_not (taker n) other))
+    (λ n is. handed-else taker other pass n (λ e. not_other (sym is ∙ e)) ∙ is)
+    (λ n not is. ⊎_elim (λ e. not_pass (sym is ∙ handed-from taker other pass n e)) (λ e. not (sym (handed-else taker other pass n e) ∙ is)) (same_or_not (taker n) other))
 
 pub taken-handed_from : (taker : ℕ → ℕ) (pass other number : ℕ) (callbacks : List Callback) → other ≢ pass → taken_by (handed taker other pass) other number callbacks ≡ []
 taken-handed_from taker pass other number callbacks apart =
     taken-none (handed taker other pass) other number callbacks
-        (λ n is. ⊎_elim (λ e. apart (sym is ∙ handed-from taker other pass n e)) (λ e. e (sym (handed-else taker other pass n e) ∙ is)) (same_or_not (taker n) other))
+    (λ n is. ⊎_elim (λ e. apart (sym is ∙ handed-from taker other pass n e)) (λ e. e (sym (handed-else taker other pass n e) ∙ is)) (same_or_not (taker n) other))
 
 -- A union has the elements of both.
 
@@ -85,8 +85,8 @@ put-permutes x (y ∷ ys) =
     let swapped = IsPermutation-append_left ys (x ∷ y ∷ []) (y ∷ x ∷ []) (IsPermutation-append_comm (x ∷ []) (y ∷ [])) in
     let behind = IsPermutation-trans (x ∷ y ∷ ys) (y ∷ x ∷ ys) (y ∷ put_by_number x ys) swapped (IsPermutation-cons y (x ∷ ys) (put_by_number x ys) (put-permutes x ys)) in
     elim (ltb y.number x.number) as (λ b. IsPermutation (x ∷ y ∷ ys) (cond b (y ∷ put_by_number x ys) (x ∷ y ∷ ys))) [
-      true ↦ behind
-    | false ↦ IsPermutation-refl (x ∷ y ∷ ys)
+      | true ↦ behind
+      | false ↦ IsPermutation-refl (x ∷ y ∷ ys)
     ]
 
 pub union-permutes : (one two : List Numbered) → IsPermutation (one ++ two) (union one two)

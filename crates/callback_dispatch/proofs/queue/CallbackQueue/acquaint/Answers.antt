@@ -28,4 +28,4 @@ returns-clause-exact c whole =
     let fed = (view c.another-note-2.new.pass).fed in
     let count = (view c.another-note-2.new.pass).count in
     exactly-told (view c.another-note.new.pass) (view c.another-note-2.result) (view c.absorb-2.new.pass) (view c.learn_as-2.new.pass) fed count c.learn_as-2.ensures.rule.0 c.absorb-2.ensures.rule c.learn_as-2.ensures.queue.1 c.learn_as-2.ensures.rule.1
-        (search rules) (search rules) (search rules) (search rules) (search rules)
+    (search rules) (search rules) (search rules) (search rules) (search rules)
