@@ -1,5 +1,5 @@
 -- Words of public clauses: callbacks with their numbers, and what is seen of a queue, a feeder and a taker.
-use Rattle.std.specs.Prelude.{◌≡◌, ℕ, suc, ◌+◌, ◌<◌, if◌then◌else◌, nat_lt, All, List, [], ◌∷◌, length}
+use Rattle.std.specs.Prelude.{◌≡◌, ℕ, suc, ◌+◌, ◌<◌, if◌then◌else◌, nat_lt, All, List, [], ◌∷◌, length, take}
 use Rattle.atomic_table.specs.Seated.{TableId}
 use Rattle.calls.specs.declared.reply.Callback.{Callback}
 use Rattle.callback_dispatch.specs.declared.numbered.Numbered.{Numbered}
@@ -28,6 +28,10 @@ union (x ∷ one) two = put_by_number x (union one two)
 
 abbrev pub longer_of : List Callback → List Callback → List Callback
 longer_of one two = if nat_lt (length one) (length two) then two else one
+
+-- the elements are those of the first callbacks, in order
+abbrev pub IsBeginningOf : List Callback → List Numbered → Type 0
+IsBeginningOf callbacks elements = elements ≡ numbered 1 (take (length elements) callbacks)
 
 -- A queue has a name, which its feeder and its takers know.
 pub record QueueSeen : Type 0 where

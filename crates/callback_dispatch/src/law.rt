@@ -8,5 +8,6 @@ ghost use Rattle.callback_dispatch.specs.Law.{IsShared};
 /// Whatever threads have fed and taken: the queue holds the callbacks that have not left it, in order, and each that
 /// left it stands in the list of one taker alone, and there once.
 pub fn law_of_sharing()
-    ensures { (items : List Element) (views : List ViewOf) → Dispatch items views → IsShared items views }
+    ensures { (items : List Element) (views : List ViewOf) →
+        Dispatch items views → IsShared items views }
 {}

@@ -1,7 +1,7 @@
 //! The queue, its feeder and its takers.
-ghost use Rattle.std.specs.Prelude.{◌≡◌, suc, ◌+◌, ◌-◌, ◌^◌, ◌<◌, ◌≤◌, Some, [], ◌∷◌, ◌++◌, length, take, slice_get, IfOk, IfErr, OnOk, IfSome, IfNone};
+ghost use Rattle.std.specs.Prelude.{◌≡◌, suc, ◌+◌, ◌-◌, ◌^◌, ◌<◌, ◌≤◌, Some, [], ◌∷◌, ◌++◌, length, IfOk, IfErr, OnOk, IfSome, IfNone};
 ghost use mathlib.Core.List.{IsPrefix};
-ghost use Rattle.callback_dispatch.specs.Seen.{numbered, AllBelow, union, longer_of, IsMade};
+ghost use Rattle.callback_dispatch.specs.Seen.{numbered, AllBelow, union, longer_of, IsBeginningOf, IsMade};
 ghost use Rattle.callback_dispatch.specs.Rule.{IsNext};
 
 use crate::Numbered;
@@ -103,9 +103,10 @@ impl CallbackQueue {
     ) -> Result<u64, Callback>
         requires queue { feeder.old.queue ≡ self.now.name }
         requires fits { length feeder.old.list < 2 ^ 62 }
-        ensures same { (feeder.new.queue ≡ feeder.old.queue) × (feeder.new.count ≡ feeder.old.count) }
-        ensures fed { IfOk result (λ number.
-            (feeder.new.list ≡ feeder.old.list ++ callback ∷ []) × (number ≡ length feeder.new.list)) }
+        ensures same { (feeder.new.queue ≡ feeder.old.queue)
+            × (feeder.new.count ≡ feeder.old.count) }
+        ensures fed { IfOk result (λ number. (number ≡ length feeder.new.list)
+            × (feeder.new.list ≡ feeder.old.list ++ callback ∷ [])) }
         ensures full { IfErr result (λ back. (back ≡ callback) × (feeder.new.list ≡ feeder.old.list)
             × (feeder.old.count + self.now.capacity ≤ length feeder.old.list)) }
     {
@@ -132,7 +133,8 @@ impl CallbackQueue {
         ensures some { IfSome result (λ x.
             (taker.new.list ≡ taker.old.list ++ x ∷ []) × AllBelow x.number taker.old.list) }
         ensures none { IfNone result (taker.new.list ≡ taker.old.list) }
-        ensures next { taker.old.share ≡ 8 → IfSome result (λ x. IsNext x taker.old.list taker.old.known) }
+        ensures next { taker.old.share ≡ 8 →
+            IfSome result (λ x. IsNext x taker.old.list taker.old.known) }
         ensures all { taker.old.share ≡ 8 →
             IfNone result (IsPrefix (numbered 1 taker.old.known) taker.old.list) }
     {
@@ -153,15 +155,18 @@ impl CallbackQueue {
     ) -> Result<(), AllocError>
         requires feeder { feeder.old.queue ≡ self.now.name }
         requires taker { taker.old.queue ≡ self.now.name }
-        ensures feeder { (feeder.new.queue ≡ feeder.old.queue) × (feeder.new.list ≡ feeder.old.list) }
+        ensures feeder { (feeder.new.queue ≡ feeder.old.queue)
+            × (feeder.new.list ≡ feeder.old.list) }
         ensures taker { (taker.new.queue ≡ taker.old.queue) × (taker.new.list ≡ taker.old.list)
             × (taker.new.share ≡ taker.old.share) }
         ensures told { OnOk result ((length taker.new.list ≤ feeder.new.count)
             × (taker.new.known ≡ feeder.new.list)) }
-        ensures grows { (feeder.old.count ≤ feeder.new.count) × IsPrefix taker.old.known taker.new.known }
+        ensures grows { (feeder.old.count ≤ feeder.new.count)
+            × IsPrefix taker.old.known taker.new.known }
         ensures bounded { OnOk result (feeder.new.count ≤ length feeder.new.list) }
-        ensures exact { taker.old.share ≡ 8 → OnOk result ((feeder.new.count ≡ length taker.new.list)
-            × (taker.new.list ≡ numbered 1 (take (length taker.new.list) feeder.new.list))) }
+        ensures exact { taker.old.share ≡ 8 → OnOk result (
+            (feeder.new.count ≡ length taker.new.list)
+            × IsBeginningOf feeder.new.list taker.new.list) }
     {
         self.acquaint(feeder, taker);
         Ok(())
@@ -198,14 +203,17 @@ impl CallbackQueue {
     pub(crate) fn acquaint(&self, feeder: &mut Feeder, taker: &mut Taker)
         requires feeder { feeder.old.queue ≡ self.now.name }
         requires taker { taker.old.queue ≡ self.now.name }
-        ensures feeder { (feeder.new.queue ≡ feeder.old.queue) × (feeder.new.list ≡ feeder.old.list) }
+        ensures feeder { (feeder.new.queue ≡ feeder.old.queue)
+            × (feeder.new.list ≡ feeder.old.list) }
         ensures taker { (taker.new.queue ≡ taker.old.queue) × (taker.new.list ≡ taker.old.list)
             × (taker.new.share ≡ taker.old.share) }
-        ensures told { (length taker.new.list ≤ feeder.new.count) × (taker.new.known ≡ feeder.new.list) }
-        ensures grows { (feeder.old.count ≤ feeder.new.count) × IsPrefix taker.old.known taker.new.known }
+        ensures told { (length taker.new.list ≤ feeder.new.count)
+            × (taker.new.known ≡ feeder.new.list) }
+        ensures grows { (feeder.old.count ≤ feeder.new.count)
+            × IsPrefix taker.old.known taker.new.known }
         ensures bounded { feeder.new.count ≤ length feeder.new.list }
         ensures exact { taker.old.share ≡ 8 → (feeder.new.count ≡ length taker.new.list)
-            × (taker.new.list ≡ numbered 1 (take (length taker.new.list) feeder.new.list)) }
+            × IsBeginningOf feeder.new.list taker.new.list }
     {
         let note = self.ring.another::<TakenNote>(&mut taker.pass);
         self.ring.absorb::<Told>(&mut feeder.pass, note);

@@ -30,7 +30,8 @@ fn next_room(rooms: &mut Vec<Vec<Numbered>>, places: usize) -> Option<Vec<Number
     requires { AreFree places rooms.old.items }
     ensures some { IfSome result (λ room. IsFree places room × AreFree places rooms.new.items
         × (vec_len rooms.new + 1 ≡ vec_len rooms.old)) }
-    ensures none { IfNone result ((rooms.new.items ≡ []) × (vec_len rooms.new ≡ vec_len rooms.old)) }
+    ensures none { IfNone result ((rooms.new.items ≡ [])
+        × (vec_len rooms.new ≡ vec_len rooms.old)) }
     ensures capacity { vec_capacity rooms.new ≡ vec_capacity rooms.old }
 {
     rooms.pop()
@@ -83,7 +84,8 @@ pub fn gather<R: Threads + Wait + Sync, G: Gate>(
     ensures same { (result.0.queue ≡ taker.queue) × (result.0.share ≡ taker.share)
         × (result.0.known ≡ taker.known) }
     ensures took { IsPermutation (taker.list ++ gathered result.1.items) result.0.list }
-    ensures rooms { (vec_len result.1 ≡ vec_len rooms) × (vec_capacity result.1 ≡ vec_capacity rooms) }
+    ensures rooms { (vec_len result.1 ≡ vec_len rooms)
+        × (vec_capacity result.1 ≡ vec_capacity rooms) }
 {
     let Some(room) = next_room(&mut rooms, places) else {
         return (taker, rooms);
@@ -97,16 +99,19 @@ pub fn gather<R: Threads + Wait + Sync, G: Gate>(
     let ((one, room), (two, mut rooms)) = thread::join(
         rt,
         move || -> (Taker, Vec<Numbered>)
-            requires { IsSync R.row × IsSync G.row × (other.queue ≡ queue.now.name) × IsFree places room }
+            requires { IsSync R.row × IsSync G.row × (other.queue ≡ queue.now.name)
+                × IsFree places room }
             ensures { (result.0.queue ≡ other.queue) × (result.0.share ≡ other.share)
                 × (result.0.known ≡ other.known) × (result.0.list ≡ other.list ++ result.1.items) }
         { work(rt, queue, other, worker, places, room, gate) },
         move || -> (Taker, Vec<Vec<Numbered>>)
-            requires { IsSync R.row × IsSync G.row × (taker.queue ≡ queue.now.name) × (vec_len rooms ≤ taker.share)
-                × (worker + 1 + vec_len rooms < 2 ^ 32) × AreFree places rooms.items }
+            requires { IsSync R.row × IsSync G.row × (taker.queue ≡ queue.now.name)
+                × (vec_len rooms ≤ taker.share) × (worker + 1 + vec_len rooms < 2 ^ 32) × AreFree places rooms.items }
             ensures { (result.0.queue ≡ taker.queue) × (result.0.share ≡ taker.share)
-                × (result.0.known ≡ taker.known) × IsPermutation (taker.list ++ gathered result.1.items) result.0.list
-                × (vec_len result.1 ≡ vec_len rooms) × (vec_capacity result.1 ≡ vec_capacity rooms) }
+                × (result.0.known ≡ taker.known)
+                × IsPermutation (taker.list ++ gathered result.1.items) result.0.list
+                × (vec_len result.1 ≡ vec_len rooms)
+                × (vec_capacity result.1 ≡ vec_capacity rooms) }
         { gather(rt, queue, taker, worker + 1, places, rooms, gate) },
     );
     rooms.push_reserved(room);
