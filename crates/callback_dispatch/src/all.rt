@@ -50,7 +50,7 @@ fn settle(queue: &CallbackQueue, feeder: &mut Feeder, taker: &mut Taker)
 }
 
 // The workers take. They may leave something: what one of them learns where it finds nothing is lost as it is joined.
-#[tactic(auto, using(crate::proofs::Crews::took_waiting, crate::proofs::Crews::length_together, crate::proofs::Crews::took_same))]
+#[tactic(auto, using(crate::proofs::Crews::took_same))]
 fn take_by_workers<R: Threads + Wait + Sync, G: Gate>(
     rt: &R,
     queue: &CallbackQueue,
@@ -118,7 +118,6 @@ impl CallbackQueue {
     /// queue has places; then the taker itself takes what they left. The answer is the same for every number of
     /// workers. All memory is taken first: where it runs out nothing is taken, and the taker comes back with the
     /// error. The feeder is lent, so that nothing is fed meanwhile.
-    #[tactic(auto, using(crate::proofs::Order::given_in_order))]
     pub fn dispatch_all<R: Threads + Wait + Sync, G: Gate>(
         &self,
         rt: &R,

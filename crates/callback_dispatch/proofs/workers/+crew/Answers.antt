@@ -1,1 +1,0 @@
-use Rattle.callback_dispatch.proofs.workers.+crew.Goals as goal

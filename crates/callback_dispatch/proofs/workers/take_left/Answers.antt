@@ -1,1 +1,0 @@
-use Rattle.callback_dispatch.proofs.workers.take_left.Goals as goal
