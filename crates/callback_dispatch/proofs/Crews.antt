@@ -1,5 +1,5 @@
 -- What workers took together.
-use Rattle.std.proofs.Common.{◌≡◌, ℕ, ◌+◌, ◌≤◌, IsPermutation, true, false, cond, ltb, List, [], ◌∷◌, ◌++◌, length, take, drop, take_all, take-append-drop, length-append, refl, sym, ap, subst, ◌∙◌, append-nil, append_assoc, arith}
+use Rattle.std.proofs.Common.{◌≡◌, ℕ, ◌+◌, ◌≤◌, IsPermutation, true, false, cond, ltb, List, [], ◌∷◌, ◌++◌, length, take, drop, take_all, take-append-drop, length-append, sym, ap, subst, ◌∙◌, append-nil, append_assoc, arith}
 use Rattle.std.proofs.lemmas.Grind.{flat_map-append}
 use Rattle.std.proofs.lemmas.List.Sorted.{length_permutation, IsPermutation-refl, IsPermutation-trans, IsPermutation-append_left}
 use mathlib.Core.List.{IsPrefix}

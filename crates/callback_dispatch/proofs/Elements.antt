@@ -1,7 +1,6 @@
 -- Callbacks under their numbers, what a pass took of them, and lists that begin others.
-use Rattle.std.proofs.Common.{◌≡◌, ◌≢◌, ℕ, zero, suc, ◌+◌, ◌<◌, ◌≤◌, Bool, true, false, cond, eqb, ◌⊎◌, inl, inr, ⊎_elim, Some, All, List, [], ◌∷◌, ◌++◌, length, take, slice_get, eq-eqb, ne_eqb, ltb, ltb-true, refl, sym, ap, subst, ◌∙◌, append_assoc, length-append, arith}
+use Rattle.std.proofs.Common.{◌≡◌, ◌≢◌, ℕ, zero, suc, ◌+◌, ◌<◌, ◌≤◌, Bool, true, false, cond, eqb, ◌⊎◌, inl, inr, ⊎_elim, Some, All, List, [], ◌∷◌, ◌++◌, length, take, slice_get, eq-eqb, ne_eqb, ltb, refl, sym, ap, subst, ◌∙◌, append_assoc, length-append, arith}
 use Rattle.std.proofs.lemmas.List.Elements.{All-nil, All-cons}
-use Rattle.std.proofs.Math.Seq.{take-append_seam}
 use Rattle.std.proofs.lemmas.List.{take-append-le}
 use mathlib.Core.List.{IsPrefix, cons-ne-nil}
 use mathlib.Core.Logic.{dite}

@@ -1,5 +1,5 @@
 -- A pass is split and passes are joined under the rule.
-use Rattle.std.proofs.Common.{◌≡◌, ◌≢◌, ℕ, zero, suc, ◌+◌, ◌-◌, ◌<◌, ◌≤◌, max, true, false, true≢false, ◌⊎◌, inl, inr, ⊎_elim, List, [], ◌∷◌, ◌++◌, length, set, refl, sym, ap, ap₂, subst, ◌∙◌, append-nil, length-append, length-set, arith}
+use Rattle.std.proofs.Common.{◌≡◌, ◌≢◌, ℕ, ◌+◌, ◌-◌, ◌≤◌, max, true, false, true≢false, ◌⊎◌, inl, inr, ⊎_elim, List, [], ◌∷◌, ◌++◌, length, set, refl, sym, ap₂, subst, ◌∙◌, append-nil, length-append, length-set, arith}
 use mathlib.Core.Option.{some}
 use mathlib.Core.List.{IsPrefix}
 use lib.ListN.{get_elem?}
@@ -8,11 +8,11 @@ use Rattle.crossbeam_queue.proofs.Lists.{set_else}
 use Rattle.calls.specs.declared.reply.Callback.{Callback}
 use Rattle.callback_dispatch.specs.declared.numbered.Numbered.{Numbered}
 use Rattle.callback_dispatch.specs.declared.rule.View.{View}
-use Rattle.callback_dispatch.specs.Seen.{union, longer_of}
-use Rattle.callback_dispatch.specs.Rule.{spent_view, taken_by, shares, Fits, Dispatch, feeding, taking, with_less, with_one, joined, fed_note, taken_note, told}
+use Rattle.callback_dispatch.specs.Seen.{union}
+use Rattle.callback_dispatch.specs.Rule.{spent_view, taken_by, Fits, Dispatch, feeding, taking, with_less, with_one, joined, fed_note, taken_note, told}
 use Rattle.callback_dispatch.proofs.Elements.{prefix-longer, length-taken}
 use Rattle.callback_dispatch.proofs.Unions.{handed, union-taken, taken-handed_else, taken-handed_from}
-use Rattle.callback_dispatch.proofs.Passes.{Each, each_set, each_snoc, at-within, shares-set, shares-snoc}
+use Rattle.callback_dispatch.proofs.Passes.{each_set, each_snoc, at-within, shares-set, shares-snoc}
 
 -- A new pass has taken nothing. The old one keeps all but a part of its share.
 pub record IsFork (v left right : View) : Type 0 where

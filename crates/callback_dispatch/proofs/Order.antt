@@ -1,7 +1,7 @@
 -- What many workers took, sorted by number, is what waited.
-use Rattle.std.proofs.Common.{◌≡◌, ◌≢◌, ℕ, zero, suc, ◌+◌, ◌<◌, ◌≤◌, cond, eqb, Some, All, IsPermutation, sum_by, List, [], ◌∷◌, ◌++◌, length, take, drop, get_or, slice_get, unwrap_or, eq-eqb, ne_eqb, lt_of_not-le, refl, sym, ap, subst, ◌∙◌, append_assoc, take-append-drop, length-append, arith}
+use Rattle.std.proofs.Common.{◌≡◌, ◌≢◌, ℕ, suc, ◌+◌, ◌<◌, ◌≤◌, cond, eqb, Some, All, IsPermutation, sum_by, List, [], ◌∷◌, ◌++◌, length, take, drop, slice_get, unwrap_or, eq-eqb, ne_eqb, lt_of_not-le, refl, sym, ap, subst, ◌∙◌, append_assoc, take-append-drop, length-append, arith}
 use Rattle.std.specs.List.Sorted.{IsNonDecreasingBy}
-use Rattle.std.proofs.lemmas.List.Elements.{All-nil, All-cons, All-head, All-tail, All-weaker, All-from_get_or}
+use Rattle.std.proofs.lemmas.List.Elements.{All-nil, All-cons, All-head, All-tail, All-from_get_or}
 use Rattle.std.proofs.lemmas.List.Sums.{sum_by-cons, sum_by-append}
 use Rattle.std.proofs.lemmas.List.Sorted.{All-permutation, IsPermutation-sym, sum_by-IsPermutation}
 use Rattle.calls.specs.declared.reply.Callback.{Callback}

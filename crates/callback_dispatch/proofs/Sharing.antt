@@ -1,16 +1,13 @@
 -- Each element that left the queue is in one list alone.
-use Rattle.std.proofs.Common.{◌≡◌, ◌≢◌, ℕ, zero, suc, ◌+◌, ◌<◌, ◌≤◌, ◌⊎◌, ⊎_elim, Some, None, All, Contains, List, [], ◌∷◌, ◌++◌, length, drop, slice_get, unwrap_or, is_some, true≢false, refl, sym, ap, subst, ◌∙◌, length-append, lt_of_not-le, arith}
+use Rattle.std.proofs.Common.{◌≡◌, ℕ, zero, suc, ◌+◌, ◌≤◌, Some, All, Contains, List, [], ◌∷◌, ◌++◌, length, drop, slice_get, unwrap_or, is_some, true≢false, refl, sym, ap, subst, ◌∙◌, length-append, lt_of_not-le, arith}
 use Rattle.std.proofs.lemmas.List.Elements.{All-nil, All-cons, All-contains, Contains-append_left, Contains-append_right, Contains-push}
-use Rattle.std.proofs.lemmas.Option.{slice_get_within}
-use mathlib.Core.Option.{some}
-use lib.ListN.{get_elem?}
 use Rattle.calls.specs.declared.reply.Callback.{Callback}
 use Rattle.callback_dispatch.specs.declared.numbered.Numbered.{Numbered}
 use Rattle.callback_dispatch.specs.declared.rule.View.{View}
 use Rattle.callback_dispatch.specs.Seen.{element, numbered}
 use Rattle.callback_dispatch.specs.Rule.{taken_by, Dispatch}
 use Rattle.callback_dispatch.specs.Law.{Rises, StandsOnce, IsShared}
-use Rattle.callback_dispatch.proofs.Elements.{AllAbove, taken_cases, taken-above, slice_get-front}
+use Rattle.callback_dispatch.proofs.Elements.{taken_cases, taken-above, slice_get-front}
 
 taken-rises : (taker : ℕ → ℕ) (pass number : ℕ) (callbacks : List Callback) → Rises (taken_by taker pass number callbacks)
 taken-rises taker pass number [] = tt

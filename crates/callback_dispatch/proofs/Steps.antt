@@ -1,5 +1,5 @@
 -- A push, a pop and a look keep the rule, and tell what they are to tell.
-use Rattle.std.proofs.Common.{◌≡◌, ◌≢◌, ℕ, zero, suc, ◌+◌, ◌<◌, ◌≤◌, true, ◌⊎◌, ⊎_elim, Some, List, [], ◌∷◌, ◌++◌, length, get_or, drop, set, slice_get, refl, sym, ap, subst, ◌∙◌, append_assoc, length-append, length-set, arith}
+use Rattle.std.proofs.Common.{◌≡◌, ℕ, zero, suc, ◌+◌, ◌<◌, ◌≤◌, true, ⊎_elim, Some, List, [], ◌∷◌, ◌++◌, length, get_or, drop, set, slice_get, refl, sym, ap, subst, ◌∙◌, append_assoc, length-append, length-set, arith}
 use mathlib.Core.Option.{some, some-injective, some-ne-none}
 use mathlib.Core.List.{IsPrefix, cons-ne-nil}
 use lib.ListN.{get_elem?}
@@ -8,7 +8,7 @@ use Rattle.calls.specs.declared.reply.Callback.{Callback}
 use Rattle.callback_dispatch.specs.declared.numbered.Numbered.{Numbered}
 use Rattle.callback_dispatch.specs.declared.rule.View.{View}
 use Rattle.callback_dispatch.specs.Seen.{element, numbered, AllBelow}
-use Rattle.callback_dispatch.specs.Rule.{first_view, taken_by, shares, Fits, Dispatch, pushed, popped, IsNext, Popped, TookAll, Learned}
+use Rattle.callback_dispatch.specs.Rule.{first_view, taken_by, Fits, Dispatch, pushed, popped, Popped, Learned}
 use Rattle.callback_dispatch.proofs.Elements.{numbered-append, length-numbered, prefix-more, prefix-at, taken-below, taken-alone, after, taken-mine, taken-theirs}
 use Rattle.callback_dispatch.proofs.Passes.{Each, each_set, at-within, at_or_beyond, shares-set, others_idle}
 

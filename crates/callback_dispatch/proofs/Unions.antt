@@ -1,5 +1,5 @@
 -- Lists joined by number.
-use Rattle.std.proofs.Common.{◌≡◌, ◌≢◌, ℕ, suc, ◌+◌, ◌<◌, ◌≤◌, Bool, true, false, cond, eqb, ◌⊎◌, ⊎_elim, All, IsPermutation, List, [], ◌∷◌, ◌++◌, length, ltb, lt-ltb, le-ltb, ltb-true, ltb-false, eq-eqb, ne_eqb, refl, sym, ap, subst, ◌∙◌, arith}
+use Rattle.std.proofs.Common.{◌≡◌, ◌≢◌, ℕ, suc, ◌<◌, Bool, true, false, cond, eqb, ⊎_elim, IsPermutation, List, [], ◌∷◌, ◌++◌, ltb, lt-ltb, le-ltb, eq-eqb, ne_eqb, refl, sym, ap, ◌∙◌, arith}
 use Rattle.std.proofs.lemmas.List.Elements.{All-head, All-tail}
 use Rattle.std.proofs.lemmas.List.Sorted.{IsPermutation-refl, IsPermutation-trans, IsPermutation-cons, IsPermutation-append_left, IsPermutation-append_comm}
 use Rattle.calls.specs.declared.reply.Callback.{Callback}

@@ -1,10 +1,9 @@
 -- Words of bodies alone: how queues, feeders and takers are seen by their passes.
-use Rattle.std.specs.Prelude.{◌≡◌, ℕ, ◌<◌, ◌≤◌, true, List, [], ◌++◌, length}
+use Rattle.std.specs.Prelude.{◌≡◌, ◌<◌, true, [], length}
 use Rattle.crossbeam_queue.specs.Passes.{view, ruled_capacity}
 use Rattle.callback_dispatch.specs.declared.queue.CallbackQueue.TheInside.{Inside as QueueInside}
 use Rattle.callback_dispatch.specs.declared.queue.Feeder.TheInside.{Inside as FeederInside}
 use Rattle.callback_dispatch.specs.declared.queue.Taker.TheInside.{Inside as TakerInside}
-use Rattle.callback_dispatch.specs.declared.numbered.Numbered.{Numbered}
 use Rattle.callback_dispatch.specs.Seen.{QueueSeen, FeederSeen, TakerSeen}
 
 abbrev pub queue_seen : QueueInside → QueueSeen

@@ -1,5 +1,5 @@
 -- Words of public clauses: callbacks with their numbers, and what is seen of a queue, a feeder and a taker.
-use Rattle.std.specs.Prelude.{◌≡◌, ℕ, suc, ◌+◌, ◌<◌, if◌then◌else◌, nat_lt, All, List, [], ◌∷◌, length, take}
+use Rattle.std.specs.Prelude.{◌≡◌, ℕ, suc, ◌<◌, if◌then◌else◌, nat_lt, All, List, [], ◌∷◌, length, take}
 use Rattle.atomic_table.specs.Seated.{TableId}
 use Rattle.calls.specs.declared.reply.Callback.{Callback}
 use Rattle.callback_dispatch.specs.declared.numbered.Numbered.{Numbered}

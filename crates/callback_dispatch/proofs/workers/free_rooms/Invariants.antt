@@ -1,4 +1,4 @@
-use Rattle.std.proofs.Common.{◌≡◌, ◌+◌, ◌≤◌, vec_len, vec_capacity}
+use Rattle.std.proofs.Common.{◌≡◌, ◌≤◌, vec_len, vec_capacity}
 use Rattle.callback_dispatch.specs.Crew.{AreFree}
 use Rattle.callback_dispatch.proofs.workers.free_rooms.Given as goal
 

@@ -1,4 +1,4 @@
-use Rattle.std.proofs.Common.{rules, arith}
+use Rattle.std.proofs.Common.{arith}
 use Rattle.callback_dispatch.proofs.Steps.{pushes, learns}
 use Rattle.callback_dispatch.proofs.queue.CallbackQueue.feed.Goals as goal
 
