@@ -131,6 +131,7 @@ fn any_number_of_workers_gives_the_same(rt: HostRuntime) -> Result<(), Fail> {
 }
 
 // Holds each worker until a second one is here, or a million turns have passed.
+#[derive(Drop)]
 struct SecondComer {
     here: AtomicU32,
     missed: AtomicU32,
