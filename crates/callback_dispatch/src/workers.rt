@@ -106,7 +106,8 @@ pub fn gather<R: Threads + Wait + Sync, G: Gate>(
         { work(rt, queue, other, worker, places, room, gate) },
         move || -> (Taker, Vec<Vec<Numbered>>)
             requires { IsSync R.row × IsSync G.row × (taker.queue ≡ queue.now.name)
-                × (vec_len rooms ≤ taker.share) × (worker + 1 + vec_len rooms < 2 ^ 32) × AreFree places rooms.items }
+                × (vec_len rooms ≤ taker.share) × (worker + 1 + vec_len rooms < 2 ^ 32)
+                × AreFree places rooms.items }
             ensures { (result.0.queue ≡ taker.queue) × (result.0.share ≡ taker.share)
                 × (result.0.known ≡ taker.known)
                 × IsPermutation (taker.list ++ gathered result.1.items) result.0.list
