@@ -1,5 +1,5 @@
 //! What no clause says: that calls succeed while there is memory, and that workers run at the same time.
-ghost use Rattle.std.specs.Prelude.{◌≡◌, ◌+◌, ◌≤◌, [], length};
+ghost use Rattle.std.specs.Prelude.{◌≡◌, ◌+◌, ◌^◌, ◌<◌, ◌≤◌, [], length};
 
 use ais_values::{Seq, Status};
 use callback_dispatch::{CallbackQueue, Feeder, Gate, Numbered, OpenGate, Taker};
@@ -26,36 +26,63 @@ fn invocation_of(callback: &Callback) -> Option<u64> {
     }
 }
 
+// The number under which a callback of this invocation is fed, or 0 where it comes back.
+fn fed<R: Wait + Abort>(rt: &R, queue: &CallbackQueue, feeder: &mut Feeder, invocation: u64) -> u64
+    requires queue { feeder.old.queue ≡ queue.now.name }
+    requires fits { length feeder.old.list < 2 ^ 62 }
+    ensures same { feeder.new.queue ≡ feeder.old.queue }
+    ensures list { length feeder.new.list ≤ length feeder.old.list + 1 }
+{
+    match queue.feed(rt, feeder, written(invocation)) {
+        Ok(number) => number,
+        Err(back) => {
+            assert_eq!(rt; invocation_of(&back), Some(invocation));
+            drop(back);
+            0
+        }
+    }
+}
+
 // Feeds so many callbacks, each with its number as invocation.
 fn feed_all<R: Wait + Abort>(rt: &R, queue: &CallbackQueue, feeder: &mut Feeder, count: u32)
     requires queue { feeder.old.queue ≡ queue.now.name }
     requires fresh { feeder.old.list ≡ [] }
     ensures { feeder.new.queue ≡ feeder.old.queue }
 {
-    for fed in 0..count {
-        let invocation = u64::from(fed) + 1;
-        match queue.feed(rt, feeder, written(invocation)) {
-            Ok(number) => assert_eq!(rt; number, invocation),
-            Err(back) => {
-                drop(back);
-                assert!(rt; false, "{invocation} has no place");
-            }
-        }
+    for before in 0..count {
+        let number = u64::from(before) + 1;
+        assert_eq!(rt; fed(rt, queue, feeder, number), number);
     }
 }
 
-// Takes the element of this number, which has the number as invocation too.
-fn takes<R: Wait + Abort>(rt: &R, queue: &CallbackQueue, taker: &mut Taker, number: u64)
+// Takes the element of this number and this invocation.
+fn takes<R: Wait + Abort>(
+    rt: &R,
+    queue: &CallbackQueue,
+    taker: &mut Taker,
+    number: u64,
+    invocation: u64,
+)
     requires { taker.old.queue ≡ queue.now.name }
     ensures { (taker.new.queue ≡ taker.old.queue) × (taker.new.share ≡ taker.old.share) }
 {
     match queue.dispatch_one(rt, taker) {
         Some(element) => {
             assert_eq!(rt; element.number, number);
-            assert_eq!(rt; invocation_of(&element.callback), Some(number));
+            assert_eq!(rt; invocation_of(&element.callback), Some(invocation));
             drop(element);
         }
         None => assert!(rt; false, "{number} is not there"),
+    }
+}
+
+// Finds nothing.
+fn is_empty<R: Wait + Abort>(rt: &R, queue: &CallbackQueue, taker: &mut Taker)
+    requires { taker.old.queue ≡ queue.now.name }
+{
+    if let Some(element) = queue.dispatch_one(rt, taker) {
+        drop(element);
+        assert!(rt; false, "an element is there");
     }
 }
 
@@ -74,12 +101,12 @@ fn are_from<R: Abort>(rt: &R, taken: Seq<Numbered>, first: u64, count: usize) {
 #[test]
 fn a_full_queue_hands_the_callback_back(rt: HostRuntime) -> Result<(), Fail> {
     let (queue, mut feeder, mut taker) = CallbackQueue::make(&rt, rt.alloc(), 1)?;
-    assert!(rt; queue.feed(&rt, &mut feeder, written(1)) == Ok(1));
-    assert!(rt; queue.feed(&rt, &mut feeder, written(2)) == Err(written(2)));
-    takes(&rt, &queue, &mut taker, 1);
-    assert!(rt; queue.feed(&rt, &mut feeder, written(2)) == Ok(2));
-    takes(&rt, &queue, &mut taker, 2);
-    assert!(rt; queue.dispatch_one(&rt, &mut taker).is_none());
+    assert_eq!(rt; fed(&rt, &queue, &mut feeder, 5), 1);
+    assert_eq!(rt; fed(&rt, &queue, &mut feeder, 6), 0);
+    takes(&rt, &queue, &mut taker, 1, 5);
+    assert_eq!(rt; fed(&rt, &queue, &mut feeder, 7), 2);
+    takes(&rt, &queue, &mut taker, 2, 7);
+    is_empty(&rt, &queue, &mut taker);
     Ok(())
 }
 
@@ -89,12 +116,12 @@ fn two_takers_are_joined(rt: HostRuntime) -> Result<(), Fail> {
     let (queue, mut feeder, mut one) = CallbackQueue::make(&rt, alloc, 4)?;
     feed_all(&rt, &queue, &mut feeder, 3);
     let mut two = queue.split(&rt, alloc, &mut one)?;
-    takes(&rt, &queue, &mut one, 1);
-    takes(&rt, &queue, &mut two, 2);
-    takes(&rt, &queue, &mut one, 3);
+    takes(&rt, &queue, &mut one, 1, 1);
+    takes(&rt, &queue, &mut two, 2, 2);
+    takes(&rt, &queue, &mut one, 3, 3);
     let mut both = queue.join_takers(&rt, one, two);
     queue.meet(&rt, alloc, &mut feeder, &mut both)?;
-    assert!(rt; queue.dispatch_one(&rt, &mut both).is_none());
+    is_empty(&rt, &queue, &mut both);
     Ok(())
 }
 
@@ -108,7 +135,7 @@ fn hands_out_nine<R: thread::Threads + Wait + Abort + Sync>(
 {
     let (queue, mut feeder, mut taker) = CallbackQueue::make(rt, alloc, 16)?;
     feed_all(rt, &queue, &mut feeder, 9);
-    takes(rt, &queue, &mut taker, 1);
+    takes(rt, &queue, &mut taker, 1, 1);
     let Ok((taker, taken)) = queue.dispatch_all(rt, alloc, &mut feeder, taker, workers, &OpenGate)
     else {
         return Err(Fail::new("no memory"));
