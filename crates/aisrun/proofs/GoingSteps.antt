@@ -31,7 +31,8 @@ use Rattle.aisrun.specs.declared.ending.Status8.TheVariants.{Done, ScriptRefused
 use Rattle.aisrun.specs.Edges.{edge}
 use Rattle.aisrun.specs.Endings.{FaultLeft, Showing, Working}
 use Rattle.aisrun.specs.Steps.{Behind, CanFollow, EventsEnd, Going, LacksBehind, LineEnds, LineLacks, Plays, Written, Whole, joined_lines, time_behind}
-use Rattle.aisrun.proofs.PlayLaws.{line-kept, line-now, answered-range, played-files}
+use Rattle.aisrun.proofs.PlayLaws.{line-kept, answered-range, played-files}
+use Rattle.aisrun.proofs.TimeLaws.{line-now}
 use Rattle.aisrun.proofs.WritingSteps.{written-behind}
 
 text-append : (later earlier : List Told) → text_of (later ++ earlier) ≡ text_of earlier ++ text_of later

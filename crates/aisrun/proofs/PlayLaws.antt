@@ -1,54 +1,40 @@
--- What lines that are played lead to: facts, promises, files and times.
-use Rattle.std.proofs.Common.{◌≡◌, ℕ, ℤ, List, [], ◌∷◌, ◌++◌, Option, Some, None, refl, ap, sym, ◌∙◌, subst}
+-- What lines that are played lead to: facts, promises and files.
+use Rattle.std.proofs.Common.{◌≡◌, ℕ, ℤ, List, [], ◌∷◌, ◌++◌, Option, refl, ap, sym, ◌∙◌, subst}
 use Rattle.disk_model.specs.Disk.{Files}
 use Rattle.script_lines.specs.declared.line.Line.{Line}
-use Rattle.script_lines.specs.declared.line.Line.TheVariants as line
 use Rattle.plain_service.specs.Setups.{Setup, CanBegin}
-use Rattle.cluster_facts.specs.Types.{Call, Status, Entry, Message}
-use Rattle.cluster_facts.specs.Service.{Plain}
+use Rattle.cluster_facts.specs.Types.{Entry}
 use Rattle.cluster_facts.specs.Storage.{all_applied}
-use Rattle.cluster_facts.specs.Agents.{call_of, refusal, dispatch_refusal}
 use Rattle.cluster_facts.specs.History.{Hand, Empty, Waiting, Applied, Ready, IsLegal, accepted_by}
 use Rattle.cluster_facts.specs.Ranges.{AreInRange}
-use Rattle.cluster_facts.specs.World.{World, empty_world, message_at}
+use Rattle.cluster_facts.specs.World.{empty_world}
 use Rattle.cluster_facts.proofs.Growing.{IsLegal-before}
 use Rattle.cluster_facts.proofs.Keeping.{IsSound-start}
-use Rattle.cluster_facts.proofs.Posting.{message_at-stands}
 use Rattle.cluster_events.specs.Lines.{Told}
 use Rattle.cluster_events.specs.Outcomes.{Outcome}
 use Rattle.cluster_events.specs.Servers.{State}
-use Rattle.cluster_events.specs.ClientEvents.{ask_by, dispatch_one_by, dispatch_all_by}
-use Rattle.cluster_events.specs.Events.{deliver_by, step_or_refuse, push_by}
-use Rattle.cluster_events.specs.Running.{Shelf, show_by, Happens}
+use Rattle.cluster_events.specs.Running.{Shelf, Happens}
 use Rattle.cluster_events.specs.Saying.{Says}
-use Rattle.cluster_events.specs.Serving.{IsSteady, IsServing}
+use Rattle.cluster_events.specs.Serving.{IsSteady}
 use Rattle.cluster_events.specs.Promises.{AtEnd}
 use Rattle.cluster_events.specs.OnDisk.{performed}
 use Rattle.cluster_events.specs.Filing.{RecordsStay}
 use Rattle.cluster_events.proofs.Telling.{Says-same, Says-both}
-use Rattle.cluster_events.proofs.Promised.{happens-kept, at-end}
-use Rattle.cluster_events.proofs.Carrying.{delivered-goes, resend-goes, post_all-goes, held-made, rounds-carry}
+use Rattle.cluster_events.proofs.Promised.{at-end}
 use Rattle.cluster_events.proofs.Filed.{answered-legal, records-stay}
-use Rattle.lone_cluster.specs.Lone.{Alone, lone, lone_start, work_by, IsGoodAlone}
-use Rattle.lone_cluster.proofs.Serving.{lone-serves, lone-says, lone-works, never-steps}
+use Rattle.lone_cluster.specs.Lone.{Alone, lone, lone_start, IsGoodAlone}
+use Rattle.lone_cluster.proofs.Serving.{lone-kept}
 use Rattle.service_laws.specs.Disks.{service_disk}
 use Rattle.service_laws.specs.PlainOf.{plain_of}
 use Rattle.service_laws.specs.StorageOf.{storage_of}
 use Rattle.service_laws.proofs.ServiceLaws.{is_plain}
 use Rattle.service_laws.proofs.StorageLaws.{is_storage}
 use Rattle.aisrun.specs.Playing.{Played, Begun, Went}
-use Rattle.aisrun.specs.Steps.{time_behind}
-
-abbrev Steady : Setup → State Alone → Type 0
-Steady setup state = IsSteady (plain_of setup) IsGoodAlone state
-
-pub serves : (setup : Setup) → IsServing (plain_of setup) (lone (plain_of setup)) IsGoodAlone
-serves setup = lone-serves (plain_of setup) (is_plain setup)
 
 -- each line keeps the facts, and says what it must
 pub line-kept : (setup : Setup) (shelf : Shelf) (next : Line) (state : State Alone) (outcome : Outcome (State Alone)) → IsSteady (plain_of setup) IsGoodAlone state → Happens (plain_of setup) shelf (lone (plain_of setup)) next state outcome → IsSteady (plain_of setup) IsGoodAlone outcome.state × Says (plain_of setup) state.world outcome.state.world outcome.told
 line-kept setup shelf next state outcome steady happens =
-    happens-kept (plain_of setup) (is_plain setup) shelf (lone (plain_of setup)) IsGoodAlone (serves setup) (lone-says (plain_of setup)) (never-steps (plain_of setup)) (never-steps (plain_of setup)) (lone-works (plain_of setup) (is_plain setup)) next state outcome steady happens
+    lone-kept (plain_of setup) (is_plain setup) shelf next state outcome steady happens
 
 start-steady : (setup : Setup) (places : ℕ) → IsSteady (plain_of setup) IsGoodAlone (lone_start setup.start places)
 start-steady setup places = record { sound = IsSound-start (plain_of setup) setup.start places; good = tt }
@@ -108,68 +94,3 @@ played-files setup places held can (Went {state = state} {files = files} next sh
 pub played-stays : (setup : Setup) (places : ℕ) (held : Option Files) → CanBegin setup → {lines : List Line} {state : State Alone} {told : List Told} {files : Files} → Played setup places held lines state told files → AreInRange state.world.core.answered → RecordsStay (plain_of setup) service_disk (storage_of setup) state.world files
 played-stays setup places held can {state = state} {files = files} run range =
     records-stay (plain_of setup) service_disk (storage_of setup) (is_storage setup can) state.world files (played-says setup places held run).0.sound range (played-files setup places held can run range)
-
--- Times.
-
-ask-now : (plain : Plain) (client : ℕ) (call : Call) (status : Option Status) (world : World) → (ask_by plain client call status world).state.now ≡ world.now
-ask-now plain client call (Some status) world = refl
-ask-now plain client call None world = refl
-
-one-now : (client : ℕ) (status : Option Status) (world : World) → (dispatch_one_by client status world).state.now ≡ world.now
-one-now client (Some status) world = refl
-one-now client None world = refl
-
-all-now : (client : ℕ) (status : Option Status) (world : World) → (dispatch_all_by client status world).state.now ≡ world.now
-all-now client (Some status) world = refl
-all-now client None world = refl
-
-work-now : (plain : Plain) (hand : Hand) (state : State Alone) → (step_or_refuse (lone plain) line.Work (work_by plain hand state) state).state.world.now ≡ state.world.now
-work-now plain Empty state = refl
-work-now plain (Waiting entry) state = refl
-work-now plain (Applied entry) state = refl
-work-now plain (Ready entry) state = refl
-
-show-now : (plain : Plain) (name : List ℕ) (texts : Option (List (List ℕ))) (state : State Alone) → (show_by (lone plain) name texts state).state.world.now ≡ state.world.now
-show-now plain name None state = refl
-show-now plain name (Some texts) state = refl
-
-deliver-now : (setup : Setup) (place : ℕ) (found : Option Message) (state : State Alone) → message_at place state.world.net ≡ found → Steady setup state → (deliver_by (plain_of setup) (lone (plain_of setup)) place found state).state.world.now ≡ state.world.now
-deliver-now setup place None state is steady = refl
-deliver-now setup place (Some message) state is steady =
-    (delivered-goes (plain_of setup) (is_plain setup) (lone (plain_of setup)) IsGoodAlone (serves setup) (Says (plain_of setup)) (lone-says (plain_of setup)) place message state (message_at-stands place state.world.net message is) steady).stays.now
-
-push-now : (setup : Setup) (hand : Hand) (state : State Alone) → state.world.core.hand ≡ hand → Steady setup state → (push_by (plain_of setup) (lone (plain_of setup)) hand state).state.world.now ≡ state.world.now
-push-now setup Empty state is steady =
-    (post_all-goes (plain_of setup) (is_plain setup) (lone (plain_of setup)) IsGoodAlone (serves setup) (Says (plain_of setup)) (lone-says (plain_of setup)) ((plain_of setup).held state.world.core.answered) state (record { steady = steady; empty = is }) (held-made (plain_of setup) (is_plain setup) state.world.core.answered)).stays.now
-push-now setup (Waiting entry) state is steady = refl
-push-now setup (Applied entry) state is steady = refl
-push-now setup (Ready entry) state is steady = refl
-
--- the time in force behind a line
-pub line-now : (setup : Setup) (shelf : Shelf) (next : Line) (state : State Alone) (outcome : Outcome (State Alone)) → IsSteady (plain_of setup) IsGoodAlone state → Happens (plain_of setup) shelf (lone (plain_of setup)) next state outcome → outcome.state.world.now ≡ time_behind state.world.now next
-line-now setup shelf (line.Time now) state outcome steady happens = ap (λ (o : Outcome (State Alone)). o.state.world.now) happens.1
-line-now setup shelf (line.Log client asked) state outcome steady happens =
-    ap (λ (o : Outcome (State Alone)). o.state.world.now) happens ∙ ask-now (plain_of setup) client (call_of asked) (refusal asked (state.world.agents client)) state.world
-line-now setup shelf (line.Ntf client asked) state outcome steady happens =
-    ap (λ (o : Outcome (State Alone)). o.state.world.now) happens ∙ ask-now (plain_of setup) client (call_of asked) (refusal asked (state.world.agents client)) state.world
-line-now setup shelf (line.Deliver place) state outcome steady happens =
-    ap (λ (o : Outcome (State Alone)). o.state.world.now) happens ∙ deliver-now setup place (message_at place state.world.net) state refl steady
-line-now setup shelf (line.Resend client) state outcome steady happens =
-    ap (λ (o : Outcome (State Alone)). o.state.world.now) happens ∙ (resend-goes (plain_of setup) (is_plain setup) (lone (plain_of setup)) IsGoodAlone (serves setup) (Says (plain_of setup)) (lone-says (plain_of setup)) client state steady).stays.now
-line-now setup shelf line.Mirror state outcome steady happens = ap (λ (o : Outcome (State Alone)). o.state.world.now) happens
-line-now setup shelf line.Ack state outcome steady happens = ap (λ (o : Outcome (State Alone)). o.state.world.now) happens
-line-now setup shelf line.Work state outcome steady happens =
-    ap (λ (o : Outcome (State Alone)). o.state.world.now) happens ∙ work-now (plain_of setup) state.world.core.hand state
-line-now setup shelf line.Push state outcome steady happens =
-    ap (λ (o : Outcome (State Alone)). o.state.world.now) happens ∙ push-now setup state.world.core.hand state refl steady
-line-now setup shelf line.Settle state outcome steady happens =
-    (rounds-carry (plain_of setup) (is_plain setup) (lone (plain_of setup)) IsGoodAlone (serves setup) (Says (plain_of setup)) (lone-says (plain_of setup)) state steady happens.rounds).stays.now
-line-now setup shelf (line.DispatchOne client) state outcome steady happens =
-    ap (λ (o : Outcome (State Alone)). o.state.world.now) happens ∙ one-now client (dispatch_refusal (state.world.agents client)) state.world
-line-now setup shelf (line.DispatchAll client workers) state outcome steady happens =
-    ap (λ (o : Outcome (State Alone)). o.state.world.now) happens ∙ all-now client (dispatch_refusal (state.world.agents client)) state.world
-line-now setup shelf line.Servers state outcome steady happens = ap (λ (o : Outcome (State Alone)). o.state.world.now) happens
-line-now setup shelf line.Files state outcome steady happens = ap (λ (o : Outcome (State Alone)). o.state.world.now) happens
-line-now setup shelf (line.Cat name) state outcome steady happens =
-    ap (λ (o : Outcome (State Alone)). o.state.world.now) happens ∙ show-now (plain_of setup) name (shelf.text name state.world.core.answered) state
-line-now setup shelf _ state outcome steady happens = elim happens [ ]

@@ -1,38 +1,31 @@
 -- A client's agent keeps the calls that the client sent and to which no line tells the reply.
-use Rattle.std.proofs.Common.{◌≡◌, ℕ, suc, ◌<◌, ◌||◌, ◌==◌, Bool, true, false, if◌then◌else◌, List, [], ◌∷◌, ◌++◌, length, Option, Some, None, refl, ap, sym, ◌∙◌, subst, arith}
+use Rattle.std.proofs.Common.{◌≡◌, ℕ, ◌<◌, ◌||◌, ◌==◌, Bool, true, false, if◌then◌else◌, List, [], ◌∷◌, ◌++◌, length, Option, refl, ap, sym, ◌∙◌, arith}
 use Rattle.std.specs.List.{AllByRecursion}
 use Rattle.disk_model.specs.Disk.{Files}
 use Rattle.script_lines.specs.declared.line.Line.{Line}
-use Rattle.script_lines.specs.declared.line.Line.TheVariants as line
 use Rattle.plain_service.specs.Setups.{Setup}
-use Rattle.cluster_facts.specs.Types.{Status, Call, Reply, Entry, Called, Receipted, Callback, Message, Request, Answer}
+use Rattle.cluster_facts.specs.Types.{Call, Reply, Callback, Request}
 use Rattle.cluster_facts.specs.Lists.{without}
 use Rattle.cluster_facts.specs.Messages.{sent_by}
 use Rattle.cluster_facts.specs.Service.{Plain}
-use Rattle.cluster_facts.specs.Agents.{Agent, call_of, refusal, dispatch_refusal, after_call, after_reply, oldest, after_dispatch_all, after_dispatch_one}
-use Rattle.cluster_facts.specs.History.{Hand, Empty, Waiting, Applied, Ready, accepted}
-use Rattle.cluster_facts.specs.World.{World, knows, message_at, with_agent, enlisted}
-use Rattle.cluster_facts.specs.Facts.{IsSound}
+use Rattle.cluster_facts.specs.Agents.{Agent, call_of, after_call, after_reply}
+use Rattle.cluster_facts.specs.World.{World, with_agent, enlisted}
 use Rattle.cluster_facts.proofs.Words.{by_test, each_client, All-map}
-use Rattle.cluster_facts.proofs.Keeping.{call-new}
-use Rattle.cluster_facts.proofs.Posting.{message_at-stands}
-use Rattle.cluster_events.specs.Lines.{Told, Posted, Committed, Replied, Declined, HandedOut, Dispatched, Ignored, Refused, Stood, Listed, Shown, is_ignored}
-use Rattle.cluster_events.specs.Outcomes.{Outcome}
-use Rattle.cluster_events.specs.Servers.{State, drain}
-use Rattle.cluster_events.specs.ClientEvents.{post_lines, ask_by, handed_lines, hand_out, dispatch_one_by, dispatch_all_by}
-use Rattle.cluster_events.specs.Events.{deliver_by, step_or_refuse, push_by}
-use Rattle.cluster_events.specs.Running.{Shelf, listed, shown, show_by, Happens}
+use Rattle.cluster_events.specs.Lines.{Told, Posted, Committed, Replied, Declined, Ignored, Refused, Stood, Listed, Shown, is_ignored}
+use Rattle.cluster_events.specs.Servers.{State}
+use Rattle.cluster_events.specs.ClientEvents.{hand_out}
 use Rattle.cluster_events.specs.Saying.{reply_in, replies_told, IsDone}
-use Rattle.cluster_events.specs.Serving.{IsSteady, IsCarried}
-use Rattle.cluster_events.proofs.Carrying.{posted-unknown, delivered-goes, resend-goes, post_all-goes, held-made, rounds-carry}
+use Rattle.cluster_events.specs.Serving.{IsCarried}
+use Rattle.cluster_events.proofs.Promised.{gathered-without, gathered-handed}
+use Rattle.cluster_events.proofs.Walking.{Kind, Asks, kind_of, IsShow, IsByKind, IsTold}
 use Rattle.cluster_events.proofs.Telling.{gathered-append}
-use Rattle.lone_cluster.specs.Lone.{Alone, answer_of, work_by, lone, IsLone, IsGoodAlone}
-use Rattle.lone_cluster.proofs.Serving.{posted-sent}
+use Rattle.lone_cluster.specs.Lone.{Alone, lone, IsGoodAlone}
+use Rattle.lone_cluster.proofs.Serving.{lone-carries, lone-walks}
 use Rattle.service_laws.specs.PlainOf.{plain_of}
 use Rattle.service_laws.proofs.ServiceLaws.{is_plain}
 use Rattle.aisrun.specs.Playing.{Played, Begun, Went}
 use Rattle.aisrun.specs.Promises.{is_replied, waiting_of}
-use Rattle.aisrun.proofs.PlayLaws.{played-says, serves}
+use Rattle.aisrun.proofs.PlayLaws.{played-says}
 
 -- Lists.
 
@@ -135,80 +128,37 @@ passes-agent world new client after told same agents sent quiet =
     ap (λ (all : ℕ → Agent). (all other).kept) agents
     ∙ each_client (λ one b. (if b then after else world.agents one).kept ≡ (world.agents one).kept) client same (λ one. refl) other) sent quiet
 
-post-quiet : (plain : Plain) (message : Message) (world : World) (client : ℕ) → replies_told client (post_lines plain message world.net) ≡ []
-post-quiet plain message world client =
-    elim (knows plain message world.net) as (λ b. replies_told client (if b then [] else Posted (suc (length world.net)) message ∷ []) ≡ []) [ true ↦ refl | false ↦ refl ]
-
-answer-quiet : (plain : Plain) (entry : Entry) (state : State Alone) (client : ℕ) → replies_told client (answer_of plain entry state).told ≡ []
-answer-quiet plain (Called caller number time call) state client =
-    post-quiet plain (Answer caller number (plain.reply state.world.core.answered caller number time call)) state.world client
-answer-quiet plain (Receipted caller key through time) state client = refl
-
-answer-passes : (plain : Plain) (entry : Entry) (state : State Alone) → Passes state.world (answer_of plain entry state).state.world (answer_of plain entry state).told
-answer-passes plain entry state =
-    passes-quiet state.world (answer_of plain entry state).state.world (answer_of plain entry state).told (λ client. refl) (posted-sent plain state.world.core.answered entry state.world.net) (answer-quiet plain entry state)
-
--- the state is written with its hand, so that each case computes
-abbrev state_with : State Alone → Hand → State Alone
-state_with state hand =
-    record { world = record state.world { core = record { answered = state.world.core.answered; hand = hand } }; peers = state.peers }
-
-passes-same : (world : World) → Passes world world []
-passes-same world = passes-quiet world world [] (λ client. refl) (λ client. refl) (λ client. refl)
-
-drain-passes : (plain : Plain) (state : State Alone) (hand : Hand) → IsLone hand → Passes (state_with state hand).world (drain (lone plain) (state_with state hand)).state.world (drain (lone plain) (state_with state hand)).told
-drain-passes plain state Empty good = passes-same (state_with state Empty).world
-drain-passes plain state (Ready entry) good = answer-passes plain entry (state_with state (Ready entry))
-drain-passes plain state (Waiting entry) good = elim good [ ]
-drain-passes plain state (Applied entry) good = elim good [ ]
-
-passes-carried : (plain : Plain) → IsCarried plain (lone plain) IsGoodAlone Passes
-passes-carried plain = record {
-  same = passes-same;
+passes-told : (plain : Plain) → IsTold plain Passes
+passes-told plain = record {
+  same = λ world. passes-quiet world world [] (λ client. refl) (λ client. refl) (λ client. refl);
   both = Passes-both;
   ignored = λ world place why. passes-quiet world world (Ignored place why ∷ []) (λ client. refl) (λ client. refl) (λ client. refl);
   answer = λ world client number reply sound stands. passes-quiet world _ (Posted _ _ ∷ []) (λ other. refl) (λ other. refl) (λ other. refl);
   pushed = λ world client key item sound is. passes-quiet world _ (Posted _ _ ∷ []) (λ other. refl) (λ other. refl) (λ other. refl);
   reply = λ world client number call reply sound kept place stands. passes-reply world client number call reply;
   item = λ world client key item found sound here next place stands. passes-agent world _ client _ (Posted _ _ ∷ []) refl refl (λ other. refl) (λ other. refl);
-  accept = λ entry state steady empty may at stands. passes-quiet state.world _ (Committed _ _ ∷ []) (λ client. refl) (λ client. refl) (λ client. refl);
-  drain = λ state steady. drain-passes plain state state.world.core.hand steady.good;
 }
 
--- Lines on messages without effect may be left out.
-
-replies-without : (client : ℕ) (told : List Told) → replies_told client (without is_ignored told) ≡ replies_told client told
-replies-without client [] = refl
-replies-without client (Ignored place why ∷ told) = replies-without client told
-replies-without client (Replied other number call reply ∷ told) =
-    ap (λ (rest : Replies). (if other == client then (number, reply) ∷ [] else []) ++ rest) (replies-without client told)
-replies-without client (Posted number message ∷ told) = replies-without client told
-replies-without client (Committed number entry ∷ told) = replies-without client told
-replies-without client (Declined other status ∷ told) = replies-without client told
-replies-without client (HandedOut other number callback ∷ told) = replies-without client told
-replies-without client (Dispatched other count ∷ told) = replies-without client told
-replies-without client (Refused refused standing ∷ told) = replies-without client told
-replies-without client (Stood server role ∷ told) = replies-without client told
-replies-without client (Listed name count ∷ told) = replies-without client told
-replies-without client (Shown text ∷ told) = replies-without client told
+passes-carried : (setup : Setup) → IsCarried (plain_of setup) (lone (plain_of setup)) IsGoodAlone Passes
+passes-carried setup =
+    lone-carries (plain_of setup) (is_plain setup) Passes (passes-told (plain_of setup)) (λ world entry. passes-quiet _ _ [] (λ client. refl) (λ client. refl) (λ client. refl)) (λ entry state steady empty may at stands. passes-quiet state.world _ (Committed _ _ ∷ []) (λ client. refl) (λ client. refl) (λ client. refl))
 
 passes-without : (old new : World) (told : List Told) → Passes old new told → Passes old new (without is_ignored told)
 passes-without old new told passes = record {
-  kept = λ client. passes.kept client ∙ ap (λ (replies : Replies). waiting_of replies (old.agents client).kept) (sym (replies-without client told));
+  kept = λ client. passes.kept client ∙ ap (λ (replies : Replies). waiting_of replies (old.agents client).kept) (sym (gathered-without (reply_in client) (λ place why. refl) told));
   sent = passes.sent;
 }
 
-handed-quiet : (client before other : ℕ) (callbacks : List Callback) → replies_told other (handed_lines client before callbacks) ≡ []
-handed-quiet client before other [] = refl
-handed-quiet client before other (callback ∷ callbacks) = handed-quiet client before other callbacks
+show-quiet : (line : Told) → IsShow line → (client : ℕ) → replies_told client (line ∷ []) ≡ []
+show-quiet (Refused refused standing) shows client = refl
+show-quiet (Stood server role) shows client = refl
+show-quiet (Listed name count) shows client = refl
+show-quiet (Shown text) shows client = refl
+show-quiet _ shows client = elim shows [ ]
 
-listed-quiet : (client : ℕ) (files : List (List ℕ × ℕ)) (told : List Told) → replies_told client told ≡ [] → replies_told client (listed files told) ≡ []
-listed-quiet client [] told quiet = quiet
-listed-quiet client (file ∷ files) told quiet = listed-quiet client files (Listed file.0 file.1 ∷ told) quiet
-
-shown-quiet : (client : ℕ) (texts : List (List ℕ)) (told : List Told) → replies_told client told ≡ [] → replies_told client (shown texts told) ≡ []
-shown-quiet client [] told quiet = quiet
-shown-quiet client (text ∷ texts) told quiet = shown-quiet client texts (Shown text ∷ told) quiet
+hand_out-passes : (client : ℕ) (callbacks : List Callback) (after : Agent) (world : World) → after.kept ≡ (world.agents client).kept → Passes world (hand_out client callbacks after world).state (hand_out client callbacks after world).told
+hand_out-passes client callbacks after world same =
+    passes-agent world (hand_out client callbacks after world).state client after (hand_out client callbacks after world).told same refl (λ other. refl) (λ other. gathered-handed (reply_in other) client (length (world.agents client).handed) callbacks (λ number callback. refl))
 
 -- What agents keep, behind all lines that were told.
 
@@ -241,116 +191,31 @@ sent-waits world client call clients before below waits =
     (ap (λ (kept : List Sent). asked ∷ kept) (waits client) ∙ ap (λ (b : Bool). if b then rest else asked ∷ rest) (sym (not-replied replies asked (below client))))
     waits
 
-ask_by-waits : (setup : Setup) (client : ℕ) (call : Call) (status : Option Status) (world : World) (before : List Told) → IsSound (plain_of setup) world → AreBelow world before → KeepsWaiting world before → KeepsWaiting (ask_by (plain_of setup) client call status world).state ((ask_by (plain_of setup) client call status world).told ++ before)
-ask_by-waits setup client call (Some status) world before sound below waits = waits
-ask_by-waits setup client call None world before sound below waits =
-    let plain = plain_of setup in
-    let request = Request client (world.agents client).next call in
-    let unknown = posted-unknown plain request world.net (call-new plain (is_plain setup) world.now (accepted world.core) world.core.answered world.net world.agents client call sound.facts) in
-    let after = with_agent client (after_call call (world.agents client)) world.agents in
-    let G : Bool → Type 0 = λ b. KeepsWaiting (record world { net = if b then world.net else request ∷ world.net; agents = after; clients = enlisted client world.clients }) ((if b then [] else Posted (suc (length world.net)) request ∷ []) ++ before) in
-    subst G (sym unknown) (sent-waits world client call (enlisted client world.clients) before below waits)
+-- what a line of a kind leaves of it: a call that is sent waits, and other lines pass
+abbrev Waits : Kind → World → World → List Told → Type 0
+Waits (Asks client asked) old new told =
+    (before : List Told) → AreBelow old before → KeepsWaiting old before → KeepsWaiting new (told ++ before)
+Waits _ old new told = Passes old new told
 
-hand_out-passes : (client : ℕ) (callbacks : List Callback) (after : Agent) (world : World) → after.kept ≡ (world.agents client).kept → Passes world (hand_out client callbacks after world).state (hand_out client callbacks after world).told
-hand_out-passes client callbacks after world same =
-    passes-agent world (hand_out client callbacks after world).state client after (hand_out client callbacks after world).told same refl (λ other. refl) (λ other. handed-quiet client (length (world.agents client).handed) other callbacks)
+waits-by-kind : (plain : Plain) → IsByKind plain Waits
+waits-by-kind plain = record {
+  time = λ now world sound after. passes-quiet world _ [] (λ client. refl) (λ client. refl) (λ client. refl);
+  declined = λ client asked status world sound is before below waits. waits;
+  asked = λ client asked world sound is before below waits. sent-waits world client (call_of asked) (enlisted client world.clients) before below waits;
+  refused = λ client status world sound is. passes-quiet world world (Declined client status ∷ []) (λ other. refl) (λ other. refl) (λ other. refl);
+  handed = λ client callbacks after world sound is hands. hand_out-passes client callbacks after world hands.kept;
+  shows = λ world line shows. passes-quiet world world (line ∷ []) (λ client. refl) (λ client. refl) (show-quiet line shows);
+  printed = passes-without;
+}
 
-all-passes : (client : ℕ) (status : Option Status) (world : World) → Passes world (dispatch_all_by client status world).state (dispatch_all_by client status world).told
-all-passes client (Some status) world = passes-quiet world world (Declined client status ∷ []) (λ other. refl) (λ other. refl) (λ other. refl)
-all-passes client None world = hand_out-passes client (world.agents client).queue (after_dispatch_all (world.agents client)) world refl
-
-one-passes : (client : ℕ) (status : Option Status) (world : World) → Passes world (dispatch_one_by client status world).state (dispatch_one_by client status world).told
-one-passes client (Some status) world = passes-quiet world world (Declined client status ∷ []) (λ other. refl) (λ other. refl) (λ other. refl)
-one-passes client None world = hand_out-passes client (oldest (world.agents client).queue) (after_dispatch_one (world.agents client)) world refl
-
--- Each line.
-
-module _ (setup : Setup) where
-  abbrev plain : Plain
-  plain = plain_of setup
-
-  abbrev Steady : State Alone → Type 0
-  Steady state = IsSteady plain IsGoodAlone state
-
-  -- a line that leaves the world as it is and tells no reply
-  still : (world : World) (told : List Told) → ((client : ℕ) → replies_told client told ≡ []) → Passes world world told
-  still world told quiet = passes-quiet world world told (λ client. refl) (λ client. refl) quiet
-
-  deliver-passes : (place : ℕ) (found : Option Message) (state : State Alone) → message_at place state.world.net ≡ found → Steady state → Passes state.world (deliver_by plain (lone plain) place found state).state.world (deliver_by plain (lone plain) place found state).told
-  deliver-passes place None state is steady = still state.world _ (λ client. refl)
-  deliver-passes place (Some message) state is steady =
-      (delivered-goes plain (is_plain setup) (lone plain) IsGoodAlone (serves setup) Passes (passes-carried plain) place message state (message_at-stands place state.world.net message is) steady).carried
-
-  push-passes : (hand : Hand) (state : State Alone) → state.world.core.hand ≡ hand → Steady state → Passes state.world (push_by plain (lone plain) hand state).state.world (push_by plain (lone plain) hand state).told
-  push-passes Empty state is steady =
-      (post_all-goes plain (is_plain setup) (lone plain) IsGoodAlone (serves setup) Passes (passes-carried plain) (plain.held state.world.core.answered) state (record { steady = steady; empty = is }) (held-made plain (is_plain setup) state.world.core.answered)).carried
-  push-passes (Waiting entry) state is steady = still state.world _ (λ client. refl)
-  push-passes (Applied entry) state is steady = still state.world _ (λ client. refl)
-  push-passes (Ready entry) state is steady = still state.world _ (λ client. refl)
-
-  work-passes : (hand : Hand) (state : State Alone) → Passes state.world (step_or_refuse (lone plain) line.Work (work_by plain hand state) state).state.world (step_or_refuse (lone plain) line.Work (work_by plain hand state) state).told
-  work-passes Empty state = still state.world _ (λ client. refl)
-  work-passes (Waiting entry) state = still state.world _ (λ client. refl)
-  work-passes (Applied entry) state = still state.world _ (λ client. refl)
-  work-passes (Ready entry) state = answer-passes plain entry state
-
-  show-passes : (name : List ℕ) (texts : Option (List (List ℕ))) (state : State Alone) → Passes state.world (show_by (lone plain) name texts state).state.world (show_by (lone plain) name texts state).told
-  show-passes name None state = still state.world _ (λ client. refl)
-  show-passes name (Some texts) state = still state.world (shown texts []) (λ client. shown-quiet client texts [] refl)
-
-  module _ (before : List Told) where
-    abbrev Kept : Outcome (State Alone) → Type 0
-    Kept outcome = KeepsWaiting outcome.state.world (outcome.told ++ before)
-
-    passed : (state : State Alone) (outcome event : Outcome (State Alone)) → outcome ≡ event → KeepsWaiting state.world before → Passes state.world event.state.world event.told → Kept outcome
-    passed state outcome event same waits passes =
-        let K : Outcome (State Alone) → Type 0 = λ o. KeepsWaiting o.state.world (o.told ++ before) in
-        subst K (sym same) (waits-on state.world event.state.world before event.told waits passes)
-
-    asked-waits : (client : ℕ) (call : Call) (status : Option Status) (state : State Alone) (outcome : Outcome (State Alone)) → outcome ≡ Rattle.cluster_events.specs.Servers.in_world (ask_by plain client call status) state → Steady state → AreBelow state.world before → KeepsWaiting state.world before → Kept outcome
-    asked-waits client call status state outcome same steady below waits =
-        let K : Outcome (State Alone) → Type 0 = λ o. KeepsWaiting o.state.world (o.told ++ before) in
-        subst K (sym same) (ask_by-waits setup client call status state.world before steady.sound below waits)
-
-    line-waits : (shelf : Shelf) (next : Line) (state : State Alone) (outcome : Outcome (State Alone)) → Steady state → AreBelow state.world before → KeepsWaiting state.world before → Happens plain shelf (lone plain) next state outcome → Kept outcome
-    line-waits shelf (line.Time now) state outcome steady below waits happens =
-        passed state outcome _ happens.1 waits (passes-quiet state.world _ [] (λ client. refl) (λ client. refl) (λ client. refl))
-    line-waits shelf (line.Log client asked) state outcome steady below waits happens =
-        asked-waits client (call_of asked) (refusal asked (state.world.agents client)) state outcome happens steady below waits
-    line-waits shelf (line.Ntf client asked) state outcome steady below waits happens =
-        asked-waits client (call_of asked) (refusal asked (state.world.agents client)) state outcome happens steady below waits
-    line-waits shelf (line.Deliver place) state outcome steady below waits happens =
-        passed state outcome _ happens waits (deliver-passes place (message_at place state.world.net) state refl steady)
-    line-waits shelf (line.Resend client) state outcome steady below waits happens =
-        passed state outcome _ happens waits (resend-goes plain (is_plain setup) (lone plain) IsGoodAlone (serves setup) Passes (passes-carried plain) client state steady).carried
-    line-waits shelf line.Mirror state outcome steady below waits happens =
-        passed state outcome _ happens waits (still state.world _ (λ client. refl))
-    line-waits shelf line.Ack state outcome steady below waits happens =
-        passed state outcome _ happens waits (still state.world _ (λ client. refl))
-    line-waits shelf line.Work state outcome steady below waits happens =
-        passed state outcome _ happens waits (work-passes state.world.core.hand state)
-    line-waits shelf line.Push state outcome steady below waits happens =
-        passed state outcome _ happens waits (push-passes state.world.core.hand state refl steady)
-    line-waits shelf line.Settle state outcome steady below waits happens =
-        let T : List Told → Type 0 = λ told. KeepsWaiting outcome.state.world (told ++ before) in
-        let goes = (rounds-carry plain (is_plain setup) (lone plain) IsGoodAlone (serves setup) Passes (passes-carried plain) state steady happens.rounds).carried in
-        subst T (sym happens.printed) (waits-on state.world outcome.state.world before (without is_ignored happens.lines) waits (passes-without state.world outcome.state.world happens.lines goes))
-    line-waits shelf (line.DispatchOne client) state outcome steady below waits happens =
-        passed state outcome _ happens waits (one-passes client (dispatch_refusal (state.world.agents client)) state.world)
-    line-waits shelf (line.DispatchAll client workers) state outcome steady below waits happens =
-        passed state outcome _ happens waits (all-passes client (dispatch_refusal (state.world.agents client)) state.world)
-    line-waits shelf line.Servers state outcome steady below waits happens =
-        passed state outcome _ happens waits (still state.world _ (λ client. refl))
-    line-waits shelf line.Files state outcome steady below waits happens =
-        let listing = shelf.listing state.world.core.answered in
-        passed state outcome _ happens waits (still state.world (listed listing []) (λ client. listed-quiet client listing [] refl))
-    line-waits shelf (line.Cat name) state outcome steady below waits happens =
-        passed state outcome _ happens waits (show-passes name (shelf.text name state.world.core.answered) state)
-    line-waits shelf _ state outcome steady below waits happens = elim happens [ ]
+waits-behind : (kind : Kind) (old new : World) (before told : List Told) → Waits kind old new told → AreBelow old before → KeepsWaiting old before → KeepsWaiting new (told ++ before)
+waits-behind (Asks client asked) old new before told goes below waits = goes before below waits
+waits-behind _ old new before told goes below waits = waits-on old new before told waits goes
 
 pub played-waits : (setup : Setup) (places : ℕ) (held : Option Files) {lines : List Line} {state : State Alone} {told : List Told} {files : Files} → Played setup places held lines state told files → KeepsWaiting state.world told
 played-waits setup places held Begun = λ client. refl
 played-waits setup places held (Went {state = state} {told = told} next shelf outcome more run shelf_is happens grown) =
     let says = played-says setup places held run in
     let below : AreBelow state.world told = λ client. All-map (λ (reply : ℕ × Reply). IsDone (state.world.agents client) reply.0) (λ (reply : ℕ × Reply). reply.0 < (state.world.agents client).next) (replies_told client told) (λ reply done. done.sent) (says.1.replies client).done in
-    line-waits setup told shelf next state outcome says.0 below (played-waits setup places held run) happens
+    let walks = (lone-walks (plain_of setup) (is_plain setup) shelf Waits (passes-carried setup) (waits-by-kind (plain_of setup)) next state outcome says.0 happens).1 in
+    waits-behind (kind_of next) state.world outcome.state.world told outcome.told walks below (played-waits setup places held run)

@@ -22,9 +22,8 @@ use Rattle.cluster_events.specs.Running.{Happens}
 use Rattle.cluster_events.specs.Saying.{Says}
 use Rattle.cluster_events.specs.Serving.{IsSteady}
 use Rattle.cluster_events.proofs.Carrying.{WorldGoes, Stays-same, take_reply-goes, take_item-goes}
-use Rattle.cluster_events.proofs.Promised.{happens-kept}
 use Rattle.lone_cluster.specs.Lone.{Alone, lone, IsGoodAlone}
-use Rattle.lone_cluster.proofs.Serving.{lone-serves, lone-says, lone-works, never-steps}
+use Rattle.lone_cluster.proofs.Serving.{lone-serves, lone-kept}
 use Rattle.client_agent.specs.declared.answers.How.{How}
 use Rattle.client_agent.specs.declared.answers.How.TheVariants.{One, All}
 use Rattle.client_agent.specs.Seen.{Seen}
@@ -45,9 +44,7 @@ use Rattle.cluster_core.proofs.ListSteps.{All-take}
 -- what a line on agents is
 line-kept : (setup : Setup) (next : Line) (state : State Alone) (outcome : Outcome (State Alone)) → IsSteady (plain_of setup) IsGoodAlone state → Happens (plain_of setup) any_shelf (lone (plain_of setup)) next state outcome → IsSteady (plain_of setup) IsGoodAlone outcome.state × Says (plain_of setup) state.world outcome.state.world outcome.told
 line-kept setup next state outcome steady happens =
-    let plain = plain_of setup in
-    let plainly = is_plain setup in
-    happens-kept plain plainly any_shelf (lone plain) IsGoodAlone (lone-serves plain plainly) (lone-says plain) (never-steps plain) (never-steps plain) (lone-works plain plainly) next state outcome steady happens
+    lone-kept (plain_of setup) (is_plain setup) any_shelf next state outcome steady happens
 
 -- **a delivery to an agent, done in part**
 delivered-goes : (plain : Plain) → IsPlain plain → (place : ℕ) (message : Message) (world : World) → Stands message world.net → IsSound plain world → WorldGoes plain (SaysUnasked plain) world (taken_as plain place message world)

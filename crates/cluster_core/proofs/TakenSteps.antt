@@ -20,9 +20,8 @@ use Rattle.cluster_events.specs.Running.{Shelf, Happens}
 use Rattle.cluster_events.specs.Saying.{Says}
 use Rattle.cluster_events.specs.Serving.{IsSteady}
 use Rattle.cluster_events.proofs.Carrying.{WorldGoes, Stays-same, take_reply-goes, take_item-goes, in_world-goes}
-use Rattle.cluster_events.proofs.Promised.{happens-kept}
 use Rattle.lone_cluster.specs.Lone.{Alone, lone, IsGoodAlone}
-use Rattle.lone_cluster.proofs.Serving.{lone-serves, lone-says, lone-works, never-steps}
+use Rattle.lone_cluster.proofs.Serving.{lone-serves, lone-says, lone-kept}
 use Rattle.client_agent.specs.declared.answers.How.{How}
 use Rattle.client_agent.specs.declared.answers.How.TheVariants.{One, All}
 use Rattle.client_agent.specs.Seen.{Seen}
@@ -72,9 +71,7 @@ any_shelf = record { listing = λ past. []; text = λ name past. None }
 
 pub line-steady : (setup : Setup) (shelf : Shelf) (next : Line) (state : State Alone) (outcome : Outcome (State Alone)) → IsSteady (plain_of setup) IsGoodAlone state → Happens (plain_of setup) shelf (lone (plain_of setup)) next state outcome → IsSteady (plain_of setup) IsGoodAlone outcome.state
 line-steady setup shelf next state outcome steady happens =
-    let plain = plain_of setup in
-    let plainly = is_plain setup in
-    (happens-kept plain plainly shelf (lone plain) IsGoodAlone (lone-serves plain plainly) (lone-says plain) (never-steps plain) (never-steps plain) (lone-works plain plainly) next state outcome steady happens).0
+    (lone-kept (plain_of setup) (is_plain setup) shelf next state outcome steady happens).0
 
 -- A message is delivered to an agent.
 

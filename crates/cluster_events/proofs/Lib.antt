@@ -6,6 +6,7 @@ pub mod Measuring
 pub mod Quiet
 pub mod Ending
 pub mod Items
+pub mod Walking
 pub mod Promised
 pub mod Filed
 pub mod Broken

@@ -1,5 +1,5 @@
 -- The active server alone serves as servers must, and its lines say what lines must.
-use Rattle.std.proofs.Common.{◌≡◌, ℕ, suc, inl, Bool, true, false, ◌||◌, if◌then◌else◌, Some, None, List, [], ◌∷◌, ◌++◌, length, refl, ap, sym, ◌∙◌, subst}
+use Rattle.std.proofs.Common.{◌≡◌, ℕ, suc, inl, Bool, true, false, ◌||◌, if◌then◌else◌, Some, List, [], ◌∷◌, ◌++◌, length, refl, ap, sym, ◌∙◌, subst}
 use Rattle.cluster_facts.specs.Types.{Call, Reply, Entry, Called, Receipted, Message, Answer}
 use Rattle.cluster_facts.specs.Lists.{Stands}
 use Rattle.cluster_facts.specs.Service.{Plain, IsPlain, answers_in}
@@ -23,8 +23,12 @@ use Rattle.cluster_facts.specs.Messages.{message_of, sent_by}
 use Rattle.cluster_facts.specs.History.{IsLegal, MayFollow, accepted_by, committed_by}
 use Rattle.cluster_events.specs.Measure.{Spends, unheard}
 use Rattle.cluster_events.proofs.Measuring.{unheard-accepted, may-waits, Spends-carried}
-use Rattle.cluster_events.proofs.Promised.{IsStepped}
-use Rattle.lone_cluster.specs.Lone.{work_by, work_alone}
+use Rattle.script_lines.specs.declared.line.Line.{Line}
+use Rattle.cluster_facts.specs.History.{time_of}
+use Rattle.cluster_events.specs.Running.{Shelf, Happens}
+use Rattle.cluster_events.proofs.Walking.{ByKind, Others, kind_of, IsByKind, AreStepped, never-steps, line-walks, IsTold, told-carried}
+use Rattle.cluster_events.proofs.Promised.{happens-kept}
+use Rattle.lone_cluster.specs.Lone.{work_by}
 
 -- the entry's reply is among those of the history with it
 reply-stands : (plain : Plain) (past : List Entry) (client number : ℕ) (time : Rattle.std.proofs.Common.ℤ) (call : Call) → Stands (number, plain.reply past client number time call) (answers_in plain client (Called client number time call ∷ past))
@@ -207,24 +211,62 @@ lone-spends plain is_plain = Spends-carried plain (lone plain) IsGoodAlone
     (λ entry state steady empty may stands. accept-spends plain is_plain entry state steady empty may stands)
     (λ state steady. drain-spends plain state state.world.core.hand steady.good)
 
--- Its steps.
+-- A relation that its drains keep is kept by its steps: the one step that it has is a whole drain.
+module _ (plain : Plain) (is_plain : IsPlain plain) (R : World → World → List Told → Type 0) (carried : IsCarried plain (lone plain) IsGoodAlone R) where
+  work_by-goes : (state : State Alone) (hand : Hand) (outcome : Outcome (State Alone)) → work_by plain hand (state_with state hand) ≡ Some outcome → IsSteady plain IsGoodAlone (state_with state hand) → IsSteady plain IsGoodAlone outcome.state × R (world_with state.world hand) outcome.state.world outcome.told
+  work_by-goes state (Ready entry) outcome is steady =
+      let before = state_with state (Ready entry) in
+      let K : Outcome (State Alone) → Type 0 = λ o. IsSteady plain IsGoodAlone o.state × R before.world o.state.world o.told in
+      let same : answer_of plain entry before ≡ outcome = cc in
+      subst K same (((lone-serves plain is_plain).drains before steady).steady, carried.drain before steady)
+  work_by-goes state Empty outcome is steady = cc
+  work_by-goes state (Waiting entry) outcome is steady = cc
+  work_by-goes state (Applied entry) outcome is steady = cc
 
-work_by-kept : (plain : Plain) → IsPlain plain → (state : State Alone) (hand : Hand) (outcome : Outcome (State Alone)) → work_by plain hand (state_with state hand) ≡ Some outcome → IsSound plain (world_with state.world hand) → IsSteady plain IsGoodAlone outcome.state × Says plain (world_with state.world hand) outcome.state.world outcome.told
-work_by-kept plain is_plain state (Ready entry) outcome is sound =
-    let before = state_with state (Ready entry) in
-    let K : Outcome (State Alone) → Type 0 = λ o. IsSteady plain IsGoodAlone o.state × Says plain before.world o.state.world o.told in
-    let same : answer_of plain entry before ≡ outcome = cc in
-    let drains = drains-by plain is_plain state (Ready entry) tt sound in
-    subst K same (drains.steady, answer-says plain state entry)
-work_by-kept plain is_plain state Empty outcome is sound = cc
-work_by-kept plain is_plain state (Waiting entry) outcome is sound = cc
-work_by-kept plain is_plain state (Applied entry) outcome is sound = cc
+  pub lone-steps : AreStepped plain (lone plain) IsGoodAlone R
+  lone-steps = record {
+    mirror = never-steps plain IsGoodAlone R;
+    ack = never-steps plain IsGoodAlone R;
+    work = record { steps = λ state outcome is steady. work_by-goes state state.world.core.hand outcome is steady };
+  }
 
-pub lone-works : (plain : Plain) → IsPlain plain → IsStepped plain (lone plain) IsGoodAlone (work_alone plain)
-lone-works plain is_plain = record { steps = λ state outcome is steady. work_by-kept plain is_plain state state.world.core.hand outcome is steady.sound }
+-- A relation of worlds and lines is kept by its drains where it holds as an entry in hand becomes an answered one.
+module _ (plain : Plain) (is_plain : IsPlain plain) (R : World → World → List Told → Type 0) (told : IsTold plain R) (answered : (world : World) (entry : Entry) → R (world_with world (Ready entry)) (record world { core = record { answered = entry ∷ world.core.answered; hand = Empty } }) []) where
+  answer-goes : (entry : Entry) (state : State Alone) → IsSound plain (world_with state.world (Ready entry)) → R (world_with state.world (Ready entry)) (answer_of plain entry (state_with state (Ready entry))).state.world (answer_of plain entry (state_with state (Ready entry))).told
+  answer-goes (Called client number time call) state sound =
+      let world = state.world in
+      let past = world.core.answered in
+      let entry = Called client number time call in
+      let reply = plain.reply past client number time call in
+      let message = Answer client number reply in
+      let done : World = record world { core = record { answered = entry ∷ past; hand = Empty } } in
+      let sound_done : IsSound plain done = record { facts = Facts-answered plain is_plain world.now (entry ∷ past) past world.net world.agents entry sound.facts; listed = sound.listed } in
+      let posts = told.answer done client number reply sound_done (reply-stands plain past client number time call) in
+      elim (knows plain message world.net) as (λ b. R (world_with world (Ready entry)) (record done { net = if b then world.net else message ∷ world.net }) (if b then [] else Posted (suc (length world.net)) message ∷ [])) [
+        | true ↦ answered world entry
+        | false ↦ told.both (world_with world (Ready entry)) done (record done { net = message ∷ world.net }) [] (Posted (suc (length world.net)) message ∷ []) (answered world entry) posts
+      ]
+  answer-goes (Receipted client key through time) state sound = answered state.world (Receipted client key through time)
 
-pub never-steps : (plain : Plain) → IsStepped plain (lone plain) IsGoodAlone (λ state. None)
-never-steps plain = record { steps = λ state outcome is steady. cc }
+  drain_by-goes : (state : State Alone) (hand : Hand) → IsLone hand → IsSound plain (world_with state.world hand) → R (world_with state.world hand) (drain (lone plain) (state_with state hand)).state.world (drain (lone plain) (state_with state hand)).told
+  drain_by-goes state Empty good sound = told.same (world_with state.world Empty)
+  drain_by-goes state (Ready entry) good sound = answer-goes entry state sound
+  drain_by-goes state (Waiting entry) good sound = elim good [ ]
+  drain_by-goes state (Applied entry) good sound = elim good [ ]
+
+  pub lone-carries : ((entry : Entry) (state : State Alone) → IsSteady plain IsGoodAlone state → state.world.core.hand ≡ Empty → MayFollow plain state.world.core.answered entry → time_of entry ≡ state.world.now → Stands (message_of entry) state.world.net → R state.world (accept_alone entry state).state.world (accept_alone entry state).told) → IsCarried plain (lone plain) IsGoodAlone R
+  lone-carries accept =
+      told-carried plain (lone plain) IsGoodAlone R told accept (λ state steady. drain_by-goes state state.world.core.hand steady.good steady.sound)
+
+-- **each line keeps the facts and the relation of its kind**
+pub lone-walks : (plain : Plain) → IsPlain plain → (shelf : Shelf) (R : ByKind) → IsCarried plain (lone plain) IsGoodAlone (R Others) → IsByKind plain R → (next : Line) (state : State Alone) (outcome : Outcome (State Alone)) → IsSteady plain IsGoodAlone state → Happens plain shelf (lone plain) next state outcome → IsSteady plain IsGoodAlone outcome.state × R (kind_of next) state.world outcome.state.world outcome.told
+lone-walks plain is_plain shelf R carried by_kind next state outcome steady happens =
+    line-walks plain is_plain shelf (lone plain) IsGoodAlone (lone-serves plain is_plain) R carried (lone-steps plain is_plain (R Others) carried) by_kind next state outcome steady happens
+
+-- and says what it must
+pub lone-kept : (plain : Plain) → IsPlain plain → (shelf : Shelf) (next : Line) (state : State Alone) (outcome : Outcome (State Alone)) → IsSteady plain IsGoodAlone state → Happens plain shelf (lone plain) next state outcome → IsSteady plain IsGoodAlone outcome.state × Says plain state.world outcome.state.world outcome.told
+lone-kept plain is_plain shelf next state outcome steady happens =
+    happens-kept plain is_plain shelf (lone plain) IsGoodAlone (lone-serves plain is_plain) (lone-says plain) (lone-steps plain is_plain (Says plain) (lone-says plain)) next state outcome steady happens
 
 -- Its work is a step, which may break off as any step does.
 
