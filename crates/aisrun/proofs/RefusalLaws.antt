@@ -27,7 +27,7 @@ use Rattle.lone_cluster.specs.Lone.{Alone, lone, IsGoodAlone}
 use Rattle.service_laws.specs.PlainOf.{plain_of}
 use Rattle.service_laws.proofs.ServiceLaws.{is_plain}
 use Rattle.aisrun.specs.Playing.{Played, Begun, Went}
-use Rattle.aisrun.specs.Promises.{OfEachLine, OfAllLines, call_refused, holds_service, rows_of_refusal, rows_of_dispatch, refused_as, refusal_in, refusals_told, DeclinesRightly}
+use Rattle.aisrun.specs.Promises.{OfEachLine, OfAllLines, call_refused, holds_service, rows_of_refusal, rows_of_dispatch, refused_as, refused_by, refusal_in, refusals_told, refusals_due, DeclinesRightly}
 use Rattle.aisrun.proofs.PlayLaws.{played-says}
 use Rattle.aisrun.proofs.WaitingLaws.{KeepsWaiting, played-waits}
 
@@ -47,15 +47,15 @@ refuses-told plain = record {
   both = λ one two three first second before after.
       gathered-append refusal_in second first ∙ ap (λ (refused : List (ℕ × Status)). refused ++ refusals_told first) after ∙ before;
   ignored = λ world place why. refl;
-  answer = λ world client number reply sound stands. refl;
-  pushed = λ world client key item sound is. refl;
+  answer = λ world client number reply. refl;
+  pushed = λ world client key item. refl;
   reply = λ world client number call reply sound kept place stands. refl;
   item = λ world client key item found sound here next place stands. refl;
 }
 
 refuses-carried : (setup : Setup) → IsCarried (plain_of setup) (lone (plain_of setup)) IsGoodAlone (Refuses Others)
 refuses-carried setup =
-    lone-carries (plain_of setup) (is_plain setup) (Refuses Others) (refuses-told (plain_of setup)) (λ world entry. refl) (λ entry state steady empty may at stands. refl)
+    lone-carries (plain_of setup) (Refuses Others) (refuses-told (plain_of setup)) (λ world entry. refl) (λ entry state steady empty may at stands. refl)
 
 show-refuses : (line : Told) → IsShow line → refusals_told (line ∷ []) ≡ []
 show-refuses (Refused refused standing) shows = refl

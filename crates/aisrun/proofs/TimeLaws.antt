@@ -59,15 +59,15 @@ in_time-told plain = record {
   same = λ world. (refl, tt);
   both = in_time-both;
   ignored = λ world place why. (refl, tt);
-  answer = λ world client number reply sound stands. (refl, tt);
-  pushed = λ world client key item sound is. (refl, tt);
+  answer = λ world client number reply. (refl, tt);
+  pushed = λ world client key item. (refl, tt);
   reply = λ world client number call reply sound kept place stands. (refl, tt);
   item = λ world client key item found sound here next place stands. (refl, tt);
 }
 
 in_time-carried : (setup : Setup) → IsCarried (plain_of setup) (lone (plain_of setup)) IsGoodAlone (InTime Others)
 in_time-carried setup =
-    lone-carries (plain_of setup) (is_plain setup) (InTime Others) (in_time-told (plain_of setup)) (λ world entry. (refl, tt)) (λ entry state steady empty may at stands. (refl, (at, tt)))
+    lone-carries (plain_of setup) (InTime Others) (in_time-told (plain_of setup)) (λ world entry. (refl, tt)) (λ entry state steady empty may at stands. (refl, (at, tt)))
 
 show-at : (now : ℤ) (line : Told) → IsShow line → AreAt now (line ∷ [])
 show-at now (Refused refused standing) shows = tt

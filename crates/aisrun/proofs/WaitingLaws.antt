@@ -133,15 +133,15 @@ passes-told plain = record {
   same = λ world. passes-quiet world world [] (λ client. refl) (λ client. refl) (λ client. refl);
   both = Passes-both;
   ignored = λ world place why. passes-quiet world world (Ignored place why ∷ []) (λ client. refl) (λ client. refl) (λ client. refl);
-  answer = λ world client number reply sound stands. passes-quiet world _ (Posted _ _ ∷ []) (λ other. refl) (λ other. refl) (λ other. refl);
-  pushed = λ world client key item sound is. passes-quiet world _ (Posted _ _ ∷ []) (λ other. refl) (λ other. refl) (λ other. refl);
+  answer = λ world client number reply. passes-quiet world _ (Posted _ _ ∷ []) (λ other. refl) (λ other. refl) (λ other. refl);
+  pushed = λ world client key item. passes-quiet world _ (Posted _ _ ∷ []) (λ other. refl) (λ other. refl) (λ other. refl);
   reply = λ world client number call reply sound kept place stands. passes-reply world client number call reply;
   item = λ world client key item found sound here next place stands. passes-agent world _ client _ (Posted _ _ ∷ []) refl refl (λ other. refl) (λ other. refl);
 }
 
 passes-carried : (setup : Setup) → IsCarried (plain_of setup) (lone (plain_of setup)) IsGoodAlone Passes
 passes-carried setup =
-    lone-carries (plain_of setup) (is_plain setup) Passes (passes-told (plain_of setup)) (λ world entry. passes-quiet _ _ [] (λ client. refl) (λ client. refl) (λ client. refl)) (λ entry state steady empty may at stands. passes-quiet state.world _ (Committed _ _ ∷ []) (λ client. refl) (λ client. refl) (λ client. refl))
+    lone-carries (plain_of setup) Passes (passes-told (plain_of setup)) (λ world entry. passes-quiet _ _ [] (λ client. refl) (λ client. refl) (λ client. refl)) (λ entry state steady empty may at stands. passes-quiet state.world _ (Committed _ _ ∷ []) (λ client. refl) (λ client. refl) (λ client. refl))
 
 passes-without : (old new : World) (told : List Told) → Passes old new told → Passes old new (without is_ignored told)
 passes-without old new told passes = record {

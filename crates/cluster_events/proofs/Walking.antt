@@ -7,11 +7,11 @@ use Rattle.script_lines.specs.declared.line.Line.TheVariants as line
 use Rattle.cluster_facts.specs.Types.{Ask, Call, Reply, Status, Item, Entry, Callback, Message, Request, Answer, Delivery, Receipt}
 use Rattle.cluster_facts.specs.Lists.{Stands, without}
 use Rattle.cluster_facts.specs.Messages.{message_of}
-use Rattle.cluster_facts.specs.Service.{Plain, IsPlain, answers_in}
+use Rattle.cluster_facts.specs.Service.{Plain, IsPlain}
 use Rattle.cluster_facts.specs.Agents.{Agent, Living, fed_of, call_of, refusal, dispatch_refusal, after_call, kept_call, callbacks_of, lacks_place, after_reply, find_living, after_item, oldest, after_dispatch_all, after_dispatch_one}
 use Rattle.cluster_facts.specs.History.{Hand, Empty, MayFollow, accepted, time_of}
 use Rattle.cluster_facts.specs.World.{World, with_agent, enlisted, message_at}
-use Rattle.cluster_facts.specs.Facts.{IsSound, IsOfRun}
+use Rattle.cluster_facts.specs.Facts.{IsSound}
 use Rattle.cluster_facts.proofs.Clients.{oldest-append}
 use Rattle.cluster_facts.proofs.Keeping.{call-new}
 use Rattle.cluster_facts.proofs.Posting.{message_at-stands}
@@ -221,8 +221,8 @@ pub record IsTold (plain : Plain) (R : World → World → List Told → Type 0)
   pub same : (world : World) → R world world []
   pub both : (one two three : World) (first second : List Told) → R one two first → R two three second → R one three (second ++ first)
   pub ignored : (world : World) (place : ℕ) (why : Why) → R world world (Ignored place why ∷ [])
-  pub answer : (world : World) (client number : ℕ) (reply : Reply) → IsSound plain world → Stands (number, reply) (answers_in plain client world.core.answered) → R world (record world { net = Answer client number reply ∷ world.net }) (Posted (suc (length world.net)) (Answer client number reply) ∷ [])
-  pub pushed : (world : World) (client key : ℕ) (item : Item) → IsSound plain world → IsOfRun plain world.core.answered (Delivery client key item) → R world (record world { net = Delivery client key item ∷ world.net }) (Posted (suc (length world.net)) (Delivery client key item) ∷ [])
+  pub answer : (world : World) (client number : ℕ) (reply : Reply) → R world (record world { net = Answer client number reply ∷ world.net }) (Posted (suc (length world.net)) (Answer client number reply) ∷ [])
+  pub pushed : (world : World) (client key : ℕ) (item : Item) → R world (record world { net = Delivery client key item ∷ world.net }) (Posted (suc (length world.net)) (Delivery client key item) ∷ [])
   pub reply : (world : World) (client number : ℕ) (call : Call) (reply : Reply) → IsSound plain world → kept_call number (world.agents client).kept ≡ Some call → lacks_place world.places (world.agents client).queue (callbacks_of call reply) ≡ false → Stands (Answer client number reply) world.net → R world (record world { agents = with_agent client (after_reply number call reply (world.agents client)) world.agents }) (Replied client number call reply ∷ [])
   pub item : (world : World) (client key : ℕ) (item : Item) (found : Living) → IsSound plain world → find_living key (world.agents client).living ≡ Some found → item.number ≡ found.next → nat_le world.places (length (world.agents client).queue) ≡ false → Stands (Delivery client key item) world.net → R world (record world { net = Receipt client key item.number ∷ world.net; agents = with_agent client (after_item key found.id item.content (world.agents client)) world.agents }) (Posted (suc (length world.net)) (Receipt client key item.number) ∷ [])
 
@@ -232,8 +232,8 @@ told-carried plain servers Good R told accept drains = record {
   same = told.same;
   both = told.both;
   ignored = told.ignored;
-  answer = told.answer;
-  pushed = told.pushed;
+  answer = λ world client number reply sound stands. told.answer world client number reply;
+  pushed = λ world client key item sound is. told.pushed world client key item;
   reply = told.reply;
   item = told.item;
   accept = accept;

@@ -231,32 +231,30 @@ module _ (plain : Plain) (is_plain : IsPlain plain) (R : World → World → Lis
   }
 
 -- A relation of worlds and lines is kept by its drains where it holds as an entry in hand becomes an answered one.
-module _ (plain : Plain) (is_plain : IsPlain plain) (R : World → World → List Told → Type 0) (told : IsTold plain R) (answered : (world : World) (entry : Entry) → R (world_with world (Ready entry)) (record world { core = record { answered = entry ∷ world.core.answered; hand = Empty } }) []) where
-  answer-goes : (entry : Entry) (state : State Alone) → IsSound plain (world_with state.world (Ready entry)) → R (world_with state.world (Ready entry)) (answer_of plain entry (state_with state (Ready entry))).state.world (answer_of plain entry (state_with state (Ready entry))).told
-  answer-goes (Called client number time call) state sound =
+module _ (plain : Plain) (R : World → World → List Told → Type 0) (told : IsTold plain R) (answered : (world : World) (entry : Entry) → R (world_with world (Ready entry)) (record world { core = record { answered = entry ∷ world.core.answered; hand = Empty } }) []) where
+  answer-goes : (entry : Entry) (state : State Alone) → R (world_with state.world (Ready entry)) (answer_of plain entry (state_with state (Ready entry))).state.world (answer_of plain entry (state_with state (Ready entry))).told
+  answer-goes (Called client number time call) state =
       let world = state.world in
       let past = world.core.answered in
       let entry = Called client number time call in
       let reply = plain.reply past client number time call in
       let message = Answer client number reply in
       let done : World = record world { core = record { answered = entry ∷ past; hand = Empty } } in
-      let sound_done : IsSound plain done = record { facts = Facts-answered plain is_plain world.now (entry ∷ past) past world.net world.agents entry sound.facts; listed = sound.listed } in
-      let posts = told.answer done client number reply sound_done (reply-stands plain past client number time call) in
       elim (knows plain message world.net) as (λ b. R (world_with world (Ready entry)) (record done { net = if b then world.net else message ∷ world.net }) (if b then [] else Posted (suc (length world.net)) message ∷ [])) [
         | true ↦ answered world entry
-        | false ↦ told.both (world_with world (Ready entry)) done (record done { net = message ∷ world.net }) [] (Posted (suc (length world.net)) message ∷ []) (answered world entry) posts
+        | false ↦ told.both (world_with world (Ready entry)) done (record done { net = message ∷ world.net }) [] (Posted (suc (length world.net)) message ∷ []) (answered world entry) (told.answer done client number reply)
       ]
-  answer-goes (Receipted client key through time) state sound = answered state.world (Receipted client key through time)
+  answer-goes (Receipted client key through time) state = answered state.world (Receipted client key through time)
 
-  drain_by-goes : (state : State Alone) (hand : Hand) → IsLone hand → IsSound plain (world_with state.world hand) → R (world_with state.world hand) (drain (lone plain) (state_with state hand)).state.world (drain (lone plain) (state_with state hand)).told
-  drain_by-goes state Empty good sound = told.same (world_with state.world Empty)
-  drain_by-goes state (Ready entry) good sound = answer-goes entry state sound
-  drain_by-goes state (Waiting entry) good sound = elim good [ ]
-  drain_by-goes state (Applied entry) good sound = elim good [ ]
+  drain_by-goes : (state : State Alone) (hand : Hand) → IsLone hand → R (world_with state.world hand) (drain (lone plain) (state_with state hand)).state.world (drain (lone plain) (state_with state hand)).told
+  drain_by-goes state Empty good = told.same (world_with state.world Empty)
+  drain_by-goes state (Ready entry) good = answer-goes entry state
+  drain_by-goes state (Waiting entry) good = elim good [ ]
+  drain_by-goes state (Applied entry) good = elim good [ ]
 
   pub lone-carries : ((entry : Entry) (state : State Alone) → IsSteady plain IsGoodAlone state → state.world.core.hand ≡ Empty → MayFollow plain state.world.core.answered entry → time_of entry ≡ state.world.now → Stands (message_of entry) state.world.net → R state.world (accept_alone entry state).state.world (accept_alone entry state).told) → IsCarried plain (lone plain) IsGoodAlone R
   lone-carries accept =
-      told-carried plain (lone plain) IsGoodAlone R told accept (λ state steady. drain_by-goes state state.world.core.hand steady.good steady.sound)
+      told-carried plain (lone plain) IsGoodAlone R told accept (λ state steady. drain_by-goes state state.world.core.hand steady.good)
 
 -- **each line keeps the facts and the relation of its kind**
 pub lone-walks : (plain : Plain) → IsPlain plain → (shelf : Shelf) (R : ByKind) → IsCarried plain (lone plain) IsGoodAlone (R Others) → IsByKind plain R → (next : Line) (state : State Alone) (outcome : Outcome (State Alone)) → IsSteady plain IsGoodAlone state → Happens plain shelf (lone plain) next state outcome → IsSteady plain IsGoodAlone outcome.state × R (kind_of next) state.world outcome.state.world outcome.told
