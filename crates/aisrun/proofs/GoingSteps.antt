@@ -6,12 +6,13 @@ use Rattle.std.proofs.KnownBytes.{Appends-nil, Appends-trans}
 use Rattle.std.proofs.lemmas.List.{reverse-append}
 use Rattle.std.proofs.lemmas.Grind.{flat_map-append}
 use Rattle.ais_values.specs.Causes.{Rose}
-use Rattle.disk_model.specs.Disk.{Files}
+use Rattle.disk_model.specs.Disk.{Files, no_files}
 use Rattle.script_lines.specs.declared.line.Line.{Line}
 use Rattle.script_lines.specs.declared.line.Line.TheVariants as line
 use Rattle.plain_service.specs.Setups.{Setup}
 use Rattle.plain_service.specs.Storing.{files_of}
 use Rattle.cluster_events.specs.Lines.{Told}
+use Rattle.cluster_facts.specs.Storage.{all_applied}
 use Rattle.cluster_events.specs.OnDisk.{performed}
 use Rattle.cluster_events.specs.Servers.{State}
 use Rattle.lone_cluster.specs.Lone.{Alone, lone_start}
@@ -24,8 +25,8 @@ use Rattle.cluster_core.specs.Broken.{Broken}
 use Rattle.cluster_core.specs.Playing.{EventDone, FaultLeaves}
 use Rattle.cluster_core.specs.Worlds.{HasState, IsGood, Shows, TellsFiles}
 use Rattle.cluster_core.proofs.SettlingLines.{printed-append}
-use Rattle.aisrun.specs.Playing.{files_told, Goes, Played, text_of}
-use Rattle.aisrun.specs.Playing.Played.{Begun as Starts, Went}
+use Rattle.cluster_events.specs.Runs.RunBy.{Started, Went}
+use Rattle.aisrun.specs.Playing.{files_told, Goes, LinePlayed, Played, text_of}
 use Rattle.aisrun.specs.declared.ending.Status8.{Status8}
 use Rattle.aisrun.specs.declared.ending.Status8.TheVariants.{Done, ScriptRefused, Usage, Memory, ReadFault, WriteFault, DiskFault, RootNotEmpty, TooLong}
 use Rattle.aisrun.specs.Edges.{edge}
@@ -60,8 +61,8 @@ pub going-start : (setup : Setup) (places : ℕ) (held left : Option Files) (wor
 going-start setup places held left world begun = record {
   state = lone_start setup.start places;
   told = [];
-  files = _;
-  run = Starts;
+  files = all_applied service_disk (storage_of setup).opening no_files;
+  run = Started;
   good = begun.good;
   shows = begun.shows;
   tells = begun.files;
@@ -79,12 +80,13 @@ going-next setup places held mid left old new lines text next printed_lines goin
     let state = going.state in
     let outcome = done.outcome in
     let more = (line-kept setup done.shelf next state outcome going.good.steady done.happens).1.answers in
+    let played : LinePlayed setup held tt next state outcome tt = record { shelf = done.shelf; shown = held-still _ held mid (files_of setup state.world.core.answered) going.tells done.shelf_is; happens = done.happens } in
     let R : List Line → Type 0 = λ all. Played setup places held all outcome.state (outcome.told ++ going.told) (performed service_disk (storage_of setup) more.0 state.world.core.answered going.files) in
     record {
       state = outcome.state;
       told = outcome.told ++ going.told;
       files = performed service_disk (storage_of setup) more.0 state.world.core.answered going.files;
-      run = subst R (sym (reverse-push lines next)) (Went next done.shelf outcome more.0 going.run (held-still _ held mid (files_of setup state.world.core.answered) going.tells done.shelf_is) done.happens more.1);
+      run = subst R (sym (reverse-push lines next)) (Went next outcome (performed service_disk (storage_of setup) more.0 state.world.core.answered going.files, tt) going.run (record { step = played; more = more.0; grown = more.1; files = refl }));
       good = done.good;
       shows = done.shows;
       tells = told-again held mid left (files_of setup state.world.core.answered) (files_of setup outcome.state.world.core.answered) going.tells done.files;

@@ -1,14 +1,13 @@
 -- What lines that are played lead to: facts, promises and files.
-use Rattle.std.proofs.Common.{◌≡◌, ℕ, ℤ, List, [], ◌∷◌, ◌++◌, Option, refl, ap, sym, ◌∙◌, subst}
-use Rattle.disk_model.specs.Disk.{Files}
+use Rattle.std.proofs.Common.{◌≡◌, ℕ, List, [], Option, refl}
+use Rattle.disk_model.specs.Disk.{Files, no_files}
 use Rattle.script_lines.specs.declared.line.Line.{Line}
 use Rattle.plain_service.specs.Setups.{Setup, CanBegin}
 use Rattle.cluster_facts.specs.Types.{Entry}
 use Rattle.cluster_facts.specs.Storage.{all_applied}
-use Rattle.cluster_facts.specs.History.{Hand, Empty, Waiting, Applied, Ready, IsLegal, accepted_by}
+use Rattle.cluster_facts.specs.History.{Hand, Empty, Waiting, Applied, Ready, accepted_by}
 use Rattle.cluster_facts.specs.Ranges.{AreInRange}
 use Rattle.cluster_facts.specs.World.{empty_world}
-use Rattle.cluster_facts.proofs.Growing.{IsLegal-before}
 use Rattle.cluster_facts.proofs.Keeping.{IsSound-start}
 use Rattle.cluster_events.specs.Lines.{Told}
 use Rattle.cluster_events.specs.Outcomes.{Outcome}
@@ -17,11 +16,7 @@ use Rattle.cluster_events.specs.Running.{Shelf, Happens}
 use Rattle.cluster_events.specs.Saying.{Says}
 use Rattle.cluster_events.specs.Serving.{IsSteady}
 use Rattle.cluster_events.specs.Promises.{AtEnd}
-use Rattle.cluster_events.specs.OnDisk.{performed}
 use Rattle.cluster_events.specs.Filing.{RecordsStay}
-use Rattle.cluster_events.proofs.Telling.{Says-same, Says-both}
-use Rattle.cluster_events.proofs.Promised.{at-end}
-use Rattle.cluster_events.proofs.Filed.{answered-legal, records-stay}
 use Rattle.lone_cluster.specs.Lone.{Alone, lone, lone_start, IsGoodAlone}
 use Rattle.lone_cluster.proofs.Serving.{lone-kept}
 use Rattle.service_laws.specs.Disks.{service_disk}
@@ -29,7 +24,11 @@ use Rattle.service_laws.specs.PlainOf.{plain_of}
 use Rattle.service_laws.specs.StorageOf.{storage_of}
 use Rattle.service_laws.proofs.ServiceLaws.{is_plain}
 use Rattle.service_laws.proofs.StorageLaws.{is_storage}
-use Rattle.aisrun.specs.Playing.{Played, Begun, Went}
+use Rattle.cluster_events.specs.Runs.{IsKept}
+use Rattle.cluster_events.specs.OnDisk.{StepOnDisk}
+use Rattle.cluster_events.proofs.Runs.{any-says, any-keeps, each-line, disk-kept, any-stand, any-files}
+use Rattle.aisrun.specs.Playing.{LinePlayed, Ran}
+use Rattle.aisrun.specs.Promises.{LineSentence, OfAllLines}
 
 -- each line keeps the facts, and says what it must
 pub line-kept : (setup : Setup) (shelf : Shelf) (next : Line) (state : State Alone) (outcome : Outcome (State Alone)) → IsSteady (plain_of setup) IsGoodAlone state → Happens (plain_of setup) shelf (lone (plain_of setup)) next state outcome → IsSteady (plain_of setup) IsGoodAlone outcome.state × Says (plain_of setup) state.world outcome.state.world outcome.told
@@ -39,58 +38,47 @@ line-kept setup shelf next state outcome steady happens =
 start-steady : (setup : Setup) (places : ℕ) → IsSteady (plain_of setup) IsGoodAlone (lone_start setup.start places)
 start-steady setup places = record { sound = IsSound-start (plain_of setup) setup.start places; good = tt }
 
--- lines lead from the start to a state of which the facts hold, and say what lies between
-pub played-says : (setup : Setup) (places : ℕ) (held : Option Files) {lines : List Line} {state : State Alone} {told : List Told} {files : Files} → Played setup places held lines state told files → IsSteady (plain_of setup) IsGoodAlone state × Says (plain_of setup) (empty_world setup.start places) state.world told
-played-says setup places held Begun = (start-steady setup places, Says-same (plain_of setup) (empty_world setup.start places))
-played-says setup places held (Went {state = state} {told = told} next shelf outcome more run shelf_is happens grown) =
-    let before = played-says setup places held run in
-    let kept = line-kept setup shelf next state outcome before.0 happens in
-    (kept.0, Says-both (plain_of setup) (empty_world setup.start places) state.world outcome.state.world told outcome.told before.1 kept.1)
+-- each line that is played keeps the facts, and says what it must
+played-kept : (setup : Setup) (held : Option Files) → IsKept (plain_of setup) IsGoodAlone (LinePlayed setup held)
+played-kept setup held = record { kept = λ before next state outcome after steady played. line-kept setup played.shelf next state outcome steady played.happens }
 
-pub played-keeps : (setup : Setup) (places : ℕ) (held : Option Files) {lines : List Line} {state : State Alone} {told : List Told} {files : Files} → Played setup places held lines state told files → AtEnd (plain_of setup) state.world told
-played-keeps setup places held {state = state} {told = told} run =
-    let after = played-says setup places held run in
-    at-end (plain_of setup) state.world told setup.start places after.0.sound after.1
+-- the files at the start
+abbrev opening_files : Setup → Files
+opening_files setup = all_applied service_disk (storage_of setup).opening no_files
+
+ran-kept : (setup : Setup) (held : Option Files) → IsKept (plain_of setup) IsGoodAlone (StepOnDisk (LinePlayed setup held) service_disk (storage_of setup))
+ran-kept setup held = disk-kept (plain_of setup) IsGoodAlone (LinePlayed setup held) (played-kept setup held) service_disk (storage_of setup)
+
+-- lines lead from the start to a state of which the facts hold, and say what lies between
+pub played-says : (setup : Setup) (places : ℕ) (held : Option Files) {lines : List Line} {state : State Alone} {told : List Told} {left : Files × Unit {0}} → Ran setup places held lines state told left → IsSteady (plain_of setup) IsGoodAlone state × Says (plain_of setup) (empty_world setup.start places) state.world told
+played-says setup places held run =
+    any-says (plain_of setup) IsGoodAlone (StepOnDisk (LinePlayed setup held) service_disk (storage_of setup)) (ran-kept setup held) (lone_start setup.start places) (opening_files setup, tt) (start-steady setup places) run
+
+pub played-keeps : (setup : Setup) (places : ℕ) (held : Option Files) {lines : List Line} {state : State Alone} {told : List Told} {left : Files × Unit {0}} → Ran setup places held lines state told left → AtEnd (plain_of setup) state.world told
+played-keeps setup places held run =
+    any-keeps (plain_of setup) IsGoodAlone (StepOnDisk (LinePlayed setup held) service_disk (storage_of setup)) (ran-kept setup held) (lone_start setup.start places) (opening_files setup, tt) (start-steady setup places) setup.start places refl run
+
+-- what holds of each line holds of all lines that are played
+pub each-played : (held : Option Files) (S : LineSentence) → ((setup : Setup) (places : ℕ) (lines : List Line) (state : State Alone) (told : List Told) (left : Files × Unit {0}) (next : Line) (outcome : Outcome (State Alone)) (shelf : Shelf) → Ran setup places held lines state told left → Happens (plain_of setup) shelf (lone (plain_of setup)) next state outcome → S next told state outcome) → OfAllLines held S
+each-played held S so script done rest text front =
+    let setup = front.setup in
+    each-line (StepOnDisk (LinePlayed setup held) service_disk (storage_of setup)) (lone_start setup.start front.places) (opening_files setup, tt) S (λ lines state told before next outcome after run step. so setup front.places lines state told before next outcome step.step.shelf run step.step.happens) front.goes.run
 
 -- Files.
 
--- entries in range before further ones
-pub range-before : (more past : List Entry) → AreInRange (more ++ past) → AreInRange past
-range-before [] past range = range
-range-before (entry ∷ more) past range = range-before more past range.1
-
--- and so are those behind an entry in hand
+-- entries behind an entry in hand are in range with it
 pub answered-range : (past : List Entry) (hand : Hand) → AreInRange (accepted_by past hand) → AreInRange past
 answered-range past Empty range = range
 answered-range past (Waiting entry) range = range.1
 answered-range past (Applied entry) range = range.1
 answered-range past (Ready entry) range = range.1
 
--- the deeds of further entries lead from the files of a history to those with these entries
-performed-files : (setup : Setup) → CanBegin setup → (now : ℤ) (more past : List Entry) → IsLegal (plain_of setup) now (more ++ past) → AreInRange (more ++ past) → performed service_disk (storage_of setup) more past ((storage_of setup).files past) ≡ (storage_of setup).files (more ++ past)
-performed-files setup can now [] past legal range = refl
-performed-files setup can now (entry ∷ more) past legal range =
-    let storage = storage_of setup in
-    ap (λ (files : Files). all_applied service_disk (storage.deeds (more ++ past) entry) files) (performed-files setup can now more past (IsLegal-before (plain_of setup) now entry (more ++ past) legal) range.1)
-    ∙ (is_storage setup can).works now entry (more ++ past) legal range
-
 -- the files are those of the history without the entry in hand
-pub played-files : (setup : Setup) (places : ℕ) (held : Option Files) → CanBegin setup → {lines : List Line} {state : State Alone} {told : List Told} {files : Files} → Played setup places held lines state told files → AreInRange state.world.core.answered → files ≡ (storage_of setup).files state.world.core.answered
-played-files setup places held can Begun range = (is_storage setup can).opens
-played-files setup places held can (Went {state = state} {files = files} next shelf outcome more run shelf_is happens grown) range =
-    let past = state.world.core.answered in
-    let new = outcome.state.world in
-    let R : List Entry → Type 0 = λ entries. AreInRange entries in
-    let whole = subst R grown range in
-    let before = played-files setup places held can run (range-before more past whole) in
-    let after = (line-kept setup shelf next state outcome (played-says setup places held run).0 happens).0 in
-    let legal = answered-legal (plain_of setup) new.now new.core.answered new.core.hand after.sound.facts.legal in
-    let L : List Entry → Type 0 = λ entries. IsLegal (plain_of setup) new.now entries in
-    ap (λ (f : Files). performed service_disk (storage_of setup) more past f) before
-    ∙ performed-files setup can new.now more past (subst L grown legal) whole
-    ∙ ap (λ entries. (storage_of setup).files entries) (sym grown)
+pub played-files : (setup : Setup) (places : ℕ) (held : Option Files) → CanBegin setup → {lines : List Line} {state : State Alone} {told : List Told} {left : Files × Unit {0}} → Ran setup places held lines state told left → AreInRange state.world.core.answered → left.0 ≡ (storage_of setup).files state.world.core.answered
+played-files setup places held can run range =
+    any-stand (plain_of setup) IsGoodAlone (LinePlayed setup held) (played-kept setup held) service_disk (storage_of setup) (is_storage setup can) (lone_start setup.start places) tt refl (start-steady setup places) run range
 
 -- what was answered as stored stands at its place
-pub played-stays : (setup : Setup) (places : ℕ) (held : Option Files) → CanBegin setup → {lines : List Line} {state : State Alone} {told : List Told} {files : Files} → Played setup places held lines state told files → AreInRange state.world.core.answered → RecordsStay (plain_of setup) service_disk (storage_of setup) state.world files
-played-stays setup places held can {state = state} {files = files} run range =
-    records-stay (plain_of setup) service_disk (storage_of setup) (is_storage setup can) state.world files (played-says setup places held run).0.sound range (played-files setup places held can run range)
+pub played-stays : (setup : Setup) (places : ℕ) (held : Option Files) → CanBegin setup → {lines : List Line} {state : State Alone} {told : List Told} {left : Files × Unit {0}} → Ran setup places held lines state told left → AreInRange state.world.core.answered → RecordsStay (plain_of setup) service_disk (storage_of setup) state.world left.0
+played-stays setup places held can run range =
+    (any-files (plain_of setup) IsGoodAlone (LinePlayed setup held) (played-kept setup held) service_disk (storage_of setup) (is_storage setup can) (lone_start setup.start places) tt refl (start-steady setup places) run range).stays

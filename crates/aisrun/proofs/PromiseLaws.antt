@@ -11,27 +11,29 @@ use Rattle.cluster_events.specs.Lines.{Told}
 use Rattle.cluster_events.specs.Servers.{State}
 use Rattle.cluster_events.proofs.Ending.{settle-settles}
 use Rattle.cluster_events.proofs.Filed.{answered-legal}
-use Rattle.lone_cluster.specs.Lone.{Alone, lone, IsGoodAlone}
+use Rattle.lone_cluster.specs.Lone.{Alone, lone, lone_start, IsGoodAlone}
 use Rattle.lone_cluster.proofs.Serving.{lone-serves, lone-spends}
 use Rattle.service_laws.specs.PlainOf.{plain_of}
 use Rattle.service_laws.proofs.ServiceLaws.{is_plain}
 use Rattle.service_laws.proofs.HistoryLaws.{history-of}
-use Rattle.aisrun.specs.Playing.{Played, Begun, Went}
-use Rattle.aisrun.specs.Promises.{Sentence, AtEachEnd, Throughout, KeepsOneHistory, RepliesRightly, ReadsRightly, CallsBack, PrintsPosts, KeepsFiles, KeepsRecords, StandsOnce, SettlesAll}
-use Rattle.aisrun.proofs.PlayLaws.{played-says, played-keeps, played-files, played-stays, range-before, answered-range}
+use Rattle.cluster_events.specs.Runs.RunBy.{Started, Went}
+use Rattle.cluster_events.specs.OnDisk.{StepOnDisk}
+use Rattle.cluster_events.proofs.OnDisk.{range-before}
+use Rattle.cluster_events.proofs.Runs.{each-end}
+use Rattle.service_laws.specs.Disks.{service_disk}
+use Rattle.service_laws.specs.StorageOf.{storage_of}
+use Rattle.aisrun.specs.Playing.{LinePlayed, Ran}
+use Rattle.aisrun.specs.Promises.{Sentence, Throughout, KeepsOneHistory, RepliesRightly, ReadsRightly, CallsBack, PrintsPosts, KeepsFiles, KeepsRecords, StandsOnce, SettlesAll}
+use Rattle.aisrun.proofs.PlayLaws.{played-says, played-keeps, played-files, played-stays, answered-range}
 
 -- a sentence that holds of all lines that were played holds at the end of each of them
-pub each-end : (setup : Setup) (places : ℕ) (held : Option Files) (P : Sentence) → ((lines : List Line) (state : State Alone) (told : List Told) (files : Files) → Played setup places held lines state told files → AreInRange state.world.core.answered → P lines state told files) → {lines : List Line} {state : State Alone} {told : List Told} {files : Files} → (run : Played setup places held lines state told files) → AreInRange state.world.core.answered → AtEachEnd setup places held P run
-each-end setup places held P always Begun range = always _ _ _ _ Begun range
-each-end setup places held P always (Went {state = state} next shelf outcome more run shelf_is happens grown) range =
-    let R : List Entry → Type 0 = λ entries. AreInRange entries in
-    (always _ _ _ _ (Went next shelf outcome more run shelf_is happens grown) range, each-end setup places held P always run (range-before more state.world.core.answered (subst R grown range)))
-
-pub throughout : (held : Option Files) (P : Setup → Sentence) → ((setup : Setup) (places : ℕ) (held : Option Files) → CanBegin setup → (lines : List Line) (state : State Alone) (told : List Told) (files : Files) → Played setup places held lines state told files → AreInRange state.world.core.answered → P setup lines state told files) → Throughout held P
+pub throughout : (held : Option Files) (P : Setup → Sentence) → ((setup : Setup) (places : ℕ) (held : Option Files) → CanBegin setup → (lines : List Line) (state : State Alone) (told : List Told) (left : Files × Unit {0}) → Ran setup places held lines state told left → AreInRange state.world.core.answered → P setup lines state told left.0) → Throughout held P
 throughout held P always script done rest text front =
+    let setup = front.setup in
     let plays = front.goes in
     let core = plays.state.world.core in
-    each-end front.setup front.places held (P front.setup) (λ lines state told files. always front.setup front.places held plays.good.begins lines state told files) plays.run (answered-range core.answered core.hand plays.good.range)
+    let R : List Entry → Type 0 = λ entries. AreInRange entries in
+    each-end (StepOnDisk (LinePlayed setup held) service_disk (storage_of setup)) (lone_start setup.start front.places) _ (λ lines state told left. P setup lines state told left.0) (λ state. AreInRange state.world.core.answered) (λ before next state outcome after step range. range-before step.more state.world.core.answered (subst R step.grown range)) (always setup front.places held plays.good.begins) plays.run (answered-range core.answered core.hand plays.good.range)
 
 pub keeps-one-history : (held : Option Files) → Throughout held KeepsOneHistory
 keeps-one-history held =
@@ -64,12 +66,13 @@ stands-once held =
     let legal = answered-legal (plain_of setup) world.now world.core.answered world.core.hand facts.legal in
     record-alone setup world.core.answered client other_client number other_number stored other spot (history-of setup can world.now world.core.answered legal range) own others at other_at)
 
-settled : (setup : Setup) (places : ℕ) (held : Option Files) {lines : List Line} {state : State Alone} {told : List Told} {files : Files} → Played setup places held lines state told files → SettlesAll setup lines state told files
-settled setup places held Begun = tt
-settled setup places held (Went {state = state} line.Settle shelf outcome more run shelf_is happens grown) =
+settled : (setup : Setup) (places : ℕ) (held : Option Files) {lines : List Line} {state : State Alone} {told : List Told} {left : Files × Unit {0}} → Ran setup places held lines state told left → SettlesAll setup lines state told left.0
+settled setup places held Started = tt
+settled setup places held (Went {state = state} line.Settle outcome after run step) =
     let plain = plain_of setup in
+    let happens = step.step.happens in
     settle-settles plain (is_plain setup) (lone plain) IsGoodAlone (lone-serves plain (is_plain setup)) (lone-spends plain (is_plain setup)) state outcome.state happens.lines (played-says setup places held run).0 happens.rounds
-settled setup places held (Went _ shelf outcome more run shelf_is happens grown) = tt
+settled setup places held (Went _ outcome after run step) = tt
 
 pub settles-all : (held : Option Files) → Throughout held SettlesAll
 settles-all held = throughout held SettlesAll (λ setup places told_first can lines state told files run range. settled setup places told_first run)

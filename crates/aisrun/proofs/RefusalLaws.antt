@@ -21,14 +21,14 @@ use Rattle.cluster_events.specs.Serving.{IsSteady, IsCarried}
 use Rattle.cluster_facts.specs.Facts.{IsSound}
 use Rattle.cluster_events.proofs.Promised.{gathered-without, gathered-handed}
 use Rattle.cluster_events.proofs.Telling.{gathered-append}
-use Rattle.cluster_events.proofs.Walking.{Kind, Asks, Dispatches, Others, kind_of, IsShow, IsByKind, IsTold}
+use Rattle.cluster_events.proofs.Walking.{Kind, Asks, Dispatches, Others, kind_of, IsShow, IsByKind}
+use Rattle.cluster_events.proofs.Walking.{IsTold}
 use Rattle.lone_cluster.proofs.Serving.{lone-carries, lone-walks}
 use Rattle.lone_cluster.specs.Lone.{Alone, lone, IsGoodAlone}
 use Rattle.service_laws.specs.PlainOf.{plain_of}
 use Rattle.service_laws.proofs.ServiceLaws.{is_plain}
-use Rattle.aisrun.specs.Playing.{Played, Begun, Went}
-use Rattle.aisrun.specs.Promises.{OfEachLine, OfAllLines, call_refused, holds_service, rows_of_refusal, rows_of_dispatch, refused_as, refused_by, refusal_in, refusals_told, refusals_due, DeclinesRightly}
-use Rattle.aisrun.proofs.PlayLaws.{played-says}
+use Rattle.aisrun.specs.Promises.{OfAllLines, call_refused, holds_service, rows_of_refusal, rows_of_dispatch, refused_as, refused_by, refusal_in, refusals_told, refusals_due, DeclinesRightly}
+use Rattle.aisrun.proofs.PlayLaws.{played-says, each-played}
 use Rattle.aisrun.proofs.WaitingLaws.{KeepsWaiting, played-waits}
 
 -- The refusals that a line of a kind tells: those of the client's agent, and otherwise none.
@@ -124,10 +124,6 @@ line-declines setup shelf next told state outcome steady waits happens =
     (lone-walks (plain_of setup) (is_plain setup) shelf Refuses (refuses-carried setup) (refuses-by-kind (plain_of setup)) next state outcome steady happens).1
     ∙ refused-due setup next told state.world steady.sound waits
 
-each-line : (setup : Setup) (places : ℕ) (held : Option Files) {lines : List Line} {state : State Alone} {told : List Told} {files : Files} → (run : Played setup places held lines state told files) → OfEachLine DeclinesRightly run
-each-line setup places held Begun = tt
-each-line setup places held (Went {state = state} {told = told} next shelf outcome more run shelf_is happens grown) =
-    (line-declines setup shelf next told state outcome (played-says setup places held run).0 (played-waits setup places held run) happens, each-line setup places held run)
-
 pub declines-rightly : (held : Option Files) → OfAllLines held DeclinesRightly
-declines-rightly held script done rest text front = each-line front.setup front.places held front.goes.run
+declines-rightly held =
+    each-played held DeclinesRightly (λ setup places lines state told left next outcome shelf run happens. line-declines setup shelf next told state outcome (played-says setup places held run).0 (played-waits setup places held run) happens)

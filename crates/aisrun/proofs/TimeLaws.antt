@@ -18,15 +18,15 @@ use Rattle.cluster_events.specs.Saying.{entry_in, entries_told}
 use Rattle.cluster_events.specs.Serving.{IsSteady, IsCarried}
 use Rattle.cluster_events.proofs.Promised.{gathered-without, gathered-handed}
 use Rattle.cluster_events.proofs.Telling.{gathered-append}
-use Rattle.cluster_events.proofs.Walking.{Kind, Times, Others, kind_of, IsShow, IsByKind, IsTold}
+use Rattle.cluster_events.proofs.Walking.{Kind, Times, Others, kind_of, IsShow, IsByKind}
+use Rattle.cluster_events.proofs.Walking.{IsTold}
 use Rattle.lone_cluster.specs.Lone.{Alone, lone, IsGoodAlone}
 use Rattle.lone_cluster.proofs.Serving.{lone-carries, lone-walks}
 use Rattle.service_laws.specs.PlainOf.{plain_of}
 use Rattle.service_laws.proofs.ServiceLaws.{is_plain}
-use Rattle.aisrun.specs.Playing.{Played, Begun, Went}
-use Rattle.aisrun.specs.Promises.{OfEachLine, OfAllLines, CommitsInTime}
+use Rattle.aisrun.specs.Promises.{OfAllLines, CommitsInTime}
 use Rattle.aisrun.specs.Steps.{time_behind}
-use Rattle.aisrun.proofs.PlayLaws.{played-says}
+use Rattle.aisrun.proofs.PlayLaws.{played-says, each-played}
 
 -- the time in force behind a line of a kind
 abbrev time_by : ℤ → Kind → ℤ
@@ -98,10 +98,6 @@ pub line-now : (setup : Setup) (shelf : Shelf) (next : Line) (state : State Alon
 line-now setup shelf next state outcome steady happens =
     (line-in-time setup shelf next state outcome steady happens).0 ∙ time-by state.world.now next
 
-each-line : (setup : Setup) (places : ℕ) (held : Option Files) {lines : List Line} {state : State Alone} {told : List Told} {files : Files} → (run : Played setup places held lines state told files) → OfEachLine CommitsInTime run
-each-line setup places held Begun = tt
-each-line setup places held (Went {state = state} {told = told} next shelf outcome more run shelf_is happens grown) =
-    ((line-in-time setup shelf next state outcome (played-says setup places held run).0 happens).1, each-line setup places held run)
-
 pub commits-in-time : (held : Option Files) → OfAllLines held CommitsInTime
-commits-in-time held script done rest text front = each-line front.setup front.places held front.goes.run
+commits-in-time held =
+    each-played held CommitsInTime (λ setup places lines state told left next outcome shelf run happens. (line-in-time setup shelf next state outcome (played-says setup places held run).0 happens).1)

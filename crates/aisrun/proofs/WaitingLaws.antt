@@ -17,13 +17,15 @@ use Rattle.cluster_events.specs.ClientEvents.{hand_out}
 use Rattle.cluster_events.specs.Saying.{reply_in, replies_told, IsDone}
 use Rattle.cluster_events.specs.Serving.{IsCarried}
 use Rattle.cluster_events.proofs.Promised.{gathered-without, gathered-handed}
-use Rattle.cluster_events.proofs.Walking.{Kind, Asks, kind_of, IsShow, IsByKind, IsTold}
+use Rattle.cluster_events.proofs.Walking.{Kind, Asks, kind_of, IsShow, IsByKind}
+use Rattle.cluster_events.proofs.Walking.{IsTold}
 use Rattle.cluster_events.proofs.Telling.{gathered-append}
 use Rattle.lone_cluster.specs.Lone.{Alone, lone, IsGoodAlone}
 use Rattle.lone_cluster.proofs.Serving.{lone-carries, lone-walks}
 use Rattle.service_laws.specs.PlainOf.{plain_of}
 use Rattle.service_laws.proofs.ServiceLaws.{is_plain}
-use Rattle.aisrun.specs.Playing.{Played, Begun, Went}
+use Rattle.cluster_events.specs.Runs.RunBy.{Started, Went}
+use Rattle.aisrun.specs.Playing.{Ran}
 use Rattle.aisrun.specs.Promises.{is_replied, waiting_of}
 use Rattle.aisrun.proofs.PlayLaws.{played-says}
 
@@ -212,10 +214,10 @@ waits-behind : (kind : Kind) (old new : World) (before told : List Told) → Wai
 waits-behind (Asks client asked) old new before told goes below waits = goes before below waits
 waits-behind _ old new before told goes below waits = waits-on old new before told waits goes
 
-pub played-waits : (setup : Setup) (places : ℕ) (held : Option Files) {lines : List Line} {state : State Alone} {told : List Told} {files : Files} → Played setup places held lines state told files → KeepsWaiting state.world told
-played-waits setup places held Begun = λ client. refl
-played-waits setup places held (Went {state = state} {told = told} next shelf outcome more run shelf_is happens grown) =
+pub played-waits : (setup : Setup) (places : ℕ) (held : Option Files) {lines : List Line} {state : State Alone} {told : List Told} {left : Files × Unit {0}} → Ran setup places held lines state told left → KeepsWaiting state.world told
+played-waits setup places held Started = λ client. refl
+played-waits setup places held (Went {state = state} {told = told} next outcome after run step) =
     let says = played-says setup places held run in
     let below : AreBelow state.world told = λ client. All-map (λ (reply : ℕ × Reply). IsDone (state.world.agents client) reply.0) (λ (reply : ℕ × Reply). reply.0 < (state.world.agents client).next) (replies_told client told) (λ reply done. done.sent) (says.1.replies client).done in
-    let walks = (lone-walks (plain_of setup) (is_plain setup) shelf Waits (passes-carried setup) (waits-by-kind (plain_of setup)) next state outcome says.0 happens).1 in
+    let walks = (lone-walks (plain_of setup) (is_plain setup) step.step.shelf Waits (passes-carried setup) (waits-by-kind (plain_of setup)) next state outcome says.0 step.step.happens).1 in
     waits-behind (kind_of next) state.world outcome.state.world told outcome.told walks below (played-waits setup places held run)

@@ -1,17 +1,15 @@
 -- Words of public clauses: how the lines of a script are played: what their events lead to, print, and leave on the disk.
 use Rattle.std.specs.Prelude.{◌≡◌, ℕ, List, [], ◌∷◌, ◌++◌, reverse, Bool, true, false, Option, IfSome, option_map}
 use Rattle.std.specs.List.{flat_map, list_any}
-use Rattle.disk_model.specs.Disk.{Files, no_files}
-use Rattle.calls.specs.declared.entry.Entry.{Entry}
+use Rattle.disk_model.specs.Disk.{Files}
 use Rattle.script_lines.specs.declared.line.Line.{Line}
 use Rattle.script_lines.specs.declared.line.Line.TheVariants as line
 use Rattle.plain_service.specs.Setups.{Setup}
-use Rattle.cluster_facts.specs.Storage.{all_applied}
 use Rattle.cluster_events.specs.Lines.{Told}
 use Rattle.cluster_events.specs.Outcomes.{Outcome}
 use Rattle.cluster_events.specs.Servers.{State}
 use Rattle.cluster_events.specs.Running.{Shelf, Happens}
-use Rattle.cluster_events.specs.OnDisk.{performed}
+use Rattle.cluster_events.specs.OnDisk.{RunOnBy}
 use Rattle.lone_cluster.specs.Lone.{Alone, lone, lone_start}
 use Rattle.event_text.specs.Texts.{printed}
 use Rattle.service_laws.specs.Disks.{service_disk}
@@ -33,18 +31,21 @@ is_failure _ = false
 abbrev pub has_failures : List Line → Bool
 has_failures lines = list_any is_failure lines
 
+-- a line that is played. `files` and `cat` show what stands in the files of the history, where the disk tells its files
+pub record LinePlayed (setup : Setup) (held : Option Files) (before : Unit {0}) (next : Line) (state : State Alone) (outcome : Outcome (State Alone))
+    (after : Unit {0}) : Type 0 where
+  pub shelf : Shelf
+  pub shown : IfSome held (λ _. shelf ≡ shelf_of setup)
+  pub happens : Happens (plain_of setup) shelf (lone (plain_of setup)) next state outcome
+
 -- what the lines of a script lead to from the start of a cluster, the last line first: all that their events tell, the last in
--- front, and the files by the deeds of the start and of each entry whose work is done. `files` and `cat` show what stands in the
--- files of the history, where the disk tells its files
-pub data Played (setup : Setup) (places : ℕ) (held : Option Files) : List Line → State Alone → List Told → Files → Type 0 where
-  Begun : Played setup places held [] (lone_start setup.start places) [] (all_applied service_disk (storage_of setup).opening no_files)
-  Went :
-      {lines : List Line} {state : State Alone} {told : List Told} {files : Files} → (next : Line) (shelf : Shelf) (outcome : Outcome (State Alone))
-      (more : List Entry) → Played setup places held lines state told files → IfSome held (λ _. shelf ≡ shelf_of setup)
-      → Happens (plain_of setup) shelf (lone (plain_of setup)) next state outcome
-      → outcome.state.world.core.answered ≡ more ++ state.world.core.answered
-      → Played setup places held (next ∷ lines) outcome.state (outcome.told ++ told)
-      (performed service_disk (storage_of setup) more state.world.core.answered files)
+-- front, and the files by the deeds of the start and of each entry whose work is done, beside a mark that is not looked at
+abbrev pub Ran : Setup → ℕ → Option Files → List Line → State Alone → List Told → Files × Unit {0} → Type 0
+Ran setup places held lines state told left =
+    RunOnBy (LinePlayed setup held) service_disk (storage_of setup) (lone_start setup.start places) tt lines state told left
+
+abbrev pub Played : Setup → ℕ → Option Files → List Line → State Alone → List Told → Files → Type 0
+Played setup places held lines state told files = Ran setup places held lines state told (files, tt)
 
 -- the bytes that events write
 abbrev pub text_of : List Told → List ℕ

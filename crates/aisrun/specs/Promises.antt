@@ -1,8 +1,8 @@
 -- Words of public clauses: what is promised at the end of each line that is played, each sentence by itself.
-use Rattle.std.specs.Prelude.{◌≡◌, ℕ, suc, Bool, false, not, ◌||◌, ◌==◌, List, [], ◌∷◌, ◌++◌, length, Option, Some, None}
+use Rattle.std.specs.Prelude.{◌≡◌, ℕ, suc, Bool, false, not, ◌||◌, ◌==◌, List, [], ◌∷◌, length, Option, Some, None}
 use Rattle.std.specs.List.{AllByRecursion}
 use Rattle.ais_values.specs.FirstRow.{first_row}
-use Rattle.disk_model.specs.Disk.{Files, no_files}
+use Rattle.disk_model.specs.Disk.{Files}
 use Rattle.script_lines.specs.declared.line.Line.{Line}
 use Rattle.script_lines.specs.declared.line.Line.TheVariants as line
 use Rattle.plain_service.specs.Setups.{Setup}
@@ -13,51 +13,32 @@ use Rattle.cluster_facts.specs.Messages.{sent_by}
 use Rattle.cluster_facts.specs.Agents.{can_serve, service_of, is_shut}
 use Rattle.cluster_facts.specs.Facts.{log_by, ntf_by}
 use Rattle.cluster_facts.specs.History.{time_of}
-use Rattle.cluster_facts.specs.Storage.{all_applied}
 use Rattle.cluster_events.specs.Lines.{Told, Declined}
-use Rattle.cluster_events.specs.Outcomes.{Outcome}
 use Rattle.cluster_events.specs.Saying.{gathered, entries_told, replies_told}
 use Rattle.cluster_events.specs.Servers.{State}
 use Rattle.cluster_events.specs.Filing.{FilesStand, RecordsStay}
-use Rattle.cluster_events.specs.OnDisk.{performed}
+use Rattle.cluster_events.specs.Runs.{AtEachEnd, LineSentenceOf, OfEachLine}
 use Rattle.cluster_events.specs.Promises.{OneHistory, InOrder, PostsPrinted, RepliesRight, ReadersRight, CallbacksPrinted, ItemsInOrder, WritesCalledBack}
 use Rattle.cluster_events.specs.Settled.{IsSettled}
-use Rattle.lone_cluster.specs.Lone.{Alone, lone_start}
+use Rattle.lone_cluster.specs.Lone.{Alone}
 use Rattle.service_laws.specs.Disks.{service_disk}
 use Rattle.service_laws.specs.PlainOf.{plain_of}
 use Rattle.service_laws.specs.StorageOf.{storage_of}
-use Rattle.aisrun.specs.Playing.{Played, Begun, Went, PlaysFront}
+use Rattle.aisrun.specs.Playing.{PlaysFront}
 
 -- what is said of the lines played so far, the last first, of where they led, of what they told and of the files
 abbrev pub Sentence : Type 1
 Sentence = List Line → State Alone → List Told → Files → Type 0
 
--- it is so at the start, and at the end of each line
-abbrev pub AtEachEnd :
-    (setup : Setup) (places : ℕ) (held : Option Files) (P : Sentence) {lines : List Line} {state : State Alone} {told : List Told} {files : Files}
-    → Played setup places held lines state told files → Type 0
-AtEachEnd setup places held P Begun =
-    P [] (lone_start setup.start places) [] (all_applied service_disk (storage_of setup).opening no_files)
-AtEachEnd setup places held P (Went {lines = lines} {state = state} {told = told} {files = files} next shelf outcome more run shelf_is happens grown) =
-    P (next ∷ lines) outcome.state (outcome.told ++ told) (performed service_disk (storage_of setup) more state.world.core.answered files)
-    × AtEachEnd setup places held P run
-
 -- it is so at each end, however far a script was played on a disk that told these files before
 abbrev pub Throughout : (held : Option Files) (P : Setup → Sentence) → Type 0
 Throughout held P =
     (script done rest : List Line) (text : List ℕ) (front : PlaysFront held script done rest text)
-    → AtEachEnd front.setup front.places held (P front.setup) front.goes.run
+    → AtEachEnd (λ (lines : List Line) (state : State Alone) (told : List Told) (left : Files × Unit {0}). P front.setup lines state told left.0) front.goes.run
 
 -- what is said of one line: what was told before it, where it was played, and what it led to
 abbrev pub LineSentence : Type 1
-LineSentence = Line → List Told → State Alone → Outcome (State Alone) → Type 0
-
--- it is so of each line
-abbrev pub OfEachLine :
-    (P : LineSentence) {setup : Setup} {places : ℕ} {held : Option Files} {lines : List Line} {state : State Alone} {told : List Told} {files : Files}
-    → Played setup places held lines state told files → Type 0
-OfEachLine P Begun = Unit {0}
-OfEachLine P (Went {state = state} {told = told} next shelf outcome more run shelf_is happens grown) = P next told state outcome × OfEachLine P run
+LineSentence = LineSentenceOf Alone
 
 -- it is so of each line, however far a script was played on a disk that told these files before
 abbrev pub OfAllLines : (held : Option Files) (P : LineSentence) → Type 0

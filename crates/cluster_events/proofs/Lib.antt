@@ -9,5 +9,7 @@ pub mod Items
 pub mod Walking
 pub mod Promised
 pub mod Filed
+pub mod OnDisk
+pub mod Runs
 pub mod Broken
 pub mod Looping

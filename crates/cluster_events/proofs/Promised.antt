@@ -20,13 +20,12 @@ use Rattle.cluster_events.specs.ClientEvents.{handed_lines, hand_out}
 use Rattle.cluster_events.specs.Servers.{State, Servers}
 use Rattle.cluster_events.specs.Saying.{gathered, post_in, entry_in, reply_in, deal_in, callback_in, write_in, deals_told, callbacks_told, writes_told, Grows, TellsReplies, writes_in, Says}
 use Rattle.cluster_events.specs.Serving.{IsSteady, IsServing, IsCarried}
-use Rattle.cluster_events.specs.Running.{Shelf, Happens, Run}
-use Rattle.cluster_events.specs.Running.Run.{Started, Went}
+use Rattle.cluster_events.specs.Running.{Shelf, Happens}
 use Rattle.cluster_events.specs.Promises.{AtEnd}
 use Rattle.cluster_events.proofs.Walking.{IsShow, HandsOut, IsByKind, AreStepped, line-walks}
 use Rattle.cluster_events.proofs.Items.{taken-begins}
 use Rattle.cluster_events.proofs.Dealing.{dealt-answered, deals-answered}
-use Rattle.cluster_events.proofs.Telling.{Grows-same, TellsReplies-none, Says-same, Says-both, Says-send}
+use Rattle.cluster_events.proofs.Telling.{Grows-same, TellsReplies-none, Says-send}
 
 -- Lines that say nothing of history, net and callbacks.
 
@@ -215,18 +214,3 @@ module _ {P : Type 0} (plain : Plain) (is_plain : IsPlain plain) (shelf : Shelf)
   pub happens-kept : (next : Line) (state : State P) (outcome : Outcome (State P)) → IsSteady plain Good state → Happens plain shelf servers next state outcome → IsSteady plain Good outcome.state × Says plain state.world outcome.state.world outcome.told
   happens-kept next state outcome steady happens =
       line-walks plain is_plain shelf servers Good serving (λ kind. Says plain) saying stepped (says-by-kind plain) next state outcome steady happens
-
-  -- a run leads from a steady state to one, and its lines say what lies between
-  pub run-says : (start : State P) → IsSteady plain Good start → {lines : List Line} {state : State P} {told : List Told} → Run plain shelf servers start lines state told → IsSteady plain Good state × Says plain start.world state.world told
-  run-says start steady Started = (steady, Says-same plain start.world)
-  run-says start steady (Went {state = state} {told = told} next outcome run happens) =
-      let before = run-says start steady run in
-      let kept = happens-kept next state outcome before.0 happens in
-      (kept.0, Says-both plain start.world state.world outcome.state.world told outcome.told before.1 kept.1)
-
-  -- at the end of each line of a run from the start all promises hold
-  pub run-keeps : (now : ℤ) (places : ℕ) (start : State P) → start.world ≡ empty_world now places → IsSteady plain Good start → {lines : List Line} {state : State P} {told : List Told} → Run plain shelf servers start lines state told → AtEnd plain state.world told
-  run-keeps now places start begins steady {state = state} {told = told} run =
-      let after = run-says start steady run in
-      let S : World → Type 0 = λ world. Says plain world state.world told in
-      at-end plain state.world told now places after.0.sound (subst S begins after.1)

@@ -9,6 +9,7 @@ pub mod Saying
 pub mod Serving
 pub mod Measure
 pub mod Settled
+pub mod Runs
 pub mod Running
 pub mod Taking
 pub mod Promises

@@ -5,25 +5,28 @@ use Rattle.cluster_facts.proofs.Keeping.{IsSound-start}
 use Rattle.cluster_events.specs.Lines.{Told, is_ignored}
 use Rattle.cluster_facts.specs.Lists.{without}
 use Rattle.cluster_events.specs.Servers.{State}
-use Rattle.cluster_events.specs.Running.{Shelf, Run}
-use Rattle.cluster_events.specs.Saying.{Says}
+use Rattle.cluster_events.specs.Running.{Shelf, LineStep, Run}
+use Rattle.cluster_events.specs.Runs.{IsKept}
 use Rattle.cluster_events.specs.Serving.{IsSteady}
-use Rattle.cluster_events.proofs.Promised.{run-says, run-keeps}
+use Rattle.cluster_events.proofs.Runs.{any-says, any-keeps}
 use Rattle.cluster_events.proofs.Ending as ending
 use Rattle.lone_cluster.specs.Lone.{Alone, lone, lone_start, IsGoodAlone}
 use Rattle.lone_cluster.specs.Laws.{RunsKeepPromises, SettleEnds, SettleSettles}
-use Rattle.lone_cluster.proofs.Serving.{lone-serves, lone-says, lone-spends, lone-steps}
+use Rattle.lone_cluster.proofs.Serving.{lone-serves, lone-spends, lone-kept}
 
 start-steady : (plain : Plain) (now : Rattle.std.proofs.Common.ℤ) (places : ℕ) → IsSteady plain IsGoodAlone (lone_start now places)
 start-steady plain now places = record { sound = IsSound-start plain now places; good = tt }
 
+lines-alone : (plain : Plain) → IsPlain plain → (shelf : Shelf) → IsKept plain IsGoodAlone (LineStep plain shelf (lone plain))
+lines-alone plain is_plain shelf = record { kept = λ before next state outcome after steady happens. lone-kept plain is_plain shelf next state outcome steady happens }
+
 run-steady : (plain : Plain) → IsPlain plain → (shelf : Shelf) (now : Rattle.std.proofs.Common.ℤ) (places : ℕ) {lines : List Rattle.script_lines.specs.declared.line.Line.Line} {state : State Alone} {told : List Told} → Run plain shelf (lone plain) (lone_start now places) lines state told → IsSteady plain IsGoodAlone state
 run-steady plain is_plain shelf now places run =
-    (run-says plain is_plain shelf (lone plain) IsGoodAlone (lone-serves plain is_plain) (lone-says plain) (lone-steps plain is_plain (Says plain) (lone-says plain)) (lone_start now places) (start-steady plain now places) run).0
+    (any-says plain IsGoodAlone (LineStep plain shelf (lone plain)) (lines-alone plain is_plain shelf) (lone_start now places) tt (start-steady plain now places) run).0
 
 pub runs-keep-promises : RunsKeepPromises
 runs-keep-promises plain is_plain shelf now places lines state told run =
-    run-keeps plain is_plain shelf (lone plain) IsGoodAlone (lone-serves plain is_plain) (lone-says plain) (lone-steps plain is_plain (Says plain) (lone-says plain)) now places (lone_start now places) refl (start-steady plain now places) run
+    any-keeps plain IsGoodAlone (LineStep plain shelf (lone plain)) (lines-alone plain is_plain shelf) (lone_start now places) tt (start-steady plain now places) now places refl run
 
 pub settle-ends : SettleEnds
 settle-ends plain is_plain shelf now places lines state told run =

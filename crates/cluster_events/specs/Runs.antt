@@ -1,0 +1,48 @@
+-- Words of public clauses: whole runs, over any relation of a line, the state before it and what it leads to. A mark goes along:
+-- the files that the lines leave, or the disk's count of faults.
+use Rattle.std.specs.Prelude.{List, [], ◌∷◌, ◌++◌}
+use Rattle.script_lines.specs.declared.line.Line.{Line}
+use Rattle.cluster_facts.specs.Service.{Plain}
+use Rattle.cluster_events.specs.Lines.{Told}
+use Rattle.cluster_events.specs.Outcomes.{Outcome}
+use Rattle.cluster_events.specs.Servers.{State}
+use Rattle.cluster_events.specs.Saying.{Says}
+use Rattle.cluster_events.specs.Serving.{IsSteady}
+
+-- what a line leads to from a state and prints, with the marks before and after it
+abbrev pub StepBy : Type 0 → Type 0 → Type 1
+StepBy M P = M → Line → State P → Outcome (State P) → M → Type 0
+
+-- what lines lead to from a start, the last line first, all that they print, and the mark after them
+pub data RunBy {M P : Type 0} (Step : StepBy M P) (start : State P) (first : M) : List Line → State P → List Told → M → Type 0 where
+  Started : RunBy Step start first [] start [] first
+  Went : {lines : List Line} {state : State P} {told : List Told} {before : M} → (next : Line) (outcome : Outcome (State P)) (after : M)
+      → RunBy Step start first lines state told before → Step before next state outcome after
+      → RunBy Step start first (next ∷ lines) outcome.state (outcome.told ++ told) after
+
+-- what is said of the lines so far, the last first, of where they led, of what they told and of the mark
+abbrev pub SentenceOf : Type 0 → Type 0 → Type 1
+SentenceOf M P = List Line → State P → List Told → M → Type 0
+
+-- it is so at the start of a run, and at the end of each line
+abbrev pub AtEachEnd :
+    {M P : Type 0} {Step : StepBy M P} {start : State P} {first : M} (S : SentenceOf M P) {lines : List Line} {state : State P} {told : List Told} {mark : M}
+    → RunBy Step start first lines state told mark → Type 0
+AtEachEnd {start = start} {first = first} S Started = S [] start [] first
+AtEachEnd S (Went {lines = lines} {told = told} next outcome after run step) = S (next ∷ lines) outcome.state (outcome.told ++ told) after × AtEachEnd S run
+
+-- what is said of one line: what was told before it, where it was played, and what it led to
+abbrev pub LineSentenceOf : Type 0 → Type 1
+LineSentenceOf P = Line → List Told → State P → Outcome (State P) → Type 0
+
+-- it is so of each line of a run
+abbrev pub OfEachLine :
+    {M P : Type 0} {Step : StepBy M P} {start : State P} {first : M} (S : LineSentenceOf P) {lines : List Line} {state : State P} {told : List Told} {mark : M}
+    → RunBy Step start first lines state told mark → Type 0
+OfEachLine S Started = Unit {0}
+OfEachLine S (Went {state = state} {told = told} next outcome after run step) = S next told state outcome × OfEachLine S run
+
+-- every line keeps the facts, and its lines say what it must
+pub record IsKept {M P : Type 0} (plain : Plain) (Good : State P → Type 0) (Step : StepBy M P) : Type 0 where
+  pub kept : (before : M) (next : Line) (state : State P) (outcome : Outcome (State P)) (after : M) → IsSteady plain Good state
+      → Step before next state outcome after → IsSteady plain Good outcome.state × Says plain state.world outcome.state.world outcome.told
