@@ -24,9 +24,8 @@ use Rattle.service_laws.specs.PlainOf.{plain_of}
 use Rattle.service_laws.specs.StorageOf.{storage_of}
 use Rattle.service_laws.proofs.ServiceLaws.{is_plain}
 use Rattle.service_laws.proofs.StorageLaws.{is_storage}
-use Rattle.cluster_events.specs.Runs.{IsKept}
 use Rattle.cluster_events.specs.OnDisk.{StepOnDisk}
-use Rattle.cluster_events.proofs.Runs.{any-says, any-keeps, each-line, disk-kept, any-stand, any-files}
+use Rattle.cluster_events.proofs.Runs.{any-says, any-keeps, each-line, disk-kept, any-stand, any-stays, IsKept}
 use Rattle.aisrun.specs.Playing.{LinePlayed, Ran}
 use Rattle.aisrun.specs.Promises.{LineSentence, OfAllLines}
 
@@ -81,4 +80,4 @@ played-files setup places held can run range =
 -- what was answered as stored stands at its place
 pub played-stays : (setup : Setup) (places : ℕ) (held : Option Files) → CanBegin setup → {lines : List Line} {state : State Alone} {told : List Told} {left : Files × Unit {0}} → Ran setup places held lines state told left → AreInRange state.world.core.answered → RecordsStay (plain_of setup) service_disk (storage_of setup) state.world left.0
 played-stays setup places held can run range =
-    (any-files (plain_of setup) IsGoodAlone (LinePlayed setup held) (played-kept setup held) service_disk (storage_of setup) (is_storage setup can) (lone_start setup.start places) tt refl (start-steady setup places) run range).stays
+    any-stays (plain_of setup) IsGoodAlone (LinePlayed setup held) (played-kept setup held) service_disk (storage_of setup) (is_storage setup can) (lone_start setup.start places) tt refl (start-steady setup places) run range

@@ -12,15 +12,19 @@ use Rattle.cluster_events.specs.Servers.{State}
 use Rattle.cluster_events.specs.Saying.{Says}
 use Rattle.cluster_events.specs.Serving.{IsSteady}
 use Rattle.cluster_events.specs.Outcomes.{Outcome}
-use Rattle.cluster_events.specs.Runs.{StepBy, RunBy, SentenceOf, AtEachEnd, LineSentenceOf, OfEachLine, IsKept}
+use Rattle.cluster_events.specs.Runs.{StepBy, RunBy, SentenceOf, AtEachEnd, LineSentenceOf, OfEachLine}
 use Rattle.cluster_events.specs.Runs.RunBy.{Started, Went}
 use Rattle.cluster_events.specs.Promises.{AtEnd}
-use Rattle.cluster_events.specs.Filing.{IsStorage, FilesStand}
-use Rattle.cluster_events.specs.OnDisk.{performed, StepOnDisk, RunOnBy, FilesAtEnd}
+use Rattle.cluster_events.specs.Filing.{IsStorage, FilesStand, RecordsStay}
+use Rattle.cluster_events.specs.OnDisk.{performed, StepOnDisk, RunOnBy}
 use Rattle.cluster_events.proofs.Telling.{Says-same, Says-both}
 use Rattle.cluster_events.proofs.Promised.{at-end}
 use Rattle.cluster_events.proofs.Filed.{answered-legal, records-stay}
 use Rattle.cluster_events.proofs.OnDisk.{performed-files, range-before}
+
+-- every line keeps the facts, and its lines say what it must
+pub record IsKept {M P : Type 0} (plain : Plain) (Good : State P → Type 0) (Step : StepBy M P) : Type 0 where
+  pub kept : (before : M) (next : Line) (state : State P) (outcome : Outcome (State P)) (after : M) → IsSteady plain Good state → Step before next state outcome after → IsSteady plain Good outcome.state × Says plain state.world outcome.state.world outcome.told
 
 module _ {M P : Type 0} (plain : Plain) (Good : State P → Type 0) (Step : StepBy M P) (lines_kept : IsKept plain Good Step) (start : State P) (first : M) (steady : IsSteady plain Good start) where
   -- a run leads from a steady state to one, and its lines say what lies between
@@ -74,9 +78,8 @@ module _ {M P : Type 0} (plain : Plain) (Good : State P → Type 0) (Step : Step
         ∙ performed-files plain disk storage is_storage new.now step.more past (subst L step.grown legal) whole
         ∙ ap (λ entries. storage.files entries) (sym step.grown)
 
-    -- at the end of each line the files are those of the history, and records stay
-    pub any-files : {lines : List Line} {state : State P} {told : List Told} {mark : disk.Files × M} → RunOnBy Step disk storage start first lines state told mark → AreInRange state.world.core.answered → FilesAtEnd plain disk storage state.world mark.0
-    any-files {state = state} {mark = mark} run range =
-        let stand = any-stand run range in
+    -- each record whose reply says that it is stored stands at its place
+    pub any-stays : {lines : List Line} {state : State P} {told : List Told} {mark : disk.Files × M} → RunOnBy Step disk storage start first lines state told mark → AreInRange state.world.core.answered → RecordsStay plain disk storage state.world mark.0
+    any-stays {state = state} {mark = mark} run range =
         let steady_now = (any-says plain Good (StepOnDisk Step disk storage) disk-kept start (all_applied disk storage.opening disk.no_files, first) steady run).0 in
-        record { stand = stand; stays = records-stay plain disk storage is_storage state.world mark.0 steady_now.sound range stand }
+        records-stay plain disk storage is_storage state.world mark.0 steady_now.sound range (any-stand run range)

@@ -3,14 +3,11 @@
 use Rattle.std.specs.Prelude.{◌≡◌, List, [], ◌∷◌, ◌++◌}
 use Rattle.script_lines.specs.declared.line.Line.{Line}
 use Rattle.cluster_facts.specs.Types.{Entry}
-use Rattle.cluster_facts.specs.Service.{Plain}
 use Rattle.cluster_facts.specs.Storage.{Disk, Storage, all_applied}
-use Rattle.cluster_facts.specs.World.{World}
 use Rattle.cluster_events.specs.Lines.{Told}
 use Rattle.cluster_events.specs.Outcomes.{Outcome}
 use Rattle.cluster_events.specs.Servers.{State}
 use Rattle.cluster_events.specs.Runs.{StepBy, RunBy}
-use Rattle.cluster_events.specs.Filing.{RecordsStay, FilesStand}
 
 -- the deeds of these further entries are performed, one entry after another
 abbrev pub performed : (disk : Disk) → Storage disk → List Entry → List Entry → disk.Files → disk.Files
@@ -31,9 +28,3 @@ abbrev pub RunOnBy :
     {M P : Type 0} (Step : StepBy M P) (disk : Disk) (storage : Storage disk) → State P → M → List Line → State P → List Told → disk.Files × M → Type 0
 RunOnBy Step disk storage start first lines state told mark =
     RunBy (StepOnDisk Step disk storage) start (all_applied disk storage.opening disk.no_files, first) lines state told mark
-
--- the files at the end of each line: they are those of the history, without the entry in hand where there is one; and each record
--- whose reply is posted and says that it is stored stands at its place, until the service gives the place away
-pub record FilesAtEnd (plain : Plain) (disk : Disk) (storage : Storage disk) (world : World) (files : disk.Files) : Type 0 where
-  pub stand : FilesStand disk storage world files
-  pub stays : RecordsStay plain disk storage world files

@@ -2,12 +2,9 @@
 -- the files that the lines leave, or the disk's count of faults.
 use Rattle.std.specs.Prelude.{List, [], ◌∷◌, ◌++◌}
 use Rattle.script_lines.specs.declared.line.Line.{Line}
-use Rattle.cluster_facts.specs.Service.{Plain}
 use Rattle.cluster_events.specs.Lines.{Told}
 use Rattle.cluster_events.specs.Outcomes.{Outcome}
 use Rattle.cluster_events.specs.Servers.{State}
-use Rattle.cluster_events.specs.Saying.{Says}
-use Rattle.cluster_events.specs.Serving.{IsSteady}
 
 -- what a line leads to from a state and prints, with the marks before and after it
 abbrev pub StepBy : Type 0 → Type 0 → Type 1
@@ -41,8 +38,3 @@ abbrev pub OfEachLine :
     → RunBy Step start first lines state told mark → Type 0
 OfEachLine S Started = Unit {0}
 OfEachLine S (Went {state = state} {told = told} next outcome after run step) = S next told state outcome × OfEachLine S run
-
--- every line keeps the facts, and its lines say what it must
-pub record IsKept {M P : Type 0} (plain : Plain) (Good : State P → Type 0) (Step : StepBy M P) : Type 0 where
-  pub kept : (before : M) (next : Line) (state : State P) (outcome : Outcome (State P)) (after : M) → IsSteady plain Good state
-      → Step before next state outcome after → IsSteady plain Good outcome.state × Says plain state.world outcome.state.world outcome.told

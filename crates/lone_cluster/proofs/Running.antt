@@ -6,9 +6,8 @@ use Rattle.cluster_events.specs.Lines.{Told, is_ignored}
 use Rattle.cluster_facts.specs.Lists.{without}
 use Rattle.cluster_events.specs.Servers.{State}
 use Rattle.cluster_events.specs.Running.{Shelf, LineStep, Run}
-use Rattle.cluster_events.specs.Runs.{IsKept}
 use Rattle.cluster_events.specs.Serving.{IsSteady}
-use Rattle.cluster_events.proofs.Runs.{any-says, any-keeps}
+use Rattle.cluster_events.proofs.Runs.{IsKept, any-says, any-keeps}
 use Rattle.cluster_events.proofs.Ending as ending
 use Rattle.lone_cluster.specs.Lone.{Alone, lone, lone_start, IsGoodAlone}
 use Rattle.lone_cluster.specs.Laws.{RunsKeepPromises, SettleEnds, SettleSettles}
