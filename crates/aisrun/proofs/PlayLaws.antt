@@ -1,5 +1,5 @@
 -- What lines that are played lead to: facts, promises and files.
-use Rattle.std.proofs.Common.{◌≡◌, ℕ, List, [], Option, refl}
+use Rattle.std.proofs.Common.{◌≡◌, ℕ, List, Option, refl}
 use Rattle.disk_model.specs.Disk.{Files, no_files}
 use Rattle.script_lines.specs.declared.line.Line.{Line}
 use Rattle.plain_service.specs.Setups.{Setup, CanBegin}

@@ -1,5 +1,5 @@
 -- Words of public clauses: how the lines of a script are played: what their events lead to, print, and leave on the disk.
-use Rattle.std.specs.Prelude.{◌≡◌, ℕ, List, [], ◌∷◌, ◌++◌, reverse, Bool, true, false, Option, IfSome, option_map}
+use Rattle.std.specs.Prelude.{◌≡◌, ℕ, List, ◌∷◌, ◌++◌, reverse, Bool, true, false, Option, IfSome, option_map}
 use Rattle.std.specs.List.{flat_map, list_any}
 use Rattle.disk_model.specs.Disk.{Files}
 use Rattle.script_lines.specs.declared.line.Line.{Line}
