@@ -21,7 +21,7 @@ use Rattle.alarm_view.specs.Alarms.{notifications, AreInOrder}
 use Rattle.alarm_view.specs.Found.{IsExact, StartsExactly, FollowsExactly}
 use Rattle.alarm_view.proofs.NearestLaws.{first_in-finds, IsNearest-one}
 
-has_mode-decides : (mode : SearchMode) (value : ℤ) (alarm : Notification) → Decides (has_mode mode value alarm) (HasMode mode value alarm)
+pub has_mode-decides : (mode : SearchMode) (value : ℤ) (alarm : Notification) → Decides (has_mode mode value alarm) (HasMode mode value alarm)
 has_mode-decides BeforeOrAtTime value alarm = (λ e. grind (arith, ints), λ h. grind (arith, ints))
 has_mode-decides AtTime value alarm = Decides-int_eq alarm.event_time value
 has_mode-decides AtOrAfterTime value alarm = (λ e. grind (arith, ints), λ h. grind (arith, ints))
@@ -39,7 +39,7 @@ not_true : (b : Bool) → Decides (not b) (b ≡ false)
 not_true true = (λ e. cc, λ e. cc)
 not_true false = (λ e. refl, λ e. refl)
 
-is_beyond-decides : (way : Direction) (cursor : Cursor) (alarm : Notification) → Decides (is_beyond way cursor alarm) (IsBeyond way cursor alarm)
+pub is_beyond-decides : (way : Direction) (cursor : Cursor) (alarm : Notification) → Decides (is_beyond way cursor alarm) (IsBeyond way cursor alarm)
 is_beyond-decides way cursor alarm = by_fresh cursor.fresh where
   by_fresh : (fresh : Bool) → Decides (cond fresh (not (comes_before way (point_of alarm) (point_at cursor))) (comes_before way (point_at cursor) (point_of alarm))) (MatchBool fresh (comes_before way (point_of alarm) (point_at cursor) ≡ false) (comes_before way (point_at cursor) (point_of alarm) ≡ true))
   by_fresh true = not_true (comes_before way (point_of alarm) (point_at cursor))

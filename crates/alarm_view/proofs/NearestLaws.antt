@@ -90,7 +90,7 @@ id-from number id (a ∷ alarms) alarm rising (inr there) =
     omega (arith, above, rising.1)
 
 -- kept alarms of one id are one
-same_id-same : (number id : ℕ) (alarms : List KeptAlarm) → RiseFrom number id alarms → (one other : Notification) → Stands one (notifications alarms) → Stands other (notifications alarms) → one.id ≡ other.id → one ≡ other
+pub same_id-same : (number id : ℕ) (alarms : List KeptAlarm) → RiseFrom number id alarms → (one other : Notification) → Stands one (notifications alarms) → Stands other (notifications alarms) → one.id ≡ other.id → one ≡ other
 same_id-same number id [] rising one other first second same = absurd first
 same_id-same number id (a ∷ alarms) rising one other (inl first) (inl second) same = first ∙ sym second
 same_id-same number id (a ∷ alarms) rising one other (inl first) (inr second) same =

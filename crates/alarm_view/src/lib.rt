@@ -2,9 +2,11 @@
 #![tactic(auto)]
 
 mod alarm;
+mod changing;
 mod cursor;
 mod law;
 mod mode;
+mod place;
 mod search;
 mod view;
 

@@ -1,50 +1,43 @@
-//! Searches among alarms: the first on the way of those that pass a test.
-ghost use Rattle.std.specs.Prelude.{◌≡◌, pos, Bool, reverse, option_copied};
-ghost use Rattle.std.specs.Ordering.{int_eq};
-ghost use Rattle.ntf_types.specs.declared.notification.Notification.{Notification};
+//! Searches among alarms: from a place in their order on, the first that the filters ask for.
+ghost use Rattle.std.specs.Prelude.{◌≡◌, ◌≢◌, ◌≤◌, pos, length, option_copied, MatchOption};
 ghost use Rattle.ntf_filters.specs.Matching.{matches};
-ghost use Rattle.alarm_view.specs.Order.{point_of, is_older, comes_before};
-ghost use Rattle.alarm_view.specs.Alarms.{notifications};
-ghost use Rattle.alarm_view.specs.Nearest.{point_at};
-ghost use Rattle.alarm_view.specs.Search.{nearer_of, first_in, first_with, has_mode, is_beyond};
+ghost use Rattle.client_set.specs.Members.{Stands};
+ghost use Rattle.client_set.specs.Rising.{IsRising};
+ghost use Rattle.alarm_view.specs.Alarms.{notifications, AreInOrder};
+ghost use Rattle.alarm_view.specs.Modes.{way_of};
+ghost use Rattle.alarm_view.specs.Search.{has_mode, is_beyond};
+ghost use Rattle.alarm_view.specs.Inside.{place_first, point_in, places_of, IsCutAt, IsRangeOf, IsIndexed, IsOfId, LacksId, IsAskedAt, IsFoundWithin, StartsAt, GoesOnAt, IsIdIn, cut_at};
 
+use crate::place::{Cut, Place, is_below};
 use crate::{Cursor, Direction, KeptAlarm, SearchMode};
 use ntf_filters::{FilterSet, matches};
 use ntf_types::Notification;
+use std::collections::VecDeque;
 
-/// Whether the first place, a time and an id, is older than the second.
-fn is_older(time: i64, id: u64, other_time: i64, other_id: u64) -> bool
-    ensures { result
-        ≡ is_older (record { time = time; id = id }) (record { time = other_time; id = other_id }) }
+/// How many places, from the oldest on, lie below a cut.
+pub(crate) fn count_below(order: &[Place], cut: Cut) -> usize
+    requires { IsRising place_first order.now }
+    ensures bound { result ≤ length order.now }
+    ensures point { IsCutAt cut order.now result }
 {
-    time < other_time || (other_time >= time && id < other_id)
+    order.partition_point(|place| is_below(cut, place))
 }
 
-impl Cursor {
-    /// The place of an alarm.
-    pub(crate) fn at(alarm: &Notification, fresh: bool) -> Cursor
-        ensures { result ≡ record {
-          time = alarm.now.event_time;
-          id = alarm.now.id;
-          fresh = fresh;
-        } }
-    {
-        Cursor {
-            time: alarm.event_time,
-            id: alarm.id,
-            fresh,
-        }
-    }
-}
-
-/// Whether the first place is met before the second on the way.
-fn comes_before(way: Direction, one: &Cursor, other: &Cursor) -> bool
-    ensures { result ≡ comes_before way (point_at one.now) (point_at other.now) }
+/// The alarm of an id, if it is kept.
+fn of_id(alarms: &VecDeque<KeptAlarm>, id: u64) -> Option<&KeptAlarm>
+    requires { AreInOrder alarms.now.items }
+    ensures { MatchOption result (LacksId id alarms.now.items)
+        (λ alarm. IsOfId id alarms.now.items alarm.now) }
 {
-    match way {
-        Direction::Younger => is_older(one.time, one.id, other.time, other.id),
-        Direction::Older => is_older(other.time, other.id, one.time, one.id),
+    let place = alarms.partition_point(|alarm| alarm.notification.id < id);
+    if place >= alarms.len() {
+        return None;
     }
+    let alarm = &alarms[place];
+    if alarm.notification.id != id {
+        return None;
+    }
+    Some(alarm)
 }
 
 /// Whether the filters ask for an alarm.
@@ -54,133 +47,214 @@ fn is_asked_for(filters: &FilterSet, alarm: &Notification) -> bool
     matches(filters, alarm)
 }
 
-/// A test of alarms.
-pub(crate) trait Test {
-    ghost passes: { Self → Notification → Bool };
-
-    /// Whether the alarm passes.
-    fn passes(&self, alarm: &Notification) -> bool
-        ensures { result ≡ passes self.now alarm.now };
-}
-
-/// Whether an alarm may be the one that a search starts at.
-#[derive(Drop)]
-pub(crate) struct Start<'a> {
-    pub mode: SearchMode,
-    pub value: i64,
-    pub filters: &'a FilterSet,
-}
-
-/// Whether an alarm may be the one that is read next.
-#[derive(Drop)]
-pub(crate) struct Next<'a> {
-    pub cursor: Cursor,
-    pub way: Direction,
-    pub filters: &'a FilterSet,
-}
-
-impl Test for Start<'_> {
-    ghost use Rattle.alarm_view.specs.Search.{can_start};
-
-    ghost passes = { λ start alarm. can_start start.mode start.value start.filters.now alarm };
-
-    fn passes(&self, alarm: &Notification) -> bool {
-        has_mode(self.mode, self.value, alarm) && is_asked_for(self.filters, alarm)
-    }
-}
-
-impl Test for Next<'_> {
-    ghost use Rattle.alarm_view.specs.Search.{can_follow};
-
-    ghost passes = { λ next alarm. can_follow next.way next.cursor next.filters.now alarm };
-
-    fn passes(&self, alarm: &Notification) -> bool {
-        is_beyond(self.way, &self.cursor, alarm) && is_asked_for(self.filters, alarm)
-    }
-}
-
-/// Whether an alarm's time or id is what the mode asks for.
-fn has_mode(mode: SearchMode, value: i64, alarm: &Notification) -> bool
-    ensures { result ≡ has_mode mode value alarm.now }
+/// The alarm of a place, if the filters ask for it.
+fn asked_at<'a>(
+    alarms: &'a VecDeque<KeptAlarm>,
+    place: &Place,
+    filters: &FilterSet,
+) -> Option<&'a Notification>
+    requires order { AreInOrder alarms.now.items }
+    requires stands { Stands place.now (places_of alarms.now.items) }
+    ensures { IsAskedAt (notifications alarms.now.items) (point_in place.now) filters.now
+        (option_copied result) }
 {
-    let time = alarm.event_time;
-    match mode {
-        SearchMode::BeforeOrAtTime => time <= value,
-        SearchMode::AtTime => time == value,
-        SearchMode::AtOrAfterTime => time >= value,
-        SearchMode::BeforeTime => time < value,
-        SearchMode::AfterTime => time > value,
-        SearchMode::NotificationId => is_number(value, alarm.id),
-        SearchMode::OnlyFilter => true,
-    }
-}
-
-/// Whether a signed number is this one.
-fn is_number(value: i64, number: u64) -> bool
-    ensures { result ≡ int_eq (pos number) value }
-{
-    value >= 0 && value.unsigned_abs() == number
-}
-
-/// Whether an alarm lies at a fresh cursor or beyond, and else beyond it.
-fn is_beyond(way: Direction, cursor: &Cursor, alarm: &Notification) -> bool
-    ensures { result ≡ is_beyond way cursor.now alarm.now }
-{
-    let place = Cursor::at(alarm, false);
-    if cursor.fresh {
-        !comes_before(way, &place, cursor)
-    } else {
-        comes_before(way, cursor, &place)
-    }
-}
-
-/// The first on the way of an alarm and the one found so far.
-fn nearer<'a>(
-    way: Direction,
-    alarm: &'a Notification,
-    found: Option<&'a Notification>,
-) -> &'a Notification
-    ensures { result.now ≡ nearer_of way alarm.now (option_copied found.entry) }
-{
-    let Some(other) = found else {
-        return alarm;
+    let Some(alarm) = of_id(alarms, place.id) else {
+        return None;
     };
-    if comes_before(way, &Cursor::at(other, false), &Cursor::at(alarm, false)) {
-        other
+    if is_asked_for(filters, &alarm.notification) {
+        Some(&alarm.notification)
     } else {
-        alarm
+        None
     }
 }
 
-/// The first on the way of those found so far and one alarm more, if it passes.
-fn first_with<'a, T: Test>(
-    way: Direction,
-    test: &T,
-    alarm: &'a Notification,
-    found: Option<&'a Notification>,
+/// Of the alarms at places from `low` on and below `high`, the oldest that the filters ask for.
+fn oldest_within<'a>(
+    alarms: &'a VecDeque<KeptAlarm>,
+    order: &[Place],
+    low: usize,
+    high: usize,
+    filters: &FilterSet,
 ) -> Option<&'a Notification>
-    ensures { option_copied result
-        ≡ first_with way (T.passes test.now) alarm.now (option_copied found.entry) }
+    requires indexed { IsIndexed alarms.now.items order.now }
+    requires within { high ≤ length order.now }
+    ensures { IsFoundWithin Direction.Younger (notifications alarms.now.items) order.now low high
+        filters.now (option_copied result) }
 {
-    if test.passes(alarm) {
-        Some(nearer(way, alarm, found))
-    } else {
-        found
+    for place in low..high {
+        if let Some(alarm) = asked_at(alarms, &order[place], filters) {
+            return Some(alarm);
+        }
+    }
+    None
+}
+
+/// Of the alarms at places from `low` on and below `high`, the youngest that the filters ask for.
+fn youngest_within<'a>(
+    alarms: &'a VecDeque<KeptAlarm>,
+    order: &[Place],
+    low: usize,
+    high: usize,
+    filters: &FilterSet,
+) -> Option<&'a Notification>
+    requires indexed { IsIndexed alarms.now.items order.now }
+    requires within { high ≤ length order.now }
+    ensures { IsFoundWithin Direction.Older (notifications alarms.now.items) order.now low high
+        filters.now (option_copied result) }
+{
+    let mut left = high;
+    while left > low {
+        left -= 1;
+        if let Some(alarm) = asked_at(alarms, &order[left], filters) {
+            return Some(alarm);
+        }
+    }
+    None
+}
+
+/// Of the alarms at places from `low` on and below `high`, the first on the way that the filters ask for.
+fn first_within<'a>(
+    alarms: &'a VecDeque<KeptAlarm>,
+    order: &[Place],
+    way: Direction,
+    low: usize,
+    high: usize,
+    filters: &FilterSet,
+) -> Option<&'a Notification>
+    requires indexed { IsIndexed alarms.now.items order.now }
+    requires within { high ≤ length order.now }
+    ensures { IsFoundWithin way (notifications alarms.now.items) order.now low high filters.now
+        (option_copied result) }
+{
+    match way {
+        Direction::Younger => oldest_within(alarms, order, low, high, filters),
+        Direction::Older => youngest_within(alarms, order, low, high, filters),
     }
 }
 
-/// The first on the way of the alarms that pass.
-pub(crate) fn first_in<'a, T: Test>(
-    alarms: &'a [KeptAlarm],
-    way: Direction,
-    test: &T,
-) -> Option<&'a Notification>
-    ensures { option_copied result
-        ≡ first_in way (T.passes test.now) (reverse (notifications alarms.now)) }
+/// The places, from the first number on and below the second, whose times are what a mode asks for.
+fn range_of(order: &[Place], mode: SearchMode, value: i64) -> (usize, usize)
+    requires rising { IsRising place_first order.now }
+    requires timed { mode ≢ SearchMode.NotificationId }
+    ensures { IsRangeOf (has_mode mode value) order.now result.0 result.1 }
 {
-    let mut found = None;
-    for alarm in alarms {
-        found = first_with(way, test, &alarm.notification, found);
+    let before = Cut::Before { time: value };
+    let through = Cut::Through { time: value };
+    match mode {
+        SearchMode::BeforeOrAtTime => (0, count_below(order, through)),
+        SearchMode::AtTime => (count_below(order, before), count_below(order, through)),
+        SearchMode::AtOrAfterTime => (count_below(order, before), order.len()),
+        SearchMode::BeforeTime => (0, count_below(order, before)),
+        SearchMode::AfterTime => (count_below(order, through), order.len()),
+        SearchMode::NotificationId => (0, 0),
+        SearchMode::OnlyFilter => (0, order.len()),
     }
-    found
+}
+
+/// The cut at which a reader goes on: at its point where nothing was read yet, and else beyond it.
+fn cut_at(way: Direction, cursor: &Cursor) -> Cut
+    ensures { result ≡ cut_at way cursor.now }
+{
+    let (time, id) = (cursor.time, cursor.id);
+    match (way, cursor.fresh) {
+        (Direction::Younger, true) | (Direction::Older, false) => Cut::At { time, id },
+        (Direction::Younger, false) | (Direction::Older, true) => Cut::Behind { time, id },
+    }
+}
+
+/// The places, from the first number on and below the second, at which a reader may go on.
+fn range_beyond(order: &[Place], way: Direction, cursor: &Cursor) -> (usize, usize)
+    requires { IsRising place_first order.now }
+    ensures { IsRangeOf (is_beyond way cursor.now) order.now result.0 result.1 }
+{
+    let place = count_below(order, cut_at(way, cursor));
+    match way {
+        Direction::Younger => (place, order.len()),
+        Direction::Older => (0, place),
+    }
+}
+
+/// The number of an id, if it is one.
+fn id_in(value: i64) -> Option<u64>
+    ensures { IsIdIn value result }
+{
+    if value < 0 {
+        return None;
+    }
+    Some(value.unsigned_abs())
+}
+
+/// The alarm of an id, if it is kept and the filters ask for it.
+fn start_of_id<'a>(
+    alarms: &'a VecDeque<KeptAlarm>,
+    value: i64,
+    filters: &FilterSet,
+) -> Option<&'a Notification>
+    requires { AreInOrder alarms.now.items }
+    ensures { StartsAt SearchMode.NotificationId value filters.now
+        (notifications alarms.now.items) (option_copied result) }
+{
+    let Some(id) = id_in(value) else {
+        return None;
+    };
+    let Some(alarm) = of_id(alarms, id) else {
+        return None;
+    };
+    if is_asked_for(filters, &alarm.notification) {
+        Some(&alarm.notification)
+    } else {
+        None
+    }
+}
+
+/// The alarm at which a search by time starts.
+fn start_by_time<'a>(
+    alarms: &'a VecDeque<KeptAlarm>,
+    order: &[Place],
+    mode: SearchMode,
+    value: i64,
+    filters: &FilterSet,
+) -> Option<&'a Notification>
+    requires indexed { IsIndexed alarms.now.items order.now }
+    requires timed { mode ≢ SearchMode.NotificationId }
+    ensures { StartsAt mode value filters.now (notifications alarms.now.items)
+        (option_copied result) }
+{
+    let (low, high) = range_of(order, mode, value);
+    first_within(alarms, order, mode.way(), low, high, filters)
+}
+
+/// The alarm at which a search starts.
+pub(crate) fn start_in<'a>(
+    alarms: &'a VecDeque<KeptAlarm>,
+    order: &[Place],
+    mode: SearchMode,
+    value: i64,
+    filters: &FilterSet,
+) -> Option<&'a Notification>
+    requires { IsIndexed alarms.now.items order.now }
+    ensures { StartsAt mode value filters.now (notifications alarms.now.items)
+        (option_copied result) }
+{
+    if mode == SearchMode::NotificationId {
+        start_of_id(alarms, value, filters)
+    } else {
+        start_by_time(alarms, order, mode, value, filters)
+    }
+}
+
+/// The alarm that is read next.
+pub(crate) fn next_in<'a>(
+    alarms: &'a VecDeque<KeptAlarm>,
+    order: &[Place],
+    cursor: &Cursor,
+    way: Direction,
+    filters: &FilterSet,
+) -> Option<&'a Notification>
+    requires { IsIndexed alarms.now.items order.now }
+    ensures { GoesOnAt cursor.now way filters.now (notifications alarms.now.items)
+        (option_copied result) }
+{
+    let (low, high) = range_beyond(order, way, cursor);
+    first_within(alarms, order, way, low, high, filters)
 }

@@ -1,38 +1,37 @@
 //! The alarms that are kept.
-ghost use Rattle.std.specs.Prelude.{◌≡◌, ◌<◌, [], ◌∷◌, ◌++◌, length, OnOk, OnErr, IfSome, IfNone, nat_le, slice_get, MatchOption};
+ghost use Rattle.std.specs.Prelude.{◌≡◌, ◌<◌, [], ◌∷◌, ◌++◌, length, OnOk, OnErr, IfSome, IfNone, slice_get, MatchOption};
 ghost use Rattle.alarm_view.specs.Alarms.{kept_alarm, notifications, AreInOrder, CanAdd, from_record};
 ghost use Rattle.alarm_view.specs.Nearest.{IsNone, CanStart, CanFollow, IsStartAt, IsNext, cursor_after};
 
-use crate::search::{Next, Start, first_in};
+use crate::changing::{add_reserved, drop_early};
+use crate::place::Place;
+use crate::search::{next_in, start_in};
 use crate::{Cursor, Direction, KeptAlarm, SearchMode};
 use ntf_filters::FilterSet;
 use ntf_types::Notification;
 use std::alloc::{AllocError, Global};
+use std::collections::VecDeque;
 use std::marker::Model;
 
-/// The alarms whose records are stored, in order of their records. Contracts see the list of them.
+/// The alarms whose records are stored, in order of their records, and their places in order of event
+/// time and id. Contracts see the list of alarms.
 #[derive(Drop)]
 pub struct AlarmView {
-    alarms: Vec<KeptAlarm>,
+    alarms: VecDeque<KeptAlarm>,
+    order: Vec<Place>,
 }
 
 impl Model for AlarmView {
     ghost use Rattle.std.specs.Prelude.{List};
     ghost use Rattle.alarm_view.specs.declared.alarm.KeptAlarm.{KeptAlarm};
-    ghost use Rattle.alarm_view.specs.Alarms.{AreInOrder};
 
     ghost Value = { List KeptAlarm };
 
+    ghost use Rattle.alarm_view.specs.Inside.{IsIndexed};
+
     ghost view = { λ view. view.alarms.items };
 
-    ghost invariant = { λ view. AreInOrder view.alarms.items };
-}
-
-/// Whether an alarm's record has this number or a later one.
-fn is_from(alarm: &KeptAlarm, number: u32) -> bool
-    ensures { result ≡ nat_le number alarm.now.number }
-{
-    alarm.number >= number
+    ghost invariant = { λ view. IsIndexed view.alarms.items view.order.items };
 }
 
 impl AlarmView {
@@ -41,7 +40,8 @@ impl AlarmView {
         ensures { result ≡ [] }
     {
         AlarmView {
-            alarms: Vec::new(alloc),
+            alarms: VecDeque::new(alloc),
+            order: Vec::new(alloc),
         }
     }
 
@@ -51,10 +51,9 @@ impl AlarmView {
         ensures ok { OnOk result (self.new ≡ self.old ++ kept_alarm number notification ∷ []) }
         ensures err { OnErr result (self.new ≡ self.old) }
     {
-        self.alarms.push(KeptAlarm {
-            number,
-            notification,
-        })?;
+        self.alarms.reserve(1)?;
+        self.order.reserve(1)?;
+        add_reserved(&mut self.alarms, &mut self.order, number, notification);
         Ok(())
     }
 
@@ -62,7 +61,7 @@ impl AlarmView {
     pub fn keep_from(&mut self, number: u32)
         ensures { self.new ≡ from_record number self.old }
     {
-        self.alarms.retain(|alarm| is_from(alarm, number));
+        drop_early(&mut self.alarms, &mut self.order, number);
     }
 
     /// The cursor at the alarm that a search starts at: the first on the mode's way of those that
@@ -75,12 +74,7 @@ impl AlarmView {
             (notifications self.now)) }
         ensures order { AreInOrder self.now }
     {
-        let test = Start {
-            mode,
-            value,
-            filters,
-        };
-        match first_in(self.alarms.as_slice(), mode.way(), &test) {
+        match start_in(&self.alarms, self.order.as_slice(), mode, value, filters) {
             None => None,
             Some(alarm) => Some(Cursor::at(alarm, true)),
         }
@@ -102,12 +96,7 @@ impl AlarmView {
             (notifications self.now)) }
         ensures order { AreInOrder self.now }
     {
-        let test = Next {
-            cursor,
-            way,
-            filters,
-        };
-        match first_in(self.alarms.as_slice(), way, &test) {
+        match next_in(&self.alarms, self.order.as_slice(), &cursor, way, filters) {
             None => None,
             Some(alarm) => Some((Cursor::at(alarm, false), alarm)),
         }
