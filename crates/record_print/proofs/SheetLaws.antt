@@ -125,7 +125,7 @@ full_shows bytes used limit text more shows full =
 fitted_at : (width : ℕ) (text : List ℕ) (k : ℕ) → get_or (fitted width text) k 32 ≡ seen width text k
 fitted_at width text k = spaces_behind (take width text) (width - length text) k
 
-length-fitted : (width : ℕ) (text : List ℕ) → length (fitted width text) ≡ width
+pub length-fitted : (width : ℕ) (text : List ℕ) → length (fitted width text) ≡ width
 length-fitted width text =
     let whole = length-append (take width text) (spaces (width - length text)) in
     let front = length-take width text in

@@ -16,6 +16,7 @@ mod streams;
 mod trouble;
 mod values;
 
+pub use numbers::whole_number;
 pub use options::well_attrs;
 pub use reader::{count_lines, parse_script};
 pub use script_lines::{Line, ScriptAnswer, ScriptWhy, Server, WellOptions};

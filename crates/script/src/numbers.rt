@@ -1,10 +1,12 @@
 //! Words and numbers at the front of some bytes. Each function answers what stands there with the bytes that follow it.
-ghost use Rattle.std.specs.Prelude.{◌≡◌, ◌++◌, ◌↔◌, ◌^◌, ◌<◌, ◌≤◌, ℤ, pos, neg_ℤ, ◌≤ℤ◌, IsTrue, IfSome, SomeIff, option_map, length, take};
+ghost use Rattle.std.specs.Prelude.{◌≡◌, ◌++◌, ◌↔◌, ◌^◌, ◌<◌, ◌≤◌, ℕ, ℤ, pos, neg_ℤ, ◌≤ℤ◌, IsTrue, IfSome, SomeIff, option_map, length, take};
 ghost use Rattle.std.specs.Char.{is_ascii_digit};
 ghost use Rattle.std.specs.List.{prefix_len};
+ghost use Rattle.std.specs.Option.{MatchOption};
 ghost use Rattle.std.specs.Str.{all_ascii_digits};
 ghost use Rattle.std.specs.Str.Parse.{digits_value};
 ghost use Rattle.ais_values.specs.Times.{unknown_time};
+ghost use Rattle.script_grammar.specs.Values.{IsNumber};
 ghost use Rattle.script_grammar.specs.Reading.{skipped, maybe, unless};
 ghost use Rattle.script_grammar.specs.ValueReading.{is_plain, magnitude_at, number_at, in_signed_range, signed_at};
 ghost use Rattle.script_language.specs.ValueReading.{number8_at, number16_at, number32_at, number64_at, signed64_at, script_time_at, client_at, queue_length_at, count_at};
@@ -99,6 +101,19 @@ pub(crate) fn number(bytes: &[u8], low: u64, high: u64) -> Option<(u64, &[u8])>
         Some((value, rest))
     } else {
         None
+    }
+}
+
+/// The number from `low` to `high` that the bytes spell in decimal, without a leading zero.
+///
+/// None exactly where they spell none. It takes no memory.
+pub fn whole_number(bytes: &[u8], low: u64, high: u64) -> Option<u64>
+    ensures { MatchOption result ((n : ℕ) → IsNumber low high n bytes.now → ⊥)
+        (λ n. IsNumber low high n bytes.now) }
+{
+    match number(bytes, low, high) {
+        None => None,
+        Some((value, rest)) => { if rest.is_empty() { Some(value) } else { None } }
     }
 }
 

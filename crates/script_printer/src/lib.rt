@@ -12,4 +12,4 @@ mod values;
 
 pub use lines::{print_line, print_script};
 pub use notes::print_note;
-pub use pieces::{Printable, put, put_all, put_number, put_signed};
+pub use pieces::{Printable, put, put_all, put_number, put_quoted, put_signed};
