@@ -11,7 +11,7 @@ use Rattle.log_history.specs.Firsts.{change_first}
 use Rattle.log_history.specs.Table.{OpenStream, LogTable, has_nobody, last_after_ends, kept_streams}
 use Rattle.log_history.specs.KeptAnswers.{is_of_application}
 use Rattle.log_service.specs.Moments.{IsTimeOfCall, IsMoment, second_of}
-use Rattle.log_service.specs.Changing.{EndsIn}
+use Rattle.log_service.specs.Changing.{AreEndsIn}
 use Rattle.log_service.specs.State.{IsCallTime, applications_in, others_in, AreFew}
 use Rattle.log_service.proofs.EndLemmas.{pos-from, pos-below, abs-bound, second-bound, stamp-bound}
 
@@ -146,14 +146,14 @@ ends-bound last second most (stream ∷ streams) low early far =
     let rest = ends-bound (cond (has_nobody stream) (stamp_after last second) last) second (most + 1) streams next early (omega arith) in
     omega arith
 
-pub ends-fit : (last now : ℤ) (left new : List OpenStream) (ended : ℤ × List StreamEvent) → IsMoment last now → length left ≤ 100 → EndsIn last now left new ended → SFits w64 ended.0
-ends-fit last now left new ended moment few ends =
+pub ends-fit : (last now : ℤ) (left : List OpenStream) (ended : ℤ × List StreamEvent) → IsMoment last now → length left ≤ 100 → AreEndsIn last now left ended → SFits w64 ended.0
+ends-fit last now left ended moment few ends =
     let time : IsTimeOfCall now = record { from = moment.from; to = moment.to } in
     let bound = ends-bound (unsigned_abs last) (second_of now) 19999999000 left (abs-bound last 19999999000 moment.last_from moment.last_to) (second-bound now time) (omega arith) in
     subst (λ (z : ℤ). SFits w64 z) (sym ends.stamp) (record { sfits = omega arith })
 
-pub ended-from : (last now : ℤ) (left new : List OpenStream) (ended : ℤ × List StreamEvent) → EndsIn last now left new ended → pos 0 ≤ℤ ended.0
-ended-from last now left new ended ends = subst (λ (z : ℤ). pos 0 ≤ℤ z) (sym ends.stamp) (pos-from _)
+pub ended-from : (last now : ℤ) (left : List OpenStream) (ended : ℤ × List StreamEvent) → AreEndsIn last now left ended → pos 0 ≤ℤ ended.0
+ended-from last now left ended ends = subst (λ (z : ℤ). pos 0 ≤ℤ z) (sym ends.stamp) (pos-from _)
 
 -- the count of the test is the number
 pub count-applications : (streams : List OpenStream) → count_by is_of_application streams ≡ applications_in streams

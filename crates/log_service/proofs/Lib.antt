@@ -1,11 +1,11 @@
 mod StreamLemmas
 mod PlaceLemmas
 mod EndLemmas
-mod StoreLemmas
 mod CloseLemmas
 mod KeptLemmas
 pub mod WriteLemmas
 mod OpenLemmas
 mod BeginLemmas
 pub mod FewLemmas
-mod BackLemmas
+mod StreamPlans
+mod StatePlans

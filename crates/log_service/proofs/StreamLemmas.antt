@@ -1,5 +1,5 @@
 -- Facts of one stream: who is left when a client leaves, the last file closed, an expression read.
-use Rattle.std.proofs.Common.{◌≡◌, ℕ, ◌+◌, ◌-◌, ◌<◌, ◌==◌, suc, true, false, ◌&&◌, cond, List, [], ◌∷◌, length, get_or, set, refl, ap, sym, ◌∙◌, arith}
+use Rattle.std.proofs.Common.{◌≡◌, ℕ, ◌+◌, ◌-◌, ◌<◌, ◌==◌, suc, true, false, ◌&&◌, cond, List, [], ◌∷◌, length, get_or, set, refl, ap, sym, ◌∙◌, subst, arith}
 use Rattle.std.specs.Prelude.{Option, Some, None, ℤ, pos, ◌≤ℤ◌, unsigned_abs, Ok, Err, Result}
 use Rattle.std.specs.List.{list_all}
 use Rattle.client_set.specs.Rising.{without}
@@ -21,10 +21,10 @@ use Rattle.stream_config.specs.Stamps.{stamp_after}
 use Rattle.record_print.specs.declared.record.LogRecord.{LogRecord}
 use Rattle.record_print.specs.Printing.{printed_record}
 use Rattle.log_history.specs.Chronicle.{is_empty}
-use Rattle.log_history.specs.Table.{OpenStream, due_stamps, last_after_due, bytes_in, storing, with_stored}
+use Rattle.log_history.specs.Table.{OpenStream, due_stamps, last_after_due, bytes_in, storing}
 use Rattle.log_service.specs.declared.live.LiveStream.TheInside.{Inside}
-use Rattle.log_service.specs.Moments.{second_of, HasStored}
-use Rattle.log_service.specs.Changing.{last_with}
+use Rattle.log_service.specs.Moments.{second_of}
+use Rattle.log_service.specs.Changing.{last_with, IsFiling}
 use Rattle.log_service.specs.Inside.{stream_of, IsKeptStream}
 use Rattle.ais_values.proofs.Basics.{pos-unsigned_abs}
 
@@ -71,11 +71,10 @@ storing-is inside old last now rec stamps bytes made view kept stamps_are bytes_
     ∙ ap (λ (s : Option Stamps). event.Stored inside.state (bytes_in inside.state rec) s) stamps_are
     ∙ ap (λ (o : OpenStream). storing (unsigned_abs last) (second_of now) rec o.state) view
 
--- all that storing a record changes
-pub has-stored : (inside : Inside) (old new : OpenStream) (last now : ℤ) (rec : LogRecord) (stamps : Option Stamps) (files : List LogFile) (stored : ℤ × StreamEvent) → stream_of inside ≡ old → pos 0 ≤ℤ last → stamps ≡ due_stamps (unsigned_abs last) (second_of now) inside.state → files ≡ files_changed inside.state.attrs stamps inside.state.files → new ≡ record { state = record { name = inside.state.name; attrs = inside.state.attrs; taken = inside.state.taken + 1; files = files }; openers = inside.openers } → stored.0 ≡ last_with last stamps → stored.1 ≡ storing (unsigned_abs last) (second_of now) rec old.state → HasStored last now rec old new stored
-has-stored inside old new last now rec stamps files stored view from stamps_are files_are new_is last_is event_is = record {
-  stamp = last_is ∙ ap (last_with last) stamps_are ∙ last-due last (second_of now) inside.state from ∙ ap (λ (o : OpenStream). pos (last_after_due (unsigned_abs last) (second_of now) o.state)) view;
-  event = event_is;
-  stream = new_is ∙ ap (λ (f : List LogFile). let it : OpenStream = record { state = record { name = inside.state.name; attrs = inside.state.attrs; taken = inside.state.taken + 1; files = f }; openers = inside.openers } in it) (files_are ∙ ap (λ (s : Option Stamps). files_changed inside.state.attrs s inside.state.files) stamps_are)
-      ∙ ap (λ (o : OpenStream). with_stored (unsigned_abs last) (second_of now) rec o) view;
-}
+-- the last stamp and the files once a record is stored, of their parts
+pub filing-is : (inside : Inside) (old : OpenStream) (last now : ℤ) (stamps : Option Stamps) (filed : ℤ × List LogFile) → stream_of inside ≡ old → pos 0 ≤ℤ last → stamps ≡ due_stamps (unsigned_abs last) (second_of now) inside.state → filed.1 ≡ files_changed inside.state.attrs stamps inside.state.files → filed.0 ≡ last_with last stamps → IsFiling last now old.state filed
+filing-is inside old last now stamps filed view from stamps_are files_are last_is =
+    subst (λ (stream : OpenStream). IsFiling last now stream.state filed) view (record {
+      stamp = last_is ∙ ap (last_with last) stamps_are ∙ last-due last (second_of now) inside.state from;
+      files = files_are ∙ ap (λ (s : Option Stamps). files_changed inside.state.attrs s inside.state.files) stamps_are;
+    })

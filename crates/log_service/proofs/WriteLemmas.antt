@@ -25,11 +25,11 @@ use Rattle.record_print.specs.Printing.{can_print, has_codes}
 use Rattle.record_print.specs.Records.{can_have, can_write}
 use Rattle.log_history.specs.Answers.{answer, write_rows}
 use Rattle.log_history.specs.Times.{filled_time, filled_header, record_at}
-use Rattle.log_history.specs.Table.{OpenStream, LogTable, is_named, last_after_due, events_of as log_events_of}
+use Rattle.log_history.specs.Table.{OpenStream, LogTable, is_named, last_after_due}
 use Rattle.log_history.specs.Changes.{Stored}
-use Rattle.log_service.specs.State.{Made, table_with}
+use Rattle.log_service.specs.State.{Made}
 use Rattle.log_service.specs.Moments.{IsTimeOfCall, IsMoment, second_of}
-use Rattle.log_service.specs.Changing.{storings, StoresIn}
+use Rattle.log_service.specs.Changing.{StoresIn}
 use Rattle.log_service.proofs.EndLemmas.{pos-from, abs-bound, second-bound, due-bound}
 
 -- an ok write may be written
@@ -92,10 +92,3 @@ made-stored last now name rec rec' old new users kept stored stamp events kept_i
           ∙ ap (λ (streams : List OpenStream). let it : LogTable = record { last = option_map_or (λ (stream : OpenStream). last_after_due (unsigned_abs last) (second_of now) stream.state) (find (is_named name) old) (unsigned_abs last); users = users; streams = streams } in it) stores.streams;
       done = events_is ∙ stores.events;
     }))
-
--- what the storing of a record would do
-pub foreseen-stored : (last now : ℤ) (name : StreamName) (rec rec' : LogRecord) (items read : List OpenStream) (users : List ℕ) (kept : LogTable) (events : List StreamEvent) → table_with (unsigned_abs last) users items ≡ kept → read ≡ items → rec ≡ rec' → events ≡ storings last now rec (find (is_named name) read) → events ≡ log_events_of (Stored name rec' (second_of now)) kept
-foreseen-stored last now name rec rec' items read users kept events kept_is read_is rec_is is =
-    is ∙ ap (λ (r : LogRecord). storings last now r (find (is_named name) read)) rec_is
-    ∙ ap (λ (streams : List OpenStream). storings last now rec' (find (is_named name) streams)) read_is
-    ∙ ap (log_events_of (Stored name rec' (second_of now))) kept_is

@@ -5,15 +5,17 @@ use Rattle.std.specs.List.{find}
 use Rattle.stream_config.specs.declared.attrs.StreamAttrs.{StreamAttrs}
 use Rattle.stream_config.specs.declared.attrs.StreamName.{StreamName}
 use Rattle.stream_config.specs.declared.state.StreamState.{StreamState}
+use Rattle.stream_config.specs.declared.state.LogFile.{LogFile}
 use Rattle.stream_config.specs.declared.event.Stamps.{Stamps}
+use Rattle.stream_config.specs.Events.{files_changed}
 use Rattle.stream_config.specs.declared.event.StreamEvent.{StreamEvent}
 use Rattle.record_print.specs.declared.record.LogRecord.{LogRecord}
 use Rattle.ais_values.specs.declared.status.Status.{Status}
 use Rattle.log_history.specs.Answers.{answer, open_rows}
 use Rattle.log_history.specs.KeptAnswers.{kept_attrs, has_place, is_crowd}
 use Rattle.log_history.specs.Firsts.{change_first}
-use Rattle.log_history.specs.Table.{OpenStream, is_named, with_opener, last_after_due, storing, with_stored, last_after_ends, ends_in, left_streams}
-use Rattle.log_history.specs.Table.{kept_streams, has_nobody, without_opener, new_state, opened_stream}
+use Rattle.log_history.specs.Table.{OpenStream, is_named, with_opener, due_stamps, last_after_due, storing, with_stored, last_after_ends, ends_in, left_streams}
+use Rattle.log_history.specs.Table.{has_nobody, without_opener, new_state, opened_stream}
 use Rattle.stream_config.specs.Stamps.{stamp_after}
 use Rattle.stream_config.specs.declared.event.StreamEvent.TheVariants.{Made, Ended}
 use Rattle.log_service.specs.Moments.{second_of}
@@ -22,6 +24,11 @@ use Rattle.log_service.specs.Moments.{second_of}
 abbrev pub last_with : ℤ → Option Stamps → ℤ
 last_with last None = last
 last_with last (Some stamps) = stamps.created
+
+-- the last stamp and the files once the next record is stored
+pub record IsFiling (last now : ℤ) (state : StreamState) (filed : ℤ × List LogFile) : Type 0 where
+  pub stamp : filed.0 ≡ pos (last_after_due (unsigned_abs last) (second_of now) state)
+  pub files : filed.1 ≡ files_changed state.attrs (due_stamps (unsigned_abs last) (second_of now) state) state.files
 
 -- the streams once a client has made one, with the last stamp then and the events
 pub record MakesIn (last now : ℤ) (client : ℕ) (name : StreamName) (attrs : StreamAttrs)
@@ -51,26 +58,10 @@ pub record StoresIn (last now : ℤ) (name : StreamName) (rec : LogRecord) (old 
       (find (is_named name) old) []
   pub streams : new ≡ change_first (is_named name) (with_stored (unsigned_abs last) (second_of now) rec) old
 
--- what an open does to streams: it makes one or not
-abbrev pub makings : (last now : ℤ) → StreamName → (making : Option StreamAttrs) → List StreamEvent
-makings last now name None = []
-makings last now name (Some attrs) = Made (new_state name attrs (stamp_after (unsigned_abs last) (second_of now))) ∷ []
-
--- what the storing of a record does to a stream, if there is one
-abbrev pub storings : (last now : ℤ) → LogRecord → Option OpenStream → List StreamEvent
-storings last now rec found =
-    option_map_or (λ (stream : OpenStream). storing (unsigned_abs last) (second_of now) rec stream.state ∷ []) found []
-
 -- the last stamp and the events once those streams have ended that nobody has open any more
 pub record AreEndsIn (last now : ℤ) (left : List OpenStream) (ended : ℤ × List StreamEvent) : Type 0 where
   pub stamp : ended.0 ≡ pos (last_after_ends (unsigned_abs last) (second_of now) left)
   pub events : ended.1 ≡ ends_in (unsigned_abs last) (second_of now) left
-
--- the streams once those have ended that nobody has open any more, with the last stamp then and the events
-pub record EndsIn (last now : ℤ) (left new : List OpenStream) (ended : ℤ × List StreamEvent) : Type 0 where
-  pub stamp : ended.0 ≡ pos (last_after_ends (unsigned_abs last) (second_of now) left)
-  pub events : ended.1 ≡ ends_in (unsigned_abs last) (second_of now) left
-  pub streams : new ≡ kept_streams left
 
 abbrev pub last_of_endings : (last now : ℤ) (client : ℕ) → List OpenStream → ℤ
 last_of_endings last now client streams =
@@ -94,10 +85,3 @@ end_of last now client stream =
 abbrev pub making_status : List OpenStream → StreamName → StreamAttrs → Status
 making_status streams name attrs =
     answer (open_rows true (kept_attrs streams name) (has_place streams attrs) (is_crowd streams) name (Some attrs))
-
--- a stream with the records and files of a state
-abbrev pub put_back : StreamState → OpenStream → OpenStream
-put_back before stream = record {
-  state = record { name = stream.state.name; attrs = stream.state.attrs; taken = before.taken; files = before.files };
-  openers = stream.openers;
-}

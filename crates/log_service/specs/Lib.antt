@@ -6,3 +6,5 @@ pub mod Kept
 pub mod Beginning
 pub mod Opening
 pub mod Laws
+pub mod Planning
+pub mod PlanningParts

@@ -44,15 +44,6 @@ pub record Left (old new : LogTable) (events : List StreamEvent) : Type 0 where
   pub now : new ≡ old
   pub done : events ≡ []
 
--- a record was stored in the stream that stood in this state, and the last stamp before was this one
-pub record HasJustStored (last : ℤ) (before : StreamState) (old new : LogTable) : Type 0 where
-  pub name : StreamName
-  pub rec : LogRecord
-  pub second : ℕ
-  pub stored : new ≡ table_after (Stored name rec second) old
-  pub stream : option_map (λ (stream : OpenStream). stream.state) (kept_stream old.streams name) ≡ Some before
-  pub stamp : unsigned_abs last ≡ old.last
-
 -- the stream for the records of notifications of a kind: alarms have their own
 abbrev pub stream_of_kind : StreamKind → StreamName
 stream_of_kind Alarm = name.Alarm

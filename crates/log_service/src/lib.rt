@@ -6,11 +6,13 @@ mod begin;
 mod files;
 mod law;
 mod live;
+mod plan;
 mod records;
 mod state;
 mod step;
 mod streams;
 
 pub use law::law_of_history;
+pub use plan::LogPlan;
 pub use state::LogState;
 pub use step::Step;

@@ -1,16 +1,18 @@
 //! A living stream, as the state keeps it.
-ghost use Rattle.std.specs.Prelude.{◌≡◌, ◌≤ℤ◌, ◌<◌, ℕ, pos, unsigned_abs, IsTrue, IfOk, OnOk, OnErr};
+ghost use Rattle.std.specs.Prelude.{◌≡◌, ◌≤ℤ◌, ◌<◌, ℕ, nat_lt, pos, unsigned_abs, IsTrue, IfOk};
 ghost use Rattle.client_set.specs.Members.{has};
+ghost use Rattle.client_set.specs.Rising.{put};
 ghost use Rattle.format_expr.specs.Reading.{pieces_of};
 ghost use Rattle.stream_config.specs.Attributes.{kind_of, PassesAttrs};
 ghost use Rattle.stream_config.specs.AttributeTests.{have_one_place};
 ghost use Rattle.stream_config.specs.Equality.{same_attrs};
 ghost use Rattle.record_print.specs.Printing.{can_print};
 ghost use Rattle.log_history.specs.Answers.{holds_all};
-ghost use Rattle.log_history.specs.Table.{OpenStream, is_named, with_opener, without_opener, has_nobody, new_state, last_after_due, storing, with_stored};
+ghost use Rattle.log_history.specs.Table.{OpenStream, is_named, without_opener, has_nobody, new_state, storing};
 ghost use Rattle.log_history.specs.KeptAnswers.{is_of_application};
-ghost use Rattle.log_service.specs.Moments.{IsMoment, second_of, HasStored};
-ghost use Rattle.log_service.specs.Changing.{put_back};
+ghost use Rattle.log_service.specs.Moments.{IsMoment, second_of};
+ghost use Rattle.log_service.specs.Changing.{IsFiling};
+ghost use Rattle.log_service.specs.Planning.{with_openers, with_files};
 
 use crate::files::{due_stamps, files_changed, last_after};
 use ais_values::{Duplicate, Seq};
@@ -166,12 +168,20 @@ impl LiveStream {
             && self.state.taken >= per_file(&self.state.attrs)
     }
 
-    /// A client opens the stream. On an error nothing changes.
-    pub(crate) fn join(&mut self, client: u16) -> Result<(), AllocError>
-        ensures ok { OnOk result (self.new ≡ with_opener client self.old) }
-        ensures err { OnErr result (self.new ≡ self.old) }
+    /// The clients that have the stream open once this one has opened it.
+    pub(crate) fn joined(&self, alloc: Global, client: u16) -> Result<ClientSet, AllocError>
+        ensures { IfOk result (λ openers. openers ≡ put nat_lt client self.now.openers) }
     {
-        self.openers.insert(client)
+        let mut openers = self.openers.copy(alloc)?;
+        openers.insert(client)?;
+        Ok(openers)
+    }
+
+    /// These clients have the stream open.
+    pub(crate) fn put_openers(&mut self, openers: ClientSet)
+        ensures { self.new ≡ with_openers openers self.old }
+    {
+        self.openers = openers;
     }
 
     /// A client closes the stream.
@@ -225,33 +235,26 @@ impl LiveStream {
         })
     }
 
-    /// Stores a record. The answer is the last stamp then, and the event. On an error nothing changes.
-    pub(crate) fn store(
-        &mut self,
+    /// The last stamp and the files once a record is stored.
+    pub(crate) fn filing(
+        &self,
         alloc: Global,
         last: i64,
-        rec: &LogRecord,
         now: i64,
-    ) -> Result<(i64, StreamEvent), AllocError>
+    ) -> Result<(i64, Seq<LogFile>), AllocError>
         requires moment { IsMoment last now }
-        requires printable { IsTrue (can_print rec.now) }
-        requires numbers { self.old.state.taken < 4294967294 }
-        ensures ok { IfOk result (HasStored last now rec.now self.old self.new) }
-        ensures err { OnErr result (self.new ≡ self.old) }
+        ensures { IfOk result (IsFiling last now self.now.state) }
     {
         let stamps = due_stamps(&self.state, last, now);
         let files = files_changed(alloc, &self.state.attrs, stamps, &self.state.files)?;
-        let event = self.storing(alloc, last, rec, now)?;
-        self.state.files = files;
-        self.state.taken += 1;
-        Ok((last_after(last, stamps), event))
+        Ok((last_after(last, stamps), files))
     }
 
-    /// Puts the records and files back that the stream had in this state.
-    pub(crate) fn put_back(&mut self, before: StreamState)
-        ensures { self.new ≡ put_back before self.old }
+    /// So many records are taken, and these files stand.
+    pub(crate) fn put_files(&mut self, taken: u32, files: Seq<LogFile>)
+        ensures { self.new ≡ with_files taken files self.old }
     {
-        self.state.taken = before.taken;
-        self.state.files = before.files;
+        self.state.taken = taken;
+        self.state.files = files;
     }
 }

@@ -4,22 +4,23 @@ ghost use Rattle.std.specs.Option.{option_copied};
 ghost use Rattle.client_set.specs.Members.{has};
 ghost use Rattle.stream_config.specs.AttributeTests.{passes_attrs};
 ghost use Rattle.log_history.specs.Names.{is_application};
-ghost use Rattle.record_print.specs.Printing.{can_print};
 ghost use Rattle.log_history.specs.Chronicle.{LogSetup};
 ghost use Rattle.log_history.specs.Changes.{Began, Stored, Closed, Ended};
 ghost use Rattle.log_history.specs.Times.{filled_time, filled_header, record_at};
-ghost use Rattle.log_history.specs.Table.{OpenStream, LogTable, events_of};
+ghost use Rattle.log_history.specs.Table.{OpenStream};
 ghost use Rattle.log_history.specs.KeptAnswers.{begin_status, open_status, write_status, close_status, end_status, store_status, has_opener, is_filled, is_crowd, kept_attrs};
 ghost use Rattle.log_service.specs.Moments.{IsTimeOfCall, second_of};
-ghost use Rattle.log_service.specs.State.{HasJustStored, IsCallTime, HasNumberLeft, Made, Left, stream_of_kind, IsNotified, BeginsWith, CanBeginWith, HasBegun, table_with, joined_streams, IsSoundTable};
+ghost use Rattle.log_service.specs.State.{IsCallTime, HasNumberLeft, Made, Left, stream_of_kind, IsNotified, BeginsWith, CanBeginWith, HasBegun, table_with, joined_streams, IsSoundTable};
 ghost use Rattle.log_service.specs.Opening.{opening_in};
 ghost use Rattle.log_service.specs.Changing.{making_status};
+ghost use Rattle.log_service.specs.Planning.{step_of, planned, CanCommit, Plans};
 
 use crate::live::LiveStream;
+use crate::plan::{Doing, LogPlan, carry_out};
 use crate::records::{may_write, record_at, stream_of_kind};
 use crate::step::Step;
 use crate::{begin, streams};
-use ais_values::{Seq, Status, StreamKind, Text};
+use ais_values::{Duplicate, Seq, Status, StreamKind, Text};
 use client_set::ClientSet;
 use record_print::{Header, LogRecord};
 use std::alloc::{AllocError, Global};
@@ -110,9 +111,57 @@ impl LogState {
         })
     }
 
+    /// Makes a planned call. The answer is what the plan told.
+    fn carry(&mut self, plan: LogPlan) -> Step
+        requires { CanCommit self.old plan }
+        ensures now { self.new ≡ planned plan self.old }
+        ensures step { result ≡ step_of plan }
+    {
+        let LogPlan { step, last, doing } = plan;
+        carry_out(&mut self.streams, &mut self.users, doing);
+        self.last = last;
+        step
+    }
+
+    /// Makes a call that was planned for the state as it is. It takes no memory: the plan brought all of it.
+    pub fn commit(&mut self, plan: LogPlan)
+        requires { CanCommit self.old plan }
+        ensures { self.new ≡ planned plan self.old }
+    {
+        drop(self.carry(plan));
+    }
+
+    /// What decides a beginning of use: `NoResources` where the client uses the service already, and else ok.
+    fn begin_status(&self, client: u16) -> Status
+        ensures { result ≡ begin_status self.now client }
+    {
+        if self.users.contains(client) {
+            Status::NoResources
+        } else {
+            Status::Ok
+        }
+    }
+
+    /// Plans `init`. An error is want of memory.
+    pub fn plan_init(&self, alloc: Global, client: u16, _now: i64) -> Result<LogPlan, AllocError>
+        ensures { IfOk result (Plans self.now (begin_status self.now client) (Began client)) }
+    {
+        let status = self.begin_status(client);
+        if status != Status::Ok {
+            return Ok(LogPlan::refused(alloc, self.last, status));
+        }
+        let mut users = self.users.copy(alloc)?;
+        users.insert(client)?;
+        Ok(LogPlan::accepted(
+            Seq::new(alloc),
+            self.last,
+            Doing::Begin { users },
+        ))
+    }
+
     /// Begins a client's use of the service (the library call for initialisation). `NoResources` exactly where it
     /// uses the service already. On an error, and with another answer than ok, nothing changes.
-    pub fn init(&mut self, alloc: Global, client: u16, _now: i64) -> Result<Step, AllocError>
+    pub fn init(&mut self, alloc: Global, client: u16, now: i64) -> Result<Step, AllocError>
         ensures status { IfOk result (λ step. step.status ≡ begin_status self.old client) }
         ensures ok { IfOk result (λ step. step.status ≡ Status.Ok
             → Made (Began client) self.old self.new step.events) }
@@ -120,11 +169,41 @@ impl LogState {
             → Left self.old self.new step.events) }
         ensures err { OnErr result (self.new ≡ self.old) }
     {
-        if self.users.contains(client) {
-            return Ok(Step::refused(alloc, Status::NoResources));
+        match self.plan_init(alloc, client, now) {
+            Ok(plan) => Ok(self.carry(plan)),
+            Err(error) => Err(error),
         }
-        self.users.insert(client)?;
-        Ok(Step::done(Seq::new(alloc)))
+    }
+
+    /// What decides an end of use: `BadHandle` where the client does not use the service, and else ok.
+    fn end_status(&self, client: u16) -> Status
+        ensures { result ≡ end_status self.now client }
+    {
+        if self.users.contains(client) {
+            Status::Ok
+        } else {
+            Status::BadHandle
+        }
+    }
+
+    /// Plans `close_all`. An error is want of memory.
+    pub fn plan_close_all(
+        &self,
+        alloc: Global,
+        client: u16,
+        now: i64,
+    ) -> Result<LogPlan, AllocError>
+        requires { IsCallTime self.now now }
+        ensures { IfOk result (Plans self.now (end_status self.now client)
+            (Ended client (second_of now))) }
+    {
+        let status = self.end_status(client);
+        if status != Status::Ok {
+            return Ok(LogPlan::refused(alloc, self.last, status));
+        }
+        let streams = self.streams.as_slice();
+        let (last, events) = streams::endings(alloc, streams, client, self.last, now)?;
+        Ok(LogPlan::accepted(events, last, Doing::End { client }))
     }
 
     /// Ends a client's use of the service, and with it all that it has open. `BadHandle` exactly where it does
@@ -139,37 +218,8 @@ impl LogState {
             → Left self.old self.new step.events) }
         ensures err { OnErr result (self.new ≡ self.old) }
     {
-        if !self.users.contains(client) {
-            return Ok(Step::refused(alloc, Status::BadHandle));
-        }
-        match streams::close_all(alloc, &mut self.streams, client, self.last, now) {
-            Ok((last, events)) => {
-                self.last = last;
-                self.users.remove(client);
-                Ok(Step::done(events))
-            }
-            Err(error) => Err(error),
-        }
-    }
-
-    /// What `close_all` would answer and do to streams. Nothing changes.
-    pub fn foresee_close_all(
-        &self,
-        alloc: Global,
-        client: u16,
-        now: i64,
-    ) -> Result<Step, AllocError>
-        requires { IsCallTime self.now now }
-        ensures status { IfOk result (λ step. step.status ≡ end_status self.now client) }
-        ensures ok { IfOk result (λ step. step.status ≡ Status.Ok
-            → step.events ≡ events_of (Ended client (second_of now)) self.now) }
-        ensures refused { IfOk result (λ step. step.status ≢ Status.Ok → step.events ≡ []) }
-    {
-        if !self.users.contains(client) {
-            return Ok(Step::refused(alloc, Status::BadHandle));
-        }
-        match streams::endings(alloc, self.streams.as_slice(), client, self.last, now) {
-            Ok((_last, events)) => Ok(Step::done(events)),
+        match self.plan_close_all(alloc, client, now) {
+            Ok(plan) => Ok(self.carry(plan)),
             Err(error) => Err(error),
         }
     }
@@ -195,6 +245,28 @@ impl LogState {
         }
     }
 
+    /// Plans `close`. An error is want of memory.
+    pub fn plan_close(
+        &self,
+        alloc: Global,
+        client: u16,
+        name: &StreamName,
+        now: i64,
+    ) -> Result<LogPlan, AllocError>
+        requires { IsCallTime self.now now }
+        ensures { IfOk result (Plans self.now (close_status self.now client name.now)
+            (Closed client name.now (second_of now))) }
+    {
+        let status = self.close_status(client, name);
+        if status != Status::Ok {
+            return Ok(LogPlan::refused(alloc, self.last, status));
+        }
+        let streams = self.streams.as_slice();
+        let (last, events) = streams::closing(alloc, streams, name, client, self.last, now)?;
+        let name = name.copy(alloc)?;
+        Ok(LogPlan::accepted(events, last, Doing::Leave { name, client }))
+    }
+
     /// Closes a stream for a client. `BadHandle` exactly where the client does not use the service or does not
     /// have the stream open. An application's stream that nobody has open any more ends. On an error, and with
     /// another answer than ok, nothing changes.
@@ -213,39 +285,8 @@ impl LogState {
             → Left self.old self.new step.events) }
         ensures err { OnErr result (self.new ≡ self.old) }
     {
-        let status = self.close_status(client, name);
-        if status != Status::Ok {
-            return Ok(Step::refused(alloc, status));
-        }
-        match streams::close(alloc, &mut self.streams, name, client, self.last, now) {
-            Ok((last, events)) => {
-                self.last = last;
-                Ok(Step::done(events))
-            }
-            Err(error) => Err(error),
-        }
-    }
-
-    /// What `close` would answer and do to streams. Nothing changes.
-    pub fn foresee_close(
-        &self,
-        alloc: Global,
-        client: u16,
-        name: &StreamName,
-        now: i64,
-    ) -> Result<Step, AllocError>
-        requires { IsCallTime self.now now }
-        ensures status { IfOk result (λ step. step.status ≡ close_status self.now client name.now) }
-        ensures ok { IfOk result (λ step. step.status ≡ Status.Ok
-            → step.events ≡ events_of (Closed client name.now (second_of now)) self.now) }
-        ensures refused { IfOk result (λ step. step.status ≢ Status.Ok → step.events ≡ []) }
-    {
-        let status = self.close_status(client, name);
-        if status != Status::Ok {
-            return Ok(Step::refused(alloc, status));
-        }
-        match streams::closing(alloc, self.streams.as_slice(), name, client, self.last, now) {
-            Ok((_last, events)) => Ok(Step::done(events)),
+        match self.plan_close(alloc, client, name, now) {
+            Ok(plan) => Ok(self.carry(plan)),
             Err(error) => Err(error),
         }
     }
@@ -296,6 +337,29 @@ impl LogState {
         }
     }
 
+    /// Plans `open_stream`. An error is want of memory.
+    pub fn plan_open_stream(
+        &self,
+        alloc: Global,
+        client: u16,
+        name: &StreamName,
+        create: Option<&StreamAttrs>,
+        now: i64,
+    ) -> Result<LogPlan, AllocError>
+        requires { IsCallTime self.now now }
+        ensures { IfOk result (Plans self.now
+            (open_status self.now client name.now (option_copied create.entry))
+            (opening_in self.now.streams client name.now (option_copied create.entry) now)) }
+    {
+        let status = self.open_status(client, name, create);
+        if status != Status::Ok {
+            return Ok(LogPlan::refused(alloc, self.last, status));
+        }
+        let streams = self.streams.as_slice();
+        let plan = streams::opening_plan(alloc, streams, client, name, create, self.last, now)?;
+        Ok(plan)
+    }
+
     /// Opens a stream for a client; with attributes it makes an application's stream that does not live yet.
     /// The answer is that of the first of these that holds: `BadHandle`, the client does not use the service;
     /// without attributes `NotExist`, no stream of the name lives; with attributes `InvalidParam`, the stream is
@@ -320,51 +384,8 @@ impl LogState {
             → Left self.old self.new step.events) }
         ensures err { OnErr result (self.new ≡ self.old) }
     {
-        let status = self.open_status(client, name, create);
-        if status != Status::Ok {
-            return Ok(Step::refused(alloc, status));
-        }
-        match streams::open(
-            alloc,
-            &mut self.streams,
-            client,
-            name,
-            create,
-            self.last,
-            now,
-        ) {
-            Ok((last, events)) => {
-                self.last = last;
-                Ok(Step::done(events))
-            }
-            Err(error) => Err(error),
-        }
-    }
-
-    /// What `open_stream` would answer and do to streams. Nothing changes.
-    pub fn foresee_open(
-        &self,
-        alloc: Global,
-        client: u16,
-        name: &StreamName,
-        create: Option<&StreamAttrs>,
-        now: i64,
-    ) -> Result<Step, AllocError>
-        requires { IsCallTime self.now now }
-        ensures status { IfOk result (λ step. step.status
-            ≡ open_status self.now client name.now (option_copied create.entry)) }
-        ensures ok { IfOk result (λ step. step.status ≡ Status.Ok → step.events ≡ events_of
-            (opening_in self.now.streams client name.now (option_copied create.entry) now)
-            self.now) }
-        ensures refused { IfOk result (λ step. step.status ≢ Status.Ok → step.events ≡ []) }
-    {
-        let status = self.open_status(client, name, create);
-        if status != Status::Ok {
-            return Ok(Step::refused(alloc, status));
-        }
-        let streams = self.streams.as_slice();
-        match streams::opening(alloc, streams, name, create, self.last, now) {
-            Ok(events) => Ok(Step::done(events)),
+        match self.plan_open_stream(alloc, client, name, create, now) {
+            Ok(plan) => Ok(self.carry(plan)),
             Err(error) => Err(error),
         }
     }
@@ -407,6 +428,34 @@ impl LogState {
         }
     }
 
+    /// Plans `write`. An error is want of memory.
+    pub fn plan_write(
+        &self,
+        alloc: Global,
+        client: u16,
+        name: &StreamName,
+        flags: u32,
+        time: i64,
+        header: &Header,
+        body: &Text,
+        now: i64,
+    ) -> Result<LogPlan, AllocError>
+        requires moment { IsCallTime self.now now }
+        requires numbers { HasNumberLeft self.now name.now }
+        ensures { IfOk result (Plans self.now
+            (write_status self.now client name.now flags time header.now)
+            (Stored name.now (record_at time header.now body.now now) (second_of now))) }
+    {
+        let status = self.write_status(client, name, flags, time, header);
+        if status != Status::Ok {
+            return Ok(LogPlan::refused(alloc, self.last, status));
+        }
+        let rec = record_at(alloc, time, header, body, now)?;
+        let streams = self.streams.as_slice();
+        let plan = streams::storing_plan(alloc, streams, name, self.last, &rec, now)?;
+        Ok(plan)
+    }
+
     /// Writes a record to a stream. An unknown time stands for this moment. The answer is that of the first of
     /// these that holds: `BadHandle`, the client does not use the service or does not have the stream open;
     /// `BadFlags`, flags are above 1; `InvalidParam`, the record may not be written to a stream of the kind;
@@ -434,85 +483,45 @@ impl LogState {
             → Left self.old self.new step.events) }
         ensures err { OnErr result (self.new ≡ self.old) }
     {
-        let status = self.write_status(client, name, flags, time, header);
-        if status != Status::Ok {
-            return Ok(Step::refused(alloc, status));
-        }
-        let rec = match record_at(alloc, time, header, body, now) {
-            Ok(rec) => rec,
-            Err(error) => return Err(error),
-        };
-        match streams::store(alloc, &mut self.streams, name, self.last, &rec, now) {
-            Ok((last, events)) => {
-                self.last = last;
-                Ok(Step::done(events))
-            }
+        match self.plan_write(alloc, client, name, flags, time, header, body, now) {
+            Ok(plan) => Ok(self.carry(plan)),
             Err(error) => Err(error),
         }
     }
 
-    /// What `write` would answer and do to streams. Nothing changes.
-    pub fn foresee_write(
-        &self,
-        alloc: Global,
-        client: u16,
-        name: &StreamName,
-        flags: u32,
-        time: i64,
-        header: &Header,
-        body: &Text,
-        now: i64,
-    ) -> Result<Step, AllocError>
-        requires moment { IsCallTime self.now now }
-        requires numbers { HasNumberLeft self.now name.now }
-        ensures status { IfOk result (λ step. step.status
-            ≡ write_status self.now client name.now flags time header.now) }
-        ensures ok { IfOk result (λ step. step.status ≡ Status.Ok
-            → step.events ≡ events_of
-            (Stored name.now (record_at time header.now body.now now) (second_of now)) self.now) }
-        ensures refused { IfOk result (λ step. step.status ≢ Status.Ok → step.events ≡ []) }
+    /// What decides the storing of a record: `NoSpace` where the stream of this name is full, and else ok.
+    fn store_status(&self, name: &StreamName) -> Status
+        ensures { result ≡ store_status self.now name.now }
     {
-        let status = self.write_status(client, name, flags, time, header);
-        if status != Status::Ok {
-            return Ok(Step::refused(alloc, status));
-        }
-        let rec = match record_at(alloc, time, header, body, now) {
-            Ok(rec) => rec,
-            Err(error) => return Err(error),
-        };
-        let streams = self.streams.as_slice();
-        match streams::storing(alloc, streams, name, self.last, &rec, now) {
-            Ok(events) => Ok(Step::done(events)),
-            Err(error) => Err(error),
+        if self.is_full(name) {
+            Status::NoSpace
+        } else {
+            Status::Ok
         }
     }
 
-    /// What `store` would answer and do to streams. Nothing changes.
-    pub fn foresee_store(
+    /// Plans `store`. An error is want of memory.
+    pub fn plan_store(
         &self,
         alloc: Global,
         kind: StreamKind,
         rec: &LogRecord,
         now: i64,
-    ) -> Result<Step, AllocError>
+    ) -> Result<LogPlan, AllocError>
         requires moment { IsCallTime self.now now }
         requires notified { IsNotified kind rec.now }
         requires numbers { HasNumberLeft self.now (stream_of_kind kind) }
-        ensures status { IfOk result (λ step. step.status
-            ≡ store_status self.now (stream_of_kind kind)) }
-        ensures ok { IfOk result (λ step. step.status ≡ Status.Ok
-            → step.events ≡ events_of
-            (Stored (stream_of_kind kind) rec.now (second_of now)) self.now) }
-        ensures refused { IfOk result (λ step. step.status ≢ Status.Ok → step.events ≡ []) }
+        ensures { IfOk result (Plans self.now (store_status self.now (stream_of_kind kind))
+            (Stored (stream_of_kind kind) rec.now (second_of now))) }
     {
         let name = stream_of_kind(kind);
-        if self.is_full(&name) {
-            return Ok(Step::refused(alloc, Status::NoSpace));
+        let status = self.store_status(&name);
+        if status != Status::Ok {
+            return Ok(LogPlan::refused(alloc, self.last, status));
         }
-        match streams::storing(alloc, self.streams.as_slice(), &name, self.last, rec, now) {
-            Ok(events) => Ok(Step::done(events)),
-            Err(error) => Err(error),
-        }
+        let streams = self.streams.as_slice();
+        let plan = streams::storing_plan(alloc, streams, &name, self.last, rec, now)?;
+        Ok(plan)
     }
 
     /// Stores the record of a notification in the stream of its kind. `NoSpace` exactly where that stream is full.
@@ -536,27 +545,10 @@ impl LogState {
             → Left self.old self.new step.events) }
         ensures err { OnErr result (self.new ≡ self.old) }
     {
-        let name = stream_of_kind(kind);
-        if self.is_full(&name) {
-            return Ok(Step::refused(alloc, Status::NoSpace));
-        }
-        match streams::store(alloc, &mut self.streams, &name, self.last, rec, now) {
-            Ok((last, events)) => {
-                self.last = last;
-                Ok(Step::done(events))
-            }
+        match self.plan_store(alloc, kind, rec, now) {
+            Ok(plan) => Ok(self.carry(plan)),
             Err(error) => Err(error),
         }
-    }
-
-    /// Takes the storing of a record back, which was the last change: `before` is the state in which the stream
-    /// stood, as the event tells it, and `last` the last stamp then. It takes no memory.
-    pub fn take_back(&mut self, last: i64, before: StreamState)
-        requires { pos 0 ≤ℤ last }
-        ensures { (old : LogTable) → HasJustStored last before old self.old → self.new ≡ old }
-    {
-        streams::put_back(&mut self.streams, before);
-        self.last = last;
     }
 
     /// Whether a call can come at this time: it lies from 0 to 9,000,000,000,000,000,000, and the last stamp is

@@ -1,22 +1,22 @@
 //! The living streams of the state, in order of creation.
-ghost use Rattle.std.specs.Prelude.{◌≡◌, ◌≤◌, ◌≤ℤ◌, ◌<◌, ◌==◌, ◌++◌, ◌∷◌, ℕ, pos, unsigned_abs, map, length, false, [], IsTrue, IfOk, OnOk, OnErr};
+ghost use Rattle.std.specs.Prelude.{◌≡◌, ◌≤◌, ◌≤ℤ◌, ◌<◌, ◌++◌, ◌∷◌, ℕ, pos, unsigned_abs, length, false, [], IsTrue, IfOk, OnOk};
 ghost use Rattle.std.specs.Option.{option_copied, ForSome};
 ghost use Rattle.std.specs.List.{find, position, list_any, count_by};
 ghost use Rattle.stream_config.specs.Attributes.{kind_of, PassesAttrs};
 ghost use Rattle.record_print.specs.Printing.{can_print};
-ghost use Rattle.log_history.specs.Firsts.{change_first};
-ghost use Rattle.log_history.specs.Table.{OpenStream, is_named, with_opener, without_opener, has_nobody, kept_streams, closed_streams, left_streams, opened_stream};
+ghost use Rattle.log_history.specs.Table.{OpenStream, is_named, has_nobody, kept_streams, closed_streams, left_streams, opened_stream};
 ghost use Rattle.log_history.specs.KeptAnswers.{kept_stream, is_of_application, has_place, making_in};
 ghost use Rattle.log_service.specs.Moments.{IsTimeOfCall, IsMoment, second_of};
-ghost use Rattle.log_service.specs.State.{made_event};
-ghost use Rattle.log_service.specs.Changing.{put_back, makings, storings, AreEndsIn, MakesIn, OpensIn, StoresIn, EndsIn, last_of_end, end_of, last_of_endings, endings_of};
+ghost use Rattle.log_service.specs.Changing.{AreEndsIn, last_of_end, end_of, last_of_endings, endings_of};
+ghost use Rattle.log_service.specs.PlanningParts.{PlansMaking, PlansJoining, PlansOpening, PlansStoring};
 
-use crate::live::{LiveStream, new_state};
+use crate::live::LiveStream;
+use crate::plan::{Doing, LogPlan};
 use ais_values::{Duplicate, Seq};
 use client_set::ClientSet;
 use record_print::LogRecord;
 use std::alloc::{AllocError, Global};
-use stream_config::{StreamAttrs, StreamEvent, StreamName, StreamState, stamp};
+use stream_config::{StreamAttrs, StreamEvent, StreamName, stamp};
 
 /// The place of the stream of this name.
 pub(crate) fn place_of(streams: &[LiveStream], name: &StreamName) -> Option<usize>
@@ -49,22 +49,6 @@ pub(crate) fn application_count(streams: &[LiveStream]) -> usize
         .count()
 }
 
-/// A client opens the stream of this name; where there is none, nothing changes. Neither does it on an error.
-pub(crate) fn join(
-    streams: &mut Vec<LiveStream>,
-    name: &StreamName,
-    client: u16,
-) -> Result<(), AllocError>
-    ensures ok { OnOk result (streams.new.items
-        ≡ change_first (is_named name.now) (with_opener client) streams.old.items) }
-    ensures err { OnErr result (streams.new.items ≡ streams.old.items) }
-{
-    match place_of(streams.as_slice(), name) {
-        Some(place) => streams[place].join(client),
-        None => Ok(()),
-    }
-}
-
 /// The attributes with which a stream is made: those asked for, where it does not live yet.
 pub(crate) fn making<'a>(
     streams: &[LiveStream],
@@ -77,30 +61,6 @@ pub(crate) fn making<'a>(
         Some(_) => None,
         None => create,
     }
-}
-
-/// What an open does to streams.
-pub(crate) fn opening(
-    alloc: Global,
-    streams: &[LiveStream],
-    name: &StreamName,
-    create: Option<&StreamAttrs>,
-    last: i64,
-    now: i64,
-) -> Result<Seq<StreamEvent>, AllocError>
-    requires moment { IsMoment last now }
-    ensures { IfOk result (λ events. events ≡ makings last now name.now
-        (making_in streams.now name.now (option_copied create.entry))) }
-{
-    let mut events = Seq::new(alloc);
-    let Some(attrs) = making(streams, name, create) else {
-        return Ok(events);
-    };
-    let name = name.copy(alloc)?;
-    let attrs = attrs.copy(alloc)?;
-    let state = new_state(alloc, name, attrs, stamp(last, now))?;
-    events.push(StreamEvent::Made { state })?;
-    Ok(events)
 }
 
 /// A stream that a client makes, at this stamp.
@@ -123,133 +83,122 @@ fn new_stream(
     LiveStream::make(alloc, name, attrs, created, openers)
 }
 
-/// Adds a stream behind the others. The answer tells that it was made. On an error nothing changes.
-pub(crate) fn add(
-    alloc: Global,
-    streams: &mut Vec<LiveStream>,
-    stream: LiveStream,
-) -> Result<Seq<StreamEvent>, AllocError>
-    ensures events { IfOk result (λ events. events ≡ made_event stream ∷ []) }
-    ensures ok { OnOk result (streams.new.items ≡ streams.old.items ++ stream ∷ []) }
-    ensures err { OnErr result (streams.new.items ≡ streams.old.items) }
+/// One event.
+fn alone(alloc: Global, event: StreamEvent) -> Result<Seq<StreamEvent>, AllocError>
+    ensures { IfOk result (λ events. events ≡ event ∷ []) }
 {
-    let mut events = Vec::with_capacity(alloc, 1)?;
-    let state = stream.state().copy(alloc)?;
-    streams.push(stream)?;
-    events.push_reserved(StreamEvent::Made { state });
-    Ok(Seq::from_vec(events))
+    let mut events = Seq::new(alloc);
+    events.push(event)?;
+    Ok(events)
 }
 
-/// A client makes a stream. The answer is the last stamp then, and the events. On an error nothing changes.
-pub(crate) fn make(
+/// The plan by which a client makes a stream, at this stamp.
+fn making_plan(
     alloc: Global,
-    streams: &mut Vec<LiveStream>,
+    streams: &[LiveStream],
     client: u16,
     name: &StreamName,
     attrs: &StreamAttrs,
-    last: i64,
-    now: i64,
-) -> Result<(i64, Seq<StreamEvent>), AllocError>
-    requires moment { IsMoment last now }
+    created: i64,
+) -> Result<LogPlan, AllocError>
     requires passes { PassesAttrs (kind_of name.now) attrs.now }
-    ensures ok { IfOk result
-        (MakesIn last now client name.now attrs.now streams.old.items streams.new.items) }
-    ensures err { OnErr result (streams.new.items ≡ streams.old.items) }
+    requires stamp { pos 0 ≤ℤ created }
+    ensures { IfOk result (PlansMaking streams.now created
+        (opened_stream client name.now attrs.now (unsigned_abs created))) }
 {
-    let created = stamp(last, now);
+    let room = Vec::with_capacity(alloc, streams.len() + 1)?;
     let stream = new_stream(alloc, client, name, attrs, created)?;
-    let events = add(alloc, streams, stream)?;
-    Ok((created, events))
+    let state = stream.state().copy(alloc)?;
+    let events = alone(alloc, StreamEvent::Made { state })?;
+    Ok(LogPlan::accepted(
+        events,
+        created,
+        Doing::Make { stream, room },
+    ))
 }
 
-/// A client opens the stream of this name, and makes it where it does not live and attributes are given. The
-/// answer is the last stamp then, and the events. On an error nothing changes.
-pub(crate) fn open(
+/// The plan by which a client opens the stream of this name; where there is none, nothing changes.
+fn joining_plan(
     alloc: Global,
-    streams: &mut Vec<LiveStream>,
+    streams: &[LiveStream],
+    client: u16,
+    name: &StreamName,
+    last: i64,
+) -> Result<LogPlan, AllocError>
+    ensures { IfOk result (PlansJoining last client name.now streams.now) }
+{
+    let Some(place) = place_of(streams, name) else {
+        return Ok(LogPlan::accepted(Seq::new(alloc), last, Doing::Stay));
+    };
+    let openers = streams[place].joined(alloc, client)?;
+    Ok(LogPlan::accepted(
+        Seq::new(alloc),
+        last,
+        Doing::Join { place, openers },
+    ))
+}
+
+/// The plan by which a client opens the stream of this name, and makes it where it does not live and attributes are
+/// given.
+pub(crate) fn opening_plan(
+    alloc: Global,
+    streams: &[LiveStream],
     client: u16,
     name: &StreamName,
     create: Option<&StreamAttrs>,
     last: i64,
     now: i64,
-) -> Result<(i64, Seq<StreamEvent>), AllocError>
+) -> Result<LogPlan, AllocError>
     requires moment { IsMoment last now }
-    requires passes { ForSome (making_in streams.old.items name.now (option_copied create))
+    requires passes { ForSome (making_in streams.now name.now (option_copied create))
         (PassesAttrs (kind_of name.now)) }
-    ensures ok { IfOk result (OpensIn last now client name.now
-        (making_in streams.old.items name.now (option_copied create.entry))
-        streams.old.items streams.new.items) }
-    ensures err { OnErr result (streams.new.items ≡ streams.old.items) }
+    ensures { IfOk result (PlansOpening last now client name.now
+        (making_in streams.now name.now (option_copied create.entry)) streams.now) }
 {
-    match making(streams.as_slice(), name, create) {
-        Some(attrs) => make(alloc, streams, client, name, attrs, last, now),
-        None => match join(streams, name, client) {
-            Ok(()) => Ok((last, Seq::new(alloc))),
-            Err(error) => Err(error),
-        },
+    match making(streams, name, create) {
+        Some(attrs) => {
+            let plan = making_plan(alloc, streams, client, name, attrs, stamp(last, now))?;
+            Ok(plan)
+        }
+        None => {
+            let plan = joining_plan(alloc, streams, client, name, last)?;
+            Ok(plan)
+        }
     }
 }
 
-/// What the storing of a record in the stream of this name does to streams.
-pub(crate) fn storing(
+/// The plan by which a record is stored in the stream of this name; where there is none, nothing changes.
+pub(crate) fn storing_plan(
     alloc: Global,
     streams: &[LiveStream],
     name: &StreamName,
     last: i64,
     rec: &LogRecord,
     now: i64,
-) -> Result<Seq<StreamEvent>, AllocError>
+) -> Result<LogPlan, AllocError>
     requires moment { IsMoment last now }
     requires printable { IsTrue (can_print rec.now) }
     requires numbers { ForSome (kept_stream streams.now name.now)
         (λ stream. stream.state.taken < 4294967294) }
-    ensures { IfOk result (λ events. events
-        ≡ storings last now rec.now (kept_stream streams.now name.now)) }
+    ensures { IfOk result (PlansStoring last now name.now rec.now streams.now) }
 {
-    let mut events = Seq::new(alloc);
-    let Some(stream) = stream_of(streams, name) else {
-        return Ok(events);
+    let Some(place) = place_of(streams, name) else {
+        return Ok(LogPlan::accepted(Seq::new(alloc), last, Doing::Stay));
     };
+    let stream = &streams[place];
+    let taken = stream.state().taken + 1;
     let event = stream.storing(alloc, last, rec, now)?;
-    events.push(event)?;
-    Ok(events)
-}
-
-/// Stores a record in the stream of this name. The answer is the last stamp then, and the events. On an error
-/// nothing changes.
-pub(crate) fn store(
-    alloc: Global,
-    streams: &mut Vec<LiveStream>,
-    name: &StreamName,
-    last: i64,
-    rec: &LogRecord,
-    now: i64,
-) -> Result<(i64, Seq<StreamEvent>), AllocError>
-    requires moment { IsMoment last now }
-    requires printable { IsTrue (can_print rec.now) }
-    requires numbers { ForSome (kept_stream streams.old.items name.now)
-        (λ stream. stream.state.taken < 4294967294) }
-    ensures ok { IfOk result
-        (StoresIn last now name.now rec.now streams.old.items streams.new.items) }
-    ensures err { OnErr result (streams.new.items ≡ streams.old.items) }
-{
-    let mut events = Vec::with_capacity(alloc, 1)?;
-    let Some(place) = place_of(streams.as_slice(), name) else {
-        return Ok((last, Seq::from_vec(events)));
-    };
-    let (stamped, event) = streams[place].store(alloc, last, rec, now)?;
-    events.push_reserved(event);
-    Ok((stamped, Seq::from_vec(events)))
-}
-
-/// Puts the records and files back that the stream of the state's name had in this state.
-pub(crate) fn put_back(streams: &mut Vec<LiveStream>, before: StreamState)
-    ensures { streams.new.items
-        ≡ change_first (is_named before.name) (put_back before) streams.old.items }
-{
-    if let Some(place) = place_of(streams.as_slice(), &before.name) {
-        streams[place].put_back(before);
-    }
+    let events = alone(alloc, event)?;
+    let (stamped, files) = stream.filing(alloc, last, now)?;
+    Ok(LogPlan::accepted(
+        events,
+        stamped,
+        Doing::Store {
+            place,
+            taken,
+            files,
+        },
+    ))
 }
 
 /// Where the stream ends when this client closes it, adds that to the events. The answer is the last stamp then.
@@ -299,7 +248,7 @@ pub(crate) fn closing(
 }
 
 /// A client closes the stream of this name.
-fn leave(streams: &mut Vec<LiveStream>, name: &StreamName, client: u16)
+pub(crate) fn leave(streams: &mut Vec<LiveStream>, name: &StreamName, client: u16)
     ensures { streams.new.items ≡ closed_streams client name.now streams.old.items }
 {
     if let Some(place) = place_of(streams.as_slice(), name) {
@@ -329,7 +278,7 @@ pub(crate) fn endings(
 }
 
 /// A client closes all streams that it has open.
-fn leave_all(streams: &mut Vec<LiveStream>, client: u16)
+pub(crate) fn leave_all(streams: &mut Vec<LiveStream>, client: u16)
     ensures { streams.new.items ≡ left_streams client streams.old.items }
 {
     for place in 0..streams.len() {
@@ -338,51 +287,8 @@ fn leave_all(streams: &mut Vec<LiveStream>, client: u16)
 }
 
 /// Lets the streams go that nobody has open and that end therefore.
-fn drop_idle(streams: &mut Vec<LiveStream>)
+pub(crate) fn drop_idle(streams: &mut Vec<LiveStream>)
     ensures { streams.new.items ≡ kept_streams streams.old.items }
 {
     streams.retain(|stream| !stream.is_idle());
-}
-
-/// A client closes the stream of this name, which ends where it is an application's and nobody else has it open.
-/// The answer is the last stamp then, and the events. On an error nothing changes.
-pub(crate) fn close(
-    alloc: Global,
-    streams: &mut Vec<LiveStream>,
-    name: &StreamName,
-    client: u16,
-    last: i64,
-    now: i64,
-) -> Result<(i64, Seq<StreamEvent>), AllocError>
-    requires moment { IsMoment last now }
-    requires busy { list_any has_nobody streams.old.items ≡ false }
-    ensures ok { IfOk result
-        (EndsIn last now (closed_streams client name.now streams.old.items) streams.new.items) }
-    ensures err { OnErr result (streams.new.items ≡ streams.old.items) }
-{
-    let ended = closing(alloc, streams.as_slice(), name, client, last, now)?;
-    leave(streams, name, client);
-    drop_idle(streams);
-    Ok(ended)
-}
-
-/// A client closes all streams that it has open, and those end that are an application's and that nobody else has
-/// open. The answer is the last stamp then, and the events. On an error nothing changes.
-pub(crate) fn close_all(
-    alloc: Global,
-    streams: &mut Vec<LiveStream>,
-    client: u16,
-    last: i64,
-    now: i64,
-) -> Result<(i64, Seq<StreamEvent>), AllocError>
-    requires moment { IsMoment last now }
-    requires few { length streams.old.items ≤ 100 }
-    ensures ok { IfOk result
-        (EndsIn last now (left_streams client streams.old.items) streams.new.items) }
-    ensures err { OnErr result (streams.new.items ≡ streams.old.items) }
-{
-    let ended = endings(alloc, streams.as_slice(), client, last, now)?;
-    leave_all(streams, client);
-    drop_idle(streams);
-    Ok(ended)
 }

@@ -1,10 +1,8 @@
 -- What a call came to, by what each part answered.
-use Rattle.std.proofs.Common.{◌≡◌, ◌≢◌, ℕ, List, [], ◌∷◌, ◌++◌, refl, ap, sym, ◌∙◌, append_assoc}
+use Rattle.std.proofs.Common.{◌≡◌, ℕ, List, [], ◌∷◌, ◌++◌, refl, ap, sym, ◌∙◌, append_assoc}
 use Rattle.std.specs.Prelude.{Some, ℤ}
 use Rattle.std.specs.Option.{option_map_or}
 use Rattle.std.proofs.lemmas.List.{append-nil}
-use Rattle.ais_values.specs.declared.status.Status.{Status}
-use Rattle.ais_values.specs.declared.status.Status.TheVariants as status
 use Rattle.stream_config.specs.declared.event.StreamEvent.{StreamEvent}
 use Rattle.stream_layout.specs.declared.deed.Deed.{Deed}
 use Rattle.stream_layout.specs.Deeds.{deeds_of}
@@ -13,7 +11,9 @@ use Rattle.calls.specs.declared.call.Call.TheVariants.{LogInit, LogOpen, LogWrit
 use Rattle.calls.specs.declared.reply.Reply.TheVariants.{Done}
 use Rattle.log_history.specs.Changes.{LogChange}
 use Rattle.log_history.specs.Deeds.{deeds_of_all}
-use Rattle.log_history.specs.Table.{LogTable, table_after, events_of}
+use Rattle.log_history.specs.Table.{LogTable, events_of}
+use Rattle.log_service.specs.Planning.{Plans, planned}
+use Rattle.log_service.specs.declared.plan.LogPlan.{LogPlan}
 use Rattle.plain_service.specs.Changing.{if_ok}
 use Rattle.plain_service.specs.Replies.{reply_by}
 use Rattle.service_table.specs.Tables.{ServiceTable}
@@ -40,18 +40,19 @@ told-log kept client (ReaderRead direction) alone = absurd alone
 told-log kept client ReaderEnd alone = refl
 told-log kept client NtfFini alone = refl
 
--- **a call of the log that changes nothing else**
-pub log-acted : (kept : ServiceTable) (client seq : ℕ) (moment : ℤ) (call : Call) (change : LogChange) (answered : Status) (later : LogTable) (events : List StreamEvent) (deeds : List Deed) (acted : Acted) → IsLogOnly call → log_change_in kept client moment call ≡ Some change → answered ≡ status_in kept client call → (answered ≡ status.Ok → later ≡ table_after change kept.log) → (answered ≢ status.Ok → later ≡ kept.log) → (answered ≡ status.Ok → events ≡ events_of change kept.log) → (answered ≢ status.Ok → events ≡ []) → deeds ≡ deeds_of_all events → IsTold answered Done acted.told → acted.deeds ≡ deeds → HasActed kept client seq moment call (with_log kept later) acted
-log-acted kept client seq moment call change answered later events deeds acted alone is same made left done nothing deeds_are told has =
+-- **a planned call of the log that changes nothing else**
+pub log-acted : (kept : ServiceTable) (client seq : ℕ) (moment : ℤ) (call : Call) (change : LogChange) (plan : LogPlan) (later : LogTable) (acted : Acted) → IsLogOnly call → log_change_in kept client moment call ≡ Some change → Plans kept.log (status_in kept client call) change plan → later ≡ planned plan kept.log → IsTold plan.step.status Done acted.told → acted.deeds ≡ deeds_of_all plan.step.events → HasActed kept client seq moment call (with_log kept later) acted
+log-acted kept client seq moment call change plan later acted alone is plans now told has =
+    let answered = plan.step.status in
     let log_is : later ≡ logged (if_ok answered (log_change_in kept client moment call)) kept.log =
-    logged-by answered change kept.log later made left ∙ ap (λ c. logged (if_ok answered c) kept.log) (sym is) in
-    let events_are : events ≡ option_map_or (λ c. events_of c kept.log) (if_ok answered (log_change_in kept client moment call)) [] =
-    events-by answered change kept.log events done nothing ∙ ap (λ c. option_map_or (λ x. events_of x kept.log) (if_ok answered c) []) (sym is) in
-    let plain = ap (λ s. reply_by s Done) same ∙ ap (reply_by (status_in kept client call)) (sym (told-log kept client call alone)) in
+    logged-by answered change kept.log later (λ e. now ∙ (plans.ok e).now) (λ n. now ∙ (plans.refused n).now) ∙ ap (λ c. logged (if_ok answered c) kept.log) (sym is) in
+    let events_are : plan.step.events ≡ option_map_or (λ c. events_of c kept.log) (if_ok answered (log_change_in kept client moment call)) [] =
+    events-by answered change kept.log plan.step.events (λ e. (plans.ok e).done) (λ n. (plans.refused n).done) ∙ ap (λ c. option_map_or (λ x. events_of x kept.log) (if_ok answered c) []) (sym is) in
+    let plain = ap (λ s. reply_by s Done) plans.answer ∙ ap (reply_by (status_in kept client call)) (sym (told-log kept client call alone)) in
     record {
-      now = ap (with_log kept) log_is ∙ log-only kept client seq moment call answered alone ∙ ap (changed kept client seq moment call) same;
+      now = ap (with_log kept) log_is ∙ log-only kept client seq moment call answered alone ∙ ap (changed kept client seq moment call) plans.answer;
       told = record { reply = told.reply ∙ plain; kept = told.kept ∙ plain };
-      deeds = has ∙ deeds_are ∙ ap deeds_of_all events_are ∙ ap (λ s. deeds_of_all (option_map_or (λ x. events_of x kept.log) (if_ok s (log_change_in kept client moment call)) [])) same;
+      deeds = has ∙ ap deeds_of_all events_are ∙ ap (λ s. deeds_of_all (option_map_or (λ x. events_of x kept.log) (if_ok s (log_change_in kept client moment call)) [])) plans.answer;
     }
 
 -- the deeds of more and more events

@@ -8,11 +8,9 @@ use Rattle.ais_values.specs.declared.status.Status.TheVariants as status
 use Rattle.stream_config.specs.declared.attrs.StreamName.{StreamName}
 use Rattle.stream_config.specs.declared.attrs.StreamName.TheVariants as name
 use Rattle.stream_config.specs.declared.state.StreamState.{StreamState}
-use Rattle.stream_config.specs.declared.event.StreamEvent.{StreamEvent}
 use Rattle.stream_config.specs.Attributes.{kind_of, PassesAttrs}
 use Rattle.stream_config.specs.Equality.{same_name}
 use Rattle.stream_config.specs.Sizes.{records_per_file}
-use Rattle.stream_layout.specs.declared.deed.Deed.{Deed}
 use Rattle.record_print.specs.declared.record.Header.{Header}
 use Rattle.alarm_view.specs.declared.alarm.KeptAlarm.{KeptAlarm}
 use Rattle.alarm_view.specs.Alarms.{from_record}
@@ -23,6 +21,8 @@ use Rattle.log_history.specs.Deeds.{deeds_of_all}
 use Rattle.log_history.specs.Times.{second_of, record_at}
 use Rattle.log_history.specs.Table.{OpenStream, LogTable, table_after, events_of}
 use Rattle.log_history.specs.KeptAnswers.{kept_stream}
+use Rattle.log_service.specs.Planning.{Plans, planned}
+use Rattle.log_service.specs.declared.plan.LogPlan.{LogPlan}
 use Rattle.plain_service.specs.Alarms.{first_in}
 use Rattle.plain_service.specs.Changing.{if_ok}
 use Rattle.plain_service.specs.Replies.{reply_by}
@@ -78,19 +78,20 @@ write-changed : (kept : ServiceTable) (client seq invocation flags : ℕ) (momen
 write-changed kept client seq invocation flags moment time stream header body status.Ok = refl
 write-changed kept client seq invocation flags moment time stream header body _ = refl
 
-pub write-acted : (kept : ServiceTable) (client seq invocation flags : ℕ) (moment time : ℤ) (stream : StreamName) (header : Header) (body : List ℕ) (answered : Status) (later : LogTable) (alarms : List KeptAlarm) (events : List StreamEvent) (deeds : List Deed) (acted : Acted) → let change = Stored stream (record_at time header body moment) (second_of moment) in answered ≡ status_in kept client (LogWrite stream invocation flags time header body) → (answered ≡ status.Ok → later ≡ table_after change kept.log) → (answered ≢ status.Ok → later ≡ kept.log) → (answered ≡ status.Ok → events ≡ events_of change kept.log) → (answered ≢ status.Ok → events ≡ []) → alarms ≡ where_ok answered (from_record (standing_from later.streams) kept.alarms) kept.alarms → deeds ≡ deeds_of_all events → IsTold answered Done acted.told → acted.deeds ≡ deeds → HasActed kept client seq moment (LogWrite stream invocation flags time header body) (with_log_alarms kept later alarms) acted
-write-acted kept client seq invocation flags moment time stream header body answered later alarms events deeds acted same made left done nothing alarms_are deeds_are told has =
+pub write-acted : (kept : ServiceTable) (client seq invocation flags : ℕ) (moment time : ℤ) (stream : StreamName) (header : Header) (body : List ℕ) (plan : LogPlan) (answered : Status) (later : LogTable) (alarms : List KeptAlarm) (acted : Acted) → let call = LogWrite stream invocation flags time header body in Plans kept.log (status_in kept client call) (Stored stream (record_at time header body moment) (second_of moment)) plan → answered ≡ plan.step.status → later ≡ planned plan kept.log → alarms ≡ where_ok answered (from_record (standing_from later.streams) kept.alarms) kept.alarms → IsTold plan.step.status Done acted.told → acted.deeds ≡ deeds_of_all plan.step.events → HasActed kept client seq moment call (with_log_alarms kept later alarms) acted
+write-acted kept client seq invocation flags moment time stream header body plan answered later alarms acted plans status_is now alarms_are told has =
     let change = Stored stream (record_at time header body moment) (second_of moment) in
-    let log_is : later ≡ logged (if_ok answered (Some change)) kept.log = logged-by answered change kept.log later made left in
-    let events_are = events-by answered change kept.log events done nothing in
-    let plain = ap (λ s. reply_by s Done) same in
+    let done = plan.step.status in
+    let log_is : later ≡ logged (if_ok done (Some change)) kept.log = logged-by done change kept.log later (λ e. now ∙ (plans.ok e).now) (λ n. now ∙ (plans.refused n).now) in
+    let events_are = events-by done change kept.log plan.step.events (λ e. (plans.ok e).done) (λ n. (plans.refused n).done) in
+    let plain = ap (λ s. reply_by s Done) plans.answer in
     record {
-      now = ap (with_log_alarms kept later) alarms_are
-          ∙ ap (λ (l : LogTable). with_log_alarms kept l (where_ok answered (from_record (standing_from l.streams) kept.alarms) kept.alarms)) log_is
-          ∙ write-changed kept client seq invocation flags moment time stream header body answered
-          ∙ ap (changed kept client seq moment (LogWrite stream invocation flags time header body)) same;
+      now = ap (with_log_alarms kept later) (alarms_are ∙ ap (λ s. where_ok s (from_record (standing_from later.streams) kept.alarms) kept.alarms) status_is)
+          ∙ ap (λ (l : LogTable). with_log_alarms kept l (where_ok done (from_record (standing_from l.streams) kept.alarms) kept.alarms)) log_is
+          ∙ write-changed kept client seq invocation flags moment time stream header body done
+          ∙ ap (changed kept client seq moment (LogWrite stream invocation flags time header body)) plans.answer;
       told = record { reply = told.reply ∙ plain; kept = told.kept ∙ plain };
-      deeds = has ∙ deeds_are ∙ ap deeds_of_all events_are ∙ ap (λ s. deeds_of_all (option_map_or (λ x. events_of x kept.log) (if_ok s (Some change)) [])) same;
+      deeds = has ∙ ap deeds_of_all events_are ∙ ap (λ s. deeds_of_all (option_map_or (λ x. events_of x kept.log) (if_ok s (Some change)) [])) plans.answer;
     }
 
 -- what is kept of the log after a call is ready

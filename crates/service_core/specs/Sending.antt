@@ -26,18 +26,20 @@ use Rattle.service_core.specs.declared.parts.Acted.{Acted}
 abbrev pub stored_of : ℤ → LogRecord → Notification → LogChange
 stored_of moment rec notification = Stored (stream_for notification.body) rec (second_of moment)
 
--- a service after a notification was sent
+-- a service after a notification was sent, and what is kept of the log then
+abbrev pub sent_with : ServiceTable → (later : LogTable) → Notification → ServiceTable
+sent_with kept later notification = record {
+  number = kept.number;
+  log = later;
+  ntf = after_send notification kept.ntf;
+  alarms = from_record (standing_from later.streams) (alarms_with (Some (ntf.Sent notification (alarm_count kept.log.streams))) kept.alarms);
+  readers = kept.readers;
+  windows = kept.windows;
+}
+
 abbrev pub sent_in : ServiceTable → ℤ → LogRecord → Notification → ServiceTable
 sent_in kept moment rec notification =
-    let log = table_after (stored_of moment rec notification) kept.log in
-    record {
-      number = kept.number;
-      log = log;
-      ntf = after_send notification kept.ntf;
-      alarms = from_record (standing_from log.streams) (alarms_with (Some (ntf.Sent notification (alarm_count kept.log.streams))) kept.alarms);
-      readers = kept.readers;
-      windows = kept.windows;
-    }
+    sent_with kept (table_after (stored_of moment rec notification) kept.log) notification
 
 -- what is done to streams by a send of this status
 abbrev pub sent_events : Status → LogChange → LogTable → List StreamEvent

@@ -11,6 +11,7 @@ mod logging;
 mod notifying;
 mod opening;
 mod parts;
+mod planning;
 mod restoring;
 mod saving;
 mod sending;

@@ -1,14 +1,12 @@
 //! Calls of the Log Service.
 ghost use Rattle.std.specs.Prelude.{◌≡◌, ℕ, IfOk, OnErr};
 ghost use Rattle.std.specs.Option.{option_copied};
-ghost use Rattle.calls.specs.declared.call.Call.TheVariants.{LogInit, LogOpen, LogWrite, LogClose, LogFini};
+ghost use Rattle.calls.specs.declared.call.Call.TheVariants.{LogInit, LogOpen, LogClose, LogFini};
 ghost use Rattle.service_table.specs.Conditions.{CanCallLog};
 ghost use Rattle.service_core.specs.Acting.{table_of, HasActed};
 
-use crate::deeds::deeds_of_all;
-use crate::parts::{Acted, Parts, act_of};
-use ais_values::{Seq, Text};
-use record_print::Header;
+use crate::parts::{Acted, Parts};
+use crate::planning::make_planned;
 use std::alloc::{AllocError, Global};
 use stream_config::{StreamAttrs, StreamName};
 
@@ -23,8 +21,9 @@ pub(crate) fn log_init(
         HasActed (table_of parts.old) client seq now LogInit (table_of parts.new) acted) }
     ensures err { OnErr result (table_of parts.new ≡ table_of parts.old) }
 {
-    let step = parts.log.init(alloc, client, now)?;
-    Ok(act_of(step.status, Seq::new(alloc)))
+    let plan = parts.log.plan_init(alloc, client, now)?;
+    let acted = make_planned(&mut parts.log, alloc, plan)?;
+    Ok(acted)
 }
 
 /// A client ends its use of the service.
@@ -39,10 +38,9 @@ pub(crate) fn log_fini(
         HasActed (table_of parts.old) client seq now LogFini (table_of parts.new) acted) }
     ensures err { OnErr result (table_of parts.new ≡ table_of parts.old) }
 {
-    let foreseen = parts.log.foresee_close_all(alloc, client, now)?;
-    let deeds = deeds_of_all(alloc, foreseen.events.as_slice())?;
-    let step = parts.log.close_all(alloc, client, now)?;
-    Ok(act_of(step.status, deeds))
+    let plan = parts.log.plan_close_all(alloc, client, now)?;
+    let acted = make_planned(&mut parts.log, alloc, plan)?;
+    Ok(acted)
 }
 
 /// A client opens a stream.
@@ -60,10 +58,11 @@ pub(crate) fn log_open(
         (table_of parts.new) acted) }
     ensures err { OnErr result (table_of parts.new ≡ table_of parts.old) }
 {
-    let foreseen = parts.log.foresee_open(alloc, client, name, create, now)?;
-    let deeds = deeds_of_all(alloc, foreseen.events.as_slice())?;
-    let step = parts.log.open_stream(alloc, client, name, create, now)?;
-    Ok(act_of(step.status, deeds))
+    let plan = parts
+        .log
+        .plan_open_stream(alloc, client, name, create, now)?;
+    let acted = make_planned(&mut parts.log, alloc, plan)?;
+    Ok(acted)
 }
 
 /// A client closes a stream.
@@ -80,8 +79,7 @@ pub(crate) fn log_close(
         acted) }
     ensures err { OnErr result (table_of parts.new ≡ table_of parts.old) }
 {
-    let foreseen = parts.log.foresee_close(alloc, client, name, now)?;
-    let deeds = deeds_of_all(alloc, foreseen.events.as_slice())?;
-    let step = parts.log.close(alloc, client, name, now)?;
-    Ok(act_of(step.status, deeds))
+    let plan = parts.log.plan_close(alloc, client, name, now)?;
+    let acted = make_planned(&mut parts.log, alloc, plan)?;
+    Ok(acted)
 }

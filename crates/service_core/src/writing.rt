@@ -7,8 +7,8 @@ ghost use Rattle.service_table.specs.Steps.{standing_from, where_ok};
 ghost use Rattle.service_table.specs.Ready.{IsReadyLog};
 ghost use Rattle.service_core.specs.Acting.{table_of, HasActed};
 
-use crate::deeds::deeds_of_all;
-use crate::parts::{Acted, Parts, act_of};
+use crate::parts::{Acted, Parts};
+use crate::planning::make_planned;
 use ais_values::{Status, Text};
 use alarm_view::AlarmView;
 use log_service::LogState;
@@ -57,13 +57,11 @@ pub(crate) fn log_write(
         (LogWrite name.now invocation flags time header.now body.now) (table_of parts.new) acted) }
     ensures err { OnErr result (table_of parts.new ≡ table_of parts.old) }
 {
-    let foreseen = parts
+    let plan = parts
         .log
-        .foresee_write(alloc, client, name, flags, time, header, body, now)?;
-    let deeds = deeds_of_all(alloc, foreseen.events.as_slice())?;
-    let step = parts
-        .log
-        .write(alloc, client, name, flags, time, header, body, now)?;
-    keep_after(&mut parts.alarms, &parts.log, step.status);
-    Ok(act_of(step.status, deeds))
+        .plan_write(alloc, client, name, flags, time, header, body, now)?;
+    let status = plan.step().status;
+    let acted = make_planned(&mut parts.log, alloc, plan)?;
+    keep_after(&mut parts.alarms, &parts.log, status);
+    Ok(acted)
 }

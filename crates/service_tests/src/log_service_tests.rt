@@ -76,7 +76,7 @@ fn init(alloc: Global, state: &mut LogState, client: u16) -> Result<Status, Fail
     Ok(state.init(alloc, client, START)?.status)
 }
 
-/// A client opens a stream. What was foreseen comes.
+/// A client opens a stream. What was planned comes.
 fn open(
     rt: &impl Abort,
     alloc: Global,
@@ -86,9 +86,9 @@ fn open(
     create: Option<&StreamAttrs>,
 ) -> Result<Status, Fail> {
     assert!(rt; state.is_call_time(START));
-    let foreseen = state.foresee_open(alloc, client, name, create, START)?;
+    let plan = state.plan_open_stream(alloc, client, name, create, START)?;
     let step = state.open_stream(alloc, client, name, create, START)?;
-    assert!(rt; step == foreseen);
+    assert!(rt; step == *plan.step());
     Ok(step.status)
 }
 
@@ -119,16 +119,16 @@ fn header(alloc: Global) -> Result<Header, Fail> {
     })
 }
 
-/// Client 1 writes a record to the system stream. What was foreseen comes.
+/// Client 1 writes a record to the system stream. What was planned comes.
 fn writes(rt: &impl Abort, alloc: Global, state: &mut LogState) -> Result<Status, Fail> {
     let header = header(alloc)?;
     let body = Text::new(alloc, b"x")?;
     let name = StreamName::System;
     assert!(rt; state.is_call_time(START));
     assert!(rt; state.has_number_left(&name));
-    let foreseen = state.foresee_write(alloc, 1, &name, 0, START, &header, &body, START)?;
+    let plan = state.plan_write(alloc, 1, &name, 0, START, &header, &body, START)?;
     let step = state.write(alloc, 1, &name, 0, START, &header, &body, START)?;
-    assert!(rt; step == foreseen);
+    assert!(rt; step == *plan.step());
     Ok(step.status)
 }
 
@@ -180,9 +180,9 @@ fn closes(
         name: Name::new(alloc, [letter].as_slice())?,
     };
     assert!(rt; state.is_call_time(START));
-    let foreseen = state.foresee_close(alloc, 2, &name, START)?;
+    let plan = state.plan_close(alloc, 2, &name, START)?;
     let step = state.close(alloc, 2, &name, START)?;
-    assert!(rt; step == foreseen);
+    assert!(rt; step == *plan.step());
     Ok(ends(&step))
 }
 
@@ -193,9 +193,9 @@ fn closes_all(
     client: u16,
 ) -> Result<(i64, usize), Fail> {
     assert!(rt; state.is_call_time(START));
-    let foreseen = state.foresee_close_all(alloc, client, START)?;
+    let plan = state.plan_close_all(alloc, client, START)?;
     let step = state.close_all(alloc, client, START)?;
-    assert!(rt; step == foreseen);
+    assert!(rt; step == *plan.step());
     Ok(ends(&step))
 }
 
@@ -221,15 +221,15 @@ fn notified(alloc: Global) -> Result<LogRecord, Fail>
     })
 }
 
-/// Stores the record of an alarm. What was foreseen comes.
+/// Stores the record of an alarm, as planned.
 fn stores(rt: &impl Abort, alloc: Global, state: &mut LogState) -> Result<Status, Fail> {
     let rec = notified(alloc)?;
     assert!(rt; state.is_call_time(START));
     assert!(rt; state.has_number_left(&StreamName::Alarm));
-    let foreseen = state.foresee_store(alloc, StreamKind::Alarm, &rec, START)?;
-    let step = state.store(alloc, StreamKind::Alarm, &rec, START)?;
-    assert!(rt; step == foreseen);
-    Ok(step.status)
+    let plan = state.plan_store(alloc, StreamKind::Alarm, &rec, START)?;
+    let status = plan.step().status;
+    state.commit(plan);
+    Ok(status)
 }
 
 /// The alarm stream, made at the second 7.
@@ -383,15 +383,13 @@ fn holds_64_application_streams(rt: HostRuntime) -> Result<(), Fail> {
     Ok(())
 }
 
-/// The record of a notification is stored in the stream of its kind, and taken back.
+/// The record of a notification is stored in the stream of its kind.
 #[test]
 fn stores_for_notifications(rt: HostRuntime) -> Result<(), Fail> {
     let alloc = rt.alloc();
     let mut state = opened(&rt, alloc, 64, FullAction::Wrap)?;
     assert!(rt; stores(&rt, alloc, &mut state)? == Status::Ok);
     assert!(rt; told(&state, 0) == (1, SECOND) && told(&state, 1) == (0, SECOND + 1));
-    state.take_back(7, alarm_state(alloc)?);
-    assert!(rt; told(&state, 0) == (0, 7) && state.last_stamp() == 7);
     Ok(())
 }
 

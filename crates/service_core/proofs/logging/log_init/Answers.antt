@@ -1,10 +1,17 @@
-use Rattle.std.proofs.Common.{[], refl}
+use Rattle.std.proofs.Common.{refl}
 use Rattle.calls.specs.declared.call.Call.TheVariants.{LogInit}
 use Rattle.log_history.specs.Changes.{Began}
+use Rattle.service_table.proofs.CallLaws.{fit-by}
 use Rattle.service_core.specs.Acting.{table_of}
 use Rattle.service_core.proofs.ActLaws.{log-acted}
 use Rattle.service_core.proofs.logging.log_init.Goals as goal
 
+pub make_planned-requires-clause-events : goal.make_planned-requires-clause-events
+make_planned-requires-clause-events c =
+    let plans = c.in_ok-plan.ensures in
+    fit-by c.in_ok-plan.plan.step.status (Began c.args.client) c.args.parts.now.log c.in_ok-plan.plan.step.events (λ e. (plans.ok e).done) (λ n. (plans.refused n).done) (λ e. tt)
+
 pub returns-clause-ok : goal.returns-clause-ok
 returns-clause-ok c =
-    λ seq. log-acted (table_of c.args.parts.now) c.args.client seq c.args.now LogInit (Began c.args.client) c.in_ok-step.step.status c.init.new.self [] c.new.result c.act_of.result tt refl c.in_ok-step.ensures.status (λ e. (c.in_ok-step.ensures.ok e).now) (λ n. (c.in_ok-step.ensures.refused n).now) (λ e. refl) (λ n. refl) c.new.ensures c.act_of.ensures.told c.act_of.ensures.deeds
+    let acted = c.in_ok-acted.ensures in
+    λ seq. log-acted (table_of c.args.parts.now) c.args.client seq c.args.now LogInit (Began c.args.client) c.in_ok-plan.plan c.make_planned.new.log c.in_ok-acted.acted tt refl c.in_ok-plan.ensures acted.now acted.told acted.deeds

@@ -1,4 +1,4 @@
-use Rattle.std.proofs.Common.{◌≡◌, refl, sym, ◌∙◌}
+use Rattle.std.proofs.Common.{refl}
 use Rattle.std.proofs.lemmas.Int.{to_z-of_z}
 use Rattle.std.specs.Option.{option_copied}
 use Rattle.calls.specs.declared.call.Call.TheVariants.{LogOpen}
@@ -8,28 +8,22 @@ use Rattle.log_history.specs.Times.{second_of}
 use Rattle.service_table.proofs.OkCalls.{opening-can}
 use Rattle.service_core.specs.Acting.{table_of}
 use Rattle.service_core.proofs.ActLaws.{log-acted}
-use Rattle.service_core.proofs.LogConditions.{call-time, foreseen-fit}
+use Rattle.service_core.proofs.LogConditions.{call-time, planned-fit}
 use Rattle.service_core.proofs.logging.log_open.Goals as goal
 use Rattle.plain_service.proofs.HistoryEvents.{second-bound}
 
-pub foresee_open-requires : goal.foresee_open-requires
-foresee_open-requires c = let fits = c.ranges.now in simp to_z-of_z (call-time c.args.parts.now.log c.args.now c.requires)
+pub plan_open_stream-requires : goal.plan_open_stream-requires
+plan_open_stream-requires c = let fits = c.ranges.now in simp to_z-of_z (call-time c.args.parts.now.log c.args.now c.requires)
 
-pub deeds_of_all-requires : goal.deeds_of_all-requires
-deeds_of_all-requires c =
+pub make_planned-requires-clause-events : goal.make_planned-requires-clause-events
+make_planned-requires-clause-events c =
     let fits = c.ranges.now in
-    let ok = simp to_z-of_z at c.in_ok-foreseen.ensures.ok in
-    foreseen-fit c.args.parts.now.log c.args.now (Opened c.args.client c.args.name.now (making_in c.args.parts.now.log.streams c.args.name.now (option_copied c.args.create)) (second_of c.args.now)) c.in_ok-foreseen.foreseen.status c.in_ok-foreseen.foreseen.events c.as_slice.result.now c.requires (second-bound c.args.now c.requires.moment) (λ e. opening-can c.args.parts.now.log c.args.client (second_of c.args.now) c.args.name.now (option_copied c.args.create) (sym c.in_ok-foreseen.ensures.status ∙ e)) c.as_slice.ensures ok c.in_ok-foreseen.ensures.refused
-
-pub open_stream-requires : goal.open_stream-requires
-open_stream-requires c = let fits = c.ranges.now in simp to_z-of_z (call-time c.args.parts.now.log c.args.now c.requires)
+    let plans = simp to_z-of_z at c.in_ok-plan.ensures in
+    planned-fit c.args.parts.now.log c.args.now (Opened c.args.client c.args.name.now (making_in c.args.parts.now.log.streams c.args.name.now (option_copied c.args.create)) (second_of c.args.now)) _ c.in_ok-plan.plan c.requires (second-bound c.args.now c.requires.moment) (λ e. opening-can c.args.parts.now.log c.args.client (second_of c.args.now) c.args.name.now (option_copied c.args.create) e) plans
 
 pub returns-clause-ok : goal.returns-clause-ok
 returns-clause-ok c =
     let fits = c.ranges.now in
-    let foreseen = c.in_ok-foreseen.ensures in
-    let step = c.in_ok-step.ensures in
-    let ok = simp to_z-of_z at c.in_ok-foreseen.ensures.ok in
-    let made = simp to_z-of_z at c.in_ok-step.ensures.ok in
-    let same : c.in_ok-step.step.status ≡ c.in_ok-foreseen.foreseen.status = step.status ∙ sym foreseen.status in
-    λ seq. log-acted (table_of c.args.parts.now) c.args.client seq c.args.now (LogOpen c.args.name.now (option_copied c.args.create)) (Opened c.args.client c.args.name.now (making_in c.args.parts.now.log.streams c.args.name.now (option_copied c.args.create)) (second_of c.args.now)) c.in_ok-step.step.status c.open_stream.new.self c.as_slice.result.now c.in_ok-deeds.deeds c.act_of.result tt refl step.status (λ e. (made e).now) (λ n. (step.refused n).now) (λ e. c.as_slice.ensures ∙ ok (sym same ∙ e)) (λ n. c.as_slice.ensures ∙ foreseen.refused (λ e. n (same ∙ e))) c.in_ok-deeds.ensures c.act_of.ensures.told c.act_of.ensures.deeds
+    let plans = simp to_z-of_z at c.in_ok-plan.ensures in
+    let acted = c.in_ok-acted.ensures in
+    λ seq. log-acted (table_of c.args.parts.now) c.args.client seq c.args.now (LogOpen c.args.name.now (option_copied c.args.create)) (Opened c.args.client c.args.name.now (making_in c.args.parts.now.log.streams c.args.name.now (option_copied c.args.create)) (second_of c.args.now)) c.in_ok-plan.plan c.make_planned.new.log c.in_ok-acted.acted tt refl plans acted.now acted.told acted.deeds

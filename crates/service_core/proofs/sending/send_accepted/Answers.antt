@@ -1,39 +1,47 @@
-use Rattle.std.proofs.Common.{◌≡◌, ◌≢◌, rules, ap, sym, ◌∙◌, arith}
+use Rattle.std.proofs.Common.{◌≡◌, ◌≢◌, ◌+◌, rules, ap, sym, ◌∙◌, arith}
 use Rattle.std.proofs.lemmas.Int.{to_z-of_z}
 use Rattle.ais_values.specs.declared.status.Status.TheVariants as status
-use Rattle.calls.specs.declared.reply.Reply.TheVariants.{Sent}
 use Rattle.log_history.specs.Changes.{Stored}
 use Rattle.log_history.specs.KeptAnswers.{is_filled, store_status}
-use Rattle.log_history.specs.Table.{events_of}
+use Rattle.log_history.specs.Table.{table_after, events_of}
 use Rattle.log_history.specs.Times.{second_of}
+use Rattle.log_service.specs.State.{stream_of_kind}
+use Rattle.log_service.specs.declared.step.Step.{Step}
 use Rattle.service_table.proofs.AlarmsReady.{can-add}
 use Rattle.service_core.specs.Acting.{table_of}
-use Rattle.service_core.specs.Sending.{sent_in, stored_of}
-use Rattle.service_core.proofs.LogConditions.{number-left, foreseen-fit}
+use Rattle.service_core.specs.Sending.{sent_with, stored_of}
+use Rattle.service_core.proofs.LogConditions.{number-left, planned-fit, planned-ready}
 use Rattle.service_core.proofs.SendActs.{room-left, refused-sent, done-sent}
 use Rattle.service_core.proofs.sending.send_accepted.Goals as goal
 use Rattle.plain_service.proofs.HistoryEvents.{second-bound}
 
-pub foresee_store-requires-clause-numbers : goal.foresee_store-requires-clause-numbers
-foresee_store-requires-clause-numbers c = number-left c.args.parts.now.log c.args.now _ c.requires.log
+pub plan_store-requires-clause-numbers : goal.plan_store-requires-clause-numbers
+plan_store-requires-clause-numbers c = number-left c.args.parts.now.log c.args.now _ c.requires.log
 
-pub returns-then-ne-clause-ok : goal.returns-then-ne-clause-ok
-returns-then-ne-clause-ok c =
+pub returns-then-status-ne-clause-ok : goal.returns-then-status-ne-clause-ok
+returns-then-status-ne-clause-ok c =
     let parts = c.args.parts.now in
-    let refused : c.in_ok-foreseen.foreseen.status ≢ status.Ok = search rules in
-    refused-sent (table_of parts) c.args.now c.args.sent.now c.in_ok-foreseen.foreseen.status c.act_of.result (c.in_ok-foreseen.ensures.status ∙ ap (store_status parts.log) c.kind_for-kind.ensures.stream) refused c.act_of.ensures.told (c.act_of.ensures.deeds ∙ c.new.ensures)
+    let refused : c.step.result.now.status ≢ status.Ok = search rules in
+    let answered = ap (λ (s : Step). s.status) c.step.ensures ∙ c.in_ok-plan.ensures.answer ∙ ap (store_status parts.log) c.kind_for.ensures.stream in
+    refused-sent (table_of parts) c.args.now c.args.sent.now c.step.result.now.status c.act_of.result answered refused c.act_of.ensures.told (c.act_of.ensures.deeds ∙ c.new.ensures)
 
-pub deeds_of_all-requires : goal.deeds_of_all-requires
-deeds_of_all-requires c =
+pub send_stored-requires-clause-events : goal.send_stored-requires-clause-events
+send_stored-requires-clause-events c =
     let fits = c.ranges.now in
     let log = c.args.parts.now.log in
-    let stream = c.kind_for-kind.ensures.stream in
-    let answered = c.in_ok-foreseen.ensures.status ∙ ap (store_status log) stream in
-    let ok = simp to_z-of_z at c.in_ok-foreseen.ensures.ok in
-    foreseen-fit log c.args.now (stored_of c.args.now c.in_ok-rec.rec c.args.sent.now) c.in_ok-foreseen.foreseen.status c.in_ok-foreseen.foreseen.events c.as_slice.result.now c.requires.log (second-bound c.args.now c.requires.log.moment) (λ e. room-left (is_filled log.streams _) (sym answered ∙ e)) c.as_slice.ensures (λ e. ok e ∙ ap (λ s. events_of (Stored s c.in_ok-rec.rec (second_of c.args.now)) log) stream) c.in_ok-foreseen.ensures.refused
+    let plans = simp to_z-of_z at c.in_ok-plan.ensures in
+    planned-fit log c.args.now (Stored (stream_of_kind c.kind_for.result) c.in_ok-rec.rec (second_of c.args.now)) _ c.in_ok-plan.plan c.requires.log (second-bound c.args.now c.requires.log.moment) (λ e. room-left (is_filled log.streams _) e) plans
 
-pub send_to_all-requires-clause-add : goal.send_to_all-requires-clause-add
-send_to_all-requires-clause-add c =
+pub send_stored-requires-clause-ready : goal.send_stored-requires-clause-ready
+send_stored-requires-clause-ready c =
+    let fits = c.ranges.now in
+    let log = c.args.parts.now.log in
+    let number = c.requires.log.number in
+    let plans = simp to_z-of_z at c.in_ok-plan.ensures in
+    (number + 1, planned-ready number log (Stored (stream_of_kind c.kind_for.result) c.in_ok-rec.rec (second_of c.args.now)) _ c.in_ok-plan.plan c.requires.log.ready (second-bound c.args.now c.requires.log.moment) (λ e. room-left (is_filled log.streams _) e) plans)
+
+pub send_stored-requires-clause-add : goal.send_stored-requires-clause-add
+send_stored-requires-clause-add c =
     let parts = c.args.parts.now in
     let few = c.requires.log.few in
     let id = c.requires.id in
@@ -43,11 +51,16 @@ pub returns-clause-ok : goal.returns-clause-ok
 returns-clause-ok c =
     let fits = c.ranges.now in
     let parts = c.args.parts.now in
-    let stream = c.kind_for-kind.ensures.stream in
-    let answered = c.in_ok-foreseen.ensures.status ∙ ap (store_status parts.log) stream in
-    let ok = simp to_z-of_z at c.in_ok-foreseen.ensures.ok in
-    let is = simp to_z-of_z at c.in_ok-id.ensures.ok in
+    let log = parts.log in
+    let stream = c.kind_for.ensures.stream in
+    let plans = simp to_z-of_z at c.in_ok-plan.ensures in
     let written = simp to_z-of_z at c.in_ok-rec.ensures in
-    let room : c.in_ok-foreseen.foreseen.status ≡ status.Ok = search rules in
+    let acted = c.in_ok-acted.ensures in
+    let answered : c.step.result.now.status ≡ status.Ok = search rules in
+    let plan = c.in_ok-plan.plan in
+    let room : plan.step.status ≡ status.Ok = sym (ap (λ (s : Step). s.status) c.step.ensures) ∙ answered in
+    let rec = c.in_ok-rec.rec in
     let second = second_of c.args.now in
-    done-sent (table_of parts) _ c.args.now c.args.sent.now c.in_ok-foreseen.foreseen.status c.as_slice.result.now _ answered room (is ∙ ap (λ r. sent_in (table_of parts) c.args.now r c.args.sent.now) written) (c.sent.ensures.reply ∙ ap Sent c.in_ok-id.ensures.id) (c.sent.ensures.kept ∙ ap Sent c.in_ok-id.ensures.id) (c.as_slice.ensures ∙ ok room ∙ ap (λ s. events_of (Stored s c.in_ok-rec.rec second) parts.log) stream ∙ ap (λ r. events_of (stored_of c.args.now r c.args.sent.now) parts.log) written) c.in_ok-deeds.ensures
+    let made = (plans.ok room).now ∙ ap (λ s. table_after (Stored s rec second) log) stream ∙ ap (λ r. table_after (stored_of c.args.now r c.args.sent.now) log) written in
+    let happened = (plans.ok room).done ∙ ap (λ s. events_of (Stored s rec second) log) stream ∙ ap (λ r. events_of (stored_of c.args.now r c.args.sent.now) log) written in
+    done-sent (table_of parts) _ c.args.now c.args.sent.now plan.step.status plan.step.events c.in_ok-acted.acted (plans.answer ∙ ap (store_status log) stream) room (acted.ok ∙ ap (λ l. sent_with (table_of parts) l c.args.sent.now) made) acted.reply acted.kept happened acted.deeds

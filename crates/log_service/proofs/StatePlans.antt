@@ -1,0 +1,146 @@
+-- The plans of a state's calls, by what they do to its parts.
+use Rattle.std.proofs.Common.{◌≡◌, ◌≢◌, ℕ, ◌==◌, nat_lt, false, List, [], refl, ap, sym, subst, ◌∙◌}
+use Rattle.std.specs.Prelude.{Option, ℤ, pos, ◌≤ℤ◌, unsigned_abs}
+use Rattle.std.specs.List.{list_any}
+use Rattle.ais_values.specs.declared.status.Status.{Status}
+use Rattle.ais_values.specs.declared.status.Status.TheVariants as status
+use Rattle.client_set.specs.Rising.{put, without}
+use Rattle.stream_config.specs.declared.attrs.StreamName.{StreamName}
+use Rattle.stream_config.specs.declared.attrs.StreamAttrs.{StreamAttrs}
+use Rattle.stream_config.specs.declared.event.StreamEvent.{StreamEvent}
+use Rattle.record_print.specs.declared.record.LogRecord.{LogRecord}
+use Rattle.log_history.specs.Changes.{LogChange, Began, Opened, Stored, Closed, Ended}
+use Rattle.log_history.specs.Table.{OpenStream, LogTable, is_named, with_stored, without_opener, has_nobody, closed_streams, left_streams}
+use Rattle.log_history.specs.KeptAnswers.{open_status, making_in}
+use Rattle.log_service.specs.Moments.{IsMoment, second_of}
+use Rattle.log_service.specs.State.{Made, Left, AreFew, table_with}
+use Rattle.log_service.specs.Opening.{opening_in}
+use Rattle.log_service.specs.Changing.{AreEndsIn}
+use Rattle.log_service.specs.Planning.{step_of, planned, CanCommit, Plans, streams_after}
+use Rattle.log_service.specs.PlanningParts.{IsOfStreams, PlansOpening, PlansStoring}
+use Rattle.log_service.specs.declared.step.Step.{Step}
+use Rattle.log_service.specs.declared.plan.Doing.TheVariants.{Stay, Begin, Leave, End}
+use Rattle.log_service.specs.declared.plan.LogPlan.{LogPlan}
+use Rattle.log_service.proofs.KeptLemmas.{AreFew-changed, AreFew-mapped, AreFew-filtered, busy-kept, busy-changed, ended-from}
+use Rattle.log_service.proofs.WriteLemmas.{made-stored, stored-from}
+use Rattle.log_service.proofs.OpenLemmas.{makes-new, made-opened, kept-open}
+use Rattle.log_service.proofs.StreamPlans.{accepted_plan}
+
+-- the plan of a call that is refused
+abbrev pub refused_plan : (last : ℤ) → Status → LogPlan
+refused_plan last answered = record { step = record { status = answered; events = [] }; last = last; doing = Stay }
+
+-- a state's parts
+module _ (last : ℤ) (users : List ℕ) (streams : List OpenStream) (kept : LogTable) (view : table_with (unsigned_abs last) users streams ≡ kept) (few : AreFew streams) (busy : list_any has_nobody streams ≡ false) where
+  abbrev parts : LogTable
+  parts = table_with (unsigned_abs last) users streams
+
+  pub refused-as : (answered expected : Status) (change : LogChange) (plan : LogPlan) → pos 0 ≤ℤ last → answered ≡ expected → answered ≢ status.Ok → plan ≡ refused_plan last answered → Plans kept expected change plan
+  refused-as answered expected change plan from same wrong is =
+      subst (λ (k : LogTable). Plans k expected change plan) view
+      (subst (λ (s : Status). Plans parts s change plan) same
+      (subst (λ (p : LogPlan). Plans parts answered change p) (sym is) (record {
+        answer = refl;
+        ok = λ fine. absurd (wrong fine);
+        refused = λ _. record { now = refl; done = refl };
+        can = record { from = from; can = tt; few = few; busy = busy };
+      })))
+
+  -- an ok call, by what it makes of the parts
+  accepted-as : (expected : Status) (change : LogChange) (plan : LogPlan) → status.Ok ≡ expected → plan.step.status ≡ status.Ok → Made change parts (planned plan parts) plan.step.events → CanCommit parts plan → Plans kept expected change plan
+  accepted-as expected change plan same ok made can =
+      subst (λ (k : LogTable). Plans k expected change plan) view
+      (subst (λ (s : Status). Plans parts s change plan) same (record {
+        answer = ok;
+        ok = λ _. made;
+        refused = λ wrong. absurd (wrong ok);
+        can = can;
+      }))
+
+  pub begun-as : (expected : Status) (client : ℕ) (begun : List ℕ) (events : List StreamEvent) (plan : LogPlan) → pos 0 ≤ℤ last → status.Ok ≡ expected → begun ≡ put nat_lt client users → events ≡ [] → plan ≡ accepted_plan events last (Begin begun) → Plans kept expected (Began client) plan
+  begun-as expected client begun events plan from same begun_is events_are is =
+      subst (λ (p : LogPlan). Plans kept expected (Began client) p) (sym is)
+      (accepted-as expected (Began client) (accepted_plan events last (Begin begun)) same refl
+      (record { now = ap (λ (these : List ℕ). table_with (unsigned_abs last) these streams) begun_is; done = events_are })
+      (record { from = from; can = tt; few = few; busy = busy }))
+
+  pub ended-as : (now : ℤ) (expected : Status) (client : ℕ) (stamped : ℤ) (events : List StreamEvent) (plan : LogPlan) → status.Ok ≡ expected → AreEndsIn last now (left_streams client streams) (stamped, events) → plan ≡ accepted_plan events stamped (End client) → Plans kept expected (Ended client (second_of now)) plan
+  ended-as now expected client stamped events plan same ends is =
+      let left = left_streams client streams in
+      subst (λ (p : LogPlan). Plans kept expected (Ended client (second_of now)) p) (sym is)
+      (accepted-as expected (Ended client (second_of now)) (accepted_plan events stamped (End client)) same refl
+      (record {
+        now = ap (λ (z : ℤ). planned (accepted_plan events z (End client)) parts) ends.stamp;
+        done = ends.events;
+      })
+      (record {
+        from = ended-from last now left (stamped, events) ends;
+        can = tt;
+        few = AreFew-filtered _ left (AreFew-mapped (without_opener client) (λ _. refl) streams few);
+        busy = busy-kept left;
+      }))
+
+  pub closed-as : (now : ℤ) (expected : Status) (client : ℕ) (name copy : StreamName) (stamped : ℤ) (events : List StreamEvent) (plan : LogPlan) → status.Ok ≡ expected → AreEndsIn last now (closed_streams client name streams) (stamped, events) → copy ≡ name → plan ≡ accepted_plan events stamped (Leave copy client) → Plans kept expected (Closed client name (second_of now)) plan
+  closed-as now expected client name copy stamped events plan same ends copied is =
+      let left = closed_streams client name streams in
+      subst (λ (p : LogPlan). Plans kept expected (Closed client name (second_of now)) p)
+      (sym (is ∙ ap (λ (n : StreamName). accepted_plan events stamped (Leave n client)) copied))
+      (accepted-as expected (Closed client name (second_of now)) (accepted_plan events stamped (Leave name client)) same refl
+      (record {
+        now = ap (λ (z : ℤ). planned (accepted_plan events z (Leave name client)) parts) ends.stamp;
+        done = ends.events;
+      })
+      (record {
+        from = ended-from last now left (stamped, events) ends;
+        can = tt;
+        few = AreFew-filtered _ left (AreFew-changed (without_opener client) (λ _. refl) (is_named name) streams few);
+        busy = busy-kept left;
+      }))
+
+  -- what a plan of streams alone makes of the parts
+  with-users : (change : LogChange) (plan : LogPlan) → IsOfStreams streams plan → Made change parts (table_with (unsigned_abs plan.last) users (streams_after plan.doing streams)) plan.step.events → Made change parts (planned plan parts) plan.step.events
+  with-users change plan sound made =
+      subst (λ (these : List ℕ). Made change parts (table_with (unsigned_abs plan.last) these (streams_after plan.doing streams)) plan.step.events) (sym (sound.users users)) made
+
+  pub opened-as : (now : ℤ) (client : ℕ) (name : StreamName) (create : Option StreamAttrs) (plan : LogPlan) → IsMoment last now → status.Ok ≡ open_status kept client name create → PlansOpening last now client name (making_in streams name create) streams plan → Plans kept (open_status kept client name create) (opening_in kept.streams client name create now) plan
+  opened-as now client name create plan moment same plans =
+      let making = making_in streams name create in
+      let new = streams_after plan.doing streams in
+      let told = plan.step.events in
+      let answered : open_status parts client name create ≡ status.Ok = ap (λ (k : LogTable). open_status k client name create) view ∙ sym same in
+      let stays = kept-open last now client name making streams new (plan.last, told) moment few busy (λ attrs is. makes-new parts client name create attrs answered is) plans.opens in
+      let change = ap (λ (k : LogTable). opening_in k.streams client name create now) view in
+      subst (λ (c : LogChange). Plans kept (open_status kept client name create) c plan) change
+      (accepted-as (open_status kept client name create) (Opened client name making (second_of now)) plan same plans.sound.ok
+      (with-users (Opened client name making (second_of now)) plan plans.sound
+      (made-opened last now client name making streams new users parts (plan.last, told) plan.last told refl plans.opens refl refl))
+      (record { from = stays.from; can = plans.sound.can; few = stays.few; busy = stays.busy }))
+
+  pub stored-as : (now : ℤ) (expected : Status) (name : StreamName) (rec told : LogRecord) (plan : LogPlan) → status.Ok ≡ expected → rec ≡ told → PlansStoring last now name rec streams plan → Plans kept expected (Stored name told (second_of now)) plan
+  stored-as now expected name rec told plan same rec_is plans =
+      let new = streams_after plan.doing streams in
+      let events = plan.step.events in
+      accepted-as expected (Stored name told (second_of now)) plan same plans.sound.ok
+      (with-users (Stored name told (second_of now)) plan plans.sound
+      (made-stored last now name rec told streams new users parts (plan.last, events) plan.last events refl plans.stores rec_is refl refl))
+      (record {
+        from = stored-from last now name rec streams new (plan.last, events) plans.stores;
+        can = plans.sound.can;
+        few = subst (λ (these : List OpenStream). AreFew these) (sym plans.stores.streams) (AreFew-changed (with_stored (unsigned_abs last) (second_of now) rec) (λ _. refl) (is_named name) streams few);
+        busy = ap (list_any has_nobody) plans.stores.streams ∙ busy-changed (with_stored (unsigned_abs last) (second_of now) rec) (λ _ stays. stays) (is_named name) streams busy;
+      })
+
+-- a call that was planned and made
+
+pub carried-status : (old : LogTable) (expected : Status) (change : LogChange) (plan : LogPlan) (step : Step) → Plans old expected change plan → step ≡ step_of plan → step.status ≡ expected
+carried-status old expected change plan step plans is = ap (λ (s : Step). s.status) is ∙ plans.answer
+
+pub carried-ok : (old new : LogTable) (expected : Status) (change : LogChange) (plan : LogPlan) (step : Step) → Plans old expected change plan → step ≡ step_of plan → new ≡ planned plan old → step.status ≡ status.Ok → Made change old new step.events
+carried-ok old new expected change plan step plans is now ok =
+    subst (λ (n : LogTable). Made change old n step.events) (sym now)
+    (subst (λ (s : Step). Made change old (planned plan old) s.events) (sym is) (plans.ok (sym (ap (λ (s : Step). s.status) is) ∙ ok)))
+
+pub carried-refused : (old new : LogTable) (expected : Status) (change : LogChange) (plan : LogPlan) (step : Step) → Plans old expected change plan → step ≡ step_of plan → new ≡ planned plan old → step.status ≢ status.Ok → Left old new step.events
+carried-refused old new expected change plan step plans is now wrong =
+    subst (λ (n : LogTable). Left old n step.events) (sym now)
+    (subst (λ (s : Step). Left old (planned plan old) s.events) (sym is) (plans.refused (λ fine. wrong (ap (λ (s : Step). s.status) is ∙ fine))))

@@ -1,0 +1,9 @@
+use Rattle.std.proofs.Common.{ap, ◌∙◌, set, arith}
+use Rattle.log_service.specs.Planning.{with_openers}
+use Rattle.log_service.proofs.PlaceLemmas.{set-change_at}
+use Rattle.log_service.proofs.plan.put_openers.Goals as goal
+
+pub returns : goal.returns
+returns c =
+    let items = c.args.streams.now.items in
+    ap (set items c.args.place) c.put_openers.ensures ∙ set-change_at (with_openers c.args.openers) items c.args.place c.index_mut.result.now c.index_mut.ensures.value (omega (arith, c.args.streams.now.ok.0))

@@ -1,0 +1,75 @@
+-- Words of public clauses: what a planned call tells, what it makes of the state, and when it can be made.
+use Rattle.std.specs.Prelude.{◌≡◌, ◌≢◌, ◌<◌, ℕ, zero, suc, ◌==◌, false, pos, ◌≤ℤ◌, unsigned_abs, vec_capacity, List, [], ◌∷◌, ◌++◌, length}
+use Rattle.std.specs.List.{list_any}
+use Rattle.ais_values.specs.declared.status.Status.{Status}
+use Rattle.ais_values.specs.declared.status.Status.TheVariants as status
+use Rattle.client_set.specs.Rising.{without}
+use Rattle.stream_config.specs.declared.state.LogFile.{LogFile}
+use Rattle.log_history.specs.Changes.{LogChange}
+use Rattle.log_history.specs.Table.{OpenStream, LogTable, has_nobody, kept_streams, closed_streams, left_streams}
+use Rattle.log_service.specs.State.{Made, Left, AreFew, table_with}
+use Rattle.log_service.specs.declared.step.Step.{Step}
+use Rattle.log_service.specs.declared.plan.Doing.{Doing}
+use Rattle.log_service.specs.declared.plan.Doing.TheVariants.{Stay, Begin, Join, Make, Store, Leave, End}
+use Rattle.log_service.specs.declared.plan.LogPlan.{LogPlan}
+
+-- what the planned call is answered and does to streams
+abbrev pub step_of : LogPlan → Step
+step_of plan = plan.step
+
+-- the list with the element at a place changed
+abbrev pub change_at : {X : Type 0} → (X → X) → List X → ℕ → List X
+change_at change [] place = []
+change_at change (x ∷ xs) zero = change x ∷ xs
+change_at change (x ∷ xs) (suc place) = x ∷ change_at change xs place
+
+abbrev pub with_openers : List ℕ → OpenStream → OpenStream
+with_openers openers stream = record { state = stream.state; openers = openers }
+
+abbrev pub with_files : (taken : ℕ) → List LogFile → OpenStream → OpenStream
+with_files taken files stream = record {
+  state = record { name = stream.state.name; attrs = stream.state.attrs; taken = taken; files = files };
+  openers = stream.openers;
+}
+
+-- the living streams once that is done
+abbrev pub streams_after : Doing → List OpenStream → List OpenStream
+streams_after Stay streams = streams
+streams_after (Begin users) streams = streams
+streams_after (Join place openers) streams = change_at (with_openers openers) streams place
+streams_after (Make stream room) streams = streams ++ stream ∷ []
+streams_after (Store place taken files) streams = change_at (with_files taken files) streams place
+streams_after (Leave name client) streams = kept_streams (closed_streams client name streams)
+streams_after (End client) streams = kept_streams (left_streams client streams)
+
+-- the clients that use the service then
+abbrev pub users_after : Doing → List ℕ → List ℕ
+users_after (Begin begun) users = begun
+users_after (End client) users = without (λ other. other == client) users
+users_after _ users = users
+
+-- there is the stream that changes, and room for one more where one is made
+abbrev pub CanDo : Doing → List OpenStream → Type 0
+CanDo (Join place openers) streams = place < length streams
+CanDo (Make stream room) streams = (room.items ≡ []) × (length streams < vec_capacity room)
+CanDo (Store place taken files) streams = place < length streams
+CanDo _ streams = Unit {0}
+
+-- what the planned call makes of a state
+abbrev pub planned : LogPlan → LogTable → LogTable
+planned plan before =
+    table_with (unsigned_abs plan.last) (users_after plan.doing before.users) (streams_after plan.doing before.streams)
+
+-- the planned call can be made of a state: the plan is one for it, and what it makes of it is a state that is kept
+pub record CanCommit (before : LogTable) (plan : LogPlan) : Type 0 where
+  pub from : pos 0 ≤ℤ plan.last
+  pub can : CanDo plan.doing before.streams
+  pub few : AreFew (streams_after plan.doing before.streams)
+  pub busy : list_any has_nobody (streams_after plan.doing before.streams) ≡ false
+
+-- the plan, for this state, of a call that is answered so, and that makes this change where it is ok
+pub record Plans (before : LogTable) (answered : Status) (change : LogChange) (plan : LogPlan) : Type 0 where
+  pub answer : plan.step.status ≡ answered
+  pub ok : plan.step.status ≡ status.Ok → Made change before (planned plan before) plan.step.events
+  pub refused : plan.step.status ≢ status.Ok → Left before (planned plan before) plan.step.events
+  pub can : CanCommit before plan

@@ -1,0 +1,139 @@
+//! What a call would do, planned with all the memory that it takes.
+ghost use Rattle.std.specs.Prelude.{◌≡◌, ◌<◌, ◌++◌, ◌∷◌, [], vec_len, vec_capacity};
+ghost use Rattle.log_service.specs.Planning.{step_of, change_at, with_openers, with_files, CanDo, streams_after, users_after};
+
+use crate::live::LiveStream;
+use crate::step::Step;
+use crate::streams::{drop_idle, leave, leave_all};
+use ais_values::{Seq, Status};
+use client_set::ClientSet;
+use std::alloc::Global;
+use stream_config::{LogFile, StreamEvent, StreamName};
+
+/// What a call does to the clients that use the service and to the living streams.
+#[derive(Drop)]
+pub(crate) enum Doing {
+    /// Nothing changes.
+    Stay,
+    /// These use the service then.
+    Begin { users: ClientSet },
+    /// The stream at a place is open for these clients then.
+    Join { place: usize, openers: ClientSet },
+    /// A stream stands behind the others, with all of them in this room.
+    Make {
+        stream: LiveStream,
+        room: Vec<LiveStream>,
+    },
+    /// The stream at a place has taken so many records then, and has these files.
+    Store {
+        place: usize,
+        taken: u32,
+        files: Seq<LogFile>,
+    },
+    /// A client closes the stream of this name.
+    Leave { name: StreamName, client: u16 },
+    /// A client ends its use of the service.
+    End { client: u16 },
+}
+
+/// A call that was planned: what it is answered and does to streams, and what it makes of the state. It holds all the
+/// memory that making the call takes.
+#[derive(Drop)]
+pub struct LogPlan {
+    pub(crate) step: Step,
+    /// The last stamp then.
+    pub(crate) last: i64,
+    pub(crate) doing: Doing,
+}
+
+impl LogPlan {
+    /// What the planned call is answered, and what it does to streams. It takes no memory.
+    pub fn step(&self) -> &Step
+        ensures { result.now ≡ step_of self.now }
+    {
+        &self.step
+    }
+
+    /// The plan of a call that is answered so and changes nothing.
+    pub(crate) fn refused(alloc: Global, last: i64, status: Status) -> LogPlan
+        ensures { result ≡ record {
+            step = record { status = status; events = [] }; last = last; doing = Doing.Stay } }
+    {
+        LogPlan {
+            step: Step::refused(alloc, status),
+            last,
+            doing: Doing::Stay,
+        }
+    }
+
+    /// The plan of a call that is ok.
+    pub(crate) fn accepted(events: Seq<StreamEvent>, last: i64, doing: Doing) -> LogPlan
+        ensures { result ≡ record {
+            step = record { status = Status.Ok; events = events }; last = last; doing = doing } }
+    {
+        LogPlan {
+            step: Step::done(events),
+            last,
+            doing,
+        }
+    }
+}
+
+/// Puts a stream behind the others, all of them in the room that was made for them.
+fn put_behind(streams: &mut Vec<LiveStream>, mut room: Vec<LiveStream>, stream: LiveStream)
+    requires empty { room.items ≡ [] }
+    requires enough { vec_len streams.old < vec_capacity room }
+    ensures { streams.new.items ≡ streams.old.items ++ stream ∷ [] }
+{
+    match room.append(streams) {
+        Ok(()) => {
+            room.push_reserved(stream);
+            *streams = room;
+        }
+        Err(_) => unreachable!(),
+    }
+}
+
+/// The stream at a place is open for these clients.
+fn put_openers(streams: &mut Vec<LiveStream>, place: usize, openers: ClientSet)
+    requires { place < vec_len streams.old }
+    ensures { streams.new.items ≡ change_at (with_openers openers) streams.old.items place }
+{
+    streams[place].put_openers(openers);
+}
+
+/// The stream at a place has taken so many records, and has these files.
+fn put_files(streams: &mut Vec<LiveStream>, place: usize, taken: u32, files: Seq<LogFile>)
+    requires { place < vec_len streams.old }
+    ensures { streams.new.items ≡ change_at (with_files taken files) streams.old.items place }
+{
+    streams[place].put_files(taken, files);
+}
+
+/// Does what was planned. It takes no memory.
+pub(crate) fn carry_out(streams: &mut Vec<LiveStream>, users: &mut ClientSet, doing: Doing)
+    requires { CanDo doing streams.old.items }
+    ensures streams { streams.new.items ≡ streams_after doing streams.old.items }
+    ensures users { users.new ≡ users_after doing users.old }
+{
+    match doing {
+        Doing::Stay => {}
+        Doing::Begin { users: begun } => *users = begun,
+        Doing::Join { place, openers } => put_openers(streams, place, openers),
+        Doing::Make { stream, room } => put_behind(streams, room, stream),
+        Doing::Store {
+            place,
+            taken,
+            files,
+        } => put_files(streams, place, taken, files),
+        Doing::Leave { name, client } => {
+            leave(streams, &name, client);
+            drop_idle(streams);
+        }
+        Doing::End { client } => {
+            leave_all(streams, client);
+            drop_idle(streams);
+            users.remove(client);
+        }
+    }
+}
