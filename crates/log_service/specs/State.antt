@@ -1,5 +1,5 @@
 -- Words of public clauses: when a call can come, what it did, and of which parts a state can be made.
-use Rattle.std.specs.Prelude.{◌≡◌, ◌<◌, ◌≤◌, ℕ, suc, nat_lt, true, false, ℤ, pos, ◌≤ℤ◌, if◌then◌else◌, List, [], ◌∷◌, map, Some, option_map, unsigned_abs}
+use Rattle.std.specs.Prelude.{◌≡◌, ◌<◌, ◌≤◌, ℕ, suc, nat_lt, true, false, ℤ, pos, ◌≤ℤ◌, if◌then◌else◌, List, [], ◌∷◌, map}
 use Rattle.std.specs.List.{AllByRecursion}
 use Rattle.std.specs.Option.{ForSome}
 use Rattle.ais_values.specs.declared.kind.StreamKind.{StreamKind}
@@ -17,7 +17,7 @@ use Rattle.record_print.specs.declared.record.Header.{Header}
 use Rattle.record_print.specs.declared.record.Header.TheVariants.{Ntf, Generic}
 use Rattle.record_print.specs.declared.record.LogRecord.{LogRecord}
 use Rattle.record_print.specs.Printing.{can_print}
-use Rattle.log_history.specs.Changes.{LogChange, Stored}
+use Rattle.log_history.specs.Changes.{LogChange}
 use Rattle.log_history.specs.Chronicle.{LogSetup}
 use Rattle.log_history.specs.Legal.{IsSetup}
 use Rattle.log_history.specs.Table.{OpenStream, LogTable, has_nobody, table, table_after, events_of}

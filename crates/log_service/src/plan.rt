@@ -16,9 +16,14 @@ pub(crate) enum Doing {
     /// Nothing changes.
     Stay,
     /// These use the service then.
-    Begin { users: ClientSet },
+    Begin {
+        users: ClientSet,
+    },
     /// The stream at a place is open for these clients then.
-    Join { place: usize, openers: ClientSet },
+    Join {
+        place: usize,
+        openers: ClientSet,
+    },
     /// A stream stands behind the others, with all of them in this room.
     Make {
         stream: LiveStream,
@@ -31,9 +36,14 @@ pub(crate) enum Doing {
         files: Seq<LogFile>,
     },
     /// A client closes the stream of this name.
-    Leave { name: StreamName, client: u16 },
+    Leave {
+        name: StreamName,
+        client: u16,
+    },
     /// A client ends its use of the service.
-    End { client: u16 },
+    End {
+        client: u16,
+    },
 }
 
 /// A call that was planned: what it is answered and does to streams, and what it makes of the state. It holds all the
@@ -57,7 +67,10 @@ impl LogPlan {
     /// The plan of a call that is answered so and changes nothing.
     pub(crate) fn refused(alloc: Global, last: i64, status: Status) -> LogPlan
         ensures { result ≡ record {
-            step = record { status = status; events = [] }; last = last; doing = Doing.Stay } }
+          step = record { status = status; events = [] };
+          last = last;
+          doing = Doing.Stay;
+        } }
     {
         LogPlan {
             step: Step::refused(alloc, status),
@@ -69,7 +82,10 @@ impl LogPlan {
     /// The plan of a call that is ok.
     pub(crate) fn accepted(events: Seq<StreamEvent>, last: i64, doing: Doing) -> LogPlan
         ensures { result ≡ record {
-            step = record { status = Status.Ok; events = events }; last = last; doing = doing } }
+          step = record { status = Status.Ok; events = events };
+          last = last;
+          doing = doing;
+        } }
     {
         LogPlan {
             step: Step::done(events),

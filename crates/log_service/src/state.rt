@@ -152,11 +152,7 @@ impl LogState {
         }
         let mut users = self.users.copy(alloc)?;
         users.insert(client)?;
-        Ok(LogPlan::accepted(
-            Seq::new(alloc),
-            self.last,
-            Doing::Begin { users },
-        ))
+        Ok(LogPlan::accepted(Seq::new(alloc), self.last, Doing::Begin { users }))
     }
 
     /// Begins a client's use of the service (the library call for initialisation). `NoResources` exactly where it

@@ -110,11 +110,7 @@ fn making_plan(
     let stream = new_stream(alloc, client, name, attrs, created)?;
     let state = stream.state().copy(alloc)?;
     let events = alone(alloc, StreamEvent::Made { state })?;
-    Ok(LogPlan::accepted(
-        events,
-        created,
-        Doing::Make { stream, room },
-    ))
+    Ok(LogPlan::accepted(events, created, Doing::Make { stream, room }))
 }
 
 /// The plan by which a client opens the stream of this name; where there is none, nothing changes.
@@ -131,11 +127,7 @@ fn joining_plan(
         return Ok(LogPlan::accepted(Seq::new(alloc), last, Doing::Stay));
     };
     let openers = streams[place].joined(alloc, client)?;
-    Ok(LogPlan::accepted(
-        Seq::new(alloc),
-        last,
-        Doing::Join { place, openers },
-    ))
+    Ok(LogPlan::accepted(Seq::new(alloc), last, Doing::Join { place, openers }))
 }
 
 /// The plan by which a client opens the stream of this name, and makes it where it does not live and attributes are

@@ -4,7 +4,6 @@ use Rattle.std.specs.Prelude.{Some, ℤ}
 use Rattle.std.specs.Option.{option_map_or}
 use Rattle.std.proofs.lemmas.List.{append-nil}
 use Rattle.stream_config.specs.declared.event.StreamEvent.{StreamEvent}
-use Rattle.stream_layout.specs.declared.deed.Deed.{Deed}
 use Rattle.stream_layout.specs.Deeds.{deeds_of}
 use Rattle.calls.specs.declared.call.Call.{Call}
 use Rattle.calls.specs.declared.call.Call.TheVariants.{LogInit, LogOpen, LogWrite, LogClose, LogFini, NtfInit, NtfSend, NtfSubscribe, NtfUnsubscribe, ReaderStart, ReaderRead, ReaderEnd, NtfFini}

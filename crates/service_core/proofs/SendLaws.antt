@@ -1,5 +1,5 @@
 -- A notification that is sent, part by part.
-use Rattle.std.proofs.Common.{◌≡◌, true, false, Bool, List, [], ◌∷◌, refl, ap, sym, ◌∙◌}
+use Rattle.std.proofs.Common.{◌≡◌, true, false, Bool, List, [], ◌∷◌, refl, ap, sym}
 use Rattle.std.specs.Prelude.{Some, Result, Ok, Err, IsOk, is_ok, ◌↔◌, option_map, slice_get}
 use Rattle.stream_config.specs.declared.state.StreamState.{StreamState}
 use Rattle.ntf_types.specs.declared.notification.Notification.{Notification}

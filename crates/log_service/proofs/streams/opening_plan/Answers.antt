@@ -1,4 +1,4 @@
-use Rattle.std.proofs.Common.{List, sym, ap, ◌∙◌}
+use Rattle.std.proofs.Common.{sym}
 use Rattle.log_service.proofs.streams.opening_plan.Goals as goal
 
 pub making_plan-requires-clause-passes : goal.making_plan-requires-clause-passes

@@ -18,8 +18,8 @@ use Rattle.plain_service.proofs.HistoryEvents.{second-bound}
 pub plan_store-requires-clause-numbers : goal.plan_store-requires-clause-numbers
 plan_store-requires-clause-numbers c = number-left c.args.parts.now.log c.args.now _ c.requires.log
 
-pub returns-then-status-ne-clause-ok : goal.returns-then-status-ne-clause-ok
-returns-then-status-ne-clause-ok c =
+pub returns-then-ne-clause-ok : goal.returns-then-ne-clause-ok
+returns-then-ne-clause-ok c =
     let parts = c.args.parts.now in
     let refused : c.step.result.now.status ≢ status.Ok = search rules in
     let answered = ap (λ (s : Step). s.status) c.step.ensures ∙ c.in_ok-plan.ensures.answer ∙ ap (store_status parts.log) c.kind_for.ensures.stream in

@@ -9,6 +9,6 @@ pub deeds_of_all-requires : goal.deeds_of_all-requires
 deeds_of_all-requires c =
     subst (AllByRecursion IsFitEvent) (sym (c.as_slice.ensures ∙ ap (λ (s : Step). s.events) c.step-step.ensures)) c.requires.events
 
-pub returns-in-Ok-clause-deeds : goal.returns-in-Ok-clause-deeds
-returns-in-Ok-clause-deeds c =
+pub returns-in_ok-id-in-Ok-clause-deeds : goal.returns-in_ok-id-in-Ok-clause-deeds
+returns-in_ok-id-in-Ok-clause-deeds c =
     c.in-Ok.ensures ∙ ap deeds_of_all (c.as_slice.ensures ∙ ap (λ (s : Step). s.events) c.step-step.ensures)

@@ -31,9 +31,11 @@ pub keep_after-requires : goal.keep_after-requires
 keep_after-requires c =
     let fits = c.ranges.now in
     let times = c.ranges.time in
-    let plans = simp to_z-of_z at c.in_ok-plan.ensures in
-    (c.requires.number + 1, subst (λ (l : LogTable). IsReadyLog (c.requires.number + 1) l) (sym c.in_ok-acted.ensures.now)
-    (planned-ready c.requires.number c.args.parts.now.log (Stored c.args.name.now (record_at c.args.time c.args.header.now c.args.body.now c.args.now) (second_of c.args.now)) _ c.in_ok-plan.plan c.requires.ready (second-bound c.args.now c.requires.moment) (λ e. call-can (table_of c.args.parts.now) c.args.client c.args.now (LogWrite c.args.name.now 0 c.args.flags c.args.time c.args.header.now c.args.body.now) e) plans))
+    let plans = simp to_z-of_z at c.in_ok-plan.ensures in (
+      c.requires.number + 1,
+      subst (λ (l : LogTable). IsReadyLog (c.requires.number + 1) l) (sym c.in_ok-acted.ensures.now)
+          (planned-ready c.requires.number c.args.parts.now.log (Stored c.args.name.now (record_at c.args.time c.args.header.now c.args.body.now c.args.now) (second_of c.args.now)) _ c.in_ok-plan.plan c.requires.ready (second-bound c.args.now c.requires.moment) (λ e. call-can (table_of c.args.parts.now) c.args.client c.args.now (LogWrite c.args.name.now 0 c.args.flags c.args.time c.args.header.now c.args.body.now) e) plans),
+    )
 
 pub returns-clause-ok : goal.returns-clause-ok
 returns-clause-ok c =
