@@ -1,0 +1,85 @@
+use ais_values::StreamKind;
+use format_expr::parse_expr;
+use record_scan::{find_records, record_length, separable};
+use std::alloc::Global;
+use std::process::Abort;
+
+const QUOTED: &[u8] = b"@Cr @Sv \"@Cb\"";
+
+/// A record of 32 bytes by it.
+const RECORD: &[u8] = b"         1 IN \"a\"              \n";
+
+/// Token numbers, wanted texts, and the numbers of the records found.
+const QUOTED_ROWS: &str = "2`IN`1,;2`ER`;1`         1`1,;1`1`;3`a`1,;4`a`;0`a`";
+
+/// Four records of eight bytes, of which the third is unreadable, and a torn tail.
+const SHORT: &[u8] = b"IN<a>  \nER<IN> \nIN(a)  \nIN<a b>\nIN<a>";
+
+/// The same as lines.
+const LINES: &[u8] = b"IN<a>\nER<IN>\nIN(a)\nIN<a b>\nIN<a>";
+
+const SHORT_ROWS: &str = "1`IN`1,4,;2`IN`2,;2`a b`4,;2`a`1,;1`IN<`";
+
+/// The numbers found, with a comma behind each.
+fn found(
+    rt: &impl Abort,
+    alloc: Global,
+    text: &[u8],
+    size: u32,
+    bytes: &[u8],
+    token: u32,
+    wanted: &[u8],
+) -> String {
+    let mut told = String::new(alloc);
+    let expr = match parse_expr(alloc, StreamKind::System, text) {
+        Ok(expr) => expr,
+        Err(answer) => panic!(rt; "{answer:?}"),
+    };
+    match separable(&expr, size) {
+        Ok(()) => {}
+        Err(refusal) => panic!(rt; "{refusal:?}"),
+    }
+    assert!(rt; bytes.len() <= 4_294_967_294);
+    let numbers = find_records(alloc, &expr, size, bytes, token, wanted).expect(rt, "memory");
+    for number in numbers.as_slice() {
+        let part = format!(in alloc; "{number},").expect(rt, "memory");
+        told.push_str(part.as_str()).expect(rt, "memory");
+    }
+    told
+}
+
+fn check_row(rt: &impl Abort, alloc: Global, text: &[u8], size: u32, bytes: &[u8], row: &str) {
+    let (token, rest) = row.split_once('`').expect(rt, "a token");
+    let (wanted, numbers) = rest.split_once('`').expect(rt, "a text and numbers");
+    let token: u32 = token.parse().ok().expect(rt, "a number");
+    let told = found(rt, alloc, text, size, bytes, token, wanted.as_bytes());
+    assert!(rt; told.as_str() == numbers, "{row}: {told}");
+}
+
+#[test]
+fn one_record(rt: HostRuntime) {
+    let alloc = rt.alloc();
+    for row in QUOTED_ROWS.split(';') {
+        check_row(&rt, alloc, QUOTED, 32, RECORD, row);
+    }
+}
+
+#[test]
+fn some_records(rt: HostRuntime) {
+    let alloc = rt.alloc();
+    for row in SHORT_ROWS.split(';') {
+        check_row(&rt, alloc, b"@Sv<@Cb>", 8, SHORT, row);
+        check_row(&rt, alloc, b"@Sv<@Cb>", 0, LINES, row);
+    }
+    check_row(&rt, alloc, b"@Sv<@Cb>", 8, b"", "1`IN`");
+}
+
+#[test]
+fn record_lengths(rt: HostRuntime) {
+    assert_eq!(rt; record_length(8, SHORT), Some(8));
+    assert_eq!(rt; record_length(8, b"IN<a> \n"), None);
+    assert_eq!(rt; record_length(0, LINES), Some(6));
+    assert_eq!(rt; record_length(0, b"\n"), Some(1));
+    assert_eq!(rt; record_length(0, b"IN<a>"), None);
+    assert_eq!(rt; record_length(1, b""), None);
+}

@@ -1,0 +1,7 @@
+//! Tests of `record_scan`: what no clause says.
+#![tactic(auto)]
+
+#[cfg(test)]
+mod find_tests;
+#[cfg(test)]
+mod token_tests;
