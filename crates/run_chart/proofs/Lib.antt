@@ -1,0 +1,2 @@
+-- Lemmas on what a picture draws.
+pub mod PictureLaws

@@ -1,0 +1,60 @@
+//! Text as it stands in a picture.
+ghost use Rattle.std.specs.Prelude.{◌≡◌, ◌++◌, ◌<◌, OnOk};
+ghost use Rattle.run_chart.specs.Titles.{escaped, escape_of, hex_digit, title};
+
+use std::alloc::{AllocError, Global};
+
+/// Adds a line's number and its text as what a viewer shows where the pointer rests.
+pub(crate) fn put_title(
+    alloc: Global,
+    out: &mut Vec<u8>,
+    number: usize,
+    line: &[u8],
+) -> Result<(), AllocError>
+    ensures { OnOk result (out.new.items ≡ out.old.items ++ title number line.now) }
+{
+    let front = format!(in alloc; "<title>{number}: ")?;
+    out.extend_from_slice(front.as_bytes())?;
+    put_escaped(out, line)?;
+    out.extend_from_slice(b"</title>")
+}
+
+/// Adds a text: marks of the format are escaped, and bytes that are not printable ASCII stand as `\xNN`.
+pub(crate) fn put_escaped(out: &mut Vec<u8>, text: &[u8]) -> Result<(), AllocError>
+    ensures { OnOk result (out.new.items ≡ out.old.items ++ escaped text.now) }
+{
+    for byte in text {
+        put_byte(out, *byte)?;
+    }
+    Ok(())
+}
+
+fn put_byte(out: &mut Vec<u8>, byte: u8) -> Result<(), AllocError>
+    ensures { OnOk result (out.new.items ≡ out.old.items ++ escape_of byte) }
+{
+    if byte == b'&' {
+        return out.extend_from_slice(b"&amp;");
+    }
+    if byte == b'<' {
+        return out.extend_from_slice(b"&lt;");
+    }
+    if byte == b'>' {
+        return out.extend_from_slice(b"&gt;");
+    }
+    if byte < 32 || 126 < byte {
+        return out.extend_from_slice(&[b'\\', b'x', digit(byte / 16), digit(byte % 16)]);
+    }
+    out.extend_from_slice(&[byte])
+}
+
+// A hexadecimal digit.
+fn digit(value: u8) -> u8
+    requires { value < 16 }
+    ensures { result ≡ hex_digit value }
+{
+    if value < 10 {
+        b'0' + value
+    } else {
+        b'a' + (value - 10)
+    }
+}
