@@ -1,7 +1,7 @@
 -- A picture with one more line.
 use Rattle.std.proofs.Common.{◌≡◌, ℕ, ◌+◌, ◌<◌, List, [], ◌∷◌, ◌++◌, length, take, map, get_or, sym, ◌∙◌, subst, arith}
 use Rattle.std.proofs.lemmas.List.{map_more, length-map, length-take-le}
-use Rattle.std.specs.Prelude.{Vec}
+use Rattle.std.specs.Global.{Vec}
 use Rattle.run_chart.specs.Titles.{title}
 use Rattle.run_chart.specs.Pictures.{Draws, items_of, Shaped, Titled}
 

@@ -1,7 +1,7 @@
 //! What the printed lines of a run tell, as values.
 
 /// What a message is.
-#[derive(Debug, Clone, Copy, PartialEq, Eq, PartialOrd, Ord)]
+#[derive(Clone, Copy, PartialEq, Eq, PartialOrd, Ord)]
 pub(crate) enum Kind {
     Request,
     Reply,
@@ -41,7 +41,7 @@ impl Kind {
 
 /// By what a message is known: its client, the number of the call or the key of the subscription, and of an item or a
 /// receipt the item's number, else 0.
-#[derive(Debug, Clone, Copy, PartialEq, Eq, PartialOrd, Ord)]
+#[derive(Clone, Copy, PartialEq, Eq, PartialOrd, Ord)]
 pub(crate) struct Naming {
     pub(crate) kind: Kind,
     pub(crate) client: u64,
@@ -50,7 +50,7 @@ pub(crate) struct Naming {
 }
 
 /// The role of a server. No line may have told it yet.
-#[derive(Debug, Clone, Copy, PartialEq, Eq)]
+#[derive(Clone, Copy, PartialEq, Eq)]
 pub(crate) enum Role {
     Untold,
     Active,
@@ -83,14 +83,14 @@ impl Role {
 }
 
 /// A server of the pair.
-#[derive(Debug, Clone, Copy, PartialEq, Eq)]
+#[derive(Clone, Copy)]
 pub(crate) enum Server {
     First,
     Second,
 }
 
 /// What a line tells.
-#[derive(Debug, Clone, Copy, PartialEq, Eq)]
+#[derive(Clone, Copy)]
 pub(crate) enum Event {
     /// A message enters the net.
     Posted { number: u64, name: Naming },

@@ -123,7 +123,9 @@ pub(crate) fn middle(row: usize) -> u64 {
 }
 
 /// The upper side of a row.
-pub(crate) fn top(row: usize) -> u64 {
+pub(crate) fn top(row: usize) -> u64
+    ensures { result < 2 ^ 12 }
+{
     HEAD + ROW * ((row % PANEL_ROWS) as u64)
 }
 

@@ -3,7 +3,7 @@ use crate::escape::put_escaped;
 use std::alloc::{AllocError, Global};
 
 /// A point: how far it is to the right, and how far down.
-#[derive(Debug, Clone, Copy)]
+#[derive(Clone, Copy)]
 pub(crate) struct At(pub(crate) u64, pub(crate) u64);
 
 impl At {

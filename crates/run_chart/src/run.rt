@@ -4,7 +4,7 @@ use std::alloc::{AllocError, Global};
 use std::collections::{BTreeMap, BTreeSet};
 
 /// A message of the net, by the rows of which it is told.
-#[derive(Debug, Clone, Copy)]
+#[derive(Clone, Copy)]
 pub(crate) struct Message {
     pub(crate) name: Naming,
     pub(crate) number: u64,
@@ -20,14 +20,14 @@ pub(crate) struct Message {
 }
 
 /// The roles of both servers.
-#[derive(Debug, Clone, Copy, PartialEq, Eq)]
+#[derive(Clone, Copy)]
 pub(crate) struct Roles {
     pub(crate) first: Role,
     pub(crate) second: Role,
 }
 
 /// A line of the run.
-#[derive(Debug, Clone, Copy)]
+#[derive(Clone, Copy)]
 pub(crate) struct Row {
     pub(crate) event: Event,
     /// The server that answers clients.
