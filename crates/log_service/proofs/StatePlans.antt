@@ -1,50 +1,33 @@
 -- The plans of a state's calls, by what they do to its parts.
-use Rattle.std.proofs.Common.{◌≡◌, ◌≢◌, ℕ, nat_lt, false, List, [], refl, ap, sym, subst, ◌∙◌}
-use Rattle.std.specs.Prelude.{Option, ℤ, pos, ◌≤ℤ◌, unsigned_abs}
+use Rattle.std.proofs.Common.{◌≡◌, ℕ, false, List, refl, ap, sym, subst, ◌∙◌}
+use Rattle.std.specs.Prelude.{Option, ℤ, unsigned_abs}
 use Rattle.std.specs.List.{list_any}
 use Rattle.ais_values.specs.declared.status.Status.{Status}
 use Rattle.ais_values.specs.declared.status.Status.TheVariants as status
-use Rattle.client_set.specs.Rising.{put}
 use Rattle.stream_config.specs.declared.attrs.StreamName.{StreamName}
 use Rattle.stream_config.specs.declared.attrs.StreamAttrs.{StreamAttrs}
 use Rattle.stream_config.specs.declared.event.StreamEvent.{StreamEvent}
 use Rattle.record_print.specs.declared.record.LogRecord.{LogRecord}
-use Rattle.log_history.specs.Changes.{LogChange, Began, Opened, Stored, Closed, Ended}
+use Rattle.log_history.specs.Changes.{LogChange, Opened, Stored, Closed, Ended}
 use Rattle.log_history.specs.Table.{OpenStream, LogTable, is_named, with_stored, without_opener, has_nobody, closed_streams, left_streams}
 use Rattle.log_history.specs.KeptAnswers.{open_status, making_in}
 use Rattle.log_service.specs.Moments.{IsMoment, second_of}
-use Rattle.log_service.specs.State.{Made, Left, AreFew, table_with}
+use Rattle.log_service.specs.State.{Made, AreFew, table_with}
 use Rattle.log_service.specs.Opening.{opening_in}
 use Rattle.log_service.specs.Changing.{AreEndsIn}
-use Rattle.log_service.specs.Planning.{step_of, planned, CanCommit, Plans, streams_after}
+use Rattle.log_service.specs.Planning.{planned, CanCommit, Plans, streams_after}
 use Rattle.log_service.specs.PlanningParts.{IsOfStreams, PlansOpening, PlansStoring}
-use Rattle.log_service.specs.declared.step.Step.{Step}
-use Rattle.log_service.specs.declared.plan.Doing.TheVariants.{Stay, Begin, Leave, End}
+use Rattle.log_service.specs.declared.plan.Doing.TheVariants.{Leave, End}
 use Rattle.log_service.specs.declared.plan.LogPlan.{LogPlan}
 use Rattle.log_service.proofs.KeptLemmas.{AreFew-changed, AreFew-mapped, AreFew-filtered, busy-kept, busy-changed, ended-from}
 use Rattle.log_service.proofs.WriteLemmas.{made-stored, stored-from}
 use Rattle.log_service.proofs.OpenLemmas.{makes-new, made-opened, kept-open}
 use Rattle.log_service.proofs.StreamPlans.{accepted_plan}
 
--- the plan of a call that is refused
-abbrev pub refused_plan : (last : ℤ) → Status → LogPlan
-refused_plan last answered = record { step = record { status = answered; events = [] }; last = last; doing = Stay }
-
 -- a state's parts
 module _ (last : ℤ) (users : List ℕ) (streams : List OpenStream) (kept : LogTable) (view : table_with (unsigned_abs last) users streams ≡ kept) (few : AreFew streams) (busy : list_any has_nobody streams ≡ false) where
   abbrev parts : LogTable
   parts = table_with (unsigned_abs last) users streams
-
-  pub refused-as : (answered expected : Status) (change : LogChange) (plan : LogPlan) → pos 0 ≤ℤ last → answered ≡ expected → answered ≢ status.Ok → plan ≡ refused_plan last answered → Plans kept expected change plan
-  refused-as answered expected change plan from same wrong is =
-      subst (λ (k : LogTable). Plans k expected change plan) view
-      (subst (λ (s : Status). Plans parts s change plan) same
-      (subst (λ (p : LogPlan). Plans parts answered change p) (sym is) (record {
-        answer = refl;
-        ok = λ fine. absurd (wrong fine);
-        refused = λ _. record { now = refl; done = refl };
-        can = record { from = from; can = tt; few = few; busy = busy };
-      })))
 
   -- an ok call, by what it makes of the parts
   accepted-as : (expected : Status) (change : LogChange) (plan : LogPlan) → status.Ok ≡ expected → plan.step.status ≡ status.Ok → Made change parts (planned plan parts) plan.step.events → CanCommit parts plan → Plans kept expected change plan
@@ -56,13 +39,6 @@ module _ (last : ℤ) (users : List ℕ) (streams : List OpenStream) (kept : Log
         refused = λ wrong. absurd (wrong ok);
         can = can;
       }))
-
-  pub begun-as : (expected : Status) (client : ℕ) (begun : List ℕ) (events : List StreamEvent) (plan : LogPlan) → pos 0 ≤ℤ last → status.Ok ≡ expected → begun ≡ put nat_lt client users → events ≡ [] → plan ≡ accepted_plan events last (Begin begun) → Plans kept expected (Began client) plan
-  begun-as expected client begun events plan from same begun_is events_are is =
-      subst (λ (p : LogPlan). Plans kept expected (Began client) p) (sym is)
-      (accepted-as expected (Began client) (accepted_plan events last (Begin begun)) same refl
-      (record { now = ap (λ (these : List ℕ). table_with (unsigned_abs last) these streams) begun_is; done = events_are })
-      (record { from = from; can = tt; few = few; busy = busy }))
 
   pub ended-as : (now : ℤ) (expected : Status) (client : ℕ) (stamped : ℤ) (events : List StreamEvent) (plan : LogPlan) → status.Ok ≡ expected → AreEndsIn last now (left_streams client streams) (stamped, events) → plan ≡ accepted_plan events stamped (End client) → Plans kept expected (Ended client (second_of now)) plan
   ended-as now expected client stamped events plan same ends is =
@@ -130,17 +106,3 @@ module _ (last : ℤ) (users : List ℕ) (streams : List OpenStream) (kept : Log
         busy = ap (list_any has_nobody) plans.stores.streams ∙ busy-changed (with_stored (unsigned_abs last) (second_of now) rec) (λ _ stays. stays) (is_named name) streams busy;
       })
 
--- a call that was planned and made
-
-pub carried-status : (old : LogTable) (expected : Status) (change : LogChange) (plan : LogPlan) (step : Step) → Plans old expected change plan → step ≡ step_of plan → step.status ≡ expected
-carried-status old expected change plan step plans is = ap (λ (s : Step). s.status) is ∙ plans.answer
-
-pub carried-ok : (old new : LogTable) (expected : Status) (change : LogChange) (plan : LogPlan) (step : Step) → Plans old expected change plan → step ≡ step_of plan → new ≡ planned plan old → step.status ≡ status.Ok → Made change old new step.events
-carried-ok old new expected change plan step plans is now ok =
-    subst (λ (n : LogTable). Made change old n step.events) (sym now)
-    (subst (λ (s : Step). Made change old (planned plan old) s.events) (sym is) (plans.ok (sym (ap (λ (s : Step). s.status) is) ∙ ok)))
-
-pub carried-refused : (old new : LogTable) (expected : Status) (change : LogChange) (plan : LogPlan) (step : Step) → Plans old expected change plan → step ≡ step_of plan → new ≡ planned plan old → step.status ≢ status.Ok → Left old new step.events
-carried-refused old new expected change plan step plans is now wrong =
-    subst (λ (n : LogTable). Left old n step.events) (sym now)
-    (subst (λ (s : Step). Left old (planned plan old) s.events) (sym is) (plans.refused (λ fine. wrong (ap (λ (s : Step). s.status) is ∙ fine))))

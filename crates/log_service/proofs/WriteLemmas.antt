@@ -1,11 +1,10 @@
 -- What an ok write tells, and that the state stays as it is kept once a record is stored.
-use Rattle.std.proofs.Common.{◌≡◌, ℕ, ◌≤◌, Bool, true, false, not, ◌&&◌, ◌||◌, cond, List, [], ◌∷◌, nat_lt, nat_le, w64, refl, ap, sym, ◌∙◌, subst, arith}
-use Rattle.std.specs.Prelude.{Option, Some, None, ℤ, pos, negsuc, ◌≤ℤ◌, unsigned_abs}
+use Rattle.std.proofs.Common.{◌≡◌, ℕ, Bool, true, false, not, ◌&&◌, ◌||◌, cond, List, [], ◌∷◌, nat_lt, nat_le, refl, ap, sym, ◌∙◌, subst, arith}
+use Rattle.std.specs.Prelude.{ℤ, pos, negsuc, ◌≤ℤ◌, unsigned_abs}
 use Rattle.std.specs.Option.{option_map_or}
 use Rattle.std.specs.List.{find}
 use Rattle.std.specs.Int.{is_negative}
 use Rattle.std.specs.Ordering.{int_eq}
-use mir.Val.{SFits}
 use Rattle.std.proofs.lemmas.Bool.Decides.{nat_tests}
 use Rattle.std.proofs.lemmas.Bool.{and_parts}
 use Rattle.ais_values.specs.Times.{unknown_time}
@@ -16,8 +15,6 @@ use Rattle.ais_values.specs.declared.status.Status.TheVariants as status
 use Rattle.format_expr.specs.Language.{is_notified}
 use Rattle.stream_config.specs.declared.attrs.StreamName.{StreamName}
 use Rattle.stream_config.specs.declared.event.StreamEvent.{StreamEvent}
-use Rattle.stream_config.specs.Fit.{changes_file}
-use Rattle.stream_config.specs.Sizes.{records_per_file}
 use Rattle.record_print.specs.declared.record.Header.{Header}
 use Rattle.record_print.specs.declared.record.Header.TheVariants.{Ntf, Generic}
 use Rattle.record_print.specs.declared.record.LogRecord.{LogRecord}
@@ -28,9 +25,9 @@ use Rattle.log_history.specs.Times.{filled_time, filled_header, record_at}
 use Rattle.log_history.specs.Table.{OpenStream, LogTable, is_named, last_after_due}
 use Rattle.log_history.specs.Changes.{Stored}
 use Rattle.log_service.specs.State.{Made}
-use Rattle.log_service.specs.Moments.{IsTimeOfCall, IsMoment, second_of}
+use Rattle.log_service.specs.Moments.{second_of}
 use Rattle.log_service.specs.Changing.{StoresIn}
-use Rattle.log_service.proofs.EndLemmas.{pos-from, abs-bound, second-bound, due-bound}
+use Rattle.log_service.proofs.EndLemmas.{pos-from}
 
 -- an ok write may be written
 pub write-rows : (using opened full : Bool) (kind : StreamKind) (flags : ℕ) (time : ℤ) (header : Header) → answer (write_rows using opened full kind flags time header) ≡ status.Ok → can_write kind time header ≡ true
@@ -66,18 +63,6 @@ pub printable : (kind : StreamKind) (time : ℤ) (header : Header) (body : List 
 printable kind time header body now from can =
     let both = and_parts (is_time time) (can_have kind header) can in
     ap (λ b. not b && has_codes (filled_header header now)) (filled-time time now from both.0) ∙ filled-codes kind header now from both.1
-
--- the stamp of a record fits its type
-pub stores-fit : (last now : ℤ) (name : StreamName) (rec : LogRecord) (old new : List OpenStream) (stored : ℤ × List StreamEvent) → IsMoment last now → StoresIn last now name rec old new stored → SFits w64 stored.0
-stores-fit last now name rec old new stored moment stores =
-    let time : IsTimeOfCall now = record { from = moment.from; to = moment.to } in
-    let low = abs-bound last 19999999000 moment.last_from moment.last_to in
-    let bound = bounded (find (is_named name) old) low (second-bound now time) in
-    subst (λ (z : ℤ). SFits w64 z) (sym stores.stamp) (record { sfits = omega arith }) where
-      bounded : (found : Option OpenStream) → unsigned_abs last ≤ 19999999000 → second_of now ≤ 9000000000 → option_map_or (λ (stream : OpenStream). last_after_due (unsigned_abs last) (second_of now) stream.state) found (unsigned_abs last) ≤ 20000000000
-      bounded None low early = omega arith
-      bounded (Some stream) low early =
-          due-bound (unsigned_abs last) (second_of now) (changes_file stream.state.attrs.action (records_per_file stream.state.attrs) stream.state.taken) low early
 
 pub stored-from : (last now : ℤ) (name : StreamName) (rec : LogRecord) (old new : List OpenStream) (stored : ℤ × List StreamEvent) → StoresIn last now name rec old new stored → pos 0 ≤ℤ stored.0
 stored-from last now name rec old new stored stores = subst (λ (z : ℤ). pos 0 ≤ℤ z) (sym stores.stamp) (pos-from _)
