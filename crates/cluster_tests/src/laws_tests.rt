@@ -10,4 +10,5 @@ fn laws_of_service_laws() {
     service_laws::law_of_service();
     service_laws::law_of_storage();
     service_laws::law_of_telling();
+    service_laws::law_of_feeding();
 }

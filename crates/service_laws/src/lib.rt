@@ -4,4 +4,4 @@
 
 mod law;
 
-pub use law::{law_of_service, law_of_storage, law_of_telling};
+pub use law::{law_of_feeding, law_of_service, law_of_storage, law_of_telling};
