@@ -18,11 +18,12 @@ use Rattle.aisrun.specs.declared.command.Command.{Command}
 use Rattle.aisrun.specs.declared.command.Command.TheVariants.{Run, Check, Expr}
 use Rattle.aisrun.specs.Commands.{command_of, text_of}
 use Rattle.aisrun.specs.Completing.{CanCheck, CanParse, CanRun, IsDoneOrMemory}
-use Rattle.aisrun.specs.Edges.{Edge, before, after, Faulted, Around}
+use Rattle.aisrun.specs.Counts.{HasRisen, RisesBefore}
+use Rattle.aisrun.specs.Edges.{Edge, before, after, fault_count, Around}
 use Rattle.aisrun.specs.Endings.{input_limit, ReadsWhole, InputTooLong, Ends, Reads, NoScript, NotBuilt, NoExpression}
 use Rattle.aisrun.specs.Playing.{has_failures}
 use Rattle.aisrun.specs.RunSteps.{WordsLack}
-use Rattle.aisrun.specs.Steps.{Written, Whole, SinkFailed, SinkLacked, Lacked}
+use Rattle.aisrun.specs.Steps.{Ended, Whole, SinkFailed, SinkLacked, Lacked}
 
 -- a source that tells its bytes and was read to its end gave just these
 all-taken : (bytes taken : List ℕ) (new : Option (List ℕ)) (limit : ℕ) → TakesAll (Some bytes) new limit taken → taken ≡ bytes
@@ -67,54 +68,54 @@ module _ {S K D : Type 0} (run : Around S K D) where
   not-reading kind is (inr checks) = let no : Expr kind ≡ Check = asked (Expr kind) Check is checks in cc
 
   -- a script that can be played
-  played : (lines : List Line) (bytes : List ℕ) → command_of run.words ≡ Some Run → before run.source ≡ Some bytes → length bytes ≤ 16777216 → IsScriptOf lines bytes → has_failures lines ≡ false → before run.stage.disk ≡ Some no_files → (Faulted run.source → ⊥) → (Faulted run.stage.disk → ⊥) → (status : Status8) (text : List ℕ) → Ends run (Some status) text → status ≡ Done
-  played lines bytes words left short script well empty reads disk Done text end = refl
-  played lines bytes words left short script well empty reads disk ScriptRefused text (NoScript asks all taken read fails) =
+  played : (lines : List Line) (bytes : List ℕ) → command_of run.words ≡ Some Run → before run.source ≡ Some bytes → length bytes ≤ 16777216 → IsScriptOf lines bytes → has_failures lines ≡ false → before run.stage.disk ≡ Some no_files → (HasRisen (fault_count run.source) → ⊥) → (HasRisen (fault_count run.stage.disk) → ⊥) → (status : Status8) (text : List ℕ) → RisesBefore (Some status) (fault_count run.source) (fault_count run.stage.disk) → Ends run (Some status) text → status ≡ Done
+  played lines bytes words left short script well empty reads disk Done text rises end = refl
+  played lines bytes words left short script well empty reads disk ScriptRefused text rises (NoScript asks all taken read fails) =
       absurd (fails.none lines (subst (λ (one : List ℕ). IsScriptOf lines one) (sym (read-all run.source bytes taken left read)) script))
-  played lines bytes words left short script well empty reads disk ScriptRefused text (NotBuilt asks all taken read built) =
+  played lines bytes words left short script well empty reads disk ScriptRefused text rises (NotBuilt asks all taken read built) =
       let same : lines ≡ built.lines = built.one lines (subst (λ (one : List ℕ). IsScriptOf lines one) (sym (read-all run.source bytes taken left read)) script) in
       let no : false ≡ true = sym well ∙ ap has_failures same ∙ built.fails in
       absurd cc
-  played lines bytes words left short script well empty reads disk ScriptRefused text (NoExpression kind asks all source fails) =
+  played lines bytes words left short script well empty reads disk ScriptRefused text rises (NoExpression kind asks all source fails) =
       let no : Run ≡ Expr kind = asked Run (Expr kind) words asks in
       absurd cc
-  played lines bytes words left short script well empty reads disk Usage text end =
+  played lines bytes words left short script well empty reads disk Usage text rises end =
       let no : None ≡ Some Run = sym end.unknown ∙ words in
       absurd cc
-  played lines bytes words left short script well empty reads disk Memory text end = absurd end
-  played lines bytes words left short script well empty reads disk ReadFault text end = absurd (reads end.why.rose)
-  played lines bytes words left short script well empty reads disk WriteFault text end = absurd end
-  played lines bytes words left short script well empty reads disk DiskFault text end = absurd (disk end.2)
-  played lines bytes words left short script well empty reads disk RootNotEmpty text end =
+  played lines bytes words left short script well empty reads disk Memory text rises end = absurd end
+  played lines bytes words left short script well empty reads disk ReadFault text rises end = absurd (reads rises.0)
+  played lines bytes words left short script well empty reads disk WriteFault text rises end = absurd end
+  played lines bytes words left short script well empty reads disk DiskFault text rises end = absurd (disk rises.1)
+  played lines bytes words left short script well empty reads disk RootNotEmpty text rises end =
       let holds = end.2 in
       let found : (others : List (List ℕ)) × (keys no_files ≡ holds.name ∷ others) = subst (λ o. IfSome o (λ f. (others : List (List ℕ)) × (keys f ≡ holds.name ∷ others))) empty holds.least in
       absurd (no-name holds.name found.0 found.1)
-  played lines bytes words left short script well empty reads disk TooLong text end = absurd (not-too-long run.source bytes text left short end.why)
+  played lines bytes words left short script well empty reads disk TooLong text rises end = absurd (not-too-long run.source bytes text left short end.why)
 
   -- a script that is checked
-  checked : (lines : List Line) (bytes : List ℕ) → command_of run.words ≡ Some Check → before run.source ≡ Some bytes → length bytes ≤ 16777216 → IsScriptOf lines bytes → (Faulted run.source → ⊥) → (status : Status8) (text : List ℕ) → Ends run (Some status) text → status ≡ Done
-  checked lines bytes words left short script reads Done text end = refl
-  checked lines bytes words left short script reads ScriptRefused text (NoScript asks all taken read fails) =
+  checked : (lines : List Line) (bytes : List ℕ) → command_of run.words ≡ Some Check → before run.source ≡ Some bytes → length bytes ≤ 16777216 → IsScriptOf lines bytes → (HasRisen (fault_count run.source) → ⊥) → (status : Status8) (text : List ℕ) → RisesBefore (Some status) (fault_count run.source) (fault_count run.stage.disk) → Ends run (Some status) text → status ≡ Done
+  checked lines bytes words left short script reads Done text rises end = refl
+  checked lines bytes words left short script reads ScriptRefused text rises (NoScript asks all taken read fails) =
       absurd (fails.none lines (subst (λ (one : List ℕ). IsScriptOf lines one) (sym (read-all run.source bytes taken left read)) script))
-  checked lines bytes words left short script reads ScriptRefused text (NotBuilt asks all taken read built) =
+  checked lines bytes words left short script reads ScriptRefused text rises (NotBuilt asks all taken read built) =
       let no : Check ≡ Run = asked Check Run words asks in
       absurd cc
-  checked lines bytes words left short script reads ScriptRefused text (NoExpression kind asks all source fails) =
+  checked lines bytes words left short script reads ScriptRefused text rises (NoExpression kind asks all source fails) =
       let no : Check ≡ Expr kind = asked Check (Expr kind) words asks in
       absurd cc
-  checked lines bytes words left short script reads Usage text end =
+  checked lines bytes words left short script reads Usage text rises end =
       let no : None ≡ Some Check = sym end.unknown ∙ words in
       absurd cc
-  checked lines bytes words left short script reads Memory text end = absurd end
-  checked lines bytes words left short script reads ReadFault text end = absurd (reads end.why.rose)
-  checked lines bytes words left short script reads WriteFault text end = absurd end
-  checked lines bytes words left short script reads DiskFault text end =
+  checked lines bytes words left short script reads Memory text rises end = absurd end
+  checked lines bytes words left short script reads ReadFault text rises end = absurd (reads rises.0)
+  checked lines bytes words left short script reads WriteFault text rises end = absurd end
+  checked lines bytes words left short script reads DiskFault text rises end =
       let no : Check ≡ Run = asked Check Run words end.1.words in
       absurd cc
-  checked lines bytes words left short script reads RootNotEmpty text end =
+  checked lines bytes words left short script reads RootNotEmpty text rises end =
       let no : Check ≡ Run = asked Check Run words end.1.words in
       absurd cc
-  checked lines bytes words left short script reads TooLong text end = absurd (not-too-long run.source bytes text left short end.why)
+  checked lines bytes words left short script reads TooLong text rises end = absurd (not-too-long run.source bytes text left short end.why)
 
   -- an expression that is checked
   parsed : (kind : StreamKind) → command_of run.words ≡ Some (Expr kind) → ((fault : ExprFault) → IsFault kind (text_of run.words) fault → ⊥) → (status : Status8) (text : List ℕ) → Ends run (Some status) text → status ≡ Done
@@ -136,22 +137,22 @@ module _ {S K D : Type 0} (run : Around S K D) where
   parsed kind words faultless TooLong text end = absurd (not-reading kind words end.words)
 
   -- where the sink does not fail either, only memory may be missing
-  well : (status : Status8) → (Faulted run.stage.sink → ⊥) → ((text : List ℕ) → Ends run (Some status) text → status ≡ Done) → Written (Ends run) (WordsLack run) run.stage.sink status → IsDoneOrMemory status
-  well status sink only (Whole text e appends) = inl (only text e)
-  well status sink only (SinkFailed is rose reached text e front) = absurd (sink rose)
-  well status sink only (SinkLacked is reached text e front) = inr is
-  well status sink only (Lacked is text l appends) = inr is
+  well : (status : Status8) → (HasRisen (fault_count run.stage.sink) → ⊥) → ((text : List ℕ) → RisesBefore (Some status) (fault_count run.source) (fault_count run.stage.disk) → Ends run (Some status) text → status ≡ Done) → Ended (fault_count run.source) (fault_count run.stage.disk) (Ends run) (WordsLack run) run.stage.sink status → IsDoneOrMemory status
+  well status sink only (Whole text e stood appends) = inl (only text e.1 e.0)
+  well status sink only (SinkFailed is risen reached text e front) = absurd (sink risen)
+  well status sink only (SinkLacked is stood reached text e front) = inr is
+  well status sink only (Lacked is stood text l appends) = inr is
 
-  pub completes : (status : Status8) → Written (Ends run) (WordsLack run) run.stage.sink status → CanRun run.words (before run.source) (before run.stage.disk) → (Faulted run.source → ⊥) → (Faulted run.stage.sink → ⊥) → (Faulted run.stage.disk → ⊥) → IsDoneOrMemory status
-  completes status written can reads sink disk =
+  pub completes : (status : Status8) → Ended (fault_count run.source) (fault_count run.stage.disk) (Ends run) (WordsLack run) run.stage.sink status → CanRun run.words (before run.source) (before run.stage.disk) → (HasRisen (fault_count run.source) → ⊥) → (HasRisen (fault_count run.stage.sink) → ⊥) → (HasRisen (fault_count run.stage.disk) → ⊥) → IsDoneOrMemory status
+  completes status ended can reads sink disk =
       let script = can.script in
-      well status sink (λ text end. played can.lines script.bytes (ap command_of can.asked) script.told script.short script.script can.built can.empty reads disk status text end) written
+      well status sink (λ text rises end. played can.lines script.bytes (ap command_of can.asked) script.told script.short script.script can.built can.empty reads disk status text rises end) ended
 
-  pub checks : (status : Status8) → Written (Ends run) (WordsLack run) run.stage.sink status → CanCheck run.words (before run.source) → (Faulted run.source → ⊥) → (Faulted run.stage.sink → ⊥) → IsDoneOrMemory status
-  checks status written can reads sink =
+  pub checks : (status : Status8) → Ended (fault_count run.source) (fault_count run.stage.disk) (Ends run) (WordsLack run) run.stage.sink status → CanCheck run.words (before run.source) → (HasRisen (fault_count run.source) → ⊥) → (HasRisen (fault_count run.stage.sink) → ⊥) → IsDoneOrMemory status
+  checks status ended can reads sink =
       let script = can.script in
-      well status sink (λ text end. checked can.lines script.bytes (ap command_of can.asked) script.told script.short script.script reads status text end) written
+      well status sink (λ text rises end. checked can.lines script.bytes (ap command_of can.asked) script.told script.short script.script reads status text rises end) ended
 
-  pub exprs : (status : Status8) → Written (Ends run) (WordsLack run) run.stage.sink status → CanParse run.words → (Faulted run.stage.sink → ⊥) → IsDoneOrMemory status
-  exprs status written can sink =
-      well status sink (λ text end. parsed can.kind can.asked can.faultless status text end) written
+  pub exprs : (status : Status8) → Ended (fault_count run.source) (fault_count run.stage.disk) (Ends run) (WordsLack run) run.stage.sink status → CanParse run.words → (HasRisen (fault_count run.stage.sink) → ⊥) → IsDoneOrMemory status
+  exprs status ended can sink =
+      well status sink (λ text rises end. parsed can.kind can.asked can.faultless status text end) ended

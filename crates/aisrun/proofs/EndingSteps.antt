@@ -1,12 +1,16 @@
 -- Ends of parts are ends of the whole.
 use Rattle.std.proofs.Common.{◌≡◌, ℕ, inl, inr, List, [], ◌∷◌, ◌++◌, false, Option, Some, None, Result, Ok, Err, refl, ap, sym, ◌∙◌, subst, append-nil}
-use Rattle.std.specs.Prelude.{IfOk, IfSome, codes}
+use Rattle.std.specs.Prelude.{IfOk, IfSome, Vec, codes}
+use Rattle.std.specs.declared.alloc.Global.{Global}
 use Rattle.std.specs.FinMap as files
 use Rattle.std.specs.Io.KnownBytes.{Appends}
 use Rattle.std.proofs.KnownBytes.{Appends-nil}
-use Rattle.ais_values.specs.Causes.{Rose}
+use Rattle.ais_values.specs.Causes.{RoseExactlyOn}
 use Rattle.ais_values.specs.declared.kind.StreamKind.{StreamKind}
 use Rattle.disk_model.specs.Disk.{Files}
+use Rattle.io_edge.specs.Reads.{ReadsAll}
+use Rattle.io_edge.specs.declared.answers.ReadAnswer.{ReadAnswer}
+use Rattle.io_edge.specs.declared.answers.ReadAnswer.TheVariants as read
 use Rattle.script_lines.specs.declared.line.Line.{Line}
 use Rattle.script_language.specs.Scripts.{IsScriptOf}
 use Rattle.plain_service.specs.Setups.{Setup}
@@ -22,14 +26,16 @@ use Rattle.aisrun.specs.declared.ending.Status8.TheVariants.{Done, ScriptRefused
 use Rattle.aisrun.specs.declared.command.Command.{Command}
 use Rattle.aisrun.specs.declared.command.Command.TheVariants.{Run, Check, Expr}
 use Rattle.aisrun.specs.Commands.{command_of, text_of}
-use Rattle.aisrun.specs.Checking.{CheckEnds, Judges, Unjudged, IsScript, IsNoScript, ExprEnds, IsExpression, IsNoExpression}
-use Rattle.aisrun.specs.Edges.{Edge, edge, before, Faulted, IsUntouched, Stage, stage, Around, LeavesAll}
-use Rattle.aisrun.specs.Endings.{ReadsWhole, PlayEnds, PlayedTo, PlayLacks, Unopened, Opening, InEvent, Opens, FaultLeft, FaultedSince, HasScript, DiskFails, AtNames, AtOpening, AtEvent, LacksBy, RunLacks, Unread as Unknown, Unplayed, Ends, Checked, Parsed, Ran, NoScript, NotBuilt, NoExpression}
-use Rattle.aisrun.specs.Inputs.{InputRefused, Unread, Overlong}
+use Rattle.aisrun.specs.Checking.{CheckEnds, Judged, IsScript, IsNoScript, ExprEnds, IsExpression, IsNoExpression}
+use Rattle.aisrun.specs.Counts.{HasStood}
+use Rattle.aisrun.specs.Edges.{Edge, edge, before, after, fault_count, IsUntouched, Stage, stage, Around, LeavesAll}
+use Rattle.aisrun.specs.Endings.{input_limit, ReadsWhole, SourceFailed, InputTooLong, PlayEnds, PlayedTo, PlayLacks, Unopened, Opening, InEvent, Opens, FaultLeft, StoodUpTo, HasScript, DiskFails, AtNames, AtOpening, AtEvent, LacksBy, RunLacks, Unread as Unknown, Unplayed, Ends, Checked, Parsed, Ran, NoScript, NotBuilt, NoExpression}
+use Rattle.aisrun.specs.Inputs.{UnreadEnds, UnreadLacks}
 use Rattle.aisrun.specs.Playing.{files_told, has_failures, Goes, PlaysFront, StandsAt}
 use Rattle.aisrun.specs.RunSteps.{EndWritten, InputEnds, InputLacks}
 use Rattle.aisrun.specs.Scripting.{BytesEnd, BytesLack}
-use Rattle.aisrun.specs.Steps.{EventsEnd, LacksBehind, IsNever, IsText, Reaching, Written, Lacked}
+use Rattle.aisrun.specs.Steps.{EventsEnd, LacksBehind, IsNever, IsText, Reaching, Written, Lacked, Counting, Standing, Ended, unasked}
+use Rattle.aisrun.proofs.CountSteps.{other-stood, untouched-stood}
 use Rattle.aisrun.proofs.WritingSteps.{written-as}
 
 -- the end of a text
@@ -47,7 +53,7 @@ text-written E L status whole sink result ends written =
 pub lacked : {K : Type 0} (E : Reaching) (L : List ℕ → Type 0) (sink : Edge K (List ℕ)) → L [] → sink.new ≡ sink.old → Written E L sink Memory
 lacked {K} E L sink lacks same =
     let A : K → Type 0 = λ new. Appends (before sink) (sink.told new) [] in
-    Lacked refl [] lacks (subst A (sym same) (Appends-nil (before sink)))
+    Lacked refl (ap (λ one. sink.faults one) same) [] lacks (subst A (sym same) (Appends-nil (before sink)))
 
 -- the end that was written, or none for want of memory
 pub end-written : {K X : Type 0} (E : Reaching) (L : List ℕ → Type 0) (end : Result End X) (sink : Edge K (List ℕ)) (status : Status8) → EndWritten end sink status → IfOk end (λ one. E (Some one.status) one.text.items) → L [] → Written E L sink status
@@ -72,16 +78,10 @@ front-of held opening events done rest setup places text begins empty parts goes
 
 module _ {K D : Type 0} (told : K → Option (List ℕ)) (sink_faults : K → ℕ) (out out_after : K) (held : D → Option Files) (disk_faults : D → ℕ) (world world_after : World) where
   -- the count stood before
-  since-earlier : (old mid new : D) (files : Option Files) → disk_faults mid ≡ disk_faults old → FaultedSince (edge held disk_faults mid new) files → FaultedSince (edge held disk_faults old new) files
-  since-earlier old mid new files stood since =
-      record { mid = since.mid; told = since.told; stood = since.stood ∙ stood; rose = since.rose }
+  stood-earlier : (old mid new : D) (files : Option Files) → disk_faults mid ≡ disk_faults old → StoodUpTo (edge held disk_faults mid new) files → StoodUpTo (edge held disk_faults old new) files
+  stood-earlier old mid new files stood since = record { mid = since.mid; told = since.told; stood = since.stood ∙ stood }
 
-  since-faulted : (old new : D) (files : Option Files) → FaultedSince (edge held disk_faults old new) files → Faulted (edge held disk_faults old new)
-  since-faulted old new files since =
-      let R : ℕ → Type 0 = λ count. Rose count (disk_faults new) in
-      subst R since.stood since.rose
-
-  pub events-play : (old mid new : D) (opening : Line) (events : List Line) (setup : Setup) (places : ℕ) → Begins opening setup places → HoldsNone (held old) → disk_faults mid ≡ disk_faults old → (reached : Option Status8) (text : List ℕ) → EventsEnd setup places (held old) (held new) (FaultedSince (edge held disk_faults mid new)) world_after events reached text → PlayEnds (opening ∷ events) (stage (edge told sink_faults out out_after) (edge held disk_faults old new) world world_after) reached text
+  pub events-play : (old mid new : D) (opening : Line) (events : List Line) (setup : Setup) (places : ℕ) → Begins opening setup places → HoldsNone (held old) → disk_faults mid ≡ disk_faults old → (reached : Option Status8) (text : List ℕ) → EventsEnd setup places (held old) (held new) (StoodUpTo (edge held disk_faults mid new)) world_after events reached text → PlayEnds (opening ∷ events) (stage (edge told sink_faults out out_after) (edge held disk_faults old new) world world_after) reached text
   events-play old mid new opening events setup places begins empty stood None text ends = (
     ends.0,
     ends.1,
@@ -98,11 +98,10 @@ module _ {K D : Type 0} (told : K → Option (List ℕ)) (sink_faults : K → �
     },
   )
   events-play old mid new opening events setup places begins empty stood (Some DiskFault) text ends =
-      let broke = ends in
-      let behind = broke.behind in
-      let since = since-earlier old mid new (files_told behind.goes.files (held old)) stood broke.since in
-      let front = front-of (held old) opening events behind.done (behind.next ∷ behind.rest) setup places broke.front begins empty behind.parts behind.goes in
-      (since-faulted old new (files_told behind.goes.files (held old)) since, AtEvent behind.done behind.next behind.rest broke.front front broke.lines broke.fault since broke.written)
+      let behind = ends.behind in
+      let since = stood-earlier old mid new (files_told behind.goes.files (held old)) stood ends.since in
+      let front = front-of (held old) opening events behind.done (behind.next ∷ behind.rest) setup places ends.front begins empty behind.parts behind.goes in
+      AtEvent behind.done behind.next behind.rest ends.front front ends.lines ends.fault since ends.written
   events-play old mid new opening events setup places begins empty stood (Some ScriptRefused) text ends = absurd ends
   events-play old mid new opening events setup places begins empty stood (Some Usage) text ends = absurd ends
   events-play old mid new opening events setup places begins empty stood (Some Memory) text ends = absurd ends
@@ -130,16 +129,15 @@ module _ {K D : Type 0} (told : K → Option (List ℕ)) (sink_faults : K → �
       let moved = subst F same (opens, fails) in
       AtOpening moved.0 count moved.1 still is
   fails-earlier old mid new lines same stood text (AtEvent done next rest text_before front printed fault since is) =
-      let since_old = since-earlier old mid new (files_told front.goes.files (held mid)) stood since in
-      let F : Option Files → Type 0 = λ one. (plays : PlaysFront one lines done (next ∷ rest) text_before) × FaultLeft plays.setup plays.goes.state next (files_told plays.goes.files one) (held new) world_after printed × FaultedSince (edge held disk_faults old new) (files_told plays.goes.files one) in
+      let since_old = stood-earlier old mid new (files_told front.goes.files (held mid)) stood since in
+      let F : Option Files → Type 0 = λ one. (plays : PlaysFront one lines done (next ∷ rest) text_before) × FaultLeft plays.setup plays.goes.state next (files_told plays.goes.files one) (held new) world_after printed × StoodUpTo (edge held disk_faults old new) (files_told plays.goes.files one) in
       let moved = subst F same (front, fault, since_old) in
       AtEvent done next rest text_before moved.0 printed moved.1 moved.2 is
 
   pub play-earlier : (old mid new : D) (lines : List Line) → held mid ≡ held old → disk_faults mid ≡ disk_faults old → (reached : Option Status8) (text : List ℕ) → PlayEnds lines (stage (edge told sink_faults out out_after) (edge held disk_faults mid new) world world_after) reached text → PlayEnds lines (stage (edge told sink_faults out out_after) (edge held disk_faults old new) world world_after) reached text
   play-earlier old mid new lines same stood None text ends = (ends.0, ends.1, played-earlier old mid new lines ends.0 ends.1 text same ends.2)
   play-earlier old mid new lines same stood (Some Done) text ends = (ends.0, played-earlier old mid new lines ends.0 [] text same ends.1)
-  play-earlier old mid new lines same stood (Some DiskFault) text ends =
-      (subst (λ count. Rose count (disk_faults new)) stood ends.0, fails-earlier old mid new lines same stood text ends.1)
+  play-earlier old mid new lines same stood (Some DiskFault) text ends = fails-earlier old mid new lines same stood text ends
   play-earlier old mid new lines same stood (Some RootNotEmpty) text ends =
       let L : Option Files → Type 0 = λ one. IfSome one (λ f. (others : List (List ℕ)) × (files.keys f ≡ ends.name ∷ others)) in
       record { name = ends.name; least = subst L same ends.least; same = ends.same ∙ same; world = ends.world; printed = ends.printed }
@@ -187,13 +185,32 @@ bytes-input source scene bytes read (Some ReadFault) text ends = absurd ends.3
 bytes-input source scene bytes read (Some WriteFault) text ends = absurd ends.3
 bytes-input source scene bytes read (Some TooLong) text ends = absurd ends.3
 
-pub refused-input : {S K D : Type 0} (source : Edge S (List ℕ)) (scene : Stage K D) (status : Status8) (text : List ℕ) → LeavesAll scene → InputRefused source status text → InputEnds source scene (Some status) text
-refused-input source scene status text all (Unread is why) =
-    let I : Status8 → Type 0 = λ one. InputEnds source scene (Some one) text in
-    subst I (sym is) (all, why)
-refused-input source scene status text all (Overlong is why) =
-    let I : Status8 → Type 0 = λ one. InputEnds source scene (Some one) text in
-    subst I (sym is) (all, why)
+-- the source was not read to its end
+pub unread-written : {S K : Type 0} (source : Edge S (List ℕ)) (disk : ℕ × ℕ) (E : Reaching) (L : List ℕ → Type 0) (answer : ReadAnswer) (sink : Edge K (List ℕ)) (status : Status8) → HasStood disk → ReadsAll (before source) (after source) input_limit (Err answer) → RoseExactlyOn {T = Vec ℕ Global} (source.faults source.old) (source.faults source.new) (Err answer) read.ReadFault → ((text : List ℕ) → SourceFailed source text → E (Some ReadFault) text) → ((text : List ℕ) → InputTooLong source text → E (Some TooLong) text) → L [] → Written (UnreadEnds answer) (UnreadLacks answer) sink status → Ended (fault_count source) disk E L sink status
+unread-written source disk E L read.Memory sink status still reads cause failed long lacks written =
+    let stood = other-stood (source.faults source.old) (source.faults source.new) read.Memory read.ReadFault read.Memory cause refl (λ is. cc) in
+    let S : List ℕ → Type 0 = Standing (fault_count source) disk L in
+    written-as (UnreadEnds read.Memory) (Counting (fault_count source) disk E) (UnreadLacks read.Memory) S sink status (λ reached text never. absurd never) (λ text none. subst S (sym none.1) (lacks, stood, still)) written
+unread-written source disk E L read.ReadFault sink status still reads cause failed long lacks written =
+    let C = Counting (fault_count source) disk E in
+    let text = codes "read fault\n" in
+    let ends : C (Some ReadFault) text = (failed text (record { taken = reads; printed = refl }), ((cause.later, cause.rose refl), still)) in
+    written-as (UnreadEnds read.ReadFault) C (UnreadLacks read.ReadFault) (Standing (fault_count source) disk L) sink status (text-ends C ReadFault text ends) (λ text none. let no : read.ReadFault ≡ read.Memory = none.0 in absurd cc) written
+unread-written source disk E L read.TooLong sink status still reads cause failed long lacks written =
+    let C = Counting (fault_count source) disk E in
+    let text = codes "script too long\n" in
+    let stood = other-stood (source.faults source.old) (source.faults source.new) read.TooLong read.ReadFault read.TooLong cause refl (λ is. cc) in
+    let ends : C (Some TooLong) text = (long text (record { taken = reads; printed = refl }), (stood, still)) in
+    written-as (UnreadEnds read.TooLong) C (UnreadLacks read.TooLong) (Standing (fault_count source) disk L) sink status (text-ends C TooLong text ends) (λ text none. let no : read.TooLong ≡ read.Memory = none.0 in absurd cc) written
+
+-- a script that was judged
+pub judged-check : {S : Type 0} (source : Edge S (List ℕ)) (bytes : List ℕ) → ReadsWhole source bytes → HasStood (fault_count source) → (status : Status8) (text : List ℕ) → Judged bytes status text → Counting (fault_count source) unasked (CheckEnds source) (Some status) text
+judged-check source bytes read stood status text (IsScript is passes) =
+    let C : Status8 → Type 0 = λ one. Counting (fault_count source) unasked (CheckEnds source) (Some one) text in
+    subst C (sym is) ((bytes, read, passes), (stood, refl))
+judged-check source bytes read stood status text (IsNoScript is fails) =
+    let C : Status8 → Type 0 = λ one. Counting (fault_count source) unasked (CheckEnds source) (Some one) text in
+    subst C (sym is) ((bytes, read, fails), (stood, refl))
 
 module _ {S K D : Type 0} (run : Around S K D) where
   -- a script that was read and is built
@@ -206,7 +223,7 @@ module _ {S K D : Type 0} (run : Around S K D) where
   input-run asked (Some Done) text ends =
       Ran ends.2.0 (has-script asked ends.0 ends.1 ends.2.0 ends.2.1 ends.2.2) ends.2.3.0 ends.2.3.1
   input-run asked (Some DiskFault) text ends =
-      (ends.2.0, has-script asked ends.0 ends.1 ends.2.0 ends.2.1 ends.2.2, ends.2.3.0, ends.2.3.1)
+      (ends.2.0, has-script asked ends.0 ends.1 ends.2.0 ends.2.1 ends.2.2, ends.2.3)
   input-run asked (Some RootNotEmpty) text ends = (ends.2.0, has-script asked ends.0 ends.1 ends.2.0 ends.2.1 ends.2.2, ends.2.3)
   input-run asked (Some ScriptRefused) text ends =
       elim ends.2.1 [
@@ -233,33 +250,35 @@ module _ {S K D : Type 0} (run : Around S K D) where
       let L : Option Command → Type 0 = λ one. LacksBy one run text in
       subst L (sym asked) (input-lacks asked text lacks)
 
-  pub check-run : command_of run.words ≡ Some Check → LeavesAll run.stage → (status : Status8) (text : List ℕ) → CheckEnds run.source status text → Ends run (Some status) text
-  check-run asked all status text (Judges bytes read (IsScript is passes)) =
-      let E : Status8 → Type 0 = λ one. Ends run (Some one) text in
-      subst E (sym is) (Checked asked all bytes read passes)
-  check-run asked all status text (Judges bytes read (IsNoScript is fails)) =
-      let E : Status8 → Type 0 = λ one. Ends run (Some one) text in
-      subst E (sym is) (NoScript (inr asked) all bytes read fails)
-  check-run asked all status text (Unjudged (Unread is why)) =
-      let E : Status8 → Type 0 = λ one. Ends run (Some one) text in
-      subst E (sym is) (record { words = inr asked; all = all; why = why })
-  check-run asked all status text (Unjudged (Overlong is why)) =
-      let E : Status8 → Type 0 = λ one. Ends run (Some one) text in
-      subst E (sym is) (record { words = inr asked; all = all; why = why })
+  pub check-run : command_of run.words ≡ Some Check → LeavesAll run.stage → (reached : Option Status8) (text : List ℕ) → CheckEnds run.source reached text → Ends run reached text
+  check-run asked all (Some Done) text ends = Checked asked all ends.0 ends.1 ends.2
+  check-run asked all (Some ScriptRefused) text ends = NoScript (inr asked) all ends.0 ends.1 ends.2
+  check-run asked all (Some ReadFault) text ends = record { words = inr asked; all = all; why = ends }
+  check-run asked all (Some TooLong) text ends = record { words = inr asked; all = all; why = ends }
+  check-run asked all None text ends = absurd ends
+  check-run asked all (Some Usage) text ends = absurd ends
+  check-run asked all (Some Memory) text ends = absurd ends
+  check-run asked all (Some WriteFault) text ends = absurd ends
+  check-run asked all (Some DiskFault) text ends = absurd ends
+  check-run asked all (Some RootNotEmpty) text ends = absurd ends
 
-  pub expr-run : (kind : StreamKind) → command_of run.words ≡ Some (Expr kind) → LeavesAll run.stage → IsUntouched run.source → (status : Status8) (text : List ℕ) → ExprEnds kind (text_of run.words) status text → Ends run (Some status) text
+  -- an end where neither source nor disk was asked
+  abbrev CountedEnd : Status8 → List ℕ → Type 0
+  CountedEnd status text = Counting (fault_count run.source) (fault_count run.stage.disk) (Ends run) (Some status) text
+
+  pub expr-run : (kind : StreamKind) → command_of run.words ≡ Some (Expr kind) → LeavesAll run.stage → IsUntouched run.source → (status : Status8) (text : List ℕ) → ExprEnds kind (text_of run.words) status text → CountedEnd status text
   expr-run kind asked all source status text (IsExpression is passes) =
-      let E : Status8 → Type 0 = λ one. Ends run (Some one) text in
-      subst E (sym is) (Parsed kind asked all source passes)
+      let E : Status8 → Type 0 = λ one. CountedEnd one text in
+      subst E (sym is) (Parsed kind asked all source passes, (untouched-stood run.source source, untouched-stood run.stage.disk all.disk))
   expr-run kind asked all source status text (IsNoExpression is fails) =
-      let E : Status8 → Type 0 = λ one. Ends run (Some one) text in
-      subst E (sym is) (NoExpression kind asked all source fails)
+      let E : Status8 → Type 0 = λ one. CountedEnd one text in
+      subst E (sym is) (NoExpression kind asked all source fails, (untouched-stood run.source source, untouched-stood run.stage.disk all.disk))
 
-  pub usage-run : {X : Type 0} → command_of run.words ≡ None → LeavesAll run.stage → IsUntouched run.source → (end : Result End X) → IfOk end (λ one. one.status ≡ Usage) → IfOk end (λ one. one.text.items ≡ codes "usage: aisrun run, check, expr KIND TEXT or gen COUNT SEED\n") → IfOk end (λ one. Ends run (Some one.status) one.text.items)
+  pub usage-run : {X : Type 0} → command_of run.words ≡ None → LeavesAll run.stage → IsUntouched run.source → (end : Result End X) → IfOk end (λ one. one.status ≡ Usage) → IfOk end (λ one. one.text.items ≡ codes "usage: aisrun run, check, expr KIND TEXT or gen COUNT SEED\n") → IfOk end (λ one. CountedEnd one.status one.text.items)
   usage-run unknown all source (Err e) status text = tt
   usage-run unknown all source (Ok one) status text =
-      let E : Status8 → Type 0 = λ each. Ends run (Some each) one.text.items in
-      subst E (sym status) (record { unknown = unknown; all = all; source = source; printed = text })
+      let E : Status8 → Type 0 = λ each. CountedEnd each one.text.items in
+      subst E (sym status) (record { unknown = unknown; all = all; source = source; printed = text }, (untouched-stood run.source source, untouched-stood run.stage.disk all.disk))
 
 -- the end of a part
 pub ok-ends : {X : Type 0} (end : Result End X) (P : Status8 → List ℕ → Type 0) (E : Reaching) → ((status : Status8) (text : List ℕ) → P status text → E (Some status) text) → IfOk end (λ one. P one.status one.text.items) → IfOk end (λ one. E (Some one.status) one.text.items)

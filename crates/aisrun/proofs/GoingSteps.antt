@@ -5,7 +5,6 @@ use Rattle.std.specs.Io.KnownBytes.{Appends}
 use Rattle.std.proofs.KnownBytes.{Appends-nil, Appends-trans}
 use Rattle.std.proofs.lemmas.List.{reverse-append}
 use Rattle.std.proofs.lemmas.Grind.{flat_map-append}
-use Rattle.ais_values.specs.Causes.{Rose}
 use Rattle.disk_model.specs.Disk.{Files, no_files}
 use Rattle.script_lines.specs.declared.line.Line.{Line}
 use Rattle.script_lines.specs.declared.line.Line.TheVariants as line
@@ -29,9 +28,10 @@ use Rattle.cluster_events.specs.Runs.RunBy.{Started, Went}
 use Rattle.aisrun.specs.Playing.{files_told, Goes, LinePlayed, Played, text_of}
 use Rattle.aisrun.specs.declared.ending.Status8.{Status8}
 use Rattle.aisrun.specs.declared.ending.Status8.TheVariants.{Done, ScriptRefused, Usage, Memory, ReadFault, WriteFault, DiskFault, RootNotEmpty, TooLong}
+use Rattle.aisrun.specs.Counts.{HasStood, RisesBefore}
 use Rattle.aisrun.specs.Edges.{edge}
 use Rattle.aisrun.specs.Endings.{FaultLeft, Showing, Working}
-use Rattle.aisrun.specs.Steps.{Behind, CanFollow, EventsEnd, Going, LacksBehind, LineEnds, LineLacks, Plays, Written, Whole, joined_lines, time_behind}
+use Rattle.aisrun.specs.Steps.{Behind, CanFollow, Counting, Ended, EventsEnd, Going, LacksBehind, LineEnds, LineLacks, Plays, Standing, Whole, joined_lines, time_behind, unasked}
 use Rattle.aisrun.proofs.PlayLaws.{line-kept, answered-range, played-files}
 use Rattle.aisrun.proofs.TimeLaws.{line-now}
 use Rattle.aisrun.proofs.WritingSteps.{written-behind}
@@ -123,30 +123,30 @@ follow-next setup state held left old new next others printed_lines good shows d
     subst (λ (now : ℤ). CanFollow now others) same follows
 
 -- what one line comes to is what all lines come to
-pub line-events : (setup : Setup) (places : ℕ) (held mid left : Option Files) (between later : ℕ) (Since : Option Files → Type 0) (old new : World) (done : List Line) (next : Line) (others : List Line) (front : List ℕ) → (going : Going setup places held mid old done front) → (Rose between later → Since mid) → (reached : Option Status8) (text : List ℕ) → LineEnds setup going.state next mid left between later new reached text → EventsEnd setup places held left Since new (done ++ next ∷ others) reached (front ++ text)
-line-events setup places held mid left between later Since old new done next others front going rises None text ends =
+pub line-events : (setup : Setup) (places : ℕ) (held mid left : Option Files) (Since : Option Files → Type 0) (old new : World) (done : List Line) (next : Line) (others : List Line) (front : List ℕ) → (going : Going setup places held mid old done front) → Since mid → (reached : Option Status8) (text : List ℕ) → LineEnds setup going.state next mid left new reached text → EventsEnd setup places held left Since new (done ++ next ∷ others) reached (front ++ text)
+line-events setup places held mid left Since old new done next others front going since None text ends =
     let further = going-next setup places held mid left old new done front next ends.0 going ends.2 in
     let P : List ℕ → Type 0 = λ one. Plays setup places held left new (done ++ next ∷ []) one in
     (done ++ next ∷ [], others, sym (append_assoc done (next ∷ []) others), subst P (ap (λ (behind : List ℕ). front ++ behind) (sym ends.1)) (going-plays setup places held left new (done ++ next ∷ []) (front ++ joined_lines ends.0) further))
-line-events setup places held mid left between later Since old new done next others front going rises (Some DiskFault) text ends =
+line-events setup places held mid left Since old new done next others front going since (Some DiskFault) text ends =
     let stand = going-stand setup places held mid old done front going in
-    let F : Option Files → Type 0 = λ one. FaultLeft setup going.state next one left new ends.1.0 in
+    let F : Option Files → Type 0 = λ one. FaultLeft setup going.state next one left new ends.0 in
     record {
       front = front;
       behind = record { done = done; next = next; rest = others; parts = refl; goes = going-goes setup places held mid old done front going };
-      lines = ends.1.0;
-      fault = subst F stand ends.1.1;
-      since = subst Since stand (rises ends.0);
-      written = ap (λ (behind : List ℕ). front ++ behind) ends.1.2;
+      lines = ends.0;
+      fault = subst F stand ends.1;
+      since = subst Since stand since;
+      written = ap (λ (behind : List ℕ). front ++ behind) ends.2;
     }
-line-events setup places held mid left between later Since old new done next others front going rises (Some Done) text ends = absurd ends
-line-events setup places held mid left between later Since old new done next others front going rises (Some ScriptRefused) text ends = absurd ends
-line-events setup places held mid left between later Since old new done next others front going rises (Some Usage) text ends = absurd ends
-line-events setup places held mid left between later Since old new done next others front going rises (Some Memory) text ends = absurd ends
-line-events setup places held mid left between later Since old new done next others front going rises (Some ReadFault) text ends = absurd ends
-line-events setup places held mid left between later Since old new done next others front going rises (Some WriteFault) text ends = absurd ends
-line-events setup places held mid left between later Since old new done next others front going rises (Some RootNotEmpty) text ends = absurd ends
-line-events setup places held mid left between later Since old new done next others front going rises (Some TooLong) text ends = absurd ends
+line-events setup places held mid left Since old new done next others front going since (Some Done) text ends = absurd ends
+line-events setup places held mid left Since old new done next others front going since (Some ScriptRefused) text ends = absurd ends
+line-events setup places held mid left Since old new done next others front going since (Some Usage) text ends = absurd ends
+line-events setup places held mid left Since old new done next others front going since (Some Memory) text ends = absurd ends
+line-events setup places held mid left Since old new done next others front going since (Some ReadFault) text ends = absurd ends
+line-events setup places held mid left Since old new done next others front going since (Some WriteFault) text ends = absurd ends
+line-events setup places held mid left Since old new done next others front going since (Some RootNotEmpty) text ends = absurd ends
+line-events setup places held mid left Since old new done next others front going since (Some TooLong) text ends = absurd ends
 
 -- one line more is behind
 pub behind-next : {K : Type 0} (told : K → Option (List ℕ)) (faults : K → ℕ) (first mid last : K) (setup : Setup) (places : ℕ) (held disk left : Option Files) (old new : World) (events : List Line) (next : Line) (others : List Line) (text : List ℕ) (printed_lines : List (List ℕ)) → (so_far : Behind setup places held disk old (edge told faults first mid) events (next ∷ others)) → text ≡ joined_lines printed_lines → EventDone setup so_far.going.state next printed_lines disk left new → Appends (told mid) (told last) text → Behind setup places held left new (edge told faults first last) events others
@@ -173,11 +173,11 @@ behind-start told faults sink setup places held left world events begun = record
 }
 
 -- behind the last line
-pub behind-last : {K : Type 0} (told : K → Option (List ℕ)) (faults : K → ℕ) (first last : K) (setup : Setup) (places : ℕ) (held left : Option Files) (Since : Option Files → Type 0) (world : World) (events rest : List Line) → rest ≡ [] → Behind setup places held left world (edge told faults first last) events rest → Written (EventsEnd setup places held left Since world events) (LacksBehind setup places held left world events) (edge told faults first last) Done
-behind-last told faults first last setup places held left Since world events rest none behind =
+pub behind-last : {K : Type 0} (told : K → Option (List ℕ)) (faults : K → ℕ) (first last : K) (setup : Setup) (places : ℕ) (held left : Option Files) (disk : ℕ × ℕ) (Since : Option Files → Type 0) (world : World) (events rest : List Line) → rest ≡ [] → faults last ≡ faults first → HasStood disk → Behind setup places held left world (edge told faults first last) events rest → Ended unasked disk (EventsEnd setup places held left Since world events) (LacksBehind setup places held left world events) (edge told faults first last) Done
+behind-last told faults first last setup places held left disk Since world events rest none sink_stood disk_stood behind =
     let all : events ≡ behind.done = behind.parts ∙ ap (λ (others : List Line). behind.done ++ others) none ∙ append-nil behind.done in
     let P : List Line → Type 0 = λ lines. Plays setup places held left world lines behind.text in
-    Whole behind.text (subst P (sym all) (going-plays setup places held left world behind.done behind.text behind.going)) behind.appended
+    Whole behind.text (subst P (sym all) (going-plays setup places held left world behind.done behind.text behind.going), (refl, disk_stood)) sink_stood behind.appended
 
 -- memory that was wanting in a line was wanting behind those before it
 line-lacks : (setup : Setup) (places : ℕ) (held mid left : Option Files) (old new : World) (done : List Line) (next : Line) (others : List Line) (front : List ℕ) → (going : Going setup places held mid old done front) → (text : List ℕ) → LineLacks setup going.state mid left new text → LacksBehind setup places held left new (done ++ next ∷ others) (front ++ text)
@@ -193,16 +193,18 @@ line-lacks setup places held mid left old new done next others front going text 
     subst L (sym (ap (λ (more : List ℕ). front ++ more) lacks.0 ∙ append-nil front)) whole
 
 -- a line that ended the run
-pub behind-ends : {K : Type 0} (told : K → Option (List ℕ)) (faults : K → ℕ) (first mid last : K) (setup : Setup) (places : ℕ) (held disk left : Option Files) (between later : ℕ) (Since : Option Files → Type 0) (old new : World) (events : List Line) (next : Line) (others : List Line) (status : Status8) → (behind : Behind setup places held disk old (edge told faults first mid) events (next ∷ others)) → faults mid ≡ faults first → (Rose between later → Since disk) → Written (LineEnds setup behind.going.state next disk left between later new) (LineLacks setup behind.going.state disk left new) (edge told faults mid last) status → Written (EventsEnd setup places held left Since new events) (LacksBehind setup places held left new events) (edge told faults first last) status
-behind-ends told faults first mid last setup places held disk left between later Since old new events next others status behind sink rises written =
+pub behind-ends : {K : Type 0} (told : K → Option (List ℕ)) (faults : K → ℕ) (first mid last : K) (setup : Setup) (places : ℕ) (held disk left : Option Files) (start between later : ℕ) (Since : Option Files → Type 0) (old new : World) (events : List Line) (next : Line) (others : List Line) (status : Status8) → (behind : Behind setup places held disk old (edge told faults first mid) events (next ∷ others)) → faults mid ≡ faults first → between ≡ start → Since disk → Ended unasked (between, later) (LineEnds setup behind.going.state next disk left new) (LineLacks setup behind.going.state disk left new) (edge told faults mid last) status → Ended unasked (start, later) (EventsEnd setup places held left Since new events) (LacksBehind setup places held left new events) (edge told faults first last) status
+behind-ends told faults first mid last setup places held disk left start between later Since old new events next others status behind sink stood since ended =
     let all = behind.done ++ next ∷ others in
     let front = behind.text in
-    let E = LineEnds setup behind.going.state next disk left between later new in
-    let F = EventsEnd setup places held left Since new all in
-    let L = LineLacks setup behind.going.state disk left new in
-    let M = LacksBehind setup places held left new all in
-    let W : List Line → Type 0 = λ lines. Written (EventsEnd setup places held left Since new lines) (LacksBehind setup places held left new lines) (edge told faults first last) status in
-    subst W (sym behind.parts) (written-behind told faults first mid last E F L M front status behind.appended sink (line-events setup places held disk left between later Since old new behind.done next others front behind.going rises) (line-lacks setup places held disk left old new behind.done next others front behind.going) written)
+    let E = Counting unasked (between, later) (LineEnds setup behind.going.state next disk left new) in
+    let F = Counting unasked (start, later) (EventsEnd setup places held left Since new all) in
+    let L = Standing unasked (between, later) (LineLacks setup behind.going.state disk left new) in
+    let M = Standing unasked (start, later) (LacksBehind setup places held left new all) in
+    let W : List Line → Type 0 = λ lines. Ended unasked (start, later) (EventsEnd setup places held left Since new lines) (LacksBehind setup places held left new lines) (edge told faults first last) status in
+    let counts : (reached : Option Status8) → RisesBefore reached unasked (between, later) → RisesBefore reached unasked (start, later) =
+    λ reached rises. subst (λ (count : ℕ). RisesBefore reached unasked (count, later)) stood rises in
+    subst W (sym behind.parts) (written-behind told faults first mid last E F L M front status behind.appended sink (λ reached text one. (line-events setup places held disk left Since old new behind.done next others front behind.going since reached text one.0, counts reached one.1)) (λ text one. (line-lacks setup places held disk left old new behind.done next others front behind.going text one.0, one.1, one.2 ∙ stood)) ended)
 
 -- what a disk fault in a line left
 pub fault-left : (setup : Setup) (state : State Alone) (next : Line) (held left : Option Files) (old new : World) (lines : List (List ℕ)) → IsGood setup state → Shows setup state old → FaultLeaves next old new [] lines held left → FaultLeft setup state next held left new (joined_lines lines)

@@ -1,11 +1,11 @@
 -- Words of bodies alone: how the checking of a script and of an expression ends, but for the writing of the text.
-use Rattle.std.specs.Prelude.{◌≡◌, ℕ, List}
+use Rattle.std.specs.Prelude.{◌≡◌, ℕ, List, Some}
 use Rattle.ais_values.specs.declared.kind.StreamKind.{StreamKind}
 use Rattle.aisrun.specs.declared.ending.Status8.{Status8}
-use Rattle.aisrun.specs.declared.ending.Status8.TheVariants.{Done, ScriptRefused}
+use Rattle.aisrun.specs.declared.ending.Status8.TheVariants.{Done, ScriptRefused, ReadFault, TooLong}
 use Rattle.aisrun.specs.Edges.{Edge}
-use Rattle.aisrun.specs.Endings.{ReadsWhole, ScriptPasses, ScriptFails, TextPasses, TextFails}
-use Rattle.aisrun.specs.Inputs.{InputRefused}
+use Rattle.aisrun.specs.Endings.{InputTooLong, ReadsWhole, ScriptPasses, ScriptFails, SourceFailed, TextPasses, TextFails}
+use Rattle.aisrun.specs.Steps.{Reaching}
 
 -- how the bytes of an input are judged
 pub data Judged (bytes : List ℕ) (status : Status8) (text : List ℕ) : Type 0 where
@@ -13,9 +13,12 @@ pub data Judged (bytes : List ℕ) (status : Status8) (text : List ℕ) : Type 0
   IsNoScript : status ≡ ScriptRefused → ScriptFails bytes text → Judged bytes status text
 
 -- how the checking of a script ends: the input was read to its end and judged, or it was not read to its end
-pub data CheckEnds {S : Type 0} (source : Edge S (List ℕ)) (status : Status8) (text : List ℕ) : Type 0 where
-  Judges : (bytes : List ℕ) → ReadsWhole source bytes → Judged bytes status text → CheckEnds source status text
-  Unjudged : InputRefused source status text → CheckEnds source status text
+abbrev pub CheckEnds : {S : Type 0} → Edge S (List ℕ) → Reaching
+CheckEnds source (Some Done) text = (bytes : List ℕ) × ReadsWhole source bytes × ScriptPasses bytes text
+CheckEnds source (Some ScriptRefused) text = (bytes : List ℕ) × ReadsWhole source bytes × ScriptFails bytes text
+CheckEnds source (Some ReadFault) text = SourceFailed source text
+CheckEnds source (Some TooLong) text = InputTooLong source text
+CheckEnds source _ text = ⊥
 
 -- how the checking of an expression ends
 pub data ExprEnds (kind : StreamKind) (text : List ℕ) (status : Status8) (printed : List ℕ) : Type 0 where

@@ -1,5 +1,5 @@
 -- Words of public clauses: which counts of faults rise in a run, by the status that it ends with.
-use Rattle.std.specs.Prelude.{◌≡◌, ℕ, ◌⊎◌}
+use Rattle.std.specs.Prelude.{◌≡◌, ℕ, ◌≤◌, Option, Some}
 use Rattle.ais_values.specs.Causes.{Rose}
 use Rattle.aisrun.specs.declared.ending.Status8.{Status8}
 use Rattle.aisrun.specs.declared.ending.Status8.TheVariants.{Memory, ReadFault, WriteFault, DiskFault}
@@ -8,19 +8,23 @@ use Rattle.aisrun.specs.declared.ending.Status8.TheVariants.{Memory, ReadFault, 
 abbrev pub HasStood : ℕ × ℕ → Type 0
 HasStood count = count.1 ≡ count.0
 
--- it rose
+-- it rose, and did not fall to where counts end
 abbrev pub HasRisen : ℕ × ℕ → Type 0
-HasRisen count = Rose count.0 count.1
+HasRisen count = (count.0 ≤ count.1) × Rose count.0 count.1
 
--- The sink's count rises exactly by a write fault, whatever was to come, the source's by a read fault, and the disk's by a disk
--- fault. Behind a write fault or want of memory one of these two may have been to come, so of their counts one at least
--- stands. By any other status all three stand.
+-- By the end that was to come: the source's count rose by a read fault, and the disk's by a disk fault. By any other, and where
+-- none was to come yet, both stand.
+abbrev pub RisesBefore : Option Status8 → (source disk : ℕ × ℕ) → Type 0
+RisesBefore (Some ReadFault) source disk = HasRisen source × HasStood disk
+RisesBefore (Some DiskFault) source disk = HasStood source × HasRisen disk
+RisesBefore _ source disk = HasStood source × HasStood disk
+
+-- The sink's count rises exactly by a write fault. Behind that and want of memory the others are as by some end that was to come,
+-- which `EndsBy` tells; by any other status as by that end.
 abbrev pub RisesBy : Status8 → (source sink disk : ℕ × ℕ) → Type 0
-RisesBy ReadFault source sink disk = HasRisen source × HasStood sink × HasStood disk
-RisesBy WriteFault source sink disk = (HasStood source ⊎ HasStood disk) × HasRisen sink
-RisesBy DiskFault source sink disk = HasStood source × HasStood sink × HasRisen disk
-RisesBy Memory source sink disk = (HasStood source ⊎ HasStood disk) × HasStood sink
-RisesBy _ source sink disk = HasStood source × HasStood sink × HasStood disk
+RisesBy WriteFault source sink disk = ((reached : Option Status8) × RisesBefore reached source disk) × HasRisen sink
+RisesBy Memory source sink disk = ((reached : Option Status8) × RisesBefore reached source disk) × HasStood sink
+RisesBy status source sink disk = RisesBefore (Some status) source disk × HasStood sink
 
 -- no count rose
 abbrev pub NoneRises : (source sink disk : ℕ × ℕ) → Type 0

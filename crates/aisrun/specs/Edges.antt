@@ -1,6 +1,5 @@
 -- Words of public clauses: what a run was given of each thing outside, and what it leaves of it.
 use Rattle.std.specs.Prelude.{◌≡◌, ℕ, List, Option}
-use Rattle.ais_values.specs.Causes.{Rose}
 use Rattle.disk_model.specs.Disk.{Files}
 use Rattle.cluster_core.specs.declared.world.World.{World}
 
@@ -21,9 +20,9 @@ before one = one.told one.old
 abbrev pub after : {S T : Type 0} → Edge S T → Option T
 after one = one.told one.new
 
--- its count of faults rose
-abbrev pub Faulted : {S T : Type 0} → Edge S T → Type 0
-Faulted one = Rose (one.faults one.old) (one.faults one.new)
+-- its count of faults, before and after
+abbrev pub fault_count : {S T : Type 0} → Edge S T → ℕ × ℕ
+fault_count one = (one.faults one.old, one.faults one.new)
 
 -- it was not asked for anything
 abbrev pub IsUntouched : {S T : Type 0} → Edge S T → Type 0

@@ -3,7 +3,6 @@ use Rattle.std.specs.Prelude.{◌≡◌, ℕ, ◌+◌, ◌≤◌, List, [], ◌�
 use Rattle.std.specs.FinMap as files
 use Rattle.std.specs.Io.KnownBytes.{Appends}
 use Rattle.std.specs.Fmt.{decimal}
-use Rattle.ais_values.specs.Causes.{Rose}
 use Rattle.ais_values.specs.declared.kind.StreamKind.{StreamKind}
 use Rattle.disk_model.specs.Disk.{Files}
 use Rattle.io_edge.specs.Reads.{TakesAll, TakesSome}
@@ -33,7 +32,8 @@ use Rattle.aisrun.specs.declared.ending.Status8.TheVariants.{Done, ScriptRefused
 use Rattle.aisrun.specs.declared.command.Command.{Command}
 use Rattle.aisrun.specs.declared.command.Command.TheVariants.{Run, Check, Expr}
 use Rattle.aisrun.specs.Commands.{command_of, text_of as word_text}
-use Rattle.aisrun.specs.Edges.{Edge, before, after, Faulted, IsUntouched, Stage, Around, LeavesAll}
+use Rattle.aisrun.specs.Counts.{HasStood, RisesBefore}
+use Rattle.aisrun.specs.Edges.{Edge, before, after, fault_count, IsUntouched, Stage, Around, LeavesAll}
 use Rattle.aisrun.specs.Playing.{files_told, has_failures, PlaysFront, StandsAt, text_of}
 
 -- the most bytes of an input: 16 MiB
@@ -53,7 +53,6 @@ pub record ReadsScript {S : Type 0} (source : Edge S (List ℕ)) (lines : List L
 -- the source failed before its end was read
 pub record SourceFailed {S : Type 0} (source : Edge S (List ℕ)) (text : List ℕ) : Type 0 where
   pub taken : TakesSome (before source) (after source) (λ count. count ≤ input_limit)
-  pub rose : Faulted source
   pub printed : text ≡ codes "read fault\n"
 
 -- one byte more than the limit was taken
@@ -129,13 +128,12 @@ pub data FaultLeft (setup : Setup) (state : State Alone) (next : Line) (held lef
   Showing : shows_files next ≡ true → Shows setup state world → left ≡ held → lines ≡ [] → FaultLeft setup state next held left world lines
   Working : (told : List Told) → FaultedIn setup next state told held left world → lines ≡ text_of told → FaultLeft setup state next held left world lines
 
--- some value of the disk that told these files had the count of the start, and from it the count rose: a disk without steps cannot
--- say that the run passed through it, and an event that is done leaves the count
-pub record FaultedSince {D : Type 0} (disk : Edge D Files) (held : Option Files) : Type 0 where
+-- some value of the disk that told these files had the count of the start: a disk without steps cannot say that the run passed
+-- through it; what is known beyond is that an event that is done leaves the count
+pub record StoodUpTo {D : Type 0} (disk : Edge D Files) (held : Option Files) : Type 0 where
   pub mid : D
   pub told : disk.told mid ≡ held
   pub stood : disk.faults mid ≡ disk.faults disk.old
-  pub rose : Rose (disk.faults mid) (disk.faults disk.new)
 
 -- the disk failed: as its names were asked for, in the deeds of the start, or in an event behind those that were done, of which
 -- some lines were printed
@@ -148,7 +146,7 @@ pub data DiskFails {K D : Type 0} (script : List Line) (scene : Stage K D) (text
       (done : List Line) (next : Line) (rest : List Line) (text_before : List ℕ) (front : PlaysFront (before scene.disk) script done (next ∷ rest) text_before)
       (lines : List ℕ)
       → FaultLeft front.setup front.goes.state next (files_told front.goes.files (before scene.disk)) (after scene.disk) scene.world_after lines
-      → FaultedSince scene.disk (files_told front.goes.files (before scene.disk)) → text ≡ text_before ++ (lines ++ fault_line) → DiskFails script scene text
+      → StoodUpTo scene.disk (files_told front.goes.files (before scene.disk)) → text ≡ text_before ++ (lines ++ fault_line) → DiskFails script scene text
 
 -- these events of a script were done, and world and disk stand where they led
 pub record PlayedTo {K D : Type 0} (scene : Stage K D) (script done rest : List Line) (text : List ℕ) : Type 0 where
@@ -160,7 +158,7 @@ abbrev pub PlayEnds : {K D : Type 0} → List Line → Stage K D → Option Stat
 PlayEnds lines scene None text = (done rest : List Line) × PlayedTo scene lines done rest text
 PlayEnds lines scene (Some Done) text = (done : List Line) × PlayedTo scene lines done [] text
 PlayEnds lines scene (Some RootNotEmpty) text = RootHolds scene text
-PlayEnds lines scene (Some DiskFault) text = Faulted scene.disk × DiskFails lines scene text
+PlayEnds lines scene (Some DiskFault) text = DiskFails lines scene text
 PlayEnds lines scene _ text = ⊥
 
 -- memory was wanting: before the disk had told that it holds no file, in the deeds of the start, or in an event; what is written
@@ -229,19 +227,20 @@ Ends run (Some Usage) text = KnowsNoWords run text
 Ends run (Some ReadFault) text = StopsReading run SourceFailed text
 Ends run (Some TooLong) text = StopsReading run InputTooLong text
 Ends run (Some RootNotEmpty) text = (lines : List Line) × HasScript run lines × RootHolds run.stage text
-Ends run (Some DiskFault) text = (lines : List Line) × HasScript run lines × Faulted run.stage.disk × DiskFails lines run.stage text
+Ends run (Some DiskFault) text = (lines : List Line) × HasScript run lines × DiskFails lines run.stage text
 Ends run _ text = ⊥
 
 -- a text is printed of which P holds
 abbrev pub Prints : {K : Type 0} → Edge K (List ℕ) → (List ℕ → Type 0) → Type 0
 Prints sink P = (text : List ℕ) × P text × Appends (before sink) (after sink) text
 
--- the sink failed: a front was written of the text of an end, or of what was done so far, and not all of it
+-- the sink did not take all: a front was written of the text of an end, or of what was done so far, and the counts of source and
+-- disk are as by that end
 pub record EndsUnwritten {S K D : Type 0} (run : Around S K D) : Type 0 where
-  pub rose : Faulted run.stage.sink
   pub reached : Option Status8
   pub text : List ℕ
   pub ends : Ends run reached text
+  pub counts : RisesBefore reached (fault_count run.source) (fault_count run.stage.disk)
   pub written : AppendsFront (before run.stage.sink) (after run.stage.sink) text
 
 -- memory ran out as a script was run: before it was read and known, or as it was played
@@ -256,12 +255,12 @@ LacksBy (Some Run) run text = RunLacks run text
 LacksBy (Some Check) run text = (text ≡ []) × LeavesAll run.stage
 LacksBy (Some (Expr kind)) run text = (text ≡ []) × LeavesAll run.stage × IsUntouched run.source
 
--- memory ran out: a front was written of the text of an end, or of what was done so far; or all text up to where memory was wanting
+-- memory ran out in the sink; or elsewhere, where no object had failed, and all text up to there was written
 pub data EndsLacking {S K D : Type 0} (run : Around S K D) : Type 0 where
-  Unwritten :
-      (reached : Option Status8) (text : List ℕ) → Ends run reached text → AppendsFront (before run.stage.sink) (after run.stage.sink) text
-      → EndsLacking run
-  Lacking : (text : List ℕ) → LacksBy (command_of run.words) run text → Appends (before run.stage.sink) (after run.stage.sink) text → EndsLacking run
+  Unwritten : EndsUnwritten run → EndsLacking run
+  Lacking :
+      (text : List ℕ) → LacksBy (command_of run.words) run text → HasStood (fault_count run.source) → HasStood (fault_count run.stage.disk)
+      → Appends (before run.stage.sink) (after run.stage.sink) text → EndsLacking run
 
 -- how a run ends, by its status
 abbrev pub EndsBy : {S K D : Type 0} → Status8 → Around S K D → Type 0

@@ -4,21 +4,15 @@ use Rattle.aisrun.specs.declared.ending.End.{End}
 use Rattle.aisrun.specs.declared.ending.Status8.{Status8}
 use Rattle.aisrun.specs.declared.ending.Status8.TheVariants.{Memory, ReadFault, TooLong}
 use Rattle.aisrun.specs.Commands.{command_of}
-use Rattle.aisrun.specs.Counts.{HasStood}
 use Rattle.aisrun.specs.Edges.{Edge, Stage, Around, LeavesAll}
 use Rattle.aisrun.specs.Endings.{LacksBy, ReadsWhole, SourceFailed, InputTooLong}
 use Rattle.aisrun.specs.Scripting.{BytesEnd, BytesLack}
-use Rattle.aisrun.specs.Steps.{IsNever, IsText, Reaching, SinkRises, Written}
+use Rattle.aisrun.specs.Steps.{IsNever, IsText, Reaching, Written}
 
 -- what the writing of an end gives
 abbrev pub EndWritten : {K E : Type 0} → Result End E → Edge K (List ℕ) → Status8 → Type 0
 EndWritten (Ok end) sink status = Written (IsText end.status end.text.items) IsNever sink status
 EndWritten (Err e) sink status = (status ≡ Memory) × (sink.new ≡ sink.old)
-
--- the sink's count of faults as an end is written
-abbrev pub EndRises : {E : Type 0} → Result End E → (sink : ℕ × ℕ) → Status8 → Type 0
-EndRises (Ok end) sink status = SinkRises end.status sink status
-EndRises (Err e) sink status = (status ≡ Memory) × HasStood sink
 
 -- how the reading and playing of a script ends
 abbrev pub InputEnds : {S K D : Type 0} → Edge S (List ℕ) → Stage K D → Reaching

@@ -3,7 +3,6 @@ use Rattle.std.specs.Prelude.{◌≡◌, ℕ, ℤ, List, [], ◌∷◌, ◌++◌
 use Rattle.std.specs.List.{flat_map}
 use Rattle.std.specs.FinMap as files
 use Rattle.std.specs.Io.KnownBytes.{Appends}
-use Rattle.ais_values.specs.Causes.{Rose}
 use Rattle.disk_model.specs.Disk.{Files}
 use Rattle.io_edge.specs.Writes.{AppendsFront}
 use Rattle.io_edge.specs.declared.answers.SinkAnswer.{SinkAnswer}
@@ -22,9 +21,9 @@ use Rattle.cluster_core.specs.Playing.{EventDone, IsLoneLine}
 use Rattle.cluster_core.specs.Worlds.{IsGood, LeavesFiles, Shows}
 use Rattle.aisrun.specs.declared.ending.Status8.{Status8}
 use Rattle.aisrun.specs.declared.ending.Status8.TheVariants.{Done, Memory, WriteFault, DiskFault}
-use Rattle.aisrun.specs.Counts.{HasStood, HasRisen, RisesBy}
-use Rattle.aisrun.specs.Edges.{Edge, before, after, Faulted}
-use Rattle.aisrun.specs.Endings.{FaultLeft, fault_line}
+use Rattle.aisrun.specs.Counts.{HasStood, HasRisen, RisesBefore}
+use Rattle.aisrun.specs.Edges.{Edge, before, after, fault_count, Stage}
+use Rattle.aisrun.specs.Endings.{FaultLeft, PlayEnds, PlayLacks, fault_line}
 use Rattle.aisrun.specs.Playing.{files_told, Goes, Played, StandsAt, text_of}
 
 -- an end, or a point before any end, with the text up to there
@@ -32,16 +31,39 @@ abbrev pub Reaching : Type 1
 Reaching = Option Status8 → List ℕ → Type 0
 
 -- what was written: the text of an end that E allows; or, as the sink failed or lacked memory, a front of the text of an end, or
--- of what was done up to some point; or all text up to a point at which memory was wanting
+-- of what was done up to some point; or all text up to a point at which memory was wanting. The sink's count of faults rose
+-- exactly where it failed
 pub data Written {K : Type 0} (E : Reaching) (L : List ℕ → Type 0) (sink : Edge K (List ℕ)) (status : Status8) : Type 0 where
-  Whole : (text : List ℕ) → E (Some status) text → Appends (before sink) (after sink) text → Written E L sink status
+  Whole : (text : List ℕ) → E (Some status) text → HasStood (fault_count sink) → Appends (before sink) (after sink) text → Written E L sink status
   SinkFailed :
-      status ≡ WriteFault → Faulted sink → (reached : Option Status8) (text : List ℕ) → E reached text → AppendsFront (before sink) (after sink) text
-      → Written E L sink status
+      status ≡ WriteFault → HasRisen (fault_count sink) → (reached : Option Status8) (text : List ℕ) → E reached text
+      → AppendsFront (before sink) (after sink) text → Written E L sink status
   SinkLacked :
-      status ≡ Memory → (reached : Option Status8) (text : List ℕ) → E reached text → AppendsFront (before sink) (after sink) text
-      → Written E L sink status
-  Lacked : status ≡ Memory → (text : List ℕ) → L text → Appends (before sink) (after sink) text → Written E L sink status
+      status ≡ Memory → HasStood (fault_count sink) → (reached : Option Status8) (text : List ℕ) → E reached text
+      → AppendsFront (before sink) (after sink) text → Written E L sink status
+  Lacked :
+      status ≡ Memory → HasStood (fault_count sink) → (text : List ℕ) → L text → Appends (before sink) (after sink) text → Written E L sink status
+
+-- the count of an object that is not asked
+abbrev pub unasked : ℕ × ℕ
+unasked = (0, 0)
+
+-- an end, and the counts of source and disk as by that end
+abbrev pub Counting : (source disk : ℕ × ℕ) → Reaching → Reaching
+Counting source disk E reached text = E reached text × RisesBefore reached source disk
+
+-- memory was wanting, and both counts stand
+abbrev pub Standing : (source disk : ℕ × ℕ) → (List ℕ → Type 0) → List ℕ → Type 0
+Standing source disk L text = L text × HasStood source × HasStood disk
+
+-- what was written, and how the counts of source and disk hang together with it
+abbrev pub Ended : {K : Type 0} → (source disk : ℕ × ℕ) → Reaching → (List ℕ → Type 0) → Edge K (List ℕ) → Status8 → Type 0
+Ended source disk E L sink status = Written (Counting source disk E) (Standing source disk L) sink status
+
+-- how a script that can be played ends on its stage
+abbrev pub PlayedOn : {K D : Type 0} → List Line → Stage K D → Status8 → Type 0
+PlayedOn lines scene status =
+    Ended unasked (fault_count scene.disk) (PlayEnds lines scene) (PlayLacks lines scene) scene.sink status
 
 -- a text is written, behind which the run ends with a status
 abbrev pub IsText : Status8 → List ℕ → Reaching
@@ -51,21 +73,6 @@ IsText status text reached written = (reached ≡ Some status) × (written ≡ t
 abbrev pub sink_status : SinkAnswer → Status8
 sink_status answer.Memory = Memory
 sink_status answer.Failed = WriteFault
-
--- the sink's count of faults as an end is told: its status is told, unless the sink failed or lacked memory
-pub data SinkRises (status : Status8) (sink : ℕ × ℕ) (result : Status8) : Type 0 where
-  AsIs : result ≡ status → HasStood sink → SinkRises status sink result
-  Failing : result ≡ WriteFault → HasRisen sink → SinkRises status sink result
-  Wanting : result ≡ Memory → HasStood sink → SinkRises status sink result
-
--- the count of an object that is not asked
-abbrev pub unasked : ℕ × ℕ
-unasked = (0, 0)
-
--- the counts of faults behind a line: they stand where it is done, and otherwise have risen by the status that ends the run
-abbrev pub LineRises : Result Unit Status8 → (sink disk : ℕ × ℕ) → Type 0
-LineRises (Ok done) sink disk = HasStood sink × HasStood disk
-LineRises (Err status) sink disk = RisesBy status unasked sink disk
 
 -- memory was wanting nowhere, or where nothing was written
 abbrev pub IsNever : List ℕ → Type 0
@@ -106,17 +113,18 @@ pub record Going (setup : Setup) (places : ℕ) (held left : Option Files) (worl
   pub written : text ≡ text_of told
 
 -- where one line that is played ends: its event is done, or the disk failed behind some lines
-abbrev pub LineEnds : Setup → State Alone → Line → Option Files → Option Files → ℕ → ℕ → World → Reaching
-LineEnds setup state next held left before later world None text =
+abbrev pub LineEnds : Setup → State Alone → Line → Option Files → Option Files → World → Reaching
+LineEnds setup state next held left world None text =
     (lines : List (List ℕ)) × (text ≡ joined_lines lines) × EventDone setup state next lines held left world
-LineEnds setup state next held left before later world (Some DiskFault) text =
-    Rose before later × ((lines : List ℕ) × FaultLeft setup state next held left world lines × (text ≡ lines ++ fault_line))
-LineEnds setup state next held left before later world _ text = ⊥
+LineEnds setup state next held left world (Some DiskFault) text =
+    (lines : List ℕ) × FaultLeft setup state next held left world lines × (text ≡ lines ++ fault_line)
+LineEnds setup state next held left world _ text = ⊥
 
 -- what the playing of a line gives
-abbrev pub LineGives : {K : Type 0} → Reaching → (List ℕ → Type 0) → Edge K (List ℕ) → Result Unit Status8 → Type 0
-LineGives E L sink (Ok done) = (text : List ℕ) × E None text × Appends (before sink) (after sink) text
-LineGives E L sink (Err status) = Written E L sink status
+abbrev pub LineGives : {K : Type 0} → (disk : ℕ × ℕ) → Reaching → (List ℕ → Type 0) → Edge K (List ℕ) → Result Unit Status8 → Type 0
+LineGives disk E L sink (Ok done) =
+    (text : List ℕ) × E None text × HasStood disk × HasStood (fault_count sink) × Appends (before sink) (after sink) text
+LineGives disk E L sink (Err status) = Ended unasked disk E L sink status
 
 -- memory was wanting as a line was played, before anything of it was written
 abbrev pub LineLacks : Setup → State Alone → Option Files → Option Files → World → List ℕ → Type 0
@@ -140,7 +148,7 @@ pub record LacksBehind (setup : Setup) (places : ℕ) (held left : Option Files)
   pub behind : BreaksBehind setup places held events front
   pub broken : Broken setup behind.goes.state (files_told behind.goes.files held) left world
 
--- by a fault of the disk, whose count of faults rose since it told the files of the events before
+-- by a fault of the disk, whose count of faults stood up to where it told the files of the events before
 pub record FaultsBehind (setup : Setup) (places : ℕ) (held left : Option Files) (Since : Option Files → Type 0) (world : World) (events : List Line)
     (text : List ℕ) : Type 0 where
   pub front : List ℕ

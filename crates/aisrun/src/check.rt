@@ -1,13 +1,13 @@
 //! The command `check`: whether the source gives a script.
 ghost use Rattle.std.specs.Prelude.{◌≤◌, length, IfOk};
 ghost use Rattle.aisrun.specs.Checking.{CheckEnds, Judged};
-ghost use Rattle.aisrun.specs.Counts.{RisesBy};
-ghost use Rattle.aisrun.specs.Edges.{edge};
-ghost use Rattle.aisrun.specs.Steps.{unasked};
+ghost use Rattle.aisrun.specs.Edges.{edge, fault_count};
+ghost use Rattle.aisrun.specs.Steps.{Ended, IsNone, unasked};
 
-use crate::ending::{End, bad_line, passed};
-use crate::input::{Input, read_input};
-use io_edge::Source;
+use crate::ending::{End, Status8, bad_line, passed};
+use crate::input::{INPUT_LIMIT, write_unread};
+use crate::writing::write_end;
+use io_edge::{Sink, Source, read_all};
 use script::{ScriptAnswer, count_lines};
 use std::alloc::{AllocError, Global};
 
@@ -29,21 +29,14 @@ fn judge(alloc: Global, bytes: &[u8]) -> Result<End, AllocError>
     }
 }
 
-/// Reads the source to its end and tells whether its bytes are a script.
-///
-/// `Err` only where memory ran out.
-pub fn check_script<S: Source>(alloc: Global, source: &mut S) -> Result<End, AllocError>
-    ensures ends { IfOk result (λ end. CheckEnds (edge S.left S.faults source.old source.new)
-        end.status end.text.items) }
-    ensures faults { IfOk result (λ end. RisesBy end.status
-        (S.faults source.old, S.faults source.new) unasked unasked) }
+/// Reads the source to its end, and writes whether its bytes are a script.
+pub fn run_check<S: Source, K: Sink>(alloc: Global, source: &mut S, out: &mut K) -> Status8
+    ensures { let source = edge S.left S.faults source.old source.new
+        in Ended (fault_count source) unasked (CheckEnds source) IsNone
+        (edge K.written K.faults out.old out.new) result }
 {
-    match read_input(alloc, source) {
-        Ok(Input::Bytes(bytes)) => {
-            let end = judge(alloc, bytes.as_slice())?;
-            Ok(end)
-        }
-        Ok(Input::Refused(end)) => Ok(end),
-        Err(_) => Err(AllocError),
+    match read_all(alloc, source, INPUT_LIMIT) {
+        Ok(bytes) => write_end(out, judge(alloc, bytes.as_slice())),
+        Err(answer) => write_unread(out, answer),
     }
 }

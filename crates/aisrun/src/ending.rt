@@ -90,22 +90,6 @@ pub fn usage(alloc: Global) -> Result<End, AllocError>
     )
 }
 
-/// The end where the source failed.
-pub fn unread(alloc: Global) -> Result<End, AllocError>
-    ensures status { IfOk result (λ end. end.status ≡ Status8.ReadFault) }
-    ensures text { IfOk result (λ end. end.text.items ≡ codes "read fault\n") }
-{
-    end_with(alloc, Status8::ReadFault, b"read fault\n")
-}
-
-/// The end where the input has more than 16 MiB.
-pub fn too_long(alloc: Global) -> Result<End, AllocError>
-    ensures status { IfOk result (λ end. end.status ≡ Status8.TooLong) }
-    ensures text { IfOk result (λ end. end.text.items ≡ codes "script too long\n") }
-{
-    end_with(alloc, Status8::TooLong, b"script too long\n")
-}
-
 /// The end where a script has a line that cannot be played.
 pub fn not_built(alloc: Global) -> Result<End, AllocError>
     ensures status { IfOk result (λ end. end.status ≡ Status8.ScriptRefused) }

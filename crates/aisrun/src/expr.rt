@@ -1,8 +1,6 @@
 //! The command `expr`: whether a word is a format expression.
 ghost use Rattle.std.specs.Prelude.{IfOk};
 ghost use Rattle.aisrun.specs.Checking.{ExprEnds};
-ghost use Rattle.aisrun.specs.Counts.{RisesBy};
-ghost use Rattle.aisrun.specs.Steps.{unasked};
 
 use crate::ending::{End, bad_text, passed};
 use ais_values::StreamKind;
@@ -13,8 +11,7 @@ use std::alloc::{AllocError, Global};
 ///
 /// `Err` only where memory ran out.
 pub fn check_text(alloc: Global, kind: StreamKind, text: &[u8]) -> Result<End, AllocError>
-    ensures ends { IfOk result (λ end. ExprEnds kind text.now end.status end.text.items) }
-    ensures faults { IfOk result (λ end. RisesBy end.status unasked unasked unasked) }
+    ensures { IfOk result (λ end. ExprEnds kind text.now end.status end.text.items) }
 {
     match parse_expr(alloc, kind, text) {
         Ok(expr) => {

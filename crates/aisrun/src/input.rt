@@ -1,43 +1,23 @@
-//! Reading the input of a command.
-ghost use Rattle.std.specs.Prelude.{IfOk};
+//! Where the input of a command was not read to its end.
 ghost use Rattle.aisrun.specs.Edges.{edge};
-ghost use Rattle.aisrun.specs.Inputs.{InputRead, InputRises};
+ghost use Rattle.aisrun.specs.Inputs.{UnreadEnds, UnreadLacks};
+ghost use Rattle.aisrun.specs.Steps.{Written};
 
-use crate::ending::{End, too_long, unread};
-use io_edge::{ReadAnswer, Source, read_all};
-use std::alloc::{AllocError, Global};
+use crate::ending::Status8;
+use crate::writing::write_text;
+use io_edge::{ReadAnswer, Sink};
 
 /// The most bytes of an input: 16 MiB.
-const INPUT_LIMIT: usize = 16_777_216;
+pub const INPUT_LIMIT: usize = 16_777_216;
 
-/// What reading an input gave.
-#[derive(Drop)]
-pub enum Input {
-    /// Its bytes, to its end.
-    Bytes(Vec<u8>),
-    /// The end of a run whose input was not read to its end.
-    Refused(End),
-}
-
-/// Reads the source to its end, up to the limit.
-///
-/// `Err` only where memory ran out.
-pub fn read_input<S: Source>(alloc: Global, source: &mut S) -> Result<Input, AllocError>
-    ensures input { IfOk result (λ input.
-        InputRead (edge S.left S.faults source.old source.new) input) }
-    ensures faults { IfOk result (λ input. InputRises input
-        (S.faults source.old, S.faults source.new)) }
+/// Writes why the source was not read to its end; nothing where memory was wanting. It takes no memory itself.
+pub fn write_unread<K: Sink>(out: &mut K, answer: ReadAnswer) -> Status8
+    ensures { Written (UnreadEnds answer) (UnreadLacks answer)
+        (edge K.written K.faults out.old out.new) result }
 {
-    match read_all(alloc, source, INPUT_LIMIT) {
-        Ok(bytes) => Ok(Input::Bytes(bytes)),
-        Err(ReadAnswer::Memory) => Err(AllocError),
-        Err(ReadAnswer::ReadFault) => {
-            let end = unread(alloc)?;
-            Ok(Input::Refused(end))
-        }
-        Err(ReadAnswer::TooLong) => {
-            let end = too_long(alloc)?;
-            Ok(Input::Refused(end))
-        }
+    match answer {
+        ReadAnswer::Memory => Status8::Memory,
+        ReadAnswer::ReadFault => write_text(out, Status8::ReadFault, b"read fault\n"),
+        ReadAnswer::TooLong => write_text(out, Status8::TooLong, b"script too long\n"),
     }
 }

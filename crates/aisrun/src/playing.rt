@@ -9,11 +9,10 @@ ghost use Rattle.script_language.specs.Lines.{Spells};
 ghost use Rattle.cluster_core.specs.Beginning.{Begun, HoldsNone};
 ghost use Rattle.cluster_core.specs.Playing.{IsLoneLine};
 ghost use Rattle.cluster_core.specs.Worlds.{empty_world, HasState, IsGood, Shows, TellsFiles};
-ghost use Rattle.aisrun.specs.Counts.{RisesBy};
 ghost use Rattle.aisrun.specs.Edges.{edge, stage};
-ghost use Rattle.aisrun.specs.Endings.{FaultedSince, PlayEnds, PlayLacks};
+ghost use Rattle.aisrun.specs.Endings.{StoodUpTo};
 ghost use Rattle.aisrun.specs.Scripting.{CanPlay, IsPlayable};
-ghost use Rattle.aisrun.specs.Steps.{CanFollow, EventsEnd, FindsNames, HasBegun, IsNone, IsText, LacksBehind, LineEnds, LineGives, LineLacks, LineRises, SinkRises, Written, unasked};
+ghost use Rattle.aisrun.specs.Steps.{CanFollow, Ended, EventsEnd, FindsNames, HasBegun, IsNone, IsText, LacksBehind, LineEnds, LineGives, LineLacks, PlayedOn, Written, unasked};
 
 use crate::ending::{Status8, root_holds};
 use crate::writing::{unwritten, write_broken, write_lines, write_text};
@@ -35,14 +34,12 @@ fn play_line<K: Sink, D: SharedDisk>(
     requires spelled { (raw : List ℕ) × Spells line.now raw }
     requires lone { IsLoneLine world.old.now line.now }
     requires state { HasState world.old }
-    ensures ends { (setup : Setup) (state : State Alone) → IsGood setup state
+    ensures { (setup : Setup) (state : State Alone) → IsGood setup state
         → Shows setup state world.old → TellsFiles setup state (D.files disk.old)
-        → LineGives (LineEnds setup state line.now (D.files disk.old) (D.files disk.new)
-        (D.faults disk.old) (D.faults disk.new) world.new)
+        → LineGives (D.faults disk.old, D.faults disk.new)
+        (LineEnds setup state line.now (D.files disk.old) (D.files disk.new) world.new)
         (LineLacks setup state (D.files disk.old) (D.files disk.new) world.new)
         (edge K.written K.faults out.old out.new) result }
-    ensures faults { LineRises result (K.faults out.old, K.faults out.new)
-        (D.faults disk.old, D.faults disk.new) }
 {
     match world.event(alloc, line, disk) {
         Ok(lines) => match write_lines(out, lines.as_slice()) {
@@ -64,14 +61,13 @@ fn play_events<K: Sink, D: SharedDisk>(
 ) -> Status8
     requires begun { HasBegun (D.files disk.old) world.old }
     requires follows { CanFollow world.old.now events.now }
-    ensures ends { (setup : Setup) (places : ℕ) (held : Option Files)
+    ensures { (setup : Setup) (places : ℕ) (held : Option Files)
         → Begun setup places held (D.files disk.old) world.old
-        → Written (EventsEnd setup places held (D.files disk.new)
-        (FaultedSince (edge D.files D.faults disk.old disk.new)) world.new events.now)
+        → Ended unasked (D.faults disk.old, D.faults disk.new)
+        (EventsEnd setup places held (D.files disk.new)
+        (StoodUpTo (edge D.files D.faults disk.old disk.new)) world.new events.now)
         (LacksBehind setup places held (D.files disk.new) world.new events.now)
         (edge K.written K.faults out.old out.new) result }
-    ensures faults { RisesBy result unasked (K.faults out.old, K.faults out.new)
-        (D.faults disk.old, D.faults disk.new) }
 {
     for line in events {
         match play_line(alloc, line, out, disk, world) {
@@ -94,12 +90,8 @@ fn open<K: Sink, D: SharedDisk>(
     requires script { CanPlay opening.now events.now }
     requires empty { world.old ≡ empty_world }
     requires bare { HoldsNone (D.files disk.old) }
-    ensures ends { let scene = stage (edge K.written K.faults out.old out.new)
-        (edge D.files D.faults disk.old disk.new) world.old world.new
-        in let script = opening.now ∷ events.now
-        in Written (PlayEnds script scene) (PlayLacks script scene) scene.sink result }
-    ensures faults { RisesBy result unasked (K.faults out.old, K.faults out.new)
-        (D.faults disk.old, D.faults disk.new) }
+    ensures { PlayedOn (opening.now ∷ events.now) (stage (edge K.written K.faults out.old out.new)
+        (edge D.files D.faults disk.old disk.new) world.old world.new) result }
 {
     match world.begin(alloc, opening, disk) {
         Ok(()) => play_events(alloc, events, out, disk, world),
@@ -129,10 +121,9 @@ fn first_name<D: SharedDisk>(alloc: Global, disk: &mut D) -> Result<Option<Text>
 
 // Writes the end where the disk held a file of this name.
 fn write_held<K: Sink>(alloc: Global, out: &mut K, name: &[u8]) -> Status8
-    ensures ends { Written (IsText Status8.RootNotEmpty
+    ensures { Written (IsText Status8.RootNotEmpty
         (codes "root not empty: " ++ (name.now ++ codes "\n")))
         IsNone (edge K.written K.faults out.old out.new) result }
-    ensures faults { SinkRises Status8.RootNotEmpty (K.faults out.old, K.faults out.new) result }
 {
     match root_holds(alloc, name) {
         Ok(end) => write_text(out, end.status, end.text.as_slice()),
@@ -144,8 +135,8 @@ fn write_held<K: Sink>(alloc: Global, out: &mut K, name: &[u8]) -> Status8
 /// others are its events, whose lines are written as each event ends.
 ///
 /// `RootNotEmpty` comes where the disk holds a file; its least name is written, and disk and world stay.
-/// `DiskFault` comes only where the disk's count of faults rose. By any status but this one, a write fault or want of memory
-/// the count stands.
+/// `DiskFault` comes only where the disk's count of faults rose. By any status but this one the count stands, but where the
+/// sink failed or lacked memory as the line of a disk fault was written.
 pub fn play<K: Sink, D: SharedDisk>(
     alloc: Global,
     lines: &[Line],
@@ -155,11 +146,8 @@ pub fn play<K: Sink, D: SharedDisk>(
 ) -> Status8
     requires script { IsPlayable lines.now }
     requires empty { world.old ≡ empty_world }
-    ensures ends { let scene = stage (edge K.written K.faults out.old out.new)
-        (edge D.files D.faults disk.old disk.new) world.old world.new
-        in Written (PlayEnds lines.now scene) (PlayLacks lines.now scene) scene.sink result }
-    ensures faults { RisesBy result unasked (K.faults out.old, K.faults out.new)
-        (D.faults disk.old, D.faults disk.new) }
+    ensures { PlayedOn lines.now (stage (edge K.written K.faults out.old out.new)
+        (edge D.files D.faults disk.old disk.new) world.old world.new) result }
 {
     match first_name(alloc, disk) {
         Ok(None) => match lines.split_first() {

@@ -5,38 +5,27 @@ ghost use Rattle.aisrun.specs.Commands.{word_bytes};
 ghost use Rattle.aisrun.specs.Completing.{CanCheck, CanParse, CanRun, IsDoneOrMemory};
 ghost use Rattle.aisrun.specs.Counts.{HasRisen, NoneRises, RisesBy};
 ghost use Rattle.aisrun.specs.declared.ending.Status8.{Status8};
-ghost use Rattle.aisrun.specs.Edges.{around, edge, stage};
+ghost use Rattle.aisrun.specs.Edges.{around, edge, fault_count, stage};
 ghost use Rattle.aisrun.specs.Endings.{Ends, EndsBy};
 ghost use Rattle.aisrun.specs.Promises.{OfAllLines, Throughout, CallsBack, CommitsInTime, DeclinesRightly, KeepsFiles, KeepsOneHistory, KeepsRecords, PrintsPosts, ReadsRightly, RepliesRightly, SettlesAll, StandsOnce};
 ghost use Rattle.aisrun.specs.Telling.{TellsAtWant, TellsOnce};
 ghost use Rattle.aisrun.specs.Scripting.{BytesEnd, BytesLack};
-ghost use Rattle.aisrun.specs.RunSteps.{EndRises, EndWritten, InputEnds, InputLacks, WordsLack};
-ghost use Rattle.aisrun.specs.Steps.{Written, unasked};
+ghost use Rattle.aisrun.specs.RunSteps.{InputEnds, InputLacks, WordsLack};
+ghost use Rattle.aisrun.specs.Steps.{Ended, unasked};
 ghost use Rattle.cluster_core.specs.Worlds.{empty_world};
 
-use crate::check::check_script;
+use crate::check::run_check;
 use crate::command::{Command, command_of, text_of};
-use crate::ending::{End, Status8, usage};
+use crate::ending::{Status8, usage};
 use crate::expr::check_text;
-use crate::input::{Input, read_input};
+use crate::input::{INPUT_LIMIT, write_unread};
 use crate::playing::play;
 use crate::reading::{Script, read_script};
-use crate::writing::write_text;
+use crate::writing::{write_end, write_text};
 use cluster_core::World;
 use disk_model::SharedDisk;
-use io_edge::{Sink, Source};
-use std::alloc::{AllocError, Global};
-
-// Writes an end, and tells its status.
-fn write_end<K: Sink>(out: &mut K, end: Result<End, AllocError>) -> Status8
-    ensures ends { EndWritten end (edge K.written K.faults out.old out.new) result }
-    ensures faults { EndRises end (K.faults out.old, K.faults out.new) result }
-{
-    match end {
-        Ok(end) => write_text(out, end.status, end.text.as_slice()),
-        Err(_) => Status8::Memory,
-    }
-}
+use io_edge::{Sink, Source, read_all};
+use std::alloc::Global;
 
 // Plays the script that these bytes are.
 fn run_bytes<K: Sink, D: SharedDisk>(
@@ -48,11 +37,10 @@ fn run_bytes<K: Sink, D: SharedDisk>(
 ) -> Status8
     requires short { length bytes.now ≤ 16777216 }
     requires empty { world.old ≡ empty_world }
-    ensures ends { let scene = stage (edge K.written K.faults out.old out.new)
+    ensures { let scene = stage (edge K.written K.faults out.old out.new)
         (edge D.files D.faults disk.old disk.new) world.old world.new
-        in Written (BytesEnd bytes.now scene) (BytesLack bytes.now scene) scene.sink result }
-    ensures faults { RisesBy result unasked (K.faults out.old, K.faults out.new)
-        (D.faults disk.old, D.faults disk.new) }
+        in Ended unasked (fault_count scene.disk) (BytesEnd bytes.now scene)
+        (BytesLack bytes.now scene) scene.sink result }
 {
     match read_script(alloc, bytes) {
         Ok(Script::Lines(lines)) => play(alloc, lines.as_slice(), out, disk, world),
@@ -70,17 +58,15 @@ fn run_script<S: Source, K: Sink, D: SharedDisk>(
     world: &mut World,
 ) -> Status8
     requires { world.old ≡ empty_world }
-    ensures ends { let source = edge S.left S.faults source.old source.new in
+    ensures { let source = edge S.left S.faults source.old source.new in
         let scene = stage (edge K.written K.faults out.old out.new)
         (edge D.files D.faults disk.old disk.new) world.old world.new
-        in Written (InputEnds source scene) (InputLacks source scene) scene.sink result }
-    ensures faults { RisesBy result (S.faults source.old, S.faults source.new)
-        (K.faults out.old, K.faults out.new) (D.faults disk.old, D.faults disk.new) }
+        in Ended (fault_count source) (fault_count scene.disk) (InputEnds source scene)
+        (InputLacks source scene) scene.sink result }
 {
-    match read_input(alloc, source) {
-        Ok(Input::Bytes(bytes)) => run_bytes(alloc, bytes.as_slice(), out, disk, world),
-        Ok(Input::Refused(end)) => write_text(out, end.status, end.text.as_slice()),
-        Err(_) => Status8::Memory,
+    match read_all(alloc, source, INPUT_LIMIT) {
+        Ok(bytes) => run_bytes(alloc, bytes.as_slice(), out, disk, world),
+        Err(answer) => write_unread(out, answer),
     }
 }
 
@@ -94,17 +80,16 @@ fn run_words<S: Source, K: Sink, D: SharedDisk>(
     world: &mut World,
 ) -> Status8
     requires { world.old ≡ empty_world }
-    ensures ends { let run = around (word_bytes words.now)
+    ensures { let run = around (word_bytes words.now)
         (edge S.left S.faults source.old source.new) (edge K.written K.faults out.old out.new)
         (edge D.files D.faults disk.old disk.new) world.old world.new
-        in Written (Ends run) (WordsLack run) run.stage.sink result }
-    ensures faults { RisesBy result (S.faults source.old, S.faults source.new)
-        (K.faults out.old, K.faults out.new) (D.faults disk.old, D.faults disk.new) }
+        in Ended (fault_count run.source) (fault_count run.stage.disk) (Ends run)
+        (WordsLack run) run.stage.sink result }
 {
     match command_of(words) {
         None => write_end(out, usage(alloc)),
         Some(Command::Run) => run_script(alloc, source, out, disk, world),
-        Some(Command::Check) => write_end(out, check_script(alloc, source)),
+        Some(Command::Check) => run_check(alloc, source, out),
         Some(Command::Expr { kind }) => write_end(out, check_text(alloc, kind, text_of(words))),
     }
 }
@@ -116,13 +101,14 @@ fn run_words<S: Source, K: Sink, D: SharedDisk>(
 /// whether it is a script. The words `expr KIND TEXT` tell whether the text is a format expression; the source stays unread.
 ///
 /// The clause `ends` says of each status what was read, what is written and what stands. Every count of faults stands but
-/// as the status says: `WriteFault` comes exactly where the sink's rose, whatever was to come; `ReadFault` only where the
-/// source's rose, and then only this, `WriteFault` or `Memory` comes; `DiskFault` only where the disk's rose, and then only
-/// this, `WriteFault` or `Memory` comes. An event that is done leaves the disk's count, so it rose as the names were asked
-/// for, in the deeds of the start, or in the event that ended the run. The disk is asked for nothing, and no line is
-/// played, of a script with a line on servers that fail and come back. Where memory ran out, `Memory`, nothing was written
-/// or a front of the text; `check`, `expr` and words that are none of the program's leave disk and world as they are all
-/// the same, `expr` and such words the source too.
+/// as the status says: `WriteFault` comes exactly where the sink's rose, whatever was to come; the source's rises by
+/// `ReadFault` and the disk's by `DiskFault`, and each only so, or where the sink failed or lacked memory as the text of just
+/// this end was written. The disk's rose as the names were asked for, in the deeds of the start, or in an event; of the last
+/// it is said that a value of the disk that tells the files of the events before has the count of the start. The disk is
+/// asked for nothing, and no line is played, of a script with a line on servers that fail and come back. Where memory ran
+/// out in the sink, `Memory`, a front of a text was written; elsewhere no object had failed, and all text up to there was;
+/// `check`, `expr` and words that are none of the program's leave disk and world as they are all the same, `expr` and such
+/// words the source too.
 ///
 /// The clauses behind them say of each run what holds at the end of every line that was played, by any status. A line tells
 /// a refusal by a client's agent exactly where the calls that the client had sent, and those of them whose reply no line

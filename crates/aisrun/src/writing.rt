@@ -4,11 +4,13 @@ ghost use Rattle.ais_values.specs.Causes.{RoseExactlyOn};
 ghost use Rattle.io_edge.specs.Writes.{WritesAll};
 ghost use Rattle.aisrun.specs.Edges.{edge};
 ghost use Rattle.aisrun.specs.Endings.{fault_line};
-ghost use Rattle.aisrun.specs.Steps.{IsNever, IsText, SinkRises, Written, joined_lines, sink_status};
+ghost use Rattle.aisrun.specs.RunSteps.{EndWritten};
+ghost use Rattle.aisrun.specs.Steps.{IsNever, IsText, Written, joined_lines, sink_status};
 
-use crate::ending::{FAULT_LINE, Status8};
+use crate::ending::{End, FAULT_LINE, Status8};
 use ais_values::Seq;
 use io_edge::{Sink, SinkAnswer, write_all};
+use std::alloc::AllocError;
 
 /// The status where the sink did not take all.
 pub fn unwritten(answer: SinkAnswer) -> Status8
@@ -37,9 +39,8 @@ pub fn write_lines<K: Sink>(out: &mut K, lines: &[Seq<u8>]) -> Result<(), SinkAn
 
 /// Writes lines, and behind them the one that tells of a disk fault.
 pub fn write_broken<K: Sink>(out: &mut K, lines: &[Seq<u8>]) -> Status8
-    ensures ends { Written (IsText Status8.DiskFault (joined_lines lines.now ++ fault_line)) IsNever
+    ensures { Written (IsText Status8.DiskFault (joined_lines lines.now ++ fault_line)) IsNever
         (edge K.written K.faults out.old out.new) result }
-    ensures faults { SinkRises Status8.DiskFault (K.faults out.old, K.faults out.new) result }
 {
     match write_lines(out, lines) {
         Ok(()) => write_text(out, Status8::DiskFault, FAULT_LINE),
@@ -49,12 +50,21 @@ pub fn write_broken<K: Sink>(out: &mut K, lines: &[Seq<u8>]) -> Status8
 
 /// Writes a text, behind which the run ends with a status.
 pub fn write_text<K: Sink>(out: &mut K, status: Status8, text: &[u8]) -> Status8
-    ensures ends { Written (IsText status text.now) IsNever
+    ensures { Written (IsText status text.now) IsNever
         (edge K.written K.faults out.old out.new) result }
-    ensures faults { SinkRises status (K.faults out.old, K.faults out.new) result }
 {
     match write_all(out, text) {
         Ok(()) => status,
         Err(answer) => unwritten(answer),
+    }
+}
+
+/// Writes an end, and tells its status.
+pub fn write_end<K: Sink>(out: &mut K, end: Result<End, AllocError>) -> Status8
+    ensures { EndWritten end (edge K.written K.faults out.old out.new) result }
+{
+    match end {
+        Ok(end) => write_text(out, end.status, end.text.as_slice()),
+        Err(_) => Status8::Memory,
     }
 }

@@ -1,9 +1,6 @@
 use Rattle.std.specs.Prelude.{◌++◌, length, codes}
 use Rattle.std.specs.Fmt.{decimal}
-use Rattle.std.proofs.Common.{Err, refl, ap, sym, ◌∙◌, subst}
-use Rattle.aisrun.specs.declared.ending.Status8.{Status8}
-use Rattle.aisrun.specs.Counts.{RisesBy}
-use Rattle.aisrun.specs.Steps.{unasked}
+use Rattle.std.proofs.Common.{Err, ap, ◌∙◌}
 use Rattle.aisrun.specs.Checking.{IsExpression, IsNoExpression}
 use Rattle.aisrun.proofs.expr.check_text.Goals as goal
 
@@ -11,26 +8,18 @@ pub returns-in_ok-end-in-Ok : goal.returns-in_ok-end-in-Ok
 returns-in_ok-end-in-Ok c =
     let end = c.in_ok-end-in-Ok.ensures in
     let pieces = c.in-Ok.ensures in
-    let R : Status8 → Type 0 = λ status. RisesBy status unasked unasked unasked in
-    record {
-      ends = IsExpression end.status (record {
-        pieces = c.in-Ok.expr.pieces;
-        spelled = pieces.pieces;
-        faultless = λ fault found. let bad = (pieces.bad fault).1 found in cc;
-        shown = end.text ∙ ap (λ items. codes "ok " ++ (decimal (length items) ++ codes "\n")) c.as_slice.ensures;
-      });
-      faults = subst R (sym end.status) (refl, refl, refl);
-    }
+    IsExpression end.status (record {
+      pieces = c.in-Ok.expr.pieces;
+      spelled = pieces.pieces;
+      faultless = λ fault found. let bad = (pieces.bad fault).1 found in cc;
+      shown = end.text ∙ ap (λ items. codes "ok " ++ (decimal (length items) ++ codes "\n")) c.as_slice.ensures;
+    })
 
 pub returns-in_ok-end-in-Err-Bad : goal.returns-in_ok-end-in-Err-Bad
 returns-in_ok-end-in-Err-Bad c =
     let end = c.in_ok-end-in-Err-Bad.ensures in
-    let R : Status8 → Type 0 = λ status. RisesBy status unasked unasked unasked in
-    record {
-      ends = IsNoExpression end.status (record {
-        fault = c.in-Err-Bad.fault;
-        found = (c.in-Err-Bad.ensures.bad c.in-Err-Bad.fault).0 (ap Err c.in-Err-Bad.field-0-is);
-        shown = end.text;
-      });
-      faults = subst R (sym end.status) (refl, refl, refl);
-    }
+    IsNoExpression end.status (record {
+      fault = c.in-Err-Bad.fault;
+      found = (c.in-Err-Bad.ensures.bad c.in-Err-Bad.fault).0 (ap Err c.in-Err-Bad.field-0-is);
+      shown = end.text;
+    })

@@ -1,15 +1,14 @@
-use Rattle.std.proofs.Common.{ℕ, List, ◌∷◌, ◌++◌, ◌∙◌, inl, ap, refl}
+use Rattle.std.proofs.Common.{ℕ, List, ◌∷◌, ◌++◌, ◌∙◌, ap, refl}
 use Rattle.aisrun.specs.declared.ending.Status8.TheVariants.{DiskFault}
-use Rattle.aisrun.specs.Edges.{edge, stage}
-use Rattle.aisrun.specs.Endings.{PlayEnds, PlayLacks, Opens, Opening, FaultedSince, AtOpening, fault_line}
-use Rattle.aisrun.specs.Steps.{EventsEnd, LacksBehind, joined_lines, unasked}
-use Rattle.aisrun.proofs.CountSteps.{rises-behind, told-rises}
+use Rattle.aisrun.specs.Edges.{edge, fault_count, stage}
+use Rattle.aisrun.specs.Endings.{PlayEnds, PlayLacks, Opens, Opening, StoodUpTo, AtOpening, fault_line}
+use Rattle.aisrun.specs.Steps.{Counting, EventsEnd, LacksBehind, Standing, joined_lines, unasked}
 use Rattle.aisrun.proofs.EndingSteps.{events-lack, events-play, lacked, text-written}
-use Rattle.aisrun.proofs.WritingSteps.{written-as}
+use Rattle.aisrun.proofs.WritingSteps.{ended-later}
 use Rattle.aisrun.proofs.playing.open.Goals as goal
 
-pub returns-in-Ok-clause-ends : goal.returns-in-Ok-clause-ends
-returns-in-Ok-clause-ends g c =
+pub returns-in-Ok : goal.returns-in-Ok
+returns-in-Ok g c =
     let written = g.K.Sink.written in
     let sink_faults = g.K.Sink.faults in
     let files = g.D.SharedDisk.files in
@@ -18,45 +17,31 @@ returns-in-Ok-clause-ends g c =
     let begun = c.in-Ok.ensures.ok begins.0 begins.1 begins.2 c.requires.bare in
     let sink = edge written sink_faults c.args.out.now c.play_events.new.out in
     let scene = stage sink (edge files faults c.args.disk.now c.play_events.new.disk) c.args.world.now c.play_events.new.world in
-    let E = EventsEnd begins.0 begins.1 (files c.args.disk.now) (files c.play_events.new.disk) (FaultedSince (edge files faults c.begin.new.disk c.play_events.new.disk)) c.play_events.new.world c.args.events.now in
-    written-as E (PlayEnds (c.args.opening.now ∷ c.args.events.now) scene) (LacksBehind begins.0 begins.1 (files c.args.disk.now) (files c.play_events.new.disk) c.play_events.new.world c.args.events.now) (PlayLacks (c.args.opening.now ∷ c.args.events.now) scene) sink c.play_events.result
+    let E = EventsEnd begins.0 begins.1 (files c.args.disk.now) (files c.play_events.new.disk) (StoodUpTo (edge files faults c.begin.new.disk c.play_events.new.disk)) c.play_events.new.world c.args.events.now in
+    ended-later unasked (faults c.args.disk.now) (faults c.begin.new.disk) (faults c.play_events.new.disk) E (PlayEnds (c.args.opening.now ∷ c.args.events.now) scene) (LacksBehind begins.0 begins.1 (files c.args.disk.now) (files c.play_events.new.disk) c.play_events.new.world c.args.events.now) (PlayLacks (c.args.opening.now ∷ c.args.events.now) scene) sink c.play_events.result c.in-Ok.ensures.cause
     (events-play written sink_faults c.args.out.now c.play_events.new.out files faults c.args.world.now c.play_events.new.world c.args.disk.now c.begin.new.disk c.play_events.new.disk c.args.opening.now c.args.events.now begins.0 begins.1 begins.2 c.requires.bare c.in-Ok.ensures.cause)
     (events-lack written sink_faults c.args.out.now c.play_events.new.out files faults c.args.world.now c.play_events.new.world c.args.disk.now c.play_events.new.disk c.args.opening.now c.args.events.now begins.0 begins.1 begins.2 c.requires.bare)
-    (c.play_events.ensures.ends begins.0 begins.1 (files c.args.disk.now) begun)
+    (c.play_events.ensures begins.0 begins.1 (files c.args.disk.now) begun)
 
-pub returns-in-Ok-clause-faults : goal.returns-in-Ok-clause-faults
-returns-in-Ok-clause-faults g c =
-    let sink = g.K.Sink.faults in
-    let disk = g.D.SharedDisk.faults in
-    rises-behind c.play_events.result unasked (sink c.args.out.now) (sink c.args.out.now) (sink c.play_events.new.out) (disk c.args.disk.now) (disk c.begin.new.disk) (disk c.play_events.new.disk) refl c.in-Ok.ensures.cause c.play_events.ensures.faults
-
-pub returns-in-Err-Memory-clause-faults : goal.returns-in-Err-Memory-clause-faults
-returns-in-Err-Memory-clause-faults g c = (inl refl, refl)
-
-pub returns-in-Err-DiskFault-clause-faults : goal.returns-in-Err-DiskFault-clause-faults
-returns-in-Err-DiskFault-clause-faults g c =
-    let sink = g.K.Sink.faults in
-    let disk = g.D.SharedDisk.faults in
-    let rose = rw c.in-Err-DiskFault.field-0-is at c.in-Err-DiskFault.ensures.cause in
-    told-rises DiskFault c.write_broken.result unasked (disk c.args.disk.now, disk c.begin.new.disk) (sink c.args.out.now) (sink c.write_broken.new.out) (refl, refl, rose) c.write_broken.ensures.faults
-
-pub returns-in-Err-Memory-clause-ends : goal.returns-in-Err-Memory-clause-ends
-returns-in-Err-Memory-clause-ends g c =
+pub returns-in-Err-Memory : goal.returns-in-Err-Memory
+returns-in-Err-Memory g c =
     let begins = c.requires.script.begins in
     let broke = rw c.in-Err-Memory.field-0-is at (c.in-Err-Memory.ensures.broken begins.0 begins.1 begins.2) in
+    let stood = rw c.in-Err-Memory.field-0-is at c.in-Err-Memory.ensures.cause in
     let opens : Opens (c.args.opening.now ∷ c.args.events.now) (g.D.SharedDisk.files c.args.disk.now) =
     record { opening = c.args.opening.now; events = c.args.events.now; parts = refl; empty = c.requires.bare; setup = begins.0; places = begins.1; begins = begins.2 } in
-    lacked _ _ _ (Opening refl opens broke c.in-Err-Memory.ensures.same) refl
+    lacked _ _ _ (Opening refl opens broke c.in-Err-Memory.ensures.same, refl, stood) refl
 
-pub returns-in-Err-DiskFault-clause-ends : goal.returns-in-Err-DiskFault-clause-ends
-returns-in-Err-DiskFault-clause-ends g c =
+pub returns-in-Err-DiskFault : goal.returns-in-Err-DiskFault
+returns-in-Err-DiskFault g c =
     let sink = edge g.K.Sink.written g.K.Sink.faults c.args.out.now c.write_broken.new.out in
     let scene = stage sink (edge g.D.SharedDisk.files g.D.SharedDisk.faults c.args.disk.now c.begin.new.disk) c.args.world.now c.begin.new.self in
     let script = c.args.opening.now ∷ c.args.events.now in
+    let disk = fault_count scene.disk in
     let begins = c.requires.script.begins in
-    let rose = rw c.in-Err-DiskFault.field-0-is at c.in-Err-DiskFault.ensures.cause in
+    let risen = rw c.in-Err-DiskFault.field-0-is at c.in-Err-DiskFault.ensures.cause in
     let broke = rw c.in-Err-DiskFault.field-0-is at (c.in-Err-DiskFault.ensures.broken begins.0 begins.1 begins.2) in
     let opens : Opens script (g.D.SharedDisk.files c.args.disk.now) =
     record { opening = c.args.opening.now; events = c.args.events.now; parts = refl; empty = c.requires.bare; setup = begins.0; places = begins.1; begins = begins.2 } in
     let none = ap (λ (lines : List (List ℕ)). joined_lines lines ++ fault_line) (c.as_slice.ensures ∙ c.in-Err-DiskFault.printed-is ∙ broke.0) in
-    text-written (PlayEnds script scene) (PlayLacks script scene) DiskFault (joined_lines c.as_slice.result.now ++ fault_line) sink c.write_broken.result (rose, AtOpening opens broke.1 broke.2 c.in-Err-DiskFault.ensures.same none) c.write_broken.ensures.ends
+    text-written (Counting unasked disk (PlayEnds script scene)) (Standing unasked disk (PlayLacks script scene)) DiskFault (joined_lines c.as_slice.result.now ++ fault_line) sink c.write_broken.result (AtOpening opens broke.1 broke.2 c.in-Err-DiskFault.ensures.same none, (refl, risen)) c.write_broken.ensures

@@ -1,10 +1,9 @@
-use Rattle.std.proofs.Common.{◌+◌, List, drop, refl, ◌∙◌, subst, arith}
+use Rattle.std.proofs.Common.{ℕ, ◌+◌, List, drop, refl, ◌∙◌, subst, arith}
 use Rattle.std.proofs.Math.ListN.{drop_of_length-le}
 use Rattle.script_lines.specs.declared.line.Line.{Line}
 use Rattle.aisrun.specs.Edges.{edge}
-use Rattle.aisrun.specs.Endings.{FaultedSince}
-use Rattle.aisrun.specs.Steps.{Behind, CanFollow, unasked}
-use Rattle.aisrun.proofs.CountSteps.{rises-behind}
+use Rattle.aisrun.specs.Endings.{StoodUpTo}
+use Rattle.aisrun.specs.Steps.{Behind, CanFollow}
 use Rattle.aisrun.proofs.GoingSteps.{behind-start, behind-next, behind-last, behind-ends, follow-next, from-place, going-state, going-tells}
 use Rattle.aisrun.proofs.playing.play_events.Goals as goal
 
@@ -16,8 +15,8 @@ loop-line-init g c = record {
   disk = refl;
 }
 
-pub returns-in-Err-clause-ends : goal.returns-in-Err-clause-ends
-returns-in-Err-clause-ends g c setup places held begun =
+pub returns-in-Err : goal.returns-in-Err
+returns-in-Err g c setup places held begun =
     let written = g.K.Sink.written in
     let sink = g.K.Sink.faults in
     let files = g.D.SharedDisk.files in
@@ -27,9 +26,9 @@ returns-in-Err-clause-ends g c setup places held begun =
     let others = drop (c.loop-line.line-index + 1) events in
     let at = from-place events c.loop-line.line-index line c.loop-line-test.true c.line-item.is in
     let behind = subst (λ (rest : List Line). Behind setup places held (files c.loop-line.disk) c.loop-line.world (edge written sink c.args.out.now c.loop-line.out) events rest) at (c.loop-line.invariant.behind setup places held begun) in
-    behind-ends written sink c.args.out.now c.loop-line.out c.play_line.new.out setup places held (files c.loop-line.disk) (files c.play_line.new.disk) (faults c.loop-line.disk) (faults c.play_line.new.disk) (FaultedSince (edge files faults c.args.disk.now c.play_line.new.disk)) c.loop-line.world c.play_line.new.world events line others c.in-Err.status behind c.loop-line.invariant.sink
-    (λ rose. record { mid = c.loop-line.disk; told = refl; stood = c.loop-line.invariant.disk; rose = rose })
-    (c.in-Err.ensures.ends setup behind.going.state behind.going.good behind.going.shows (going-tells setup places held (files c.loop-line.disk) c.loop-line.world behind.done behind.text behind.going))
+    behind-ends written sink c.args.out.now c.loop-line.out c.play_line.new.out setup places held (files c.loop-line.disk) (files c.play_line.new.disk) (faults c.args.disk.now) (faults c.loop-line.disk) (faults c.play_line.new.disk) (StoodUpTo (edge files faults c.args.disk.now c.play_line.new.disk)) c.loop-line.world c.play_line.new.world events line others c.in-Err.status behind c.loop-line.invariant.sink c.loop-line.invariant.disk
+    (record { mid = c.loop-line.disk; told = refl; stood = c.loop-line.invariant.disk })
+    (c.in-Err.ensures setup behind.going.state behind.going.good behind.going.shows (going-tells setup places held (files c.loop-line.disk) c.loop-line.world behind.done behind.text behind.going))
 
 pub loop-line-preserved : goal.loop-line-preserved
 loop-line-preserved g c =
@@ -45,29 +44,23 @@ loop-line-preserved g c =
     let follows = subst (λ (rest : List Line). CanFollow old.now rest) at c.loop-line.invariant.follows in
     let begun = c.requires.begun in
     let first = c.loop-line.invariant.behind begun.0 begun.1 begun.2 begun.3 in
-    let first_done = c.in-Ok.ensures.ends begun.0 first.going.state first.going.good first.going.shows (going-tells begun.0 begun.1 begun.2 (files c.loop-line.disk) old first.done first.text first.going) in
+    let first_done = c.in-Ok.ensures begun.0 first.going.state first.going.good first.going.shows (going-tells begun.0 begun.1 begun.2 (files c.loop-line.disk) old first.done first.text first.going) in
     record {
       follows = follow-next begun.0 first.going.state (files c.loop-line.disk) (files c.play_line.new.disk) old new line others first_done.1.0 first.going.good first.going.shows first_done.1.2 follows.2;
       behind = λ setup places held starts.
           let behind = subst (λ (rest : List Line). Behind setup places held (files c.loop-line.disk) old (edge written sink c.args.out.now c.loop-line.out) events rest) at (c.loop-line.invariant.behind setup places held starts) in
-          let done = c.in-Ok.ensures.ends setup behind.going.state behind.going.good behind.going.shows (going-tells setup places held (files c.loop-line.disk) old behind.done behind.text behind.going) in
-          behind-next written sink c.args.out.now c.loop-line.out c.play_line.new.out setup places held (files c.loop-line.disk) (files c.play_line.new.disk) old new events line others done.0 done.1.0 behind done.1.1 done.1.2 done.2;
-      sink = c.in-Ok.ensures.faults.0 ∙ c.loop-line.invariant.sink;
-      disk = c.in-Ok.ensures.faults.1 ∙ c.loop-line.invariant.disk;
+          let done = c.in-Ok.ensures setup behind.going.state behind.going.good behind.going.shows (going-tells setup places held (files c.loop-line.disk) old behind.done behind.text behind.going) in
+          behind-next written sink c.args.out.now c.loop-line.out c.play_line.new.out setup places held (files c.loop-line.disk) (files c.play_line.new.disk) old new events line others done.0 done.1.0 behind done.1.1 done.1.2 done.4;
+      sink = first_done.3 ∙ c.loop-line.invariant.sink;
+      disk = first_done.2 ∙ c.loop-line.invariant.disk;
     }
 
-pub returns-in-Err-clause-faults : goal.returns-in-Err-clause-faults
-returns-in-Err-clause-faults g c =
-    let sink = g.K.Sink.faults in
-    let disk = g.D.SharedDisk.faults in
-    rises-behind c.in-Err.status unasked (sink c.args.out.now) (sink c.loop-line.out) (sink c.play_line.new.out) (disk c.args.disk.now) (disk c.loop-line.disk) (disk c.play_line.new.disk) c.loop-line.invariant.sink c.loop-line.invariant.disk c.in-Err.ensures.faults
-
-pub returns-clause-faults : goal.returns-clause-faults
-returns-clause-faults g c = (refl, c.loop-line.invariant.sink, c.loop-line.invariant.disk)
-
-pub returns-clause-ends : goal.returns-clause-ends
-returns-clause-ends g c setup places held begun =
-    behind-last g.K.Sink.written g.K.Sink.faults c.args.out.now c.loop-line.out setup places held (g.D.SharedDisk.files c.loop-line.disk) (FaultedSince (edge g.D.SharedDisk.files g.D.SharedDisk.faults c.args.disk.now c.loop-line.disk)) c.loop-line.world c.args.events.now (drop c.loop-line.line-index c.args.events.now) (drop_of_length-le c.args.events.now (omega arith)) (c.loop-line.invariant.behind setup places held begun)
+pub returns : goal.returns
+returns g c setup places held begun =
+    let files = g.D.SharedDisk.files in
+    let faults = g.D.SharedDisk.faults in
+    let disk : ℕ × ℕ = (faults c.args.disk.now, faults c.loop-line.disk) in
+    behind-last g.K.Sink.written g.K.Sink.faults c.args.out.now c.loop-line.out setup places held (files c.loop-line.disk) disk (StoodUpTo (edge files faults c.args.disk.now c.loop-line.disk)) c.loop-line.world c.args.events.now (drop c.loop-line.line-index c.args.events.now) (drop_of_length-le c.args.events.now (omega arith)) c.loop-line.invariant.sink c.loop-line.invariant.disk (c.loop-line.invariant.behind setup places held begun)
 
 pub play_line-requires-clause-state : goal.play_line-requires-clause-state
 play_line-requires-clause-state g c =

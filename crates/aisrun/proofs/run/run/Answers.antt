@@ -1,4 +1,4 @@
-use Rattle.aisrun.proofs.StatusLaws.{ends-by}
+use Rattle.aisrun.proofs.StatusLaws.{ends-by, rises-by}
 use Rattle.aisrun.proofs.PromiseLaws.{keeps-one-history, replies-rightly, reads-rightly, calls-back, prints-posts, keeps-files, keeps-records, stands-once, settles-all}
 use Rattle.aisrun.proofs.TellingLaws.{tells-once, tells-at-want}
 use Rattle.aisrun.proofs.RefusalLaws.{declines-rightly}
@@ -8,7 +8,10 @@ use Rattle.aisrun.proofs.CompletenessLaws.{completes, checks, exprs}
 use Rattle.aisrun.proofs.run.run.Goals as goal
 
 pub returns-clause-ends : goal.returns-clause-ends
-returns-clause-ends g c = ends-by _ c.run_words.result c.run_words.ensures.ends
+returns-clause-ends g c = ends-by _ c.run_words.result c.run_words.ensures
+
+pub returns-clause-faults : goal.returns-clause-faults
+returns-clause-faults g c = rises-by _ c.run_words.result c.run_words.ensures
 
 pub returns-clause-one_history : goal.returns-clause-one_history
 returns-clause-one_history g c = keeps-one-history _
@@ -54,12 +57,12 @@ returns-clause-want_tells g c = tells-at-want _ _ _
 
 pub returns-clause-completes : goal.returns-clause-completes
 returns-clause-completes g c can none =
-    completes _ c.run_words.result c.run_words.ensures.ends can none.0 none.1 none.2
+    completes _ c.run_words.result c.run_words.ensures can none.0 none.1 none.2
 
 pub returns-clause-checks : goal.returns-clause-checks
 returns-clause-checks g c can reads sink =
-    checks _ c.run_words.result c.run_words.ensures.ends can reads sink
+    checks _ c.run_words.result c.run_words.ensures can reads sink
 
 pub returns-clause-exprs : goal.returns-clause-exprs
 returns-clause-exprs g c can sink =
-    exprs _ c.run_words.result c.run_words.ensures.ends can sink
+    exprs _ c.run_words.result c.run_words.ensures can sink

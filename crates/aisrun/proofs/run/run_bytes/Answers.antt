@@ -2,16 +2,14 @@ use Rattle.std.proofs.Common.{◌≡◌, ℕ, List, false, Some, inl, inr, refl,
 use Rattle.script_lines.specs.declared.line.Line.{Line}
 use Rattle.script_language.specs.Scripts.{IsScriptOf}
 use Rattle.aisrun.specs.declared.ending.Status8.{Status8}
-use Rattle.aisrun.specs.declared.ending.Status8.TheVariants.{ScriptRefused}
-use Rattle.aisrun.specs.Edges.{edge, stage}
+use Rattle.aisrun.specs.Edges.{edge, fault_count, stage}
 use Rattle.aisrun.specs.Endings.{PlayEnds, PlayLacks}
 use Rattle.aisrun.specs.Playing.{has_failures}
 use Rattle.aisrun.specs.Scripting.{BytesEnd, BytesLack, IsPlayable}
-use Rattle.aisrun.specs.Steps.{IsNever, IsText, Reaching, SinkRises, Written, unasked}
-use Rattle.aisrun.proofs.CountSteps.{told-rises}
+use Rattle.aisrun.specs.Steps.{Counting, IsNever, IsText, Standing, Written, unasked}
 use Rattle.aisrun.proofs.EndingSteps.{lacked, play-bytes, text-written}
 use Rattle.aisrun.proofs.ScriptSteps.{can-play}
-use Rattle.aisrun.proofs.WritingSteps.{written-as}
+use Rattle.aisrun.proofs.WritingSteps.{ended-as}
 use Rattle.aisrun.proofs.run.run_bytes.Goals as goal
 
 pub play-requires-clause-script : goal.play-requires-clause-script
@@ -19,33 +17,26 @@ play-requires-clause-script g c =
     let read = rw c.in-Ok-Lines.field-0-is at c.in-Ok-Lines.ensures in
     subst IsPlayable (sym c.as_slice.ensures) (can-play c.in-Ok-Lines.lines c.args.bytes.now read.0 read.1)
 
-pub returns-in-Ok-Lines-clause-ends : goal.returns-in-Ok-Lines-clause-ends
-returns-in-Ok-Lines-clause-ends g c =
+pub returns-in-Ok-Lines : goal.returns-in-Ok-Lines
+returns-in-Ok-Lines g c =
     let read = rw c.in-Ok-Lines.field-0-is at c.in-Ok-Lines.ensures in
     let sink = edge g.K.Sink.written g.K.Sink.faults c.args.out.now c.play.new.out in
     let scene = stage sink (edge g.D.SharedDisk.files g.D.SharedDisk.faults c.args.disk.now c.play.new.disk) c.args.world.now c.play.new.world in
     let lines = c.as_slice.result.now in
     let script = subst (λ (one : List Line). IsScriptOf one c.args.bytes.now) (sym c.as_slice.ensures) read.0 in
     let built = subst (λ (one : List Line). has_failures one ≡ false) (sym c.as_slice.ensures) read.1 in
-    written-as (PlayEnds lines scene) (BytesEnd c.args.bytes.now scene) (PlayLacks lines scene) (BytesLack c.args.bytes.now scene) sink c.play.result (play-bytes scene c.args.bytes.now lines script built) (λ text lacks. inr (lines, script, built, lacks)) c.play.ensures.ends
+    ended-as unasked (fault_count scene.disk) (PlayEnds lines scene) (BytesEnd c.args.bytes.now scene) (PlayLacks lines scene) (BytesLack c.args.bytes.now scene) sink c.play.result (play-bytes scene c.args.bytes.now lines script built) (λ text lacks. inr (lines, script, built, lacks)) c.play.ensures
 
-pub returns-in-Ok-Refused-clause-ends : goal.returns-in-Ok-Refused-clause-ends
-returns-in-Ok-Refused-clause-ends g c =
+pub returns-in-Ok-Refused : goal.returns-in-Ok-Refused
+returns-in-Ok-Refused g c =
     let read = rw c.in-Ok-Refused.field-0-is at c.in-Ok-Refused.ensures in
     let end = c.in-Ok-Refused.end in
     let sink = edge g.K.Sink.written g.K.Sink.faults c.args.out.now c.write_text.new.out in
     let scene = stage sink (edge g.D.SharedDisk.files g.D.SharedDisk.faults c.args.disk.now c.args.disk.now) c.args.world.now c.args.world.now in
-    let E : Reaching = BytesEnd c.args.bytes.now scene in
-    let ends = subst (λ (status : Status8). E (Some status) end.text.items) (sym read.0) (record { disk = refl; world = refl }, read.1) in
-    text-written E (BytesLack c.args.bytes.now scene) end.status end.text.items sink c.write_text.result ends (subst (λ (text : List ℕ). Written (IsText end.status text) IsNever sink c.write_text.result) c.as_slice-in-Ok-Refused.ensures.value c.write_text.ensures.ends)
-
-pub returns-in-Ok-Refused-clause-faults : goal.returns-in-Ok-Refused-clause-faults
-returns-in-Ok-Refused-clause-faults g c =
-    let read = rw c.in-Ok-Refused.field-0-is at c.in-Ok-Refused.ensures in
-    let sink = g.K.Sink.faults in
-    let disk = g.D.SharedDisk.faults c.args.disk.now in
-    let T : Status8 → Type 0 = λ status. SinkRises status (sink c.args.out.now, sink c.write_text.new.out) c.write_text.result in
-    told-rises ScriptRefused c.write_text.result unasked (disk, disk) (sink c.args.out.now) (sink c.write_text.new.out) (refl, refl, refl) (subst T read.0 c.write_text.ensures.faults)
+    let disk = fault_count scene.disk in
+    let E = Counting unasked disk (BytesEnd c.args.bytes.now scene) in
+    let ends = subst (λ (status : Status8). E (Some status) end.text.items) (sym read.0) ((record { disk = refl; world = refl }, read.1), (refl, refl)) in
+    text-written E (Standing unasked disk (BytesLack c.args.bytes.now scene)) end.status end.text.items sink c.write_text.result ends (subst (λ (text : List ℕ). Written (IsText end.status text) IsNever sink c.write_text.result) c.as_slice-in-Ok-Refused.ensures.value c.write_text.ensures)
 
 pub returns-in-Err : goal.returns-in-Err
-returns-in-Err g c = record { ends = lacked _ _ _ (inl (refl, record { disk = refl; world = refl })) refl; faults = (inl refl, refl) }
+returns-in-Err g c = lacked _ _ _ (inl (refl, record { disk = refl; world = refl }), refl, refl) refl

@@ -3,29 +3,18 @@ use Rattle.aisrun.specs.declared.ending.Status8.{Status8}
 use Rattle.aisrun.specs.declared.ending.Status8.TheVariants.{DiskFault}
 use Rattle.aisrun.specs.Edges.{edge}
 use Rattle.aisrun.specs.Endings.{fault_line}
-use Rattle.aisrun.specs.Steps.{IsNever, IsText, SinkRises, Written, joined_lines}
-use Rattle.aisrun.proofs.CountSteps.{sink-behind, unwritten-rises}
+use Rattle.aisrun.specs.Steps.{IsNever, IsText, Written, joined_lines}
 use Rattle.aisrun.proofs.WritingSteps.{unwritten, written-behind, front-more}
 use Rattle.aisrun.proofs.writing.write_broken.Goals as goal
 
-pub returns-in-Ok-clause-ends : goal.returns-in-Ok-clause-ends
+pub returns-in-Ok : goal.returns-in-Ok
 unfolding fault_line
-returns-in-Ok-clause-ends g c =
+returns-in-Ok g c =
     let front = joined_lines c.args.lines.now in
-    written-behind g.K.Sink.written g.K.Sink.faults c.args.out.now c.write_lines.new.out c.write_text.new.out (IsText DiskFault fault_line) (IsText DiskFault (front ++ fault_line)) IsNever IsNever front c.write_text.result c.in-Ok.ensures.bytes c.in-Ok.ensures.cause.stands (λ reached text ends. (ends.0, ap (λ (behind : List ℕ). front ++ behind) ends.1)) (λ text never. never) c.write_text.ensures.ends
+    written-behind g.K.Sink.written g.K.Sink.faults c.args.out.now c.write_lines.new.out c.write_text.new.out (IsText DiskFault fault_line) (IsText DiskFault (front ++ fault_line)) IsNever IsNever front c.write_text.result c.in-Ok.ensures.bytes c.in-Ok.ensures.cause.stands (λ reached text ends. (ends.0, ap (λ (behind : List ℕ). front ++ behind) ends.1)) (λ text never. never) c.write_text.ensures
 
-pub returns-in-Ok-clause-faults : goal.returns-in-Ok-clause-faults
-returns-in-Ok-clause-faults g c =
-    let faults = g.K.Sink.faults in
-    sink-behind DiskFault c.write_text.result (faults c.args.out.now) (faults c.write_lines.new.out) (faults c.write_text.new.out) c.in-Ok.ensures.cause.stands c.write_text.ensures.faults
-
-pub returns-in-Err-clause-faults : goal.returns-in-Err-clause-faults
-returns-in-Err-clause-faults g c =
-    let faults = g.K.Sink.faults in
-    subst (SinkRises DiskFault (faults c.args.out.now, faults c.write_lines.new.out)) (sym c.unwritten.ensures) (unwritten-rises DiskFault (faults c.args.out.now) (faults c.write_lines.new.out) c.in-Err.answer c.in-Err.ensures.cause)
-
-pub returns-in-Err-clause-ends : goal.returns-in-Err-clause-ends
-returns-in-Err-clause-ends g c =
+pub returns-in-Err : goal.returns-in-Err
+returns-in-Err g c =
     let front = joined_lines c.args.lines.now in
     let sink = edge g.K.Sink.written g.K.Sink.faults c.args.out.now c.write_lines.new.out in
     let E = IsText DiskFault (front ++ fault_line) in
