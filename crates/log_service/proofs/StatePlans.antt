@@ -105,4 +105,3 @@ module _ (last : ℤ) (users : List ℕ) (streams : List OpenStream) (kept : Log
         few = subst (λ (these : List OpenStream). AreFew these) (sym plans.stores.streams) (AreFew-changed (with_stored (unsigned_abs last) (second_of now) rec) (λ _. refl) (is_named name) streams few);
         busy = ap (list_any has_nobody) plans.stores.streams ∙ busy-changed (with_stored (unsigned_abs last) (second_of now) rec) (λ _ stays. stays) (is_named name) streams busy;
       })
-
