@@ -1,5 +1,5 @@
 -- Words of the law: what the rule of a queue comes to.
-use Rattle.std.specs.Prelude.{◌≡◌, ℕ, suc, ◌<◌, ◌≤◌, ◌↔◌, ⊤, Some, All, Contains, List, [], ◌∷◌, length, drop, slice_get}
+use Rattle.std.specs.Prelude.{◌≡◌, ℕ, suc, ◌<◌, ◌≤◌, ◌↔◌, ⊤, true, Some, All, Contains, List, [], ◌∷◌, length, drop, slice_get}
 use mathlib.Core.Option.{some}
 use lib.ListN.{get_elem?}
 use Rattle.calls.specs.declared.reply.Callback.{Callback}
@@ -17,8 +17,12 @@ abbrev pub StandsOnce : Numbered → List View → Type 0
 StandsOnce x views =
     (taker : ℕ) × (taker < length views) × ((pass : ℕ) (v : View) → get_elem? views pass ≡ some v → (Contains v.taken x ↔ (pass ≡ taker)))
 
--- Of all callbacks that were fed some left the queue, the first ones, and the queue holds the others, in order. Each
--- that left stands in one taker's list alone, and there once.
+-- the element is one of the first callbacks, so many of them, under its number
+abbrev pub IsOfFirst : ℕ → List Callback → Numbered → Type 0
+IsOfFirst out all x = (place : ℕ) × (place < out) × (slice_get all place ≡ Some x.callback) × (x.number ≡ suc place)
+
+-- All are the callbacks that the feeder fed. The first of them left the queue, and it holds the others, in order. Each
+-- that left stands in one taker's list alone, and there once; no list has another element.
 pub record IsShared (items : List Numbered) (views : List View) : Type 0 where
   pub all : List Callback
   pub out : ℕ
@@ -26,3 +30,5 @@ pub record IsShared (items : List Numbered) (views : List View) : Type 0 where
   pub waiting : items ≡ numbered (suc out) (drop out all)
   pub taken : (place : ℕ) (callback : Callback) → place < out → slice_get all place ≡ Some callback → StandsOnce (element (suc place) callback) views
   pub once : (pass : ℕ) (v : View) → get_elem? views pass ≡ some v → Rises v.taken
+  pub fed : (pass : ℕ) (v : View) → get_elem? views pass ≡ some v → v.feeds ≡ true → v.fed ≡ all
+  pub own : (pass : ℕ) (v : View) (x : Numbered) → get_elem? views pass ≡ some v → Contains v.taken x → IsOfFirst out all x

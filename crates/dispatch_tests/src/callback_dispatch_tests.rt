@@ -1,7 +1,7 @@
 //! What no clause says: that calls succeed while there is memory, and that workers run at the same time.
 ghost use Rattle.std.specs.Prelude.{◌≡◌, ◌+◌, ◌^◌, ◌<◌, ◌≤◌, [], length};
 
-use ais_values::{Seq, Status};
+use ais_values::{Duplicate, Seq, Status};
 use callback_dispatch::{CallbackQueue, Feeder, Gate, Numbered, OpenGate, Taker};
 use calls::Callback;
 use std::process::Abort;
@@ -108,6 +108,23 @@ fn a_full_queue_hands_the_callback_back(rt: HostRuntime) -> Result<(), Fail> {
     takes(&rt, &queue, &mut taker, 2, 7);
     is_empty(&rt, &queue, &mut taker);
     Ok(())
+}
+
+#[test]
+fn an_element_is_copied(rt: HostRuntime) {
+    let element = Numbered {
+        number: 7,
+        callback: written(5),
+    };
+    let copy = element.copy(rt.alloc()).expect(&rt, "memory");
+    assert!(rt; copy == element);
+    drop(copy);
+    drop(element);
+}
+
+#[test]
+fn laws_of_callback_dispatch() {
+    callback_dispatch::law_of_sharing();
 }
 
 #[test]

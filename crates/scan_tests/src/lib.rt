@@ -4,4 +4,6 @@
 #[cfg(test)]
 mod find_tests;
 #[cfg(test)]
+mod laws_tests;
+#[cfg(test)]
 mod token_tests;

@@ -1,7 +1,7 @@
 use ais_values::{ClassId, Name, Seq, StreamKind, Text};
 use format_expr::{Expr, parse_expr};
 use record_print::{Header, LogRecord, is_printable, print_record};
-use record_scan::{scan_record, separable};
+use record_scan::{is_text, scan_record, separable};
 use std::alloc::{AllocError, Global};
 use std::process::Abort;
 
@@ -112,10 +112,11 @@ fn printed(rt: &impl Abort, alloc: Global, kind: StreamKind, expr: &Expr, size: 
     line
 }
 
-/// Whether the texts are this one alone.
+/// Whether the texts are this one alone, with the number 1.
 fn is_alone(texts: Seq<Seq<u8>>, want: &[u8]) -> bool {
-    let alone = match texts.as_slice() {
-        [text] => text.as_slice() == want,
+    let all = texts.as_slice();
+    let alone = match all {
+        [text] => text.as_slice() == want && is_text(all, 1, want) && !is_text(all, 0, want),
         _ => false,
     };
     drop(texts);
