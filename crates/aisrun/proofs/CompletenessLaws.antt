@@ -9,20 +9,25 @@ use Rattle.ais_values.specs.declared.kind.StreamKind.{StreamKind}
 use Rattle.disk_model.specs.Disk.{File, no_files}
 use Rattle.io_edge.specs.Reads.{TakesAll, TakesSome}
 use Rattle.format_expr.specs.declared.fault.ExprFault.{ExprFault}
+use Rattle.format_expr.specs.declared.piece.Piece.{Piece}
 use Rattle.format_expr.specs.Faults.{IsFault}
+use Rattle.format_expr.proofs.ReadingLaws.{parse_is_read}
+use Rattle.record_scan.specs.Separable.{StandsInWay}
 use Rattle.script_lines.specs.declared.line.Line.{Line}
 use Rattle.script_language.specs.Scripts.{IsScriptOf}
 use Rattle.aisrun.specs.declared.ending.Status8.{Status8}
-use Rattle.aisrun.specs.declared.ending.Status8.TheVariants.{Done, ScriptRefused, Usage, Memory, ReadFault, WriteFault, DiskFault, RootNotEmpty, TooLong}
+use Rattle.aisrun.specs.declared.ending.Status8.TheVariants.{Done, ScriptRefused, Usage, Memory, ReadFault, WriteFault, DiskFault, RootNotEmpty, TooLong, Inseparable}
 use Rattle.aisrun.specs.declared.command.Command.{Command}
-use Rattle.aisrun.specs.declared.command.Command.TheVariants.{Run, Check, Expr}
+use Rattle.aisrun.specs.declared.command.Command.TheVariants.{Run, Check, Expr, Scan}
+use Rattle.aisrun.specs.declared.command.RecordQuery.{RecordQuery}
 use Rattle.aisrun.specs.Commands.{command_of, text_of}
-use Rattle.aisrun.specs.Completing.{CanCheck, CanParse, CanRun, IsDoneOrMemory}
+use Rattle.aisrun.specs.Completing.{CanCheck, CanParse, CanRun, HoldsRecords, IsDoneOrMemory}
 use Rattle.aisrun.specs.Counts.{HasRisen, RisesBefore}
 use Rattle.aisrun.specs.Edges.{Edge, before, after, fault_count, Around}
-use Rattle.aisrun.specs.Endings.{input_limit, ReadsWhole, InputTooLong, Ends, Reads, NoScript, NotBuilt, NoExpression}
+use Rattle.aisrun.specs.Endings.{input_limit, ReadsWhole, InputTooLong, Ends, Reads, ReadsSource, NoScript, NotBuilt, NoExpression}
 use Rattle.aisrun.specs.Playing.{has_failures}
 use Rattle.aisrun.specs.RunSteps.{WordsLack}
+use Rattle.aisrun.specs.Scanning.{CanScan, CannotPart, TakesText}
 use Rattle.aisrun.specs.Steps.{Ended, Whole, SinkFailed, SinkLacked, Lacked}
 
 -- a source that tells its bytes and was read to its end gave just these
@@ -67,6 +72,34 @@ module _ {S K D : Type 0} (run : Around S K D) where
   not-reading kind is (inl runs) = let no : Expr kind ≡ Run = asked (Expr kind) Run is runs in cc
   not-reading kind is (inr checks) = let no : Expr kind ≡ Check = asked (Expr kind) Check is checks in cc
 
+  not-asking : (kind : StreamKind) → command_of run.words ≡ Some (Expr kind) → ReadsSource run.words → ⊥
+  not-asking kind is (inl reads) = not-reading kind is reads
+  not-asking kind is (inr can) = let no : Expr kind ≡ Scan can.query = asked (Expr kind) (Scan can.query) is can.asked in cc
+
+  no-text : (kind : StreamKind) → Reads run.words → TakesText run.words kind → ⊥
+  no-text kind reads (inl exprs) = not-reading kind exprs reads
+  no-text kind (inl runs) (inr scans) = let no : Run ≡ Scan scans.0 = asked Run (Scan scans.0) runs scans.1 in cc
+  no-text kind (inr checks) (inr scans) = let no : Check ≡ Scan scans.0 = asked Check (Scan scans.0) checks scans.1 in cc
+
+  same-kind : (kind other : StreamKind) → command_of run.words ≡ Some (Expr kind) → TakesText run.words other → other ≡ kind
+  same-kind kind other is (inl exprs) = let same : Expr other ≡ Expr kind = asked (Expr other) (Expr kind) exprs is in cc
+  same-kind kind other is (inr scans) =
+      let no : Expr kind ≡ Scan scans.0 = asked (Expr kind) (Scan scans.0) is scans.1 in
+      absurd cc
+
+  not-scripts : (query : RecordQuery) → command_of run.words ≡ Some (Scan query) → Reads run.words → ⊥
+  not-scripts query is (inl runs) = let no : Scan query ≡ Run = asked (Scan query) Run is runs in cc
+  not-scripts query is (inr checks) = let no : Scan query ≡ Check = asked (Scan query) Check is checks in cc
+
+  query-kind : (query : RecordQuery) (kind : StreamKind) → command_of run.words ≡ Some (Scan query) → TakesText run.words kind → kind ≡ query.kind
+  query-kind query kind is (inl exprs) =
+      let no : Scan query ≡ Expr kind = asked (Scan query) (Expr kind) is exprs in
+      absurd cc
+  query-kind query kind is (inr scans) =
+      let same : Scan scans.0 ≡ Scan query = asked (Scan scans.0) (Scan query) scans.1 is in
+      let queries : scans.0 ≡ query = cc in
+      sym scans.2 ∙ ap (λ (one : RecordQuery). one.kind) queries
+
   -- a script that can be played
   played : (lines : List Line) (bytes : List ℕ) → command_of run.words ≡ Some Run → before run.source ≡ Some bytes → length bytes ≤ 16777216 → IsScriptOf lines bytes → has_failures lines ≡ false → before run.stage.disk ≡ Some no_files → (HasRisen (fault_count run.source) → ⊥) → (HasRisen (fault_count run.stage.disk) → ⊥) → (status : Status8) (text : List ℕ) → RisesBefore (Some status) (fault_count run.source) (fault_count run.stage.disk) → Ends run (Some status) text → status ≡ Done
   played lines bytes words left short script well empty reads disk Done text rises end = refl
@@ -76,9 +109,7 @@ module _ {S K D : Type 0} (run : Around S K D) where
       let same : lines ≡ built.lines = built.one lines (subst (λ (one : List ℕ). IsScriptOf lines one) (sym (read-all run.source bytes taken left read)) script) in
       let no : false ≡ true = sym well ∙ ap has_failures same ∙ built.fails in
       absurd cc
-  played lines bytes words left short script well empty reads disk ScriptRefused text rises (NoExpression kind asks all source fails) =
-      let no : Run ≡ Expr kind = asked Run (Expr kind) words asks in
-      absurd cc
+  played lines bytes words left short script well empty reads disk ScriptRefused text rises (NoExpression kind asks all source fails) = absurd (no-text kind (inl words) asks)
   played lines bytes words left short script well empty reads disk Usage text rises end =
       let no : None ≡ Some Run = sym end.unknown ∙ words in
       absurd cc
@@ -91,6 +122,8 @@ module _ {S K D : Type 0} (run : Around S K D) where
       let found : (others : List (List ℕ)) × (keys no_files ≡ holds.name ∷ others) = subst (λ o. IfSome o (λ f. (others : List (List ℕ)) × (keys f ≡ holds.name ∷ others))) empty holds.least in
       absurd (no-name holds.name found.0 found.1)
   played lines bytes words left short script well empty reads disk TooLong text rises end = absurd (not-too-long run.source bytes text left short end.why)
+  played lines bytes words left short script well empty reads disk Inseparable text rises end =
+      absurd (not-scripts end.cannot.query end.cannot.asked (inl words))
 
   -- a script that is checked
   checked : (lines : List Line) (bytes : List ℕ) → command_of run.words ≡ Some Check → before run.source ≡ Some bytes → length bytes ≤ 16777216 → IsScriptOf lines bytes → (HasRisen (fault_count run.source) → ⊥) → (status : Status8) (text : List ℕ) → RisesBefore (Some status) (fault_count run.source) (fault_count run.stage.disk) → Ends run (Some status) text → status ≡ Done
@@ -100,9 +133,7 @@ module _ {S K D : Type 0} (run : Around S K D) where
   checked lines bytes words left short script reads ScriptRefused text rises (NotBuilt asks all taken read built) =
       let no : Check ≡ Run = asked Check Run words asks in
       absurd cc
-  checked lines bytes words left short script reads ScriptRefused text rises (NoExpression kind asks all source fails) =
-      let no : Check ≡ Expr kind = asked Check (Expr kind) words asks in
-      absurd cc
+  checked lines bytes words left short script reads ScriptRefused text rises (NoExpression kind asks all source fails) = absurd (no-text kind (inr words) asks)
   checked lines bytes words left short script reads Usage text rises end =
       let no : None ≡ Some Check = sym end.unknown ∙ words in
       absurd cc
@@ -116,6 +147,8 @@ module _ {S K D : Type 0} (run : Around S K D) where
       let no : Check ≡ Run = asked Check Run words end.1.words in
       absurd cc
   checked lines bytes words left short script reads TooLong text rises end = absurd (not-too-long run.source bytes text left short end.why)
+  checked lines bytes words left short script reads Inseparable text rises end =
+      absurd (not-scripts end.cannot.query end.cannot.asked (inr words))
 
   -- an expression that is checked
   parsed : (kind : StreamKind) → command_of run.words ≡ Some (Expr kind) → ((fault : ExprFault) → IsFault kind (text_of run.words) fault → ⊥) → (status : Status8) (text : List ℕ) → Ends run (Some status) text → status ≡ Done
@@ -123,18 +156,44 @@ module _ {S K D : Type 0} (run : Around S K D) where
   parsed kind words faultless ScriptRefused text (NoScript asks all taken read fails) = absurd (not-reading kind words asks)
   parsed kind words faultless ScriptRefused text (NotBuilt asks all taken read built) = absurd (not-reading kind words (inl asks))
   parsed kind words faultless ScriptRefused text (NoExpression other asks all source fails) =
-      let same : Expr other ≡ Expr kind = asked (Expr other) (Expr kind) asks words in
-      let kinds : other ≡ kind = cc in
-      absurd (faultless fails.fault (subst (λ (one : StreamKind). IsFault one (text_of run.words) fails.fault) kinds fails.found))
+      absurd (faultless fails.fault (subst (λ (one : StreamKind). IsFault one (text_of run.words) fails.fault) (same-kind kind other words asks) fails.found))
   parsed kind words faultless Usage text end =
       let no : None ≡ Some (Expr kind) = sym end.unknown ∙ words in
       absurd cc
   parsed kind words faultless Memory text end = absurd end
-  parsed kind words faultless ReadFault text end = absurd (not-reading kind words end.words)
+  parsed kind words faultless ReadFault text end = absurd (not-asking kind words end.words)
   parsed kind words faultless WriteFault text end = absurd end
   parsed kind words faultless DiskFault text end = absurd (not-reading kind words (inl end.1.words))
   parsed kind words faultless RootNotEmpty text end = absurd (not-reading kind words (inl end.1.words))
-  parsed kind words faultless TooLong text end = absurd (not-reading kind words end.words)
+  parsed kind words faultless TooLong text end = absurd (not-asking kind words end.words)
+  parsed kind words faultless Inseparable text end =
+      let no : Expr kind ≡ Scan end.cannot.query = asked (Expr kind) (Scan end.cannot.query) words end.cannot.asked in
+      absurd cc
+
+  -- records that are told
+  scanned : (can : CanScan run.words) (bytes : List ℕ) → before run.source ≡ Some bytes → length bytes ≤ 16777216 → (HasRisen (fault_count run.source) → ⊥) → (status : Status8) (text : List ℕ) → RisesBefore (Some status) (fault_count run.source) (fault_count run.stage.disk) → Ends run (Some status) text → status ≡ Done
+  scanned can bytes left short reads Done text rises end = refl
+  scanned can bytes left short reads ScriptRefused text rises (NoScript asks all taken read fails) = absurd (not-scripts can.query can.asked asks)
+  scanned can bytes left short reads ScriptRefused text rises (NotBuilt asks all taken read built) =
+      absurd (not-scripts can.query can.asked (inl asks))
+  scanned can bytes left short reads ScriptRefused text rises (NoExpression kind asks all source fails) =
+      absurd (can.parted.expr.faultless fails.fault (subst (λ (one : StreamKind). IsFault one (text_of run.words) fails.fault) (query-kind can.query kind can.asked asks) fails.found))
+  scanned can bytes left short reads Usage text rises end =
+      let no : None ≡ Some (Scan can.query) = sym end.unknown ∙ can.asked in
+      absurd cc
+  scanned can bytes left short reads Memory text rises end = absurd end
+  scanned can bytes left short reads ReadFault text rises end = absurd (reads rises.0)
+  scanned can bytes left short reads WriteFault text rises end = absurd end
+  scanned can bytes left short reads DiskFault text rises end = absurd (not-scripts can.query can.asked (inl end.1.words))
+  scanned can bytes left short reads RootNotEmpty text rises end = absurd (not-scripts can.query can.asked (inl end.1.words))
+  scanned can bytes left short reads TooLong text rises end = absurd (not-too-long run.source bytes text left short end.why)
+  scanned can bytes left short reads Inseparable text rises end =
+      let cannot = end.cannot in
+      let same : Scan cannot.query ≡ Scan can.query = asked (Scan cannot.query) (Scan can.query) cannot.asked can.asked in
+      let queries : cannot.query ≡ can.query = cc in
+      let why = subst (λ (query : RecordQuery). CannotPart query (text_of run.words) text) queries cannot.why in
+      let pieces = sym (parse_is_read can.query.kind why.pieces (text_of run.words) why.expr.spelled) ∙ parse_is_read can.query.kind can.pieces (text_of run.words) can.parted.expr.spelled in
+      absurd (can.parted.separable why.piece (subst (λ (parts : List Piece). StandsInWay parts can.query.size why.piece) pieces why.first.stands))
 
   -- where the sink does not fail either, only memory may be missing
   well : (status : Status8) → (HasRisen (fault_count run.stage.sink) → ⊥) → ((text : List ℕ) → RisesBefore (Some status) (fault_count run.source) (fault_count run.stage.disk) → Ends run (Some status) text → status ≡ Done) → Ended (fault_count run.source) (fault_count run.stage.disk) (Ends run) (WordsLack run) run.stage.sink status → IsDoneOrMemory status
@@ -156,3 +215,7 @@ module _ {S K D : Type 0} (run : Around S K D) where
   pub exprs : (status : Status8) → Ended (fault_count run.source) (fault_count run.stage.disk) (Ends run) (WordsLack run) run.stage.sink status → CanParse run.words → (HasRisen (fault_count run.stage.sink) → ⊥) → IsDoneOrMemory status
   exprs status ended can sink =
       well status sink (λ text rises end. parsed can.kind can.asked can.faultless status text end) ended
+
+  pub scans : (status : Status8) → Ended (fault_count run.source) (fault_count run.stage.disk) (Ends run) (WordsLack run) run.stage.sink status → HoldsRecords run.words (before run.source) → (HasRisen (fault_count run.source) → ⊥) → (HasRisen (fault_count run.stage.sink) → ⊥) → IsDoneOrMemory status
+  scans status ended holds reads sink =
+      well status sink (λ text rises end. scanned holds.can holds.bytes holds.told holds.short reads status text rises end) ended

@@ -2,7 +2,7 @@
 use Rattle.std.proofs.Common.{◌≡◌, ℕ, ◌≤◌, ◌⊎◌, inl, inr, Option, Some, None, Err, ap, sym, ◌∙◌, subst, arith}
 use Rattle.ais_values.specs.Causes.{one_more, RoseExactlyOn}
 use Rattle.aisrun.specs.declared.ending.Status8.{Status8}
-use Rattle.aisrun.specs.declared.ending.Status8.TheVariants.{Done, ScriptRefused, Usage, Memory, ReadFault, WriteFault, DiskFault, RootNotEmpty, TooLong}
+use Rattle.aisrun.specs.declared.ending.Status8.TheVariants.{Done, ScriptRefused, Usage, Memory, ReadFault, WriteFault, DiskFault, RootNotEmpty, TooLong, Inseparable}
 use Rattle.aisrun.specs.Counts.{HasStood, HasRisen, RisesBefore}
 use Rattle.aisrun.specs.Edges.{Edge, fault_count, IsUntouched}
 use Rattle.aisrun.specs.Steps.{unasked}
@@ -42,6 +42,7 @@ rises-as (Some WriteFault) s d source disk stood risen disk_stood disk_risen ris
 rises-as (Some DiskFault) s d source disk stood risen disk_stood disk_risen rises = (stood rises.0, disk_risen rises.1)
 rises-as (Some RootNotEmpty) s d source disk stood risen disk_stood disk_risen rises = (stood rises.0, disk_stood rises.1)
 rises-as (Some TooLong) s d source disk stood risen disk_stood disk_risen rises = (stood rises.0, disk_stood rises.1)
+rises-as (Some Inseparable) s d source disk stood risen disk_stood disk_risen rises = (stood rises.0, disk_stood rises.1)
 
 -- the source was read to its end before
 pub rises-read : (reached : Option Status8) (source disk : ℕ × ℕ) → HasStood source → RisesBefore reached unasked disk → RisesBefore reached source disk

@@ -22,7 +22,7 @@ use Rattle.cluster_core.specs.Beginning.{Begins, HoldsNone}
 use Rattle.cluster_core.specs.Broken.{Broken}
 use Rattle.aisrun.specs.declared.ending.End.{End}
 use Rattle.aisrun.specs.declared.ending.Status8.{Status8}
-use Rattle.aisrun.specs.declared.ending.Status8.TheVariants.{Done, ScriptRefused, Usage, Memory, ReadFault, WriteFault, DiskFault, RootNotEmpty, TooLong}
+use Rattle.aisrun.specs.declared.ending.Status8.TheVariants.{Done, ScriptRefused, Usage, Memory, ReadFault, WriteFault, DiskFault, RootNotEmpty, TooLong, Inseparable}
 use Rattle.aisrun.specs.declared.command.Command.{Command}
 use Rattle.aisrun.specs.declared.command.Command.TheVariants.{Run, Check, Expr}
 use Rattle.aisrun.specs.Commands.{command_of, text_of}
@@ -34,6 +34,7 @@ use Rattle.aisrun.specs.Inputs.{UnreadEnds, UnreadLacks}
 use Rattle.aisrun.specs.Playing.{files_told, has_failures, Goes, PlaysFront, StandsAt}
 use Rattle.aisrun.specs.RunSteps.{EndWritten, InputEnds, InputLacks}
 use Rattle.aisrun.specs.Scripting.{BytesEnd, BytesLack}
+use Rattle.aisrun.specs.Usage.{usage_line}
 use Rattle.aisrun.specs.Steps.{EventsEnd, LacksBehind, IsNever, IsText, Reaching, Written, Lacked, Counting, Standing, Ended, unasked}
 use Rattle.aisrun.proofs.CountSteps.{other-stood, untouched-stood}
 use Rattle.aisrun.proofs.WritingSteps.{written-as}
@@ -109,6 +110,7 @@ module _ {K D : Type 0} (told : K → Option (List ℕ)) (sink_faults : K → �
   events-play old mid new opening events setup places begins empty stood (Some WriteFault) text ends = absurd ends
   events-play old mid new opening events setup places begins empty stood (Some RootNotEmpty) text ends = absurd ends
   events-play old mid new opening events setup places begins empty stood (Some TooLong) text ends = absurd ends
+  events-play old mid new opening events setup places begins empty stood (Some Inseparable) text ends = absurd ends
 
   pub events-lack : (old new : D) (opening : Line) (events : List Line) (setup : Setup) (places : ℕ) → Begins opening setup places → HoldsNone (held old) → (text : List ℕ) → LacksBehind setup places (held old) (held new) world_after events text → PlayLacks (opening ∷ events) (stage (edge told sink_faults out out_after) (edge held disk_faults old new) world world_after) text
   events-lack old new opening events setup places begins empty text broke =
@@ -147,6 +149,7 @@ module _ {K D : Type 0} (told : K → Option (List ℕ)) (sink_faults : K → �
   play-earlier old mid new lines same stood (Some ReadFault) text ends = absurd ends
   play-earlier old mid new lines same stood (Some WriteFault) text ends = absurd ends
   play-earlier old mid new lines same stood (Some TooLong) text ends = absurd ends
+  play-earlier old mid new lines same stood (Some Inseparable) text ends = absurd ends
 
   pub lacks-earlier : (old mid new : D) (lines : List Line) → held mid ≡ held old → (text : List ℕ) → PlayLacks lines (stage (edge told sink_faults out out_after) (edge held disk_faults mid new) world world_after) text → PlayLacks lines (stage (edge told sink_faults out out_after) (edge held disk_faults old new) world world_after) text
   lacks-earlier old mid new lines same text (Unopened none stays still) = Unopened none (stays ∙ same) still
@@ -172,6 +175,7 @@ play-bytes scene bytes lines script built (Some Memory) text ends = absurd ends
 play-bytes scene bytes lines script built (Some ReadFault) text ends = absurd ends
 play-bytes scene bytes lines script built (Some WriteFault) text ends = absurd ends
 play-bytes scene bytes lines script built (Some TooLong) text ends = absurd ends
+play-bytes scene bytes lines script built (Some Inseparable) text ends = absurd ends
 
 pub bytes-input : {S K D : Type 0} (source : Edge S (List ℕ)) (scene : Stage K D) (bytes : List ℕ) → ReadsWhole source bytes → (reached : Option Status8) (text : List ℕ) → BytesEnd bytes scene reached text → InputEnds source scene reached text
 bytes-input source scene bytes read None text ends = (bytes, read, ends)
@@ -184,6 +188,7 @@ bytes-input source scene bytes read (Some Memory) text ends = absurd ends.3
 bytes-input source scene bytes read (Some ReadFault) text ends = absurd ends.3
 bytes-input source scene bytes read (Some WriteFault) text ends = absurd ends.3
 bytes-input source scene bytes read (Some TooLong) text ends = absurd ends.3
+bytes-input source scene bytes read (Some Inseparable) text ends = absurd ends.3
 
 -- the source was not read to its end
 pub unread-written : {S K : Type 0} (source : Edge S (List ℕ)) (disk : ℕ × ℕ) (E : Reaching) (L : List ℕ → Type 0) (answer : ReadAnswer) (sink : Edge K (List ℕ)) (status : Status8) → HasStood disk → ReadsAll (before source) (after source) input_limit (Err answer) → RoseExactlyOn {T = Vec ℕ Global} (source.faults source.old) (source.faults source.new) (Err answer) read.ReadFault → ((text : List ℕ) → SourceFailed source text → E (Some ReadFault) text) → ((text : List ℕ) → InputTooLong source text → E (Some TooLong) text) → L [] → Written (UnreadEnds answer) (UnreadLacks answer) sink status → Ended (fault_count source) disk E L sink status
@@ -219,7 +224,7 @@ module _ {S K D : Type 0} (run : Around S K D) where
       record { words = asked; script = record { bytes = bytes; read = read; script = script }; built = built }
 
   pub input-run : command_of run.words ≡ Some Run → (reached : Option Status8) (text : List ℕ) → InputEnds run.source run.stage reached text → Ends run reached text
-  input-run asked None text ends = (ends.2.0, has-script asked ends.0 ends.1 ends.2.0 ends.2.1 ends.2.2, ends.2.3)
+  input-run asked None text ends = inl (ends.2.0, has-script asked ends.0 ends.1 ends.2.0 ends.2.1 ends.2.2, ends.2.3)
   input-run asked (Some Done) text ends =
       Ran ends.2.0 (has-script asked ends.0 ends.1 ends.2.0 ends.2.1 ends.2.2) ends.2.3.0 ends.2.3.1
   input-run asked (Some DiskFault) text ends =
@@ -230,11 +235,12 @@ module _ {S K D : Type 0} (run : Around S K D) where
         | inl fails ↦ NoScript (inl asked) ends.2.0 ends.0 ends.1 fails
         | inr built ↦ NotBuilt asked ends.2.0 ends.0 ends.1 built
       ]
-  input-run asked (Some ReadFault) text ends = record { words = inl asked; all = ends.0; why = ends.1 }
-  input-run asked (Some TooLong) text ends = record { words = inl asked; all = ends.0; why = ends.1 }
+  input-run asked (Some ReadFault) text ends = record { words = inl (inl asked); all = ends.0; why = ends.1 }
+  input-run asked (Some TooLong) text ends = record { words = inl (inl asked); all = ends.0; why = ends.1 }
   input-run asked (Some Usage) text ends = absurd ends.2.3
   input-run asked (Some Memory) text ends = absurd ends.2.3
   input-run asked (Some WriteFault) text ends = absurd ends.2.3
+  input-run asked (Some Inseparable) text ends = absurd ends.2.3
 
   bytes-lacks : command_of run.words ≡ Some Run → (text bytes : List ℕ) → ReadsWhole run.source bytes → BytesLack bytes run.stage text → RunLacks run text
   bytes-lacks asked text bytes read (inl early) = Unknown early.0 early.1
@@ -253,14 +259,15 @@ module _ {S K D : Type 0} (run : Around S K D) where
   pub check-run : command_of run.words ≡ Some Check → LeavesAll run.stage → (reached : Option Status8) (text : List ℕ) → CheckEnds run.source reached text → Ends run reached text
   check-run asked all (Some Done) text ends = Checked asked all ends.0 ends.1 ends.2
   check-run asked all (Some ScriptRefused) text ends = NoScript (inr asked) all ends.0 ends.1 ends.2
-  check-run asked all (Some ReadFault) text ends = record { words = inr asked; all = all; why = ends }
-  check-run asked all (Some TooLong) text ends = record { words = inr asked; all = all; why = ends }
+  check-run asked all (Some ReadFault) text ends = record { words = inl (inr asked); all = all; why = ends }
+  check-run asked all (Some TooLong) text ends = record { words = inl (inr asked); all = all; why = ends }
   check-run asked all None text ends = absurd ends
   check-run asked all (Some Usage) text ends = absurd ends
   check-run asked all (Some Memory) text ends = absurd ends
   check-run asked all (Some WriteFault) text ends = absurd ends
   check-run asked all (Some DiskFault) text ends = absurd ends
   check-run asked all (Some RootNotEmpty) text ends = absurd ends
+  check-run asked all (Some Inseparable) text ends = absurd ends
 
   -- an end where neither source nor disk was asked
   abbrev CountedEnd : Status8 → List ℕ → Type 0
@@ -272,9 +279,9 @@ module _ {S K D : Type 0} (run : Around S K D) where
       subst E (sym is) (Parsed kind asked all source passes, (untouched-stood run.source source, untouched-stood run.stage.disk all.disk))
   expr-run kind asked all source status text (IsNoExpression is fails) =
       let E : Status8 → Type 0 = λ one. CountedEnd one text in
-      subst E (sym is) (NoExpression kind asked all source fails, (untouched-stood run.source source, untouched-stood run.stage.disk all.disk))
+      subst E (sym is) (NoExpression kind (inl asked) all source fails, (untouched-stood run.source source, untouched-stood run.stage.disk all.disk))
 
-  pub usage-run : {X : Type 0} → command_of run.words ≡ None → LeavesAll run.stage → IsUntouched run.source → (end : Result End X) → IfOk end (λ one. one.status ≡ Usage) → IfOk end (λ one. one.text.items ≡ codes "usage: aisrun run, check, expr KIND TEXT or gen COUNT SEED\n") → IfOk end (λ one. CountedEnd one.status one.text.items)
+  pub usage-run : {X : Type 0} → command_of run.words ≡ None → LeavesAll run.stage → IsUntouched run.source → (end : Result End X) → IfOk end (λ one. one.status ≡ Usage) → IfOk end (λ one. one.text.items ≡ usage_line) → IfOk end (λ one. CountedEnd one.status one.text.items)
   usage-run unknown all source (Err e) status text = tt
   usage-run unknown all source (Ok one) status text =
       let E : Status8 → Type 0 = λ each. CountedEnd each one.text.items in

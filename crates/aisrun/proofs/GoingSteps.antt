@@ -27,7 +27,7 @@ use Rattle.cluster_core.proofs.SettlingLines.{printed-append}
 use Rattle.cluster_events.specs.Runs.RunBy.{Started, Went}
 use Rattle.aisrun.specs.Playing.{files_told, Goes, LinePlayed, Played, text_of}
 use Rattle.aisrun.specs.declared.ending.Status8.{Status8}
-use Rattle.aisrun.specs.declared.ending.Status8.TheVariants.{Done, ScriptRefused, Usage, Memory, ReadFault, WriteFault, DiskFault, RootNotEmpty, TooLong}
+use Rattle.aisrun.specs.declared.ending.Status8.TheVariants.{Done, ScriptRefused, Usage, Memory, ReadFault, WriteFault, DiskFault, RootNotEmpty, TooLong, Inseparable}
 use Rattle.aisrun.specs.Counts.{HasStood, RisesBefore}
 use Rattle.aisrun.specs.Edges.{edge}
 use Rattle.aisrun.specs.Endings.{FaultLeft, Showing, Working}
@@ -147,6 +147,7 @@ line-events setup places held mid left Since old new done next others front goin
 line-events setup places held mid left Since old new done next others front going since (Some WriteFault) text ends = absurd ends
 line-events setup places held mid left Since old new done next others front going since (Some RootNotEmpty) text ends = absurd ends
 line-events setup places held mid left Since old new done next others front going since (Some TooLong) text ends = absurd ends
+line-events setup places held mid left Since old new done next others front going since (Some Inseparable) text ends = absurd ends
 
 -- one line more is behind
 pub behind-next : {K : Type 0} (told : K → Option (List ℕ)) (faults : K → ℕ) (first mid last : K) (setup : Setup) (places : ℕ) (held disk left : Option Files) (old new : World) (events : List Line) (next : Line) (others : List Line) (text : List ℕ) (printed_lines : List (List ℕ)) → (so_far : Behind setup places held disk old (edge told faults first mid) events (next ∷ others)) → text ≡ joined_lines printed_lines → EventDone setup so_far.going.state next printed_lines disk left new → Appends (told mid) (told last) text → Behind setup places held left new (edge told faults first last) events others

@@ -10,5 +10,8 @@ mod TimeLaws
 mod GoingSteps
 mod FaultLaws
 mod EndingSteps
+mod ScanEndings
+mod ScanLaws
 mod StatusLaws
 mod CompletenessLaws
+mod WordLaws

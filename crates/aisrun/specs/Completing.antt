@@ -11,6 +11,7 @@ use Rattle.aisrun.specs.declared.ending.Status8.{Status8}
 use Rattle.aisrun.specs.declared.ending.Status8.TheVariants.{Done, Memory}
 use Rattle.aisrun.specs.Commands.{command_of, text_of}
 use Rattle.aisrun.specs.Playing.{has_failures}
+use Rattle.aisrun.specs.Scanning.{CanScan}
 
 -- a source has the script of these lines to give, which is not longer than 16 MiB
 pub record HoldsScript (left : Option (List ℕ)) (lines : List Line) : Type 0 where
@@ -38,6 +39,13 @@ pub record CanParse (words : List (List ℕ)) : Type 0 where
   pub kind : StreamKind
   pub asked : command_of words ≡ Some (Expr kind)
   pub faultless : (fault : ExprFault) → IsFault kind (text_of words) fault → ⊥
+
+-- words that ask for records by a text that serves, and a source that has at most 16 MiB to give
+pub record HoldsRecords (words : List (List ℕ)) (left : Option (List ℕ)) : Type 0 where
+  pub can : CanScan words
+  pub bytes : List ℕ
+  pub told : left ≡ Some bytes
+  pub short : length bytes ≤ 16777216
 
 -- all was done, or memory ran out
 abbrev pub IsDoneOrMemory : Status8 → Type 0

@@ -28,13 +28,16 @@ use Rattle.cluster_events.specs.Lines.{Told}
 use Rattle.cluster_events.specs.Servers.{State}
 use Rattle.lone_cluster.specs.Lone.{Alone}
 use Rattle.aisrun.specs.declared.ending.Status8.{Status8}
-use Rattle.aisrun.specs.declared.ending.Status8.TheVariants.{Done, ScriptRefused, Usage, Memory, ReadFault, WriteFault, DiskFault, RootNotEmpty, TooLong}
+use Rattle.aisrun.specs.declared.ending.Status8.TheVariants.{Done, ScriptRefused, Usage, Memory, ReadFault, WriteFault, DiskFault}
+use Rattle.aisrun.specs.declared.ending.Status8.TheVariants.{RootNotEmpty, TooLong, Inseparable}
 use Rattle.aisrun.specs.declared.command.Command.{Command}
-use Rattle.aisrun.specs.declared.command.Command.TheVariants.{Run, Check, Expr}
+use Rattle.aisrun.specs.declared.command.Command.TheVariants.{Run, Check, Expr, Scan}
 use Rattle.aisrun.specs.Commands.{command_of, text_of as word_text}
 use Rattle.aisrun.specs.Counts.{HasStood, RisesBefore}
 use Rattle.aisrun.specs.Edges.{Edge, before, after, fault_count, IsUntouched, Stage, Around, LeavesAll}
 use Rattle.aisrun.specs.Playing.{files_told, has_failures, PlaysFront, StandsAt, text_of}
+use Rattle.aisrun.specs.Scanning.{CanScan, CannotScan, ScansAll, ScansFront, TakesText}
+use Rattle.aisrun.specs.Usage.{usage_line}
 
 -- the most bytes of an input: 16 MiB
 unfoldable pub input_limit : ℕ
@@ -188,10 +191,17 @@ pub data Succeeds {S K D : Type 0} (run : Around S K D) (text : List ℕ) : Type
   Parsed :
       (kind : StreamKind) → command_of run.words ≡ Some (Expr kind) → LeavesAll run.stage → IsUntouched run.source → TextPasses kind (word_text run.words) text
       → Succeeds run text
+  Scanned :
+      (can : CanScan run.words) → LeavesAll run.stage → (bytes : List ℕ) → ReadsWhole run.source bytes → ScansAll can bytes text
+      → Succeeds run text
 
--- the words are those of a command that reads the source
+-- the words are those of a command that reads a script
 abbrev pub Reads : List (List ℕ) → Type 0
 Reads words = (command_of words ≡ Some Run) ⊎ (command_of words ≡ Some Check)
+
+-- or of one that reads records, for which it needs a text that serves
+abbrev pub ReadsSource : List (List ℕ) → Type 0
+ReadsSource words = Reads words ⊎ CanScan words
 
 -- the input is no script, or none that is built, or the text no expression
 pub data Refuses {S K D : Type 0} (run : Around S K D) (text : List ℕ) : Type 0 where
@@ -202,7 +212,7 @@ pub data Refuses {S K D : Type 0} (run : Around S K D) (text : List ℕ) : Type 
       command_of run.words ≡ Some Run → LeavesAll run.stage → (bytes : List ℕ) → ReadsWhole run.source bytes → ScriptNotBuilt bytes text
       → Refuses run text
   NoExpression :
-      (kind : StreamKind) → command_of run.words ≡ Some (Expr kind) → LeavesAll run.stage → IsUntouched run.source → TextFails kind (word_text run.words) text
+      (kind : StreamKind) → TakesText run.words kind → LeavesAll run.stage → IsUntouched run.source → TextFails kind (word_text run.words) text
       → Refuses run text
 
 -- the words are none of the program's
@@ -210,22 +220,37 @@ pub record KnowsNoWords {S K D : Type 0} (run : Around S K D) (text : List ℕ) 
   pub unknown : command_of run.words ≡ None
   pub all : LeavesAll run.stage
   pub source : IsUntouched run.source
-  pub printed : text ≡ codes "usage: aisrun run, check, expr KIND TEXT or gen COUNT SEED\n"
+  pub printed : text ≡ usage_line
+
+-- the text is an expression, but in records of the size the texts of its tokens cannot be told apart
+pub record PartsNoTexts {S K D : Type 0} (run : Around S K D) (text : List ℕ) : Type 0 where
+  pub cannot : CannotScan run.words text
+  pub all : LeavesAll run.stage
+  pub source : IsUntouched run.source
 
 -- the source was not read to its end
 pub record StopsReading {S K D : Type 0} (run : Around S K D) (Why : Edge S (List ℕ) → List ℕ → Type 0) (text : List ℕ) : Type 0 where
-  pub words : Reads run.words
+  pub words : ReadsSource run.words
   pub all : LeavesAll run.stage
   pub why : Why run.source text
 
--- how a run ends, and its text; or how far the lines of its script were played
+-- the source was read to its end, and its first records were told
+pub record ScansOn {S K D : Type 0} (run : Around S K D) (text : List ℕ) : Type 0 where
+  pub can : CanScan run.words
+  pub all : LeavesAll run.stage
+  pub bytes : List ℕ
+  pub read : ReadsWhole run.source bytes
+  pub told : ScansFront can bytes text
+
+-- how a run ends, and its text; or how far the lines of its script were played, or its records told
 abbrev pub Ends : {S K D : Type 0} → Around S K D → Option Status8 → List ℕ → Type 0
-Ends run None text = (lines : List Line) × HasScript run lines × PlayEnds lines run.stage None text
+Ends run None text = ((lines : List Line) × HasScript run lines × PlayEnds lines run.stage None text) ⊎ ScansOn run text
 Ends run (Some Done) text = Succeeds run text
 Ends run (Some ScriptRefused) text = Refuses run text
 Ends run (Some Usage) text = KnowsNoWords run text
 Ends run (Some ReadFault) text = StopsReading run SourceFailed text
 Ends run (Some TooLong) text = StopsReading run InputTooLong text
+Ends run (Some Inseparable) text = PartsNoTexts run text
 Ends run (Some RootNotEmpty) text = (lines : List Line) × HasScript run lines × RootHolds run.stage text
 Ends run (Some DiskFault) text = (lines : List Line) × HasScript run lines × DiskFails lines run.stage text
 Ends run _ text = ⊥
@@ -254,6 +279,7 @@ LacksBy None run text = (text ≡ []) × LeavesAll run.stage × IsUntouched run.
 LacksBy (Some Run) run text = RunLacks run text
 LacksBy (Some Check) run text = (text ≡ []) × LeavesAll run.stage
 LacksBy (Some (Expr kind)) run text = (text ≡ []) × LeavesAll run.stage × IsUntouched run.source
+LacksBy (Some (Scan query)) run text = ((text ≡ []) × LeavesAll run.stage) ⊎ ScansOn run text
 
 -- memory ran out in the sink; or elsewhere, where no object had failed, and all text up to there was written
 pub data EndsLacking {S K D : Type 0} (run : Around S K D) : Type 0 where

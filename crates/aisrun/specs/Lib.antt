@@ -11,8 +11,11 @@ pub mod Playing
 pub mod Promises
 pub mod Telling
 pub mod RunSteps
+pub mod ScanSteps
+pub mod Scanning
 pub mod Scripting
 pub mod Steps
+pub mod Usage
 pub use Rattle.io_edge.specs.Causes
 pub use Rattle.io_edge.specs.Reads
 pub use Rattle.io_edge.specs.Writes

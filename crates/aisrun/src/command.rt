@@ -1,8 +1,21 @@
 //! The words of the command line.
-ghost use Rattle.std.specs.Prelude.{◌≡◌, ◌↔◌, map, string_bytes, IsTrue};
-ghost use Rattle.aisrun.specs.Commands.{command_of, expr_command, is_dashed, kind_of_word, lone_command, text_of};
+ghost use Rattle.std.specs.Prelude.{◌≡◌, ◌<◌, ◌^◌, map, string_bytes};
+ghost use Rattle.aisrun.specs.Commands.{command_of, expr_command, find_command, is_dashed, kind_of_word, lone_command, number_of, record_size, records_command, scan_command, text_of, wanted_of};
 
 use ais_values::StreamKind;
+use scan_lines::Shown;
+use script::whole_number;
+
+/// What is asked of a file of records.
+#[derive(Clone, Copy, Debug, PartialEq, Eq)]
+pub struct RecordQuery {
+    /// The kind of streams for whose records the third word is an expression.
+    pub kind: StreamKind,
+    /// How many bytes a record has, or 0 where each ends with its first line feed.
+    pub size: u32,
+    /// Which records have a line.
+    pub shown: Shown,
+}
 
 /// What the program is asked to do.
 #[derive(Clone, Copy, Debug, PartialEq, Eq)]
@@ -13,6 +26,8 @@ pub enum Command {
     Check,
     /// Tell whether the third word is a format expression for streams of a kind, and of how many pieces.
     Expr { kind: StreamKind },
+    /// Print the records that the source gives, with the texts of the tokens of the third word.
+    Scan { query: RecordQuery },
 }
 
 // The command of one word.
@@ -62,6 +77,74 @@ fn expr_command(word: &str, name: &str, text: &str) -> Option<Command>
     }
 }
 
+// The number from `low` to `high` that a word spells.
+fn number_of(word: &str, low: u64, high: u64) -> Option<u32>
+    requires { high < 2 ^ 32 }
+    ensures { result ≡ number_of low high word.now }
+{
+    match whole_number(word.as_bytes(), low, high) {
+        None => None,
+        Some(number) => Some(number as u32),
+    }
+}
+
+// The size of records that a word names.
+fn record_size(word: &str) -> Option<u32>
+    ensures { result ≡ record_size word.now }
+{
+    if word == "0" {
+        Some(0)
+    } else {
+        number_of(word, 32, 16_384)
+    }
+}
+
+// The command on records of a kind and a size, of which these have a line.
+fn records_command(name: &str, size: &str, shown: Shown) -> Option<Command>
+    ensures { result ≡ records_command name.now size.now shown }
+{
+    match kind_of_word(name) {
+        None => None,
+        Some(kind) => match record_size(size) {
+            None => None,
+            Some(size) => Some(Command::Scan {
+                query: RecordQuery { kind, size, shown },
+            }),
+        },
+    }
+}
+
+// The command of four words.
+fn scan_command(word: &str, name: &str, text: &str, size: &str) -> Option<Command>
+    ensures { result ≡ scan_command word.now name.now text.now size.now }
+{
+    if word != "scan" || is_dashed(text) {
+        return None;
+    }
+    records_command(name, size, Shown::All)
+}
+
+// The command of six words.
+fn find_command(
+    word: &str,
+    name: &str,
+    text: &str,
+    size: &str,
+    token: &str,
+    wanted: &str,
+) -> Option<Command>
+    ensures { result
+        ≡ find_command word.now name.now text.now size.now token.now wanted.now }
+{
+    if word != "find" || is_dashed(text) || is_dashed(wanted) {
+        return None;
+    }
+    match number_of(token, 1, 1_024) {
+        None => None,
+        Some(token) => records_command(name, size, Shown::Having { token }),
+    }
+}
+
 /// The command that these words give; None exactly where they are none of the program's.
 pub fn command_of(words: &[String]) -> Option<Command>
     ensures { result ≡ command_of (map (λ word. string_bytes word) words.now) }
@@ -69,16 +152,40 @@ pub fn command_of(words: &[String]) -> Option<Command>
     match words {
         [word] => lone_command(word.as_str()),
         [word, name, text] => expr_command(word.as_str(), name.as_str(), text.as_str()),
+        [word, name, text, size] => scan_command(
+            word.as_str(),
+            name.as_str(),
+            text.as_str(),
+            size.as_str(),
+        ),
+        [word, name, text, size, token, wanted] => find_command(
+            word.as_str(),
+            name.as_str(),
+            text.as_str(),
+            size.as_str(),
+            token.as_str(),
+            wanted.as_str(),
+        ),
         _ => None,
     }
 }
 
-/// The bytes of the third of three words; else none.
+/// The bytes of the third word, of three or more; else none.
 pub fn text_of(words: &[String]) -> &[u8]
     ensures { result.now ≡ text_of (map (λ word. string_bytes word) words.now) }
 {
     match words {
-        [_, _, text] => text.as_bytes(),
+        [_, _, text, ..] => text.as_bytes(),
+        _ => &[],
+    }
+}
+
+/// The bytes of the sixth word, of six or more; else none.
+pub fn wanted_of(words: &[String]) -> &[u8]
+    ensures { result.now ≡ wanted_of (map (λ word. string_bytes word) words.now) }
+{
+    match words {
+        [_, _, _, _, _, wanted, ..] => wanted.as_bytes(),
         _ => &[],
     }
 }

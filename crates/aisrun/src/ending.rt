@@ -2,6 +2,7 @@
 ghost use Rattle.std.specs.Prelude.{◌≡◌, ◌++◌, codes, string_bytes, IfOk};
 ghost use Rattle.std.specs.Fmt.{decimal};
 ghost use Rattle.aisrun.specs.ExitStatus.{exit_status};
+ghost use Rattle.aisrun.specs.Usage.{usage_line};
 ghost use Rattle.format_expr.specs.Faults.{word_of};
 ghost use Rattle.script_lines.specs.Refusals.{why_word};
 
@@ -31,10 +32,12 @@ pub enum Status8 {
     RootNotEmpty,
     /// The input has more than 16 MiB.
     TooLong,
+    /// The texts of the expression's tokens cannot be told apart in a record.
+    Inseparable,
 }
 
 impl Status8 {
-    /// The exit status, 0 to 8.
+    /// The exit status, 0 to 8 or 10.
     pub fn code(self) -> u8
         ensures { result ≡ exit_status self }
     {
@@ -48,6 +51,7 @@ impl Status8 {
             Status8::DiskFault => 6,
             Status8::RootNotEmpty => 7,
             Status8::TooLong => 8,
+            Status8::Inseparable => 10,
         }
     }
 }
@@ -77,17 +81,17 @@ pub fn end_with(alloc: Global, status: Status8, text: &[u8]) -> Result<End, Allo
     Ok(End { status, text })
 }
 
+/// What is printed where the words are none of the program's.
+const USAGE: &[u8] =
+    b"usage: aisrun run, check, expr KIND TEXT, gen COUNT SEED, scan KIND TEXT SIZE or find KIND TEXT SIZE TOKEN WORD\n";
+
 /// The end where the words are none of the program's.
+#[tactic(auto, unfolding(crate::specs::Usage::usage_line))]
 pub fn usage(alloc: Global) -> Result<End, AllocError>
     ensures status { IfOk result (λ end. end.status ≡ Status8.Usage) }
-    ensures text { IfOk result (λ end. end.text.items
-        ≡ codes "usage: aisrun run, check, expr KIND TEXT or gen COUNT SEED\n") }
+    ensures text { IfOk result (λ end. end.text.items ≡ usage_line) }
 {
-    end_with(
-        alloc,
-        Status8::Usage,
-        b"usage: aisrun run, check, expr KIND TEXT or gen COUNT SEED\n",
-    )
+    end_with(alloc, Status8::Usage, USAGE)
 }
 
 /// The end where a script has a line that cannot be played.
@@ -118,6 +122,16 @@ pub fn bad_text(alloc: Global, fault: ExprFault) -> Result<End, AllocError>
     let why = fault.why;
     let printed = format!(in alloc; "bad {place} {why}\n")?;
     end_with(alloc, Status8::ScriptRefused, printed.as_bytes())
+}
+
+/// The end where texts of tokens cannot be told apart for the piece of this number.
+pub fn inseparable(alloc: Global, piece: u32) -> Result<End, AllocError>
+    ensures status { IfOk result (λ end. end.status ≡ Status8.Inseparable) }
+    ensures text { IfOk result (λ end. end.text.items
+        ≡ codes "inseparable " ++ (decimal piece ++ codes "\n")) }
+{
+    let printed = format!(in alloc; "inseparable {piece}\n")?;
+    end_with(alloc, Status8::Inseparable, printed.as_bytes())
 }
 
 /// The end where the disk held a file of this name.

@@ -11,10 +11,11 @@ mod input;
 mod playing;
 mod reading;
 mod run;
+mod scanning;
 mod writing;
 
 use cluster_core::World;
-pub use command::{Command, command_of};
+pub use command::{Command, RecordQuery, command_of};
 use disk_model::DirDisk;
 pub use ending::Status8;
 use io_edge::{StdSink, StdSource};

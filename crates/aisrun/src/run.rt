@@ -2,7 +2,7 @@
 ghost use Rattle.std.specs.Prelude.{◌≡◌, ◌≤◌, length};
 ghost use Rattle.aisrun.specs.AfterFault.{KeepsAtFault};
 ghost use Rattle.aisrun.specs.Commands.{word_bytes};
-ghost use Rattle.aisrun.specs.Completing.{CanCheck, CanParse, CanRun, IsDoneOrMemory};
+ghost use Rattle.aisrun.specs.Completing.{CanCheck, CanParse, CanRun, HoldsRecords, IsDoneOrMemory};
 ghost use Rattle.aisrun.specs.Counts.{HasRisen, NoneRises, RisesBy};
 ghost use Rattle.aisrun.specs.declared.ending.Status8.{Status8};
 ghost use Rattle.aisrun.specs.Edges.{around, edge, fault_count, stage};
@@ -15,12 +15,13 @@ ghost use Rattle.aisrun.specs.Steps.{Ended, unasked};
 ghost use Rattle.cluster_core.specs.Worlds.{empty_world};
 
 use crate::check::run_check;
-use crate::command::{Command, command_of, text_of};
+use crate::command::{Command, command_of, text_of, wanted_of};
 use crate::ending::{Status8, usage};
 use crate::expr::check_text;
 use crate::input::{INPUT_LIMIT, write_unread};
 use crate::playing::play;
 use crate::reading::{Script, read_script};
+use crate::scanning::scan;
 use crate::writing::{write_end, write_text};
 use cluster_core::World;
 use disk_model::SharedDisk;
@@ -91,6 +92,9 @@ fn run_words<S: Source, K: Sink, D: SharedDisk>(
         Some(Command::Run) => run_script(alloc, source, out, disk, world),
         Some(Command::Check) => run_check(alloc, source, out),
         Some(Command::Expr { kind }) => write_end(out, check_text(alloc, kind, text_of(words))),
+        Some(Command::Scan { query }) => {
+            scan(alloc, query, text_of(words), wanted_of(words), source, out)
+        }
     }
 }
 
@@ -99,6 +103,9 @@ fn run_words<S: Source, K: Sink, D: SharedDisk>(
 /// The words `run` read the source to its end as a script and play it over the disk: its first line begins a cluster, and
 /// the others are its events, whose lines are written as each event ends. The words `check` read it to its end and tell
 /// whether it is a script. The words `expr KIND TEXT` tell whether the text is a format expression; the source stays unread.
+/// The words `scan KIND TEXT SIZE` read the source to its end as records of the size and print of each the texts of the tokens of
+/// the expression, `find KIND TEXT SIZE TOKEN WORD` of those in which the token of this number has the word as its text. A text
+/// that is no expression is refused first, then, as `Inseparable`, one of whose tokens the texts cannot be told apart.
 ///
 /// The clause `ends` says of each status what was read, what is written and what stands. Every count of faults stands but
 /// as the status says: `WriteFault` comes exactly where the sink's rose, whatever was to come; the source's rises by
@@ -107,8 +114,8 @@ fn run_words<S: Source, K: Sink, D: SharedDisk>(
 /// it is said that a value of the disk that tells the files of the events before has the count of the start. The disk is
 /// asked for nothing, and no line is played, of a script with a line on servers that fail and come back. Where memory ran
 /// out in the sink, `Memory`, a front of a text was written; elsewhere no object had failed, and all text up to there was;
-/// `check`, `expr` and words that are none of the program's leave disk and world as they are all the same, `expr` and such
-/// words the source too.
+/// `check`, `expr`, `scan`, `find` and words that are none of the program's leave disk and world as they are all the same,
+/// `expr` and such words the source too.
 ///
 /// The clauses behind them say of each run what holds at the end of every line that was played, by any status. A line tells
 /// a refusal by a client's agent exactly where the calls that the client had sent, and those of them whose reply no line
@@ -158,8 +165,8 @@ pub fn run<S: Source, K: Sink, D: SharedDisk>(
     // What holds where memory ran out in an event.
     ensures want_tells { TellsAtWant (D.files disk.old) (D.files disk.new) world.new }
 
-    // Where nothing fails, a script without lines on failures is played, a script is checked, and an expression is taken apart:
-    // only memory may be missing.
+    // Where nothing fails, a script without lines on failures is played, a script is checked, an expression is taken apart,
+    // and records are told: only memory may be missing.
     ensures completes { CanRun (word_bytes words.now) (S.left source.old) (D.files disk.old)
         → NoneRises (S.faults source.old, S.faults source.new) (K.faults out.old, K.faults out.new)
         (D.faults disk.old, D.faults disk.new) → IsDoneOrMemory result }
@@ -167,6 +174,9 @@ pub fn run<S: Source, K: Sink, D: SharedDisk>(
         → ¬ HasRisen (S.faults source.old, S.faults source.new)
         → ¬ HasRisen (K.faults out.old, K.faults out.new) → IsDoneOrMemory result }
     ensures exprs { CanParse (word_bytes words.now)
+        → ¬ HasRisen (K.faults out.old, K.faults out.new) → IsDoneOrMemory result }
+    ensures scans { HoldsRecords (word_bytes words.now) (S.left source.old)
+        → ¬ HasRisen (S.faults source.old, S.faults source.new)
         → ¬ HasRisen (K.faults out.old, K.faults out.new) → IsDoneOrMemory result }
 {
     run_words(alloc, words, source, out, disk, world)

@@ -17,7 +17,8 @@ const CLUSTER: &str = "cluster start=1704067200000000000 queue=2 callbacks=8\n";
 const WRITE: &str =
     "log 1 init A.2.1\nlog 1 open system\nlog 1 write system inv=0 flags=0 gen sev=6 class=0.0.0 user=\"u\" body=\"a\"\nsettle\n";
 
-const USAGE: &str = "usage: aisrun run, check, expr KIND TEXT or gen COUNT SEED\n";
+const USAGE: &str =
+    "usage: aisrun run, check, expr KIND TEXT, gen COUNT SEED, scan KIND TEXT SIZE or find KIND TEXT SIZE TOKEN WORD\n";
 
 /// Words that are none of the program's, one row a line.
 const OTHER_WORDS: &str = "\
@@ -35,7 +36,21 @@ const OTHER_WORDS: &str = "\
     expr,System,a\n\
     expr,system\n\
     check,check\n\
-    expr,alarm,a,b";
+    expr,alarm,a,b\n\
+    scan,system,a\n\
+    scan,System,a,32\n\
+    scan,system,-a,32\n\
+    scan,system,a,31\n\
+    scan,system,a,16385\n\
+    scan,system,a,032\n\
+    scan,system,a,+32\n\
+    scan,system,a,\n\
+    scan,system,a,32,1,x\n\
+    find,system,a,32\n\
+    find,system,a,32,0,x\n\
+    find,system,a,32,1025,x\n\
+    find,system,a,32,1,-x\n\
+    find,system,-a,32,1,x";
 
 /// The words, what follows the cluster line in the input, the exit status and the text, parted by `|` and `;`.
 const ENDS: &str = "\
@@ -61,11 +76,29 @@ const ENDS: &str = "\
     expr,system,@Cb256||1|bad 5 BadWidth\n;\
     expr,application,@Cb0||1|bad 3 BadWidth\n";
 
+/// The words, the input, the exit status and the text, parted by `|` and `;`. Where the status is not 0 the source fails, if it is read.
+const SCANS: &str = "\
+    scan,system,@Cr @Sv \"@Cb\",32|         1 IN \"a\"              \n|0|rec 1 Cr=\"         1\" Sv=\"IN\" Cb=\"a\"\n;\
+    find,system,@Cr @Sv \"@Cb\",32,2,IN|         1 IN \"a\"              \n|0|rec 1 Cr=\"         1\" Sv=\"IN\" Cb=\"a\"\n;\
+    find,system,@Cr @Sv \"@Cb\",32,2,ER|         1 IN \"a\"              \n|0|;\
+    find,system,@Cr @Sv \"@Cb\",32,4,a|         1 IN \"a\"              \n|0|;\
+    scan,system,@Cr @Sv \"@Cb\",32|                               \nxxxxx|0|rec 1 unreadable\nrest 5\n;\
+    find,system,@Cr @Sv \"@Cb\",32,2,IN|                               \nxxxxx|0|;\
+    scan,application,@Sv @Cb,0|IN a\\ \nER\nER b\x01\nIN|0|rec 1 Sv=\"IN\" Cb=\"a\\\\ \"\nrec 2 unreadable\nrec 3 Sv=\"ER\" Cb=\"b\\x01\"\nrest 2\n;\
+    find,application,@Sv @Cb,0,1,ER|IN a\\ \nER\nER b\x01\nIN|0|rec 3 Sv=\"ER\" Cb=\"b\\x01\"\n;\
+    scan,alarm,,16384||0|;\
+    scan,system,@Sl @Cb,32||10|inseparable 3\n;\
+    find,system,@Cb,32,1,a||10|inseparable 1\n;\
+    scan,alarm,@Sv@Cb@Cb,0||1|bad 1 WrongClass\n;\
+    find,alarm,@,0,1,a||1|bad 1 LoneAt\n;\
+    scan,alarm,a,0||4|read fault\n;\
+    find,alarm,a,0,1024,a||4|read fault\n";
+
 /// One digit each for the failing call of the source, of the sink and of the disk's reading ones, whether the script has a line on
 /// failures, whether there is a file, and the exit status; then the word and the text, one row a line. The disk's first changing
 /// call fails.
 const REASONS: &str = "\
-    100002|run,run|usage: aisrun run, check, expr KIND TEXT or gen COUNT SEED\n;\
+    100002|run,run|usage: aisrun run, check, expr KIND TEXT, gen COUNT SEED, scan KIND TEXT SIZE or find KIND TEXT SIZE TOKEN WORD\n;\
     100114|run|read fault\n;\
     001111|run|script not built\n;\
     000017|run|root not empty: x\n;\
@@ -75,7 +108,9 @@ const REASONS: &str = "\
     110115|run|;\
     010115|run|;\
     010015|run|;\
-    010005|run|";
+    010005|run|;\
+    011015|scan,system,a,0|;\
+    010005|find,system,@Cb,0,1,settle|";
 
 /// The most bytes of a piece that a sink takes.
 const PIECE: usize = 100;
@@ -223,6 +258,26 @@ fn row_ends(rt: &impl Abort, alloc: Global, row: &str) {
 fn scripts_and_expressions_are_judged(rt: HostRuntime) {
     for row in ENDS.split(';') {
         row_ends(&rt, rt.alloc(), row);
+    }
+}
+
+/// The words, over the input of a row, end as it says.
+fn scan_ends(rt: &impl Abort, alloc: Global, row: &str) {
+    let (words, row) = row.split_once('|').expect(rt, "words");
+    let (input, row) = row.split_once('|').expect(rt, "an input");
+    let (status, text) = row.split_once('|').expect(rt, "a status and a text");
+    let status: u8 = status.parse().ok().expect(rt, "a number");
+    let input = input.as_bytes().to_vec(alloc).expect(rt, "memory");
+    let read = u64::from(status > 0);
+    let mut stage = prepared(rt, alloc, input, Failing { read, ..NONE });
+    ends(rt, alloc, &mut stage, words, status, text.as_bytes());
+    drop(stage);
+}
+
+#[test]
+fn records_are_told(rt: HostRuntime) {
+    for row in SCANS.split(';') {
+        scan_ends(&rt, rt.alloc(), row);
     }
 }
 

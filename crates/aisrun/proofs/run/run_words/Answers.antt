@@ -1,14 +1,16 @@
 use Rattle.std.proofs.Common.{ℕ, List, [], ◌≡◌, map, Option, Some, None, refl, ap, sym, ◌∙◌, subst}
 use Rattle.std.specs.Prelude.{IfOk, string_bytes}
 use Rattle.aisrun.specs.declared.command.Command.{Command}
-use Rattle.aisrun.specs.declared.command.Command.TheVariants.{Run, Check, Expr}
+use Rattle.aisrun.specs.declared.command.Command.TheVariants.{Run, Check, Expr, Scan}
 use Rattle.aisrun.specs.Checking.{CheckEnds, ExprEnds}
-use Rattle.aisrun.specs.Commands.{command_of, text_of}
+use Rattle.aisrun.specs.Commands.{command_of, text_of, wanted_of}
 use Rattle.aisrun.specs.Edges.{around, edge, fault_count, stage}
 use Rattle.aisrun.specs.Endings.{Ends, LacksBy}
 use Rattle.aisrun.specs.RunSteps.{InputEnds, InputLacks, WordsLack}
-use Rattle.aisrun.specs.Steps.{Counting, IsNone, Standing}
+use Rattle.aisrun.specs.ScanSteps.{ScanEnds, ScanLacks}
+use Rattle.aisrun.specs.Steps.{Counting, Ended, IsNone, Standing, unasked}
 use Rattle.aisrun.proofs.EndingSteps.{check-run, end-written, expr-run, input-lack, input-run, usage-run, ok-ends}
+use Rattle.aisrun.proofs.ScanEndings.{scan-lack, scan-run}
 use Rattle.aisrun.proofs.WritingSteps.{ended-alone, ended-as}
 use Rattle.aisrun.proofs.run.run_words.Goals as goal
 
@@ -53,3 +55,18 @@ returns-in-Some-Expr g c =
     let disk = edge g.D.SharedDisk.files g.D.SharedDisk.faults c.args.disk.now c.args.disk.now in
     let run = around words source sink disk c.args.world.now c.args.world.now in
     end-written (Counting (fault_count source) (fault_count disk) (Ends run)) (Standing (fault_count source) (fault_count disk) (WordsLack run)) c.check_text.result sink c.write_end-in-Some-Expr.result c.write_end-in-Some-Expr.ensures (ok-ends c.check_text.result (ExprEnds kind (text_of words)) (Counting (fault_count source) (fault_count disk) (Ends run)) (expr-run run kind asked (record { disk = refl; world = refl }) refl) (subst (λ (said : List ℕ). IfOk c.check_text.result (λ one. ExprEnds kind said one.status one.text.items)) c.text_of.ensures c.check_text.ensures)) (subst (λ (o : Option Command). LacksBy o run []) (sym asked) (refl, record { disk = refl; world = refl }, refl), refl, refl)
+
+pub returns-in-Some-Scan : goal.returns-in-Some-Scan
+returns-in-Some-Scan g c =
+    let words : List (List ℕ) = map (λ word. string_bytes word) c.args.words.now in
+    let query = c.in-Some-Scan.query in
+    let asked : command_of words ≡ Some (Scan query) = sym c.command_of.ensures ∙ c.in-Some-Scan.is ∙ ap Some c.in-Some-Scan.field-0-is in
+    let source = edge g.S.Source.left g.S.Source.faults c.args.source.now c.scan.new.source in
+    let sink = edge g.K.Sink.written g.K.Sink.faults c.args.out.now c.scan.new.out in
+    let disk = edge g.D.SharedDisk.files g.D.SharedDisk.faults c.args.disk.now c.args.disk.now in
+    let run = around words source sink disk c.args.world.now c.args.world.now in
+    let text = c.text_of-in-Some-Scan.result.now in
+    let wanted = c.wanted_of.result.now in
+    let by_wanted = subst (λ (one : List ℕ). Ended (fault_count source) unasked (ScanEnds query text one source) (ScanLacks query text one source) sink c.scan.result) c.wanted_of.ensures c.scan.ensures in
+    let by_words = subst (λ (one : List ℕ). Ended (fault_count source) unasked (ScanEnds query one (wanted_of words) source) (ScanLacks query one (wanted_of words) source) sink c.scan.result) c.text_of-in-Some-Scan.ensures by_wanted in
+    ended-alone (fault_count source) (fault_count disk) (ScanEnds query (text_of words) (wanted_of words) source) (Ends run) (ScanLacks query (text_of words) (wanted_of words) source) (WordsLack run) sink c.scan.result refl (scan-run run query asked (record { disk = refl; world = refl })) (scan-lack run query asked (record { disk = refl; world = refl })) by_words

@@ -1,0 +1,50 @@
+-- Ends of the commands `scan` and `find` are ends of a run.
+use Rattle.std.proofs.Common.{◌≡◌, ℕ, inl, inr, List, Option, Some, None, refl, sym, subst}
+use Rattle.aisrun.specs.declared.command.Command.{Command}
+use Rattle.aisrun.specs.declared.command.Command.TheVariants.{Scan}
+use Rattle.aisrun.specs.declared.command.RecordQuery.{RecordQuery}
+use Rattle.aisrun.specs.declared.ending.Status8.{Status8}
+use Rattle.aisrun.specs.declared.ending.Status8.TheVariants.{Done, ScriptRefused, Usage, Memory, ReadFault, WriteFault, DiskFault, RootNotEmpty, TooLong, Inseparable}
+use Rattle.aisrun.specs.Commands.{command_of, text_of, wanted_of}
+use Rattle.aisrun.specs.Edges.{Around, LeavesAll}
+use Rattle.aisrun.specs.Endings.{Ends, LacksBy, NoExpression, Scanned}
+use Rattle.aisrun.specs.ScanSteps.{ScanEnds, ScanLacks}
+
+module _ {S K D : Type 0} (run : Around S K D) (query : RecordQuery) (asked : command_of run.words ≡ Some (Scan query)) (all : LeavesAll run.stage) where
+  pub scan-run : (reached : Option Status8) (text : List ℕ) → ScanEnds query (text_of run.words) (wanted_of run.words) run.source reached text → Ends run reached text
+  scan-run None text ends = inr (record {
+    can = record { query = query; asked = asked; pieces = ends.0; parted = ends.1 };
+    all = all;
+    bytes = ends.2.0;
+    read = ends.2.1;
+    told = ends.2.2;
+  })
+  scan-run (Some Done) text ends =
+      Scanned (record { query = query; asked = asked; pieces = ends.0; parted = ends.1 }) all ends.2.0 ends.2.1 ends.2.2
+  scan-run (Some ScriptRefused) text ends = NoExpression query.kind (inr (query, asked, refl)) all ends.0 ends.1
+  scan-run (Some ReadFault) text ends =
+      record { words = inr (record { query = query; asked = asked; pieces = ends.0; parted = ends.1 }); all = all; why = ends.2 }
+  scan-run (Some TooLong) text ends =
+      record { words = inr (record { query = query; asked = asked; pieces = ends.0; parted = ends.1 }); all = all; why = ends.2 }
+  scan-run (Some Inseparable) text ends =
+      record { cannot = record { query = query; asked = asked; why = ends.1 }; all = all; source = ends.0 }
+  scan-run (Some Usage) text ends = absurd ends.2.2
+  scan-run (Some Memory) text ends = absurd ends.2.2
+  scan-run (Some WriteFault) text ends = absurd ends.2.2
+  scan-run (Some DiskFault) text ends = absurd ends.2.2
+  scan-run (Some RootNotEmpty) text ends = absurd ends.2.2
+
+  scan-lacks : (text : List ℕ) → ScanLacks query (text_of run.words) (wanted_of run.words) run.source text → LacksBy (Some (Scan query)) run text
+  scan-lacks text (inl none) = inl (none, all)
+  scan-lacks text (inr ends) = inr (record {
+    can = record { query = query; asked = asked; pieces = ends.0; parted = ends.1 };
+    all = all;
+    bytes = ends.2.0;
+    read = ends.2.1;
+    told = ends.2.2;
+  })
+
+  pub scan-lack : (text : List ℕ) → ScanLacks query (text_of run.words) (wanted_of run.words) run.source text → LacksBy (command_of run.words) run text
+  scan-lack text lacks =
+      let L : Option Command → Type 0 = λ one. LacksBy one run text in
+      subst L (sym asked) (scan-lacks text lacks)

@@ -1,0 +1,54 @@
+-- Words of public clauses: what the commands `scan` and `find` do with a text and the bytes of a file.
+use Rattle.std.specs.Prelude.{◌≡◌, ℕ, List, ◌++◌, ◌⊎◌, Some, codes}
+use Rattle.std.specs.Fmt.{decimal}
+use Rattle.ais_values.specs.declared.kind.StreamKind.{StreamKind}
+use Rattle.format_expr.specs.declared.piece.Piece.{Piece}
+use Rattle.format_expr.specs.declared.fault.ExprFault.{ExprFault}
+use Rattle.format_expr.specs.Language.{ArePiecesOf}
+use Rattle.format_expr.specs.Faults.{IsFault}
+use Rattle.record_scan.specs.Separable.{IsSeparable, IsFirstInWay}
+use Rattle.scan_lines.specs.Telling.{TellsAll, TellsFront}
+use Rattle.aisrun.specs.declared.command.RecordQuery.{RecordQuery}
+use Rattle.aisrun.specs.declared.command.Command.TheVariants.{Expr, Scan}
+use Rattle.aisrun.specs.Commands.{command_of, text_of, wanted_of}
+
+-- the text is an expression of these pieces
+pub record IsExprOf (kind : StreamKind) (pieces : List Piece) (text : List ℕ) : Type 0 where
+  pub spelled : ArePiecesOf kind pieces text
+  pub faultless : (fault : ExprFault) → IsFault kind text fault → ⊥
+
+-- it is, and in records of the size the texts of its tokens can be told apart
+pub record IsParted (query : RecordQuery) (text : List ℕ) (pieces : List Piece) : Type 0 where
+  pub expr : IsExprOf query.kind pieces text
+  pub separable : IsSeparable pieces query.size
+
+-- it is, but they cannot: the first piece in the way is told
+pub record CannotPart (query : RecordQuery) (text printed : List ℕ) : Type 0 where
+  pub pieces : List Piece
+  pub expr : IsExprOf query.kind pieces text
+  pub piece : ℕ
+  pub first : IsFirstInWay pieces query.size piece
+  pub shown : printed ≡ codes "inseparable " ++ (decimal piece ++ codes "\n")
+
+-- the words ask for records by a text that serves, and by one that does not
+pub record CanScan (words : List (List ℕ)) : Type 0 where
+  pub query : RecordQuery
+  pub asked : command_of words ≡ Some (Scan query)
+  pub pieces : List Piece
+  pub parted : IsParted query (text_of words) pieces
+
+pub record CannotScan (words : List (List ℕ)) (printed : List ℕ) : Type 0 where
+  pub query : RecordQuery
+  pub asked : command_of words ≡ Some (Scan query)
+  pub why : CannotPart query (text_of words) printed
+
+-- what is printed of the first records of bytes, and of all of them and what is left
+abbrev pub ScansFront : {words : List (List ℕ)} → CanScan words → (bytes text : List ℕ) → Type 0
+ScansFront {words} can bytes text = TellsFront can.query.shown can.pieces can.query.size (wanted_of words) bytes text
+
+abbrev pub ScansAll : {words : List (List ℕ)} → CanScan words → (bytes text : List ℕ) → Type 0
+ScansAll {words} can bytes text = TellsAll can.query.shown can.pieces can.query.size (wanted_of words) bytes text
+
+-- the words are those of a command that takes a text as an expression for streams of the kind
+abbrev pub TakesText : List (List ℕ) → StreamKind → Type 0
+TakesText words kind = (command_of words ≡ Some (Expr kind)) ⊎ ((query : RecordQuery) × (command_of words ≡ Some (Scan query)) × (query.kind ≡ kind))

@@ -1,0 +1,5 @@
+-- Words of public clauses: the line that tells which words are known.
+use Rattle.std.specs.Prelude.{ℕ, List, codes}
+
+unfoldable pub usage_line : List ℕ
+usage_line = codes "usage: aisrun run, check, expr KIND TEXT, gen COUNT SEED, scan KIND TEXT SIZE or find KIND TEXT SIZE TOKEN WORD\n"
