@@ -12,7 +12,7 @@ use Rattle.aisrun.specs.Counts.{HasStood}
 use Rattle.aisrun.specs.Edges.{Edge, before, after, fault_count, IsUntouched}
 use Rattle.aisrun.specs.Endings.{ReadsWhole, SourceFailed, InputTooLong, TextFails}
 use Rattle.aisrun.specs.Scanning.{IsParted, CannotPart}
-use Rattle.aisrun.specs.Steps.{IsNone, Reaching, Written}
+use Rattle.aisrun.specs.Steps.{Ended, IsNone, Reaching, Written, unasked}
 
 -- the text does not serve
 pub data TextRefused (query : RecordQuery) (text : List ℕ) (status : Status8) (printed : List ℕ) : Type 0 where
@@ -57,3 +57,8 @@ ScanEnds query text wanted source reached printed = (pieces : List Piece) × IsP
 
 abbrev pub ScanLacks : {S : Type 0} → RecordQuery → (text wanted : List ℕ) → Edge S (List ℕ) → List ℕ → Type 0
 ScanLacks query text wanted source printed = (printed ≡ []) ⊎ ScanEnds query text wanted source None printed
+
+-- of a text, a source and a sink
+abbrev pub ScannedBy : {S K : Type 0} → RecordQuery → (text wanted : List ℕ) → Edge S (List ℕ) → Edge K (List ℕ) → Status8 → Type 0
+ScannedBy query text wanted source sink status =
+    Ended (fault_count source) unasked (ScanEnds query text wanted source) (ScanLacks query text wanted source) sink status

@@ -104,8 +104,10 @@ fn run_words<S: Source, K: Sink, D: SharedDisk>(
 /// the others are its events, whose lines are written as each event ends. The words `check` read it to its end and tell
 /// whether it is a script. The words `expr KIND TEXT` tell whether the text is a format expression; the source stays unread.
 /// The words `scan KIND TEXT SIZE` read the source to its end as records of the size and print of each the texts of the tokens of
-/// the expression, `find KIND TEXT SIZE TOKEN WORD` of those in which the token of this number has the word as its text. A text
-/// that is no expression is refused first, then, as `Inseparable`, one of whose tokens the texts cannot be told apart.
+/// the expression, `find KIND TEXT SIZE TOKEN WORD` of those in which the token of this number has the word as its text. Before
+/// the source is read a text is refused that is no expression (`ScriptRefused`), or of whose tokens the texts cannot be told apart
+/// in records of the size (`Inseparable`). SIZE is 0, for records that end with their first line feed, or 32 to 16,384; TOKEN is
+/// 1 to 1,024.
 ///
 /// The clause `ends` says of each status what was read, what is written and what stands. Every count of faults stands but
 /// as the status says: `WriteFault` comes exactly where the sink's rose, whatever was to come; the source's rises by

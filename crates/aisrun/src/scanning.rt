@@ -5,7 +5,7 @@ ghost use Rattle.scan_lines.specs.Lines.{rest_line};
 ghost use Rattle.scan_lines.specs.Telling.{TellsFront};
 ghost use Rattle.aisrun.specs.Edges.{edge, fault_count};
 ghost use Rattle.aisrun.specs.Scanning.{IsExprOf};
-ghost use Rattle.aisrun.specs.ScanSteps.{ExpressionRead, RecordEnds, RecordGives, RecordsEnd, ScanEnds, ScanLacks, SourceEnds, SourceLacks};
+ghost use Rattle.aisrun.specs.ScanSteps.{ExpressionRead, RecordEnds, RecordGives, RecordsEnd, ScannedBy, SourceEnds, SourceLacks};
 ghost use Rattle.aisrun.specs.Steps.{Ended, IsNone, IsText, Written, unasked};
 
 use crate::command::RecordQuery;
@@ -164,9 +164,7 @@ pub fn scan<S: Source, K: Sink>(
     source: &mut S,
     out: &mut K,
 ) -> Status8
-    ensures { let source = edge S.left S.faults source.old source.new
-        in Ended (fault_count source) unasked (ScanEnds query text.now wanted.now source)
-        (ScanLacks query text.now wanted.now source)
+    ensures { ScannedBy query text.now wanted.now (edge S.left S.faults source.old source.new)
         (edge K.written K.faults out.old out.new) result }
 {
     match read_text(alloc, query, text) {
