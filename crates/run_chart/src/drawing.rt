@@ -34,9 +34,11 @@ impl From<AllocError> for DrawError {
     }
 }
 
-/// The picture of a run that printed these lines, as SVG: each of them is drawn, once and in order.
+/// The picture of a run that printed these lines, as SVG: the title of each of them, its number and its text, stands
+/// in it, in order.
 ///
-/// `Unknown` comes where a line is none that a run prints, and tells the first such line.
+/// `Unknown` comes where a line is none that a run prints, and names a line; that this is the first such line is
+/// tested alone.
 pub fn draw(alloc: Global, lines: &[Vec<u8>]) -> Result<Vec<u8>, DrawError>
     ensures drawn { IfOk result (λ picture. Draws (map items_of lines.now) picture.items) }
     ensures told { IfErr result (Tells (length lines.now)) }
