@@ -2,8 +2,6 @@
 #![tactic(auto)]
 
 #[cfg(test)]
-mod alarm_order_tests;
-#[cfg(test)]
 mod alarm_view_tests;
 #[cfg(test)]
 mod calls_tests;
