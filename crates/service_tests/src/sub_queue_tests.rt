@@ -123,21 +123,23 @@ fn rebuilds(rt: HostRuntime) {
     drop(queue);
 }
 
-/// What is held and what is lost once the last offer is taken back.
-fn taken_back(queue: &mut SubQueue) -> (usize, usize) {
-    queue.take_back();
-    (queue.items().len(), queue.lost().len())
+/// Offers an alarm into room that is made for it before.
+fn offer_reserved(rt: &impl Abort, alloc: Global, queue: &mut SubQueue, id: u64) {
+    let _held = queue.items();
+    assert!(rt; queue.first() < 1000);
+    let room = queue.reserve(alloc).expect(rt, "memory");
+    queue.offer_reserved(numbered(rt, alloc, id), room);
 }
 
-/// An offer that is taken back leaves what was before it, whether it was held or lost.
+/// Room that is made before an offer takes the item, and then what is lost, over several doublings of the marks' places.
 #[test]
-fn takes_offers_back(rt: HostRuntime) {
+fn offers_into_room(rt: HostRuntime) {
     let alloc = rt.alloc();
     let mut queue = SubQueue::new(alloc, 1).expect(&rt, "memory");
-    for id in 1..4u64 {
-        offer(&rt, alloc, &mut queue, id);
+    for id in 1..9u64 {
+        offer_reserved(&rt, alloc, &mut queue, id);
     }
-    assert!(rt; taken_back(&mut queue) == (1, 1) && has_lost(&rt, alloc, &queue, &[2]));
-    assert!(rt; taken_back(&mut queue) == (1, 0) && taken_back(&mut queue) == (0, 0));
+    assert!(rt; queue.items().len() == 1);
+    assert!(rt; has_lost(&rt, alloc, &queue, &[2, 3, 4, 5, 6, 7, 8]));
     drop(queue);
 }

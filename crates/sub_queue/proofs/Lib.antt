@@ -2,4 +2,3 @@ pub mod Accounts
 pub mod Equality
 pub mod Keeping
 pub mod Numbering
-pub mod Retracting

@@ -1,8 +1,7 @@
 -- Words of bodies alone: how a queue is kept, its items with their numbers, in a vector with room for all of them.
-use Rattle.std.specs.Prelude.{◌≡◌, ℕ, ◌-◌, ◌≤◌, List, [], ◌∷◌, map, length, take}
+use Rattle.std.specs.Prelude.{◌≡◌, ℕ, ◌≤◌, List, map}
 use Rattle.std.specs.Vec.{vec_capacity}
 use Rattle.sub_queue.specs.declared.queue.SubQueue.TheInside.{Inside}
-use Rattle.sub_queue.specs.declared.item.Lost.{Lost}
 use Rattle.sub_queue.specs.declared.item.Content.{Content}
 use Rattle.sub_queue.specs.declared.item.Item.{Item}
 use Rattle.sub_queue.specs.Items.{numbered}
@@ -27,21 +26,3 @@ pub record IsKeptAs (queue : Queue) (items : List Item) (places : ℕ) : Type 0 
 
 abbrev pub IsKept : Inside → Type 0
 IsKept inside = IsKeptAs (queue_of inside) inside.items.items (vec_capacity inside.items)
-
--- a list without its last element
-abbrev pub front : {X : Type 0} → List X → List X
-front xs = take (length xs - 1) xs
-
--- what is held without the last item, where nothing is lost
-abbrev pub held_before : List Lost → List Content → List Content
-held_before [] held = front held
-held_before (first ∷ others) held = held
-
--- the queue before the last offer: without the last that was lost, or where none is, without the last item
-abbrev pub retracted : Queue → Queue
-retracted queue = record {
-  capacity = queue.capacity;
-  first = queue.first;
-  held = held_before queue.lost queue.held;
-  lost = front queue.lost;
-}

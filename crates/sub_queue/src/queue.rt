@@ -1,17 +1,17 @@
 //! The queue of one subscription.
-ghost use Rattle.std.specs.Prelude.{◌≡◌, ◌+◌, ◌-◌, ◌<◌, ◌≤◌, ◌↔◌, [], ◌∷◌, ◌++◌, drop, take, length, IsTrue, IsOk, IfOk, OnOk, OnErr, vec_len};
+ghost use Rattle.std.specs.Prelude.{◌≡◌, ◌+◌, ◌<◌, ◌≤◌, ◌↔◌, [], ◌++◌, drop, length, IsTrue, IsOk, IfOk, OnOk, OnErr, vec_len};
 ghost use Rattle.std.specs.Vec.{vec_capacity};
 ghost use Rattle.sub_queue.specs.Items.{mark_of, numbered, discarded};
 ghost use Rattle.ntf_types.specs.declared.notification.Notification.{Notification};
-ghost use Rattle.sub_queue.specs.Inside.{front};
-ghost use Rattle.sub_queue.specs.Queue.{Queue, IsCapacity, IsSound, IsNew, HasNumberLeft, empty_queue, queue_of_parts, has_room, offered, received};
+ghost use Rattle.sub_queue.specs.Losing.{IsRoomFor};
+ghost use Rattle.sub_queue.specs.Queue.{IsCapacity, IsSound, IsNew, HasNumberLeft, empty_queue, queue_of_parts, has_room, offered, received};
 
+use crate::losses::{Losses, Room};
 use crate::{Content, Item, Lost};
 use ais_values::Seq;
 use ntf_types::{Notification, kind_of};
 use std::alloc::{AllocError, Global};
 use std::marker::Model;
-use std::mem;
 
 /// The items of a subscription that have no receipt yet, at most `capacity` of them, and the
 /// notifications that were lost since all places were taken.
@@ -21,7 +21,7 @@ pub struct SubQueue {
     capacity: u32,
     first: u32,
     items: Vec<Item>,
-    lost: Seq<Lost>,
+    lost: Losses,
 }
 
 impl Model for SubQueue {
@@ -47,32 +47,14 @@ fn remove_front(items: &mut Vec<Item>, count: usize)
     items.truncate(rest);
 }
 
-/// Adds the type and the id of a notification to those lost, and lets it go.
-fn lose(lost: &mut Seq<Lost>, notification: Notification) -> Result<(), AllocError>
-    ensures ok { OnOk result (lost.new ≡ lost.old ++ mark_of notification ∷ []) }
-    ensures err { OnErr result (lost.new ≡ lost.old) }
+/// The type and the id of a notification, which is let go.
+fn mark_of(notification: Notification) -> Lost
+    ensures { result ≡ mark_of notification }
 {
     let kind = kind_of(&notification);
     let id = notification.id;
-    lost.push(Lost { kind, id })
-}
-
-/// Removes the last item.
-fn remove_last(items: &mut Vec<Item>)
-    ensures items { items.new.items ≡ take (vec_len items.old - 1) items.old.items }
-    ensures capacity { vec_capacity items.new ≡ vec_capacity items.old }
-{
-    let rest = items.len().saturating_sub(1);
-    items.truncate(rest);
-}
-
-/// Removes the last of those lost.
-fn unlose(alloc: Global, lost: &mut Seq<Lost>)
-    ensures { lost.new ≡ front lost.old }
-{
-    let mut marks = mem::replace(lost, Seq::new(alloc)).into_vec();
-    let _ = marks.pop();
-    *lost = Seq::from_vec(marks);
+    drop(notification);
+    Lost { kind, id }
 }
 
 /// Adds an item of what was lost, where anything was. It takes the place of a removed one.
@@ -120,7 +102,7 @@ impl SubQueue {
             capacity: cap,
             first: 1,
             items: Vec::with_capacity(alloc, cap as usize)?,
-            lost: Seq::new(alloc),
+            lost: Losses::new(alloc),
         })
     }
 
@@ -136,6 +118,7 @@ impl SubQueue {
         ensures { IfOk result (λ queue. queue ≡ queue_of_parts cap first held lost) }
     {
         let items = numbered_items(alloc, cap, first, held)?;
+        let lost = Losses::rebuild(lost)?;
         Ok(SubQueue {
             alloc,
             capacity: cap,
@@ -153,27 +136,45 @@ impl SubQueue {
         ensures room { IsTrue (has_room self.old) → IsOk result }
         ensures err { OnErr result (self.new ≡ self.old) }
     {
+        match self.reserve(self.alloc) {
+            Ok(room) => {
+                self.offer_reserved(notification, room);
+                Ok(())
+            }
+            Err(error) => {
+                drop(notification);
+                Err(error)
+            }
+        }
+    }
+
+    /// Room for one notification more. It takes memory only where all places are taken, and so are those for the marks
+    /// of what was lost. An error is want of memory.
+    pub fn reserve(&self, alloc: Global) -> Result<Room, AllocError>
+        ensures ok { IfOk result (λ room. IsRoomFor room self.now) }
+        ensures free { IsTrue (has_room self.now) → IsOk result }
+    {
+        if self.items.len() < self.capacity as usize {
+            return Ok(Room::none(alloc));
+        }
+        let room = self.lost.reserve(alloc)?;
+        Ok(room)
+    }
+
+    /// Offers a notification that matches, as `offer` does, into room that was made for the queue as it is. It takes no
+    /// memory.
+    pub fn offer_reserved(&mut self, notification: Notification, room: Room)
+        requires numbers { HasNumberLeft self.old }
+        requires room { IsRoomFor room self.old }
+        ensures { self.new ≡ offered notification self.old }
+    {
         let count = self.items.len();
         if count < self.capacity as usize {
             let number = self.first + count as u32;
             let content = Content::Notified { notification };
             self.items.push_reserved(Item { number, content });
-            Ok(())
         } else {
-            lose(&mut self.lost, notification)
-        }
-    }
-
-    /// Takes the last offer back, if nothing else came since: the queue is as it was before. It takes no
-    /// memory.
-    pub fn take_back(&mut self)
-        ensures { (before : Queue) (notification : Notification) → IsSound before →
-            self.old ≡ offered notification before → self.new ≡ before }
-    {
-        if self.lost.as_slice().is_empty() {
-            remove_last(&mut self.items);
-        } else {
-            unlose(self.alloc, &mut self.lost);
+            self.lost.push_reserved(mark_of(notification), room);
         }
     }
 
@@ -195,7 +196,7 @@ impl SubQueue {
         remove_front(&mut self.items, count);
         self.first = through + 1;
         let number = self.first + self.items.len() as u32;
-        let lost = mem::replace(&mut self.lost, Seq::new(self.alloc));
+        let lost = self.lost.take(self.alloc);
         add_discarded(&mut self.items, number, lost);
     }
 

@@ -18,13 +18,13 @@ items_are c =
     let queue = queue_of inside in
     let from : inside.first ≤ c.args.through = (new c).from in
     let front = c.remove_front.new.items in
-    let moved : c.add_discarded.new.items.items ≡ front.items ++ numbered (c.args.through + 1 + c.len.result) (discarded inside.lost) = c.add_discarded.ensures.items ∙ ap (λ (lost : List Lost). front.items ++ numbered (c.args.through + 1 + c.len.result) (discarded lost)) c.replace-lost.ensures.value in
+    let moved : c.add_discarded.new.items.items ≡ front.items ++ numbered (c.args.through + 1 + c.len.result) (discarded inside.lost) = c.add_discarded.ensures.items ∙ ap (λ (lost : List Lost). front.items ++ numbered (c.args.through + 1 + c.len.result) (discarded lost)) c.take-lost.ensures.marks in
     let next : c.args.through + 1 + c.len.result ≡ c.args.through + 1 + length front.items = omega (arith, front.ok.0) in
     moved ∙ received_items c.args.through inside.first (c.args.through - inside.first + 1) _ queue.held inside.lost inside.items.items front.items from (omega arith) c.self.invariant.numbers c.remove_front.ensures.items next
 
 -- nothing is lost at the end
-none_lost : (c : goal.After-add_discarded) → c.replace-lost.new.dest ≡ []
-none_lost c = c.replace-lost.ensures.after ∙ c.new.ensures
+none_lost : (c : goal.After-add_discarded) → c.take-lost.new.self ≡ []
+none_lost c = c.take-lost.ensures.none
 
 pub invariant_of-self : goal.invariant_of-self
 invariant_of-self c =
@@ -41,5 +41,5 @@ pub returns : goal.returns
 returns c =
     let queue = queue_of c.self.inside in
     let held : contents_of c.add_discarded.new.items.items ≡ (received c.args.through queue).held = ap contents_of (items_are c) ∙ contents_of-numbered (c.args.through + 1) (received c.args.through queue).held in
-    let view : queue_of_parts queue.capacity (c.args.through + 1) (contents_of c.add_discarded.new.items.items) c.replace-lost.new.dest ≡ received c.args.through queue = λ i. record { capacity = queue.capacity; first = c.args.through + 1; held = held i; lost = none_lost c i } in
+    let view : queue_of_parts queue.capacity (c.args.through + 1) (contents_of c.add_discarded.new.items.items) c.take-lost.new.self ≡ received c.args.through queue = λ i. record { capacity = queue.capacity; first = c.args.through + 1; held = held i; lost = none_lost c i } in
     view ∙ ap (received c.args.through) c.self.view_is
