@@ -1,3 +1,4 @@
 pub mod ClientPlaces
 pub mod Lookups
+pub mod Fronts
 pub mod ReaderLists

@@ -2,8 +2,7 @@
 use Rattle.std.proofs.Common.{◌≡◌, ℕ, suc, ◌<◌, List, length, get_or, set, ap, sym, ◌∙◌, arith}
 use Rattle.ntf_types.specs.declared.notification.Notification.{Notification}
 use Rattle.calls.specs.declared.saved.SavedReader.{SavedReader}
-use Rattle.ntf_service.specs.Editing.{changed_front}
-use Rattle.ntf_service.proofs.Changed.{length-changed_front, get_or-next, set-next}
+use Rattle.service_parts.proofs.Fronts.{changed_front, length-changed_front, get_or-next, set-next}
 use Rattle.service_table.specs.Steps.{told_alarm}
 
 pub told-next : (client : ℕ) (alarm : Notification) (n : ℕ) (xs readers : List SavedReader) (element : SavedReader) → n < length readers → element ≡ get_or readers n element → readers ≡ changed_front (told_alarm client alarm) n xs → (new : SavedReader) → new ≡ told_alarm client alarm element → (m : ℕ) → m ≡ suc n → set readers n new ≡ changed_front (told_alarm client alarm) m xs

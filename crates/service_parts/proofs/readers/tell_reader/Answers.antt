@@ -1,6 +1,6 @@
 use Rattle.std.proofs.Common.{◌≡◌, suc, ◌+◌, ◌<◌, length, ap, ◌∙◌, arith}
 use Rattle.service_table.specs.Steps.{told_alarm}
-use Rattle.ntf_service.proofs.Changed.{length-changed_front, changed_front-all}
+use Rattle.service_parts.proofs.Fronts.{length-changed_front, changed_front-all}
 use Rattle.service_parts.proofs.ReaderLists.{told-next}
 use Rattle.service_parts.proofs.readers.tell_reader.Goals as goal
 

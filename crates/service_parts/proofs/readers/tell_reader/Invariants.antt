@@ -1,5 +1,5 @@
 use Rattle.std.proofs.Common.{◌≡◌}
-use Rattle.ntf_service.specs.Editing.{changed_front}
+use Rattle.service_parts.proofs.Fronts.{changed_front}
 use Rattle.service_table.specs.Steps.{told_alarm}
 use Rattle.service_parts.proofs.readers.tell_reader.Given as goal
 
