@@ -1,86 +1,95 @@
--- Lists of which the first so many elements are changed.
-use Rattle.std.proofs.Common.{◌≡◌, ℕ, zero, suc, ◌<◌, List, [], ◌∷◌, length, map, get_or, set, refl, ap, sym, subst, ◌∙◌, arith}
-use Rattle.ntf_types.specs.declared.notification.Notification.{Notification}
-use Rattle.sub_queue.specs.Queue.{IsSound, HasNumberLeft}
-use Rattle.ntf_history.specs.declared.subscription.Subscription.{Subscription}
-use Rattle.ntf_history.specs.Tables.{offered_sub}
-use Rattle.ntf_service.specs.State.{HaveNumbersLeft}
-use Rattle.ntf_service.specs.Editing.{changed_front, AreSound}
+-- Lists of which elements at some places are changed.
+use Rattle.std.proofs.Common.{◌≡◌, ℕ, zero, suc, ◌<◌, ◌≤◌, Bool, true, false, cond, List, [], ◌∷◌, ◌++◌, length, map, take, get_or, set, refl, ap, sym, ◌∙◌, arith}
+use Rattle.std.specs.List.{AllByRecursion}
+use Rattle.ntf_service.specs.Planning.{change_at, HoldsAt}
+use Rattle.ntf_service.specs.Offering.{change_each}
+use Rattle.ntf_service.specs.ByKind.{positions, RiseBetween}
 
-module _ {X : Type 0} (change : X → X) where
-  pub length-changed_front : (n : ℕ) (xs : List X) → length (changed_front change n xs) ≡ length xs
-  length-changed_front zero xs = refl
-  length-changed_front (suc n) [] = refl
-  length-changed_front (suc n) (x ∷ xs) = ap (λ k. suc k) (length-changed_front n xs)
+module _ {X : Type 0} where
+  pub holds-read : (P : X → Type 0) (xs : List X) (place : ℕ) (d : X) → place < length xs → P (get_or xs place d) → HoldsAt P xs place
+  holds-read P [] place d within holds = absurd (omega arith)
+  holds-read P (x ∷ xs) zero d within holds = holds
+  holds-read P (x ∷ xs) (suc place) d within holds = holds-read P xs place d (omega arith) holds
 
-  -- the next element is not changed yet
-  pub get_or-next : (n : ℕ) (xs : List X) (d : X) → get_or (changed_front change n xs) n d ≡ get_or xs n d
-  get_or-next zero xs d = refl
-  get_or-next (suc n) [] d = refl
-  get_or-next (suc n) (x ∷ xs) d = get_or-next n xs d
+  pub holds-within : (P : X → Type 0) (xs : List X) (place : ℕ) → HoldsAt P xs place → place < length xs
+  holds-within P [] place holds = absurd holds
+  holds-within P (x ∷ xs) zero holds = omega arith
+  holds-within P (x ∷ xs) (suc place) holds = let rest = holds-within P xs place holds in omega arith
 
-  -- the last changed element
-  pub get_or-last : (n : ℕ) (xs : List X) (d : X) → n < length xs → get_or (changed_front change (suc n) xs) n d ≡ change (get_or xs n d)
-  get_or-last n [] d within = absurd (omega arith)
-  get_or-last zero (x ∷ xs) d within = refl
-  get_or-last (suc n) (x ∷ xs) d within = get_or-last n xs d (omega arith)
+  pub read-holds : (P : X → Type 0) (xs : List X) (place : ℕ) (d : X) → HoldsAt P xs place → P (get_or xs place d)
+  read-holds P [] place d holds = absurd holds
+  read-holds P (x ∷ xs) zero d holds = holds
+  read-holds P (x ∷ xs) (suc place) d holds = read-holds P xs place d holds
 
-  -- one element more is changed
-  pub set-next : (n : ℕ) (xs : List X) (d : X) → n < length xs → set (changed_front change n xs) n (change (get_or xs n d)) ≡ changed_front change (suc n) xs
-  set-next n [] d within = absurd (omega arith)
-  set-next zero (x ∷ xs) d within = refl
-  set-next (suc n) (x ∷ xs) d within = ap (λ ys. change x ∷ ys) (set-next n xs d (omega arith))
+  pub holds-weaker : (P Q : X → Type 0) → ((x : X) → P x → Q x) → (xs : List X) (place : ℕ) → HoldsAt P xs place → HoldsAt Q xs place
+  holds-weaker P Q gives [] place holds = absurd holds
+  holds-weaker P Q gives (x ∷ xs) zero holds = gives x holds
+  holds-weaker P Q gives (x ∷ xs) (suc place) holds = holds-weaker P Q gives xs place holds
 
-  -- the last changed element is as it was
-  pub set-last : (n : ℕ) (xs : List X) (d : X) → n < length xs → set (changed_front change (suc n) xs) n (get_or xs n d) ≡ changed_front change n xs
-  set-last n [] d within = absurd (omega arith)
-  set-last zero (x ∷ xs) d within = refl
-  set-last (suc n) (x ∷ xs) d within = ap (λ ys. change x ∷ ys) (set-last n xs d (omega arith))
+  -- a change before a place leaves what stands there
+  holds-behind_one : (P : X → Type 0) (change : X → X) (xs : List X) (other place : ℕ) → other < place → HoldsAt P xs place → HoldsAt P (change_at change xs other) place
+  holds-behind_one P change [] other place before holds = absurd holds
+  holds-behind_one P change (x ∷ xs) other zero before holds = absurd (omega arith)
+  holds-behind_one P change (x ∷ xs) zero (suc place) before holds = holds
+  holds-behind_one P change (x ∷ xs) (suc other) (suc place) before holds =
+      holds-behind_one P change xs other place (omega arith) holds
 
-  -- all are changed
-  pub changed_front-all : (n : ℕ) (xs : List X) → n ≡ length xs → changed_front change n xs ≡ map change xs
-  changed_front-all zero [] all = refl
-  changed_front-all zero (x ∷ xs) all = absurd (omega arith)
-  changed_front-all (suc n) [] all = absurd (omega arith)
-  changed_front-all (suc n) (x ∷ xs) all = ap (λ ys. change x ∷ ys) (changed_front-all n xs (omega arith))
+  pub holds-behind : (P : X → Type 0) (change : X → X) (places : List ℕ) (xs : List X) (place : ℕ) → AllByRecursion (λ other. other < place) places → HoldsAt P xs place → HoldsAt P (change_each change places xs) place
+  holds-behind P change [] xs place before holds = holds
+  holds-behind P change (other ∷ places) xs place before holds =
+      holds-behind P change places (change_at change xs other) place before.1 (holds-behind_one P change xs other place before.0 holds)
 
-pub sound-at : (xs : List Subscription) (n : ℕ) (d : Subscription) → AreSound xs → n < length xs → IsSound (get_or xs n d).queue
-sound-at [] n d sound within = absurd (omega arith)
-sound-at (x ∷ xs) zero d sound within = sound.0
-sound-at (x ∷ xs) (suc n) d sound within = sound-at xs n d sound.1 (omega arith)
+  pub set-change_at : (change : X → X) (xs : List X) (place : ℕ) (read : X) → read ≡ get_or xs place read → place < length xs → set xs place (change read) ≡ change_at change xs place
+  set-change_at change [] place read is within = absurd (omega arith)
+  set-change_at change (x ∷ xs) zero read is within = ap (λ y. change y ∷ xs) is
+  set-change_at change (x ∷ xs) (suc place) read is within =
+      ap (λ rest. x ∷ rest) (set-change_at change xs place read is (omega arith))
 
-pub number-at : (xs : List Subscription) (n : ℕ) (d : Subscription) → HaveNumbersLeft xs → n < length xs → HasNumberLeft (get_or xs n d).queue
-number-at [] n d left within = absurd (omega arith)
-number-at (x ∷ xs) zero d left within = left.0
-number-at (x ∷ xs) (suc n) d left within = number-at xs n d left.1 (omega arith)
+  -- two changes that are the same for what stands at the place
+  pub change_at-same : (change other : X → X) (xs : List X) (place : ℕ) → HoldsAt (λ x. change x ≡ other x) xs place → change_at change xs place ≡ change_at other xs place
+  change_at-same change other [] place same = absurd same
+  change_at-same change other (x ∷ xs) zero same = ap (λ y. y ∷ xs) same
+  change_at-same change other (x ∷ xs) (suc place) same = ap (λ ys. x ∷ ys) (change_at-same change other xs place same)
 
-module _ (notification : Notification) (n : ℕ) (xs subs : List Subscription) (element : Subscription) (within : n < length subs) (there : element ≡ get_or subs n element) where
-  -- the next subscription is not changed yet
-  next-is : subs ≡ changed_front (offered_sub notification) n xs → element ≡ get_or xs n element
-  next-is so_far = there ∙ ap (λ ys. get_or ys n element) so_far ∙ get_or-next (offered_sub notification) n xs element
+  -- a change of something that stays as it is
+  pub change_at-none : (change : X → X) (xs : List X) (place : ℕ) → HoldsAt (λ x. change x ≡ x) xs place → change_at change xs place ≡ xs
+  change_at-none change [] place same = absurd same
+  change_at-none change (x ∷ xs) zero same = ap (λ y. y ∷ xs) same
+  change_at-none change (x ∷ xs) (suc place) same = ap (λ ys. x ∷ ys) (change_at-none change xs place same)
 
-  next-within : subs ≡ changed_front (offered_sub notification) n xs → n < length xs
-  next-within so_far =
-      let long = ap length so_far ∙ length-changed_front (offered_sub notification) n xs in
-      omega (arith, within, long)
+  pub map-change_at : {Y : Type 0} (read : X → Y) (change : X → X) → ((x : X) → read (change x) ≡ read x) → (xs : List X) (place : ℕ) → map read (change_at change xs place) ≡ map read xs
+  map-change_at read change same [] place = refl
+  map-change_at read change same (x ∷ xs) zero = ap (λ y. y ∷ map read xs) (same x)
+  map-change_at read change same (x ∷ xs) (suc place) = ap (λ ys. read x ∷ ys) (map-change_at read change same xs place)
 
-  pub next-number : subs ≡ changed_front (offered_sub notification) n xs → HaveNumbersLeft xs → HasNumberLeft element.queue
-  next-number so_far left =
-      let P : Subscription → Type 0 = λ x. HasNumberLeft x.queue in
-      subst P (sym (next-is so_far)) (number-at xs n element left (next-within so_far))
+  pub change_each-append : (change : X → X) (places more : List ℕ) (xs : List X) → change_each change (places ++ more) xs ≡ change_each change more (change_each change places xs)
+  change_each-append change [] more xs = refl
+  change_each-append change (place ∷ places) more xs = change_each-append change places more (change_at change xs place)
 
-  -- one subscription more is offered the notification
-  pub step-on : subs ≡ changed_front (offered_sub notification) n xs → (new : Subscription) → new ≡ offered_sub notification element → (m : ℕ) → m ≡ suc n → set subs n new ≡ changed_front (offered_sub notification) m xs
-  step-on so_far new is m next =
-      let change = offered_sub notification in
-      ap (λ ys. set ys n new) so_far ∙ ap (λ x. set (changed_front change n xs) n x) (is ∙ ap change (next-is so_far)) ∙ set-next change n xs element (next-within so_far) ∙ ap (λ k. changed_front change k xs) (sym next)
+  change_each-suc : (change : X → X) (places : List ℕ) (x : X) (xs : List X) → change_each change (map suc places) (x ∷ xs) ≡ x ∷ change_each change places xs
+  change_each-suc change [] x xs = refl
+  change_each-suc change (place ∷ places) x xs = change_each-suc change places x (change_at change xs place)
 
-  -- the last offer is taken back
-  pub step-back : (m : ℕ) → m ≡ suc n → subs ≡ changed_front (offered_sub notification) m xs → AreSound xs → (new : Subscription) → ((before : Subscription) → IsSound before.queue → element ≡ offered_sub notification before → new ≡ before) → set subs n new ≡ changed_front (offered_sub notification) n xs
-  step-back m next so_far sound new back =
-      let change = offered_sub notification in
-      let is : subs ≡ changed_front change (suc n) xs = so_far ∙ ap (λ k. changed_front change k xs) next in
-      let long = ap length is ∙ length-changed_front change (suc n) xs in
-      let inside : n < length xs = omega (arith, within, long) in
-      let was : element ≡ change (get_or xs n element) = there ∙ ap (λ ys. get_or ys n element) is ∙ get_or-last change n xs element inside in
-      ap (λ ys. set ys n new) is ∙ ap (λ x. set (changed_front change (suc n) xs) n x) (back (get_or xs n element) (sound-at xs n element sound inside) was) ∙ set-last change n xs element inside
+  -- where only those that pass a test change, changes at their places are changes of all
+  pub change_each-positions : (test : X → Bool) (change : X → X) → ((x : X) → test x ≡ false → change x ≡ x) → (xs : List X) → change_each change (positions test xs) xs ≡ map change xs
+  change_each-positions test change others [] = refl
+  change_each-positions test change others (x ∷ xs) = at (test x) refl (change_each-positions test change others xs) where
+    at : (b : Bool) → test x ≡ b → change_each change (positions test xs) xs ≡ map change xs → change_each change (cond b (zero ∷ map suc (positions test xs)) (map suc (positions test xs))) (x ∷ xs) ≡ change x ∷ map change xs
+    at true is rest = change_each-suc change (positions test xs) (change x) xs ∙ ap (λ ys. change x ∷ ys) rest
+    at false is rest =
+        change_each-suc change (positions test xs) x xs ∙ ap (λ ys. x ∷ ys) rest ∙ ap (λ y. y ∷ map change xs) (sym (others x is))
+
+-- of places that rise, those before one are below it
+pub rise-before : (low high : ℕ) (places : List ℕ) (index d : ℕ) → RiseBetween low high places → index < length places → AllByRecursion (λ other. other < get_or places index d) (take index places) × (low ≤ get_or places index d) × (get_or places index d < high)
+rise-before low high [] index d rise within = absurd (omega arith)
+rise-before low high (place ∷ places) zero d rise within = (tt, rise.0, rise.1)
+rise-before low high (place ∷ places) (suc index) d rise within =
+    let rest = rise-before (suc place) high places index d rise.2 (omega arith) in
+    let from = rise.0 in
+    let above = rest.1 in
+    ((omega arith, rest.0), omega arith, rest.2)
+
+pub rise-below : (high : ℕ) (places : List ℕ) (index d place : ℕ) → place ≡ get_or places index d → RiseBetween 0 high places → index < length places → place < high
+rise-below high places index d place is rise within =
+    let below = (rise-before 0 high places index d rise within).2 in
+    omega (arith, is, below)

@@ -15,8 +15,11 @@ use Rattle.ntf_history.specs.Tables.{NtfTable, HaveQueues, IsSoundTable, table_w
 use Rattle.ntf_history.proofs.TableLaws.{has_item-decides}
 use Rattle.ntf_history.proofs.KeyLaws.{key_first-self, key_first-onward, key_first-beside}
 use Rattle.ntf_history.proofs.FitLaws.{length-put, length-without}
-use Rattle.ntf_service.specs.State.{HaveNumbersLeft}
-use Rattle.ntf_service.specs.Editing.{AreSound}
+use Rattle.ais_values.specs.declared.status.Status.{Status}
+use Rattle.ais_values.specs.declared.status.Status.TheVariants as status
+use Rattle.ntf_filters.specs.declared.filter.FilterSet.{FilterSet}
+use Rattle.ntf_service.specs.State.{HaveNumbersLeft, subscribe_answer}
+use Rattle.ntf_service.proofs.Answered.{room-left}
 
 IsOrder-kept_first : IsOrder kept_first
 IsOrder-kept_first = record {
@@ -34,10 +37,6 @@ module _ (change : Subscription → Subscription) (same : (x y : Subscription) �
   IsRising-map : (xs : List Subscription) → IsRising kept_first xs → IsRising kept_first (map change xs)
   IsRising-map [] rising = tt
   IsRising-map (x ∷ xs) rising = (ComesFirst-map x xs rising.0, IsRising-map xs rising.1)
-
-pub sound-queues : (capacity : ℕ) (xs : List Subscription) → HaveQueues capacity xs → AreSound xs
-sound-queues capacity [] queues = tt
-sound-queues capacity (x ∷ xs) queues = (queues.1, sound-queues capacity xs queues.2)
 
 -- an offer keeps a queue sound
 IsSound-offered : (notification : Notification) (queue : Queue) → IsSound queue → HasNumberLeft queue → IsSound (offered notification queue)
@@ -129,7 +128,7 @@ kept-put capacity x xs fits are new room =
       few = omega (arith, room, length-put kept_first x xs);
     }
 
--- a sound table from its parts
+-- a sound table's subscriptions are kept
 pub kept-table : (table : NtfTable) → IsSoundTable table → AreKept table.capacity table.subs
 kept-table table sound = record { order = sound.order; queues = sound.queues; few = sound.few }
 
@@ -164,3 +163,10 @@ sound-with table last_id changed subs sound were is =
     let Q : List Subscription → Type 0 = AreKept table.capacity in
     let are : AreKept table.capacity subs = subst Q (sym is) were in
     record { capacity = sound.capacity; users = sound.users; order = are.order; queues = are.queues; few = are.few }
+
+-- with a subscription that was made for this table
+pub kept-new : (table now : NtfTable) (client id : ℕ) (filters : FilterSet) (answered : Status) (kept : Subscription) → table ≡ now → IsSoundTable table → answered ≡ subscribe_answer client id filters now → answered ≡ status.Ok → kept.queue ≡ empty_queue table.capacity → AreKept table.capacity (put kept_first kept table.subs)
+kept-new table now client id filters answered kept is sound as_said ok queue =
+    let P : NtfTable → Type 0 = λ t. length t.subs < 64 in
+    let room = room-left client id filters now (sym as_said ∙ ok) in
+    kept-put table.capacity kept table.subs sound.capacity (kept-table table sound) queue (subst P (sym is) room)

@@ -1,7 +1,9 @@
 pub mod Places
 pub mod Changed
+pub mod Positions
+pub mod Offers
 pub mod Kept
+pub mod Planned
 pub mod Answered
 pub mod Received
 pub mod HistoryLaws
-pub mod TakenBack

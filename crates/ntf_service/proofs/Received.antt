@@ -7,8 +7,9 @@ use Rattle.ntf_history.specs.declared.subscription.Subscription.{Subscription}
 use Rattle.ntf_history.specs.Tables.{requeued, is_kept_at, is_new_for, has_item, kept_first, received_sub}
 use Rattle.ntf_history.proofs.TableLaws.{has_item-decides}
 use Rattle.ntf_service.specs.State.{HaveNumbersLeft}
+use Rattle.ntf_service.specs.ByKind.{filters_of}
 use Rattle.ntf_service.proofs.Places.{place_in, set-map, map-absent, find-at}
-use Rattle.ntf_service.proofs.Changed.{number-at}
+use Rattle.ntf_service.proofs.Offers.{number-at}
 
 -- a filter by what does not pass takes out what passes
 pub filter-without : {X : Type 0} (test : X → Bool) (xs : List X) → filter (λ x. not (test x)) xs ≡ without test xs
@@ -17,6 +18,12 @@ filter-without {X} test (x ∷ xs) = left (test x) (filter-without test xs) wher
   left : (gone : Bool) → filter (λ y. not (test y)) xs ≡ without test xs → cond (not gone) (x ∷ filter (λ y. not (test y)) xs) (filter (λ y. not (test y)) xs) ≡ cond gone (without test xs) (x ∷ without test xs)
   left true rest = rest
   left false rest = ap (λ ys. x ∷ ys) rest
+
+-- receipts leave what subscriptions ask for
+pub filters-received : (client key through : ℕ) (subs : List Subscription) → filters_of (map (received_sub client key through) subs) ≡ filters_of subs
+filters-received client key through [] = refl
+filters-received client key through (kept ∷ subs) =
+    ap (λ sets. kept.filters ∷ sets) (filters-received client key through subs)
 
 received-other : (client key through : ℕ) (x : Subscription) → is_kept_at client key x ≡ false → received_sub client key through x ≡ x
 received-other client key through x other =

@@ -1,6 +1,7 @@
 -- Words of bodies alone: how the state is kept.
 use Rattle.ntf_service.specs.declared.state.NtfState.TheInside.{Inside}
 use Rattle.ntf_history.specs.Tables.{NtfTable, IsSoundTable}
+use Rattle.ntf_service.specs.ByKind.{IsByKind, filters_of}
 
 abbrev pub table_inside : Inside → NtfTable
 table_inside inside = record {
@@ -10,5 +11,7 @@ table_inside inside = record {
   subs = inside.subs.items;
 }
 
-abbrev pub IsKept : Inside → Type 0
-IsKept inside = IsSoundTable (table_inside inside)
+-- the table is sound, and the places by types are those of its subscriptions
+pub record IsKept (inside : Inside) : Type 0 where
+  pub table : IsSoundTable (table_inside inside)
+  pub places : IsByKind inside.by_kind (filters_of inside.subs.items)

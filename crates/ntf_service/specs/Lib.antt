@@ -1,4 +1,6 @@
 pub mod State
-pub mod Editing
+pub mod Planning
+pub mod ByKind
+pub mod Offering
 pub mod Inside
 pub mod Laws

@@ -2,12 +2,15 @@
 //! queues.
 #![tactic(auto)]
 
+mod by_kind;
 mod editing;
 mod law;
 mod offering;
+mod plan;
 mod searching;
 mod state;
 
 pub use law::law_of_history;
 pub use ntf_history::Subscription;
+pub use plan::SendPlan;
 pub use state::NtfState;

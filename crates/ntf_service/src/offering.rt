@@ -1,13 +1,12 @@
-//! A notification is offered to all subscriptions that ask for it, or to none.
-ghost use Rattle.std.specs.Prelude.{◌≡◌, ◌≤◌, List, map, OnOk, OnErr, vec_len};
-ghost use Rattle.ntf_types.specs.declared.notification.Notification.{Notification};
+//! The offers of a notification to all subscriptions that ask for it, planned.
+ghost use Rattle.std.specs.Prelude.{◌≡◌, ◌+◌, ◌<◌, ◌≤◌, length, IfOk, OnOk, vec_len};
+ghost use Rattle.std.specs.Vec.{vec_capacity};
 ghost use Rattle.ntf_filters.specs.Matching.{matches};
-ghost use Rattle.sub_queue.specs.Queue.{HasNumberLeft, IsSound};
-ghost use Rattle.ntf_history.specs.declared.subscription.Subscription.{Subscription};
-ghost use Rattle.ntf_history.specs.Tables.{offered_sub};
 ghost use Rattle.ntf_service.specs.State.{HaveNumbersLeft};
-ghost use Rattle.ntf_service.specs.Editing.{changed_front, AreSound};
+ghost use Rattle.ntf_service.specs.ByKind.{RiseBetween};
+ghost use Rattle.ntf_service.specs.Offering.{Joins, AreOffers};
 
+use crate::plan::Offer;
 use ais_values::Duplicate;
 use ntf_filters::{FilterSet, matches};
 use ntf_history::Subscription;
@@ -21,70 +20,51 @@ fn is_asked_for(filters: &FilterSet, notification: &Notification) -> bool
     matches(filters, notification)
 }
 
-/// Offers a copy of a notification to a subscription that asks for it. On an error nothing changes.
-fn offer(
+/// Adds the offer of a copy of a notification to the subscription at a place, if that asks for it. There is room for it
+/// among the offers.
+fn add_offer(
     alloc: Global,
-    kept: &mut Subscription,
+    offers: &mut Vec<Offer>,
+    place: usize,
+    kept: &Subscription,
     notification: &Notification,
 ) -> Result<(), AllocError>
-    requires { HasNumberLeft kept.old.queue }
-    ensures ok { OnOk result (kept.new ≡ offered_sub notification.now kept.old) }
-    ensures err { OnErr result (kept.new ≡ kept.old) }
+    requires { vec_len offers.old < vec_capacity offers.old }
+    ensures joins { OnOk result (Joins (matches kept.now.filters notification.now)
+        place notification.now kept.now offers.old.items offers.new.items) }
+    ensures count { vec_len offers.new ≤ vec_len offers.old + 1 }
+    ensures capacity { vec_capacity offers.new ≡ vec_capacity offers.old }
 {
     if !is_asked_for(&kept.filters, notification) {
         return Ok(());
     }
-    let copy = notification.copy(alloc)?;
-    kept.queue.offer(copy)
-}
-
-/// Takes the offer of a notification back: what was before it stands again.
-fn take_back(kept: &mut Subscription, notification: &Notification)
-    ensures { (before : Subscription) → IsSound before.queue →
-        kept.old ≡ offered_sub notification.now before → kept.new ≡ before }
-{
-    if is_asked_for(&kept.filters, notification) {
-        kept.queue.take_back();
-    }
-}
-
-/// Takes the offers to the first `count` subscriptions back.
-pub(crate) fn take_back_front(
-    subs: &mut Vec<Subscription>,
-    count: usize,
-    notification: &Notification,
-)
-    requires { count ≤ vec_len subs.old }
-    ensures { (before : List Subscription) → AreSound before →
-        subs.old.items ≡ changed_front (offered_sub notification.now) count before →
-        subs.new.items ≡ before }
-{
-    let mut left = count;
-    while left > 0 {
-        left -= 1;
-        let kept = &mut subs[left];
-        take_back(kept, notification);
-    }
-}
-
-/// Offers a notification to each subscription that asks for it. On an error nothing changes: what
-/// was offered before is taken back.
-pub(crate) fn offer_all(
-    alloc: Global,
-    subs: &mut Vec<Subscription>,
-    notification: &Notification,
-) -> Result<(), AllocError>
-    requires sound { AreSound subs.old.items }
-    requires numbers { HaveNumbersLeft subs.old.items }
-    ensures ok { OnOk result (subs.new.items ≡ map (offered_sub notification.now) subs.old.items) }
-    ensures err { OnErr result (subs.new.items ≡ subs.old.items) }
-{
-    for place in 0..subs.len() {
-        let kept = &mut subs[place];
-        if let Err(error) = offer(alloc, kept, notification) {
-            take_back_front(subs, place, notification);
-            return Err(error);
-        }
-    }
+    let room = kept.queue.reserve(alloc)?;
+    let notification = notification.copy(alloc)?;
+    offers.push_reserved(Offer {
+        place,
+        notification,
+        room,
+    });
     Ok(())
+}
+
+/// The offers of a notification to those of the subscriptions at these places that ask for it.
+pub(crate) fn offers_for(
+    alloc: Global,
+    subs: &[Subscription],
+    places: &[u8],
+    notification: &Notification,
+) -> Result<Vec<Offer>, AllocError>
+    requires places { RiseBetween 0 (length subs.now) places.now }
+    requires numbers { HaveNumbersLeft subs.now }
+    ensures { IfOk result
+        (λ offers. AreOffers notification.now places.now subs.now offers.items) }
+{
+    let mut offers = Vec::with_capacity(alloc, places.len())?;
+    for index in 0..places.len() {
+        let place = usize::from(places[index]);
+        let kept = &subs[place];
+        add_offer(alloc, &mut offers, place, kept, notification)?;
+    }
+    Ok(offers)
 }

@@ -6,9 +6,12 @@ ghost use Rattle.client_set.specs.Rising.{IsRising};
 ghost use Rattle.client_set.specs.Members.{has};
 ghost use Rattle.ntf_history.specs.Tables.{NtfTable, empty_table, table_with, sub_with, has_item, IsSoundTable, with_id, is_new_in, after_begin, after_end, after_subscribe, after_unsubscribe, after_send, after_receipt};
 ghost use Rattle.ntf_service.specs.State.{sub_of, begin_answer, end_answer, subscribe_answer, unsubscribe_answer, CanSendMore, HaveNumbersLeft, IsKeyAbove};
+ghost use Rattle.ntf_service.specs.Planning.{sent_by, CanCommitSend, PlansSend};
 
+use crate::by_kind::{ByKind, kind_for};
 use crate::editing::{add, receive, remove_for, remove_under};
-use crate::offering::{offer_all, take_back_front};
+use crate::offering::offers_for;
+use crate::plan::{SendPlan, make_offers};
 use crate::searching::{find_at, has_id, have_numbers_left, is_key_above};
 use ais_values::{Duplicate, Status};
 use client_set::ClientSet;
@@ -23,13 +26,14 @@ use sub_queue::SubQueue;
 const MAX_SUBSCRIPTIONS: usize = 64;
 
 /// The clients that use the service, the last id that was given, and the subscriptions that last,
-/// in order of client, then key.
+/// in order of client, then key. Beside them stand their places by the types that they ask for.
 #[derive(Drop)]
 pub struct NtfState {
     capacity: u32,
     users: ClientSet,
     last_id: u64,
     subs: Vec<Subscription>,
+    by_kind: ByKind,
 }
 
 impl Model for NtfState {
@@ -92,6 +96,7 @@ impl NtfState {
             users: ClientSet::new(alloc),
             last_id: 0,
             subs: Vec::new(alloc),
+            by_kind: ByKind::of(&[]),
         }
     }
 
@@ -123,6 +128,7 @@ impl NtfState {
         }
         self.users.remove(client);
         remove_for(&mut self.subs, client);
+        self.by_kind = ByKind::of(self.subs.as_slice());
         Status::Ok
     }
 
@@ -173,6 +179,7 @@ impl NtfState {
         }
         let kept = subscription(alloc, self.capacity, client, key, id, filters)?;
         add(&mut self.subs, kept)?;
+        self.by_kind = ByKind::of(self.subs.as_slice());
         Ok(Status::Ok)
     }
 
@@ -191,38 +198,55 @@ impl NtfState {
             return Status::NotExist;
         }
         remove_under(&mut self.subs, client, id);
+        self.by_kind = ByKind::of(self.subs.as_slice());
         Status::Ok
+    }
+
+    /// Plans `send`: what it gives and makes of the state, with all the memory that this takes. Of the
+    /// subscriptions only those are looked at that have a filter of the notification's type. An error
+    /// is want of memory.
+    pub fn plan_send(
+        &self,
+        alloc: Global,
+        mut notification: Notification,
+    ) -> Result<SendPlan, AllocError>
+        requires { CanSendMore self.now }
+        ensures { IfOk result (PlansSend self.now notification) }
+    {
+        let id = self.last_id + 1;
+        notification.id = id;
+        let places = self.by_kind.places(kind_for(&notification.body));
+        let planned = offers_for(alloc, self.subs.as_slice(), places, &notification);
+        drop(notification);
+        let offers = planned?;
+        Ok(SendPlan { id, offers })
+    }
+
+    /// Makes a send that was planned for the state as it is. The answer is its id. It takes no memory:
+    /// the plan brought all of it.
+    pub fn commit_send(&mut self, plan: SendPlan) -> u64
+        requires { CanCommitSend self.old plan }
+        ensures now { self.new ≡ sent_by plan self.old }
+        ensures id { result ≡ plan.id }
+    {
+        let SendPlan { id, offers } = plan;
+        make_offers(&mut self.subs, offers);
+        self.last_id = id;
+        id
     }
 
     /// Sends a notification: gives it the next id, which is the answer, and offers it to each
     /// subscription that asks for it, and to no other. On an error nothing changes, and no id is
     /// used up.
-    pub fn send(&mut self, alloc: Global, mut notification: Notification) -> Result<u64, AllocError>
+    pub fn send(&mut self, alloc: Global, notification: Notification) -> Result<u64, AllocError>
         requires { CanSendMore self.old }
         ensures id { IfOk result (λ id. id ≡ self.old.last_id + 1) }
         ensures ok { OnOk result
             (self.new ≡ after_send (with_id (self.old.last_id + 1) notification) self.old) }
         ensures err { OnErr result (self.new ≡ self.old) }
-        ensures sound { IsSoundTable self.old }
     {
-        let id = self.last_id + 1;
-        notification.id = id;
-        offer_all(alloc, &mut self.subs, &notification)?;
-        self.last_id = id;
-        Ok(id)
-    }
-
-    /// Takes the last send back, of which this notification was offered, with its id: the state is as it was
-    /// before. It takes no memory.
-    pub fn take_back(&mut self, notification: &Notification)
-        requires { (before : NtfTable) × IsSoundTable before
-            × (self.old ≡ after_send notification.now before) }
-        ensures { (before : NtfTable) → IsSoundTable before →
-            self.old ≡ after_send notification.now before → self.new ≡ before }
-    {
-        let count = self.subs.len();
-        take_back_front(&mut self.subs, count, notification);
-        self.last_id = self.last_id.saturating_sub(1);
+        let plan = self.plan_send(alloc, notification)?;
+        Ok(self.commit_send(plan))
     }
 
     /// Whether a notification can be sent: an id is left for it, and a number for the next item of
@@ -303,11 +327,13 @@ impl NtfState {
         requires { IsSoundTable (table_with cap users.items last_id subs.items) }
         ensures { result ≡ table_with cap users.items last_id subs.items }
     {
+        let by_kind = ByKind::of(subs.as_slice());
         NtfState {
             capacity: cap,
             users: ClientSet::from_rising(users),
             last_id,
             subs,
+            by_kind,
         }
     }
 }

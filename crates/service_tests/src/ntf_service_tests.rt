@@ -1,6 +1,6 @@
 //! Users, subscriptions and notifications that are sent to them, against the written rules.
 use crate::fixtures::{alarm, alarms_by, filter_by, no_filters};
-use ais_values::{Duplicate, Status};
+use ais_values::Status;
 use ntf_filters::FilterSet;
 use ntf_service::NtfState;
 use std::alloc::Global;
@@ -123,29 +123,27 @@ fn offers_to_each_that_asks(rt: HostRuntime) {
     drop(state);
 }
 
-/// Sends an alarm and takes it back.
-fn send_in_vain(rt: &impl Abort, alloc: Global, state: &mut NtfState) {
+/// Plans a send of an alarm and lets the plan go.
+fn plan_in_vain(rt: &impl Abort, alloc: Global, state: &NtfState) -> u64 {
     let alarm = alarm(rt, alloc, 0, 100, 2);
-    let mut sent = alarm.copy(alloc).expect(rt, "memory");
     assert!(rt; state.can_send());
-    sent.id = state.send(alloc, alarm).expect(rt, "memory");
-    state.take_back(&sent);
-    drop(sent);
+    let plan = state.plan_send(alloc, alarm).expect(rt, "memory");
+    let id = plan.id();
+    drop(plan);
+    id
 }
 
-/// The third of three alarms to queues of two is lost; taken back, it leaves two held and none lost,
-/// and its id is given again.
+/// A send that is planned and not made leaves all as it is, and its id is given again; made, it is offered to each
+/// subscription that asks, also once one in front of them was removed.
 #[test]
-fn takes_a_send_back(rt: HostRuntime) {
+fn plans_a_send(rt: HostRuntime) {
     let alloc = rt.alloc();
     let mut state = three_users(&rt, alloc);
-    send_in_vain(&rt, alloc, &mut state);
-    assert!(rt; told(&state, 0) == (2, 0, 0));
-    for id in 1..3u64 {
-        assert!(rt; send(&rt, alloc, &mut state) == id, "{id}");
-    }
-    send_in_vain(&rt, alloc, &mut state);
-    assert!(rt; told(&state, 0) == (2, 2, 0) && told(&state, 2) == (7, 2, 0));
-    assert!(rt; send(&rt, alloc, &mut state) == 3 && told(&state, 0) == (2, 2, 1));
+    assert!(rt; plan_in_vain(&rt, alloc, &state) == 1 && told(&state, 0) == (2, 0, 0));
+    assert!(rt; send(&rt, alloc, &mut state) == 1 && told(&state, 2) == (7, 1, 0));
+    assert!(rt; state.unsubscribe(2, 5) == Status::Ok);
+    assert!(rt; plan_in_vain(&rt, alloc, &state) == 2 && told(&state, 1) == (7, 1, 0));
+    assert!(rt; send(&rt, alloc, &mut state) == 2 && told(&state, 1) == (7, 2, 0));
+    assert!(rt; told(&state, 0) == (3, 0, 0));
     drop(state);
 }

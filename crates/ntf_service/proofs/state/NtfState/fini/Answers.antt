@@ -1,7 +1,18 @@
+use Rattle.std.proofs.Common.{length, ap, subst, ◌∙◌, arith}
+use Rattle.ntf_history.specs.Tables.{is_kept_for}
 use Rattle.ntf_service.specs.Inside.{table_inside}
-use Rattle.ntf_service.proofs.Kept.{sound-ended}
+use Rattle.ntf_service.specs.ByKind.{IsByKind, filters_of}
+use Rattle.ntf_service.proofs.Kept.{sound-ended, kept-without, kept-table}
 use Rattle.ntf_service.proofs.state.NtfState.fini.Goals as goal
 
+pub of-self-inside-requires : goal.of-self-inside-requires
+of-self-inside-requires c =
+    let table = table_inside c.self.inside in
+    let few = (kept-without table.capacity (is_kept_for c.args.client) table.subs (kept-table table c.self.invariant.table)).few in
+    omega (arith, ap length (c.as_slice.ensures.value ∙ c.remove_for.ensures), few)
+
 pub invariant_of-self : goal.invariant_of-self
-invariant_of-self c =
-    sound-ended (table_inside c.self.inside) c.args.client _ _ c.self.invariant c.remove.ensures c.remove_for.ensures
+invariant_of-self c = record {
+  table = sound-ended (table_inside c.self.inside) c.args.client _ _ c.self.invariant.table c.remove.ensures c.remove_for.ensures;
+  places = subst (λ subs. IsByKind c.of-self-inside.result (filters_of subs)) c.as_slice.ensures.value c.of-self-inside.ensures;
+}

@@ -1,17 +1,24 @@
-use Rattle.std.proofs.Common.{◌≡◌, ◌<◌, length, ap, subst, sym, ◌∙◌, rules}
+use Rattle.std.proofs.Common.{◌≡◌, length, ap, subst, ◌∙◌, rules, arith}
 use Rattle.ais_values.specs.declared.status.Status.TheVariants as status
 use Rattle.ntf_history.specs.declared.subscription.Subscription.{Subscription}
-use Rattle.ntf_history.specs.Tables.{NtfTable}
 use Rattle.ntf_service.specs.Inside.{table_inside}
-use Rattle.ntf_service.proofs.Answered.{room-left}
-use Rattle.ntf_service.proofs.Kept.{sound-with, kept-put, kept-table}
+use Rattle.ntf_service.specs.ByKind.{IsByKind, filters_of}
+use Rattle.ntf_service.proofs.Kept.{sound-with, kept-new}
 use Rattle.ntf_service.proofs.state.NtfState.subscribe.Goals as goal
+
+pub of-self-inside-requires : goal.of-self-inside-requires
+of-self-inside-requires c =
+    let answered : c.subscribe_status-status.result ≡ status.Ok = search rules in
+    let queue = ap (λ (kept : Subscription). kept.queue) c.in_ok-kept.ensures in
+    let kept = kept-new (table_inside c.self.inside) c.args.self.now c.args.client c.args.id c.args.filters.now c.subscribe_status-status.result c.in_ok-kept.kept c.self.view_is c.self.invariant.table c.subscribe_status-status.ensures answered queue in
+    omega (arith, ap length (c.as_slice.ensures.value ∙ c.in_ok-add.ensures.ok), kept.few)
 
 pub invariant_of-self-2 : goal.invariant_of-self-2
 invariant_of-self-2 c =
-    let table = table_inside c.self.inside in
     let answered : c.subscribe_status-status.result ≡ status.Ok = search rules in
-    let room : length c.args.self.now.subs < 64 = room-left c.args.client c.args.id c.args.filters.now c.args.self.now (sym c.subscribe_status-status.ensures ∙ answered) in
-    let P : NtfTable → Type 0 = λ t. length t.subs < 64 in
     let queue = ap (λ (kept : Subscription). kept.queue) c.in_ok-kept.ensures in
-    sound-with table _ _ _ c.self.invariant (kept-put table.capacity c.in_ok-kept.kept table.subs c.self.invariant.capacity (kept-table table c.self.invariant) queue (subst P (sym c.self.view_is) room)) c.in_ok-add.ensures.ok
+    let kept = kept-new (table_inside c.self.inside) c.args.self.now c.args.client c.args.id c.args.filters.now c.subscribe_status-status.result c.in_ok-kept.kept c.self.view_is c.self.invariant.table c.subscribe_status-status.ensures answered queue in
+    record {
+      table = sound-with (table_inside c.self.inside) _ _ _ c.self.invariant.table kept c.in_ok-add.ensures.ok;
+      places = subst (λ subs. IsByKind c.of-self-inside.result (filters_of subs)) c.as_slice.ensures.value c.of-self-inside.ensures;
+    }

@@ -1,0 +1,115 @@
+-- Offers that are planned, and what they make of the subscriptions.
+use Rattle.std.proofs.Common.{◌≡◌, ℕ, suc, ◌<◌, Bool, true, false, cond, List, [], ◌∷◌, ◌++◌, length, map, take, get_or, Option, None, Some, is_some, zero, refl, ap, sym, subst, ◌∙◌, arith}
+use Rattle.std.specs.List.{AllByRecursion}
+use Rattle.std.proofs.Math.Seq.{take-suc}
+use Rattle.ntf_types.specs.declared.notification.Body.{Body}
+use Rattle.ntf_types.specs.declared.notification.Body.TheVariants as body
+use Rattle.ntf_types.specs.declared.notification.Notification.{Notification}
+use Rattle.ntf_filters.specs.declared.filter.Filter.{Filter}
+use Rattle.ntf_filters.specs.declared.filter.FilterSet.{FilterSet}
+use Rattle.ntf_filters.specs.Meaning.{filter_for}
+use Rattle.ntf_filters.specs.Matching.{admitted_by, matches}
+use Rattle.sub_queue.specs.Queue.{HasNumberLeft, offered}
+use Rattle.sub_queue.specs.Losing.{IsRoomFor}
+use Rattle.ntf_history.specs.declared.subscription.Subscription.{Subscription}
+use Rattle.ntf_history.specs.Tables.{requeued, offered_sub}
+use Rattle.ntf_service.specs.declared.plan.Offer.{Offer}
+use Rattle.ntf_service.specs.State.{HaveNumbersLeft}
+use Rattle.ntf_service.specs.Planning.{change_at, HoldsAt, offered_to, offers_made, CanOffer, CanOfferAll}
+use Rattle.ntf_service.specs.ByKind.{kind_for, filter_of, has_filter, positions, filters_of, RiseBetween}
+use Rattle.ntf_service.specs.Offering.{change_each, Joins, AreOffers}
+use Rattle.ntf_service.proofs.Changed.{holds-read, holds-weaker, holds-behind, change_at-same, change_at-none, map-change_at, change_each-append, change_each-positions, rise-before, rise-below}
+use Rattle.ntf_service.proofs.Positions.{positions-map}
+
+pub number-at : (xs : List Subscription) (n : ℕ) (d : Subscription) → HaveNumbersLeft xs → n < length xs → HasNumberLeft (get_or xs n d).queue
+number-at [] n d left within = absurd (omega arith)
+number-at (x ∷ xs) zero d left within = left.0
+number-at (x ∷ xs) (suc n) d left within = number-at xs n d left.1 (omega arith)
+
+offers_made-append : (offers more : List Offer) (subs : List Subscription) → offers_made (offers ++ more) subs ≡ offers_made more (offers_made offers subs)
+offers_made-append [] more subs = refl
+offers_made-append (offer ∷ offers) more subs =
+    offers_made-append offers more (change_at (offered_to offer.notification) subs offer.place)
+
+can-append : (offers more : List Offer) (subs : List Subscription) → CanOfferAll offers subs → CanOfferAll more (offers_made offers subs) → CanOfferAll (offers ++ more) subs
+can-append [] more subs can then_more = then_more
+can-append (offer ∷ offers) more subs can then_more =
+    (can.0, can-append offers more (change_at (offered_to offer.notification) subs offer.place) can.1 then_more)
+
+-- offers leave what subscriptions ask for
+pub filters-made : (offers : List Offer) (subs : List Subscription) → filters_of (offers_made offers subs) ≡ filters_of subs
+filters-made [] subs = refl
+filters-made (offer ∷ offers) subs =
+    let change = offered_to offer.notification in
+    filters-made offers (change_at change subs offer.place) ∙ map-change_at (λ (kept : Subscription). kept.filters) change (λ kept. refl) subs offer.place
+
+-- a subscription that asks, or does not
+asking : (notification : Notification) (kept : Subscription) → matches kept.filters notification ≡ true → offered_to notification kept ≡ offered_sub notification kept
+asking notification kept asks =
+    ap (λ b. requeued kept (cond b (offered notification kept.queue) kept.queue)) (sym asks)
+
+not_asking : (notification : Notification) (kept : Subscription) → matches kept.filters notification ≡ false → offered_sub notification kept ≡ kept
+not_asking notification kept asks =
+    ap (λ b. requeued kept (cond b (offered notification kept.queue) kept.queue)) asks
+
+module _ (notification : Notification) (subs : List Subscription) (places : List ℕ) (offers new : List Offer) (index place next d : ℕ) (kept : Subscription) (follows : next ≡ suc index) (is_place : place ≡ get_or places index d) (read : kept ≡ get_or subs place kept) (inside : index < length places) (rise : RiseBetween 0 (length subs) places) (left : HaveNumbersLeft subs) (so_far : AreOffers notification (take index places) subs offers) where
+  before : AllByRecursion (λ other. other < place) (take index places)
+  before =
+      subst (λ p. AllByRecursion (λ other. other < p) (take index places)) (sym is_place) (rise-before 0 (length subs) places index d rise inside).0
+
+  within : place < length subs
+  within = rise-below (length subs) places index d place is_place rise inside
+
+  -- what is offered so far is not the subscription at this place
+  unchanged : HoldsAt (λ x. x ≡ kept) (offers_made offers subs) place
+  unchanged =
+      let P : Subscription → Type 0 = λ x. x ≡ kept in
+      subst (λ xs. HoldsAt P xs place) (sym so_far.made) (holds-behind P (offered_sub notification) (take index places) subs place before (holds-read P subs place kept within (sym read)))
+
+  taken : take next places ≡ take index places ++ place ∷ []
+  taken =
+      ap (λ k. take k places) follows ∙ take-suc places index d inside ∙ ap (λ p. take index places ++ p ∷ []) (sym is_place)
+
+  all : change_each (offered_sub notification) (take next places) subs ≡ change_at (offered_sub notification) (offers_made offers subs) place
+  all =
+      ap (λ ps. change_each (offered_sub notification) ps subs) taken ∙ change_each-append (offered_sub notification) (take index places) (place ∷ []) subs ∙ ap (λ xs. change_at (offered_sub notification) xs place) (sym so_far.made)
+
+  number : HasNumberLeft kept.queue
+  number = subst (λ (x : Subscription). HasNumberLeft x.queue) (sym read) (number-at subs place kept left within)
+
+  pub next-offers : (asked : Bool) → matches kept.filters notification ≡ asked → Joins asked place notification kept offers new → AreOffers notification (take next places) subs new
+  next-offers true asks joins =
+      let offer : Offer = record { place = place; notification = notification; room = joins.0 } in
+      let served : CanOffer offer (offers_made offers subs) = holds-weaker (λ x. x ≡ kept) (λ x. HasNumberLeft x.queue × IsRoomFor joins.0 x.queue) (λ x same. subst (λ (y : Subscription). HasNumberLeft y.queue × IsRoomFor joins.0 y.queue) (sym same) (number, joins.1)) (offers_made offers subs) place unchanged in
+      let as_asked = holds-weaker (λ x. x ≡ kept) (λ x. offered_to notification x ≡ offered_sub notification x) (λ x same. asking notification x (ap (λ (y : Subscription). matches y.filters notification) same ∙ asks)) (offers_made offers subs) place unchanged in
+      record {
+        can = subst (λ os. CanOfferAll os subs) (sym joins.2) (can-append offers (offer ∷ []) subs so_far.can (served, tt));
+        made = ap (λ os. offers_made os subs) joins.2 ∙ offers_made-append offers (offer ∷ []) subs ∙ change_at-same (offered_to notification) (offered_sub notification) (offers_made offers subs) place as_asked ∙ sym all;
+      }
+  next-offers false asks joins =
+      let stays = holds-weaker (λ x. x ≡ kept) (λ x. offered_sub notification x ≡ x) (λ x same. not_asking notification x (ap (λ (y : Subscription). matches y.filters notification) same ∙ asks)) (offers_made offers subs) place unchanged in
+      record {
+        can = subst (λ os. CanOfferAll os subs) (sym joins) so_far.can;
+        made = ap (λ os. offers_made os subs) joins ∙ sym (change_at-none (offered_sub notification) (offers_made offers subs) place stays) ∙ sym all;
+      }
+
+-- the filter of a body's type
+filter_for-kind : (body : Body) (set : FilterSet) → filter_of (kind_for body) set ≡ filter_for set body
+filter_for-kind (body.Objects source attrs) set = refl
+filter_for-kind (body.Attributes source changes) set = refl
+filter_for-kind (body.States source changes) set = refl
+filter_for-kind (body.Alarm cause severity) set = refl
+filter_for-kind (body.Security cause severity detector user provider) set = refl
+
+-- without a filter of its type nothing is asked for
+no_filter : (notification : Notification) (filter : Option Filter) → is_some filter ≡ false → admitted_by notification filter ≡ false
+no_filter notification None none = refl
+no_filter notification (Some filter) none = absurd (cc)
+
+-- offers at the places by type are offers to all that ask
+pub offers-all : (notification : Notification) (subs : List Subscription) → change_each (offered_sub notification) (positions (has_filter (kind_for notification.body)) (filters_of subs)) subs ≡ map (offered_sub notification) subs
+offers-all notification subs =
+    let kind = kind_for notification.body in
+    let filters = λ (kept : Subscription). kept.filters in
+    let others : (kept : Subscription) → has_filter kind kept.filters ≡ false → offered_sub notification kept ≡ kept = λ kept none. not_asking notification kept (no_filter notification (filter_for kept.filters notification.body) (ap (λ (filter : Option Filter). is_some filter) (sym (filter_for-kind notification.body kept.filters)) ∙ none)) in
+    ap (λ ps. change_each (offered_sub notification) ps subs) (positions-map (has_filter kind) filters subs) ∙ change_each-positions (λ kept. has_filter kind kept.filters) (offered_sub notification) others subs

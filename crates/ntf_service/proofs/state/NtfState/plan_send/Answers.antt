@@ -1,0 +1,27 @@
+use Rattle.std.proofs.Common.{◌≡◌, ◌+◌, ap, refl, sym, subst, ◌∙◌}
+use Rattle.ntf_history.specs.Tables.{NtfTable}
+use Rattle.ntf_service.specs.State.{HaveNumbersLeft}
+use Rattle.ntf_service.specs.Inside.{table_inside}
+use Rattle.ntf_service.specs.Planning.{PlansSend}
+use Rattle.ntf_service.specs.ByKind.{kind_for, has_filter, positions, filters_of}
+use Rattle.ntf_service.proofs.Positions.{kept-rise}
+use Rattle.ntf_service.proofs.Planned.{plans-send}
+use Rattle.ntf_service.proofs.state.NtfState.plan_send.Goals as goal
+use Rattle.ntf_service.proofs.state.NtfState.plan_send.Goals.{After-as_slice}
+
+-- the places are those of the notification's type
+placed : (c : After-as_slice) → c.places-places.result.now ≡ positions (has_filter (kind_for c.args.notification.body)) (filters_of c.self.inside.subs.items)
+placed c =
+    c.places-places.ensures ∙ c.self.invariant.places c.kind_for.result ∙ ap (λ kind. positions (has_filter kind) (filters_of c.self.inside.subs.items)) c.kind_for.ensures
+
+pub offers_for-planned-requires-clause-places : goal.offers_for-planned-requires-clause-places
+offers_for-planned-requires-clause-places c =
+    kept-rise (has_filter (kind_for c.args.notification.body)) c.self.inside.subs.items c.as_slice.result.now c.places-places.result.now c.as_slice.ensures.value (placed (goal.at.offers_for-planned-requires-clause-places c).After-as_slice)
+
+pub returns : goal.returns
+returns c =
+    let table = table_inside c.self.inside in
+    let P : NtfTable → Type 0 = λ t. HaveNumbersLeft t.subs in
+    let left : HaveNumbersLeft table.subs = subst P (sym c.self.view_is) c.requires.items in
+    let plans = plans-send table c.args.notification c.places-places.result.now c.as_slice.result.now _ c.self.invariant.table left c.as_slice.ensures.value (placed (goal.at.returns c).After-as_slice) refl c.in_ok-offers.ensures in
+    subst (λ t. PlansSend t c.args.notification (record { id = c.self.inside.last_id + 1; offers = c.in_ok-offers.offers })) c.self.view_is plans

@@ -1,0 +1,24 @@
+-- Words of bodies alone: the offers that a plan gathers, place by place.
+use Rattle.std.specs.Prelude.{◌≡◌, ℕ, Bool, true, false, List, [], ◌∷◌, ◌++◌}
+use Rattle.ntf_types.specs.declared.notification.Notification.{Notification}
+use Rattle.sub_queue.specs.Losing.{IsRoomFor}
+use Rattle.ntf_history.specs.declared.subscription.Subscription.{Subscription}
+use Rattle.ntf_history.specs.Tables.{offered_sub}
+use Rattle.ntf_service.specs.declared.plan.Offer.{Offer}
+use Rattle.ntf_service.specs.Planning.{change_at, offers_made, CanOfferAll}
+
+-- the list with the elements at these places changed, one after another
+abbrev pub change_each : {X : Type 0} → (X → X) → List ℕ → List X → List X
+change_each change [] xs = xs
+change_each change (place ∷ places) xs = change_each change places (change_at change xs place)
+
+-- an offer to the subscription at a place joins the others where it asks for the notification
+abbrev pub Joins : (asked : Bool) → ℕ → Notification → Subscription → List Offer → List Offer → Type 0
+Joins true place notification kept old new =
+    (room : ℕ) × IsRoomFor room kept.queue × (new ≡ old ++ record { place = place; notification = notification; room = room } ∷ [])
+Joins false place notification kept old new = new ≡ old
+
+-- the offers to those of the subscriptions at these places that ask for a notification
+pub record AreOffers (notification : Notification) (places : List ℕ) (subs : List Subscription) (offers : List Offer) : Type 0 where
+  pub can : CanOfferAll offers subs
+  pub made : offers_made offers subs ≡ change_each (offered_sub notification) places subs
