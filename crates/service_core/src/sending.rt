@@ -102,11 +102,11 @@ fn offer_and_keep(
     ensures err { OnErr result ((ntf.new ≡ ntf.old) × (alarms.new ≡ alarms.old)) }
 {
     let copy = sent.copy(alloc)?;
-    let id = ntf.send(alloc, copy)?;
+    let plan = ntf.plan_send(alloc, copy)?;
     match keep_alarm(alarms, alloc, number, sent) {
-        Ok(()) => Ok(id),
+        Ok(()) => Ok(ntf.commit_send(plan)),
         Err(error) => {
-            ntf.take_back(sent);
+            drop(plan);
             Err(error)
         }
     }
