@@ -22,7 +22,7 @@ pub record MakesStream (setup : LogSetup) (past : List LogChange) (client : ℕ)
   pub free : is_place_taken setup past attrs ≡ false
   pub room : is_crowded setup past ≡ false
 
-open-rows : (using application passes taken crowded : Bool) → answer ((not using, status.BadHandle) ∷ (not application, status.InvalidParam) ∷ (not passes, status.InvalidParam) ∷ (false, status.Ok) ∷ (false, status.Exist) ∷ (taken, status.Exist) ∷ (crowded, status.NoResources) ∷ []) ≡ status.Ok → (using ≡ true) × (application ≡ true) × (passes ≡ true) × (taken ≡ false) × (crowded ≡ false)
+pub open-rows : (using application passes taken crowded : Bool) → answer ((not using, status.BadHandle) ∷ (not application, status.InvalidParam) ∷ (not passes, status.InvalidParam) ∷ (false, status.Ok) ∷ (false, status.Exist) ∷ (taken, status.Exist) ∷ (crowded, status.NoResources) ∷ []) ≡ status.Ok → (using ≡ true) × (application ≡ true) × (passes ≡ true) × (taken ≡ false) × (crowded ≡ false)
 open-rows false application passes taken crowded ok = cc
 open-rows true false passes taken crowded ok = cc
 open-rows true true false taken crowded ok = cc

@@ -46,7 +46,7 @@ records-first alarm number id (other ∷ alarms) below rises = (
   records-first alarm (other.number + 1) (other.notification.id + 1) alarms (omega (arith, below, rises.0)) rises.3,
 )
 
-records-rising : (number id : ℕ) (alarms : List KeptAlarm) → RiseFrom number id alarms → IsRising is_record_before (map saved_alarm alarms)
+pub records-rising : (number id : ℕ) (alarms : List KeptAlarm) → RiseFrom number id alarms → IsRising is_record_before (map saved_alarm alarms)
 records-rising number id [] rises = tt
 records-rising number id (alarm ∷ alarms) rises = (
   records-first alarm (alarm.number + 1) (alarm.notification.id + 1) alarms (omega arith) rises.3,
@@ -60,14 +60,14 @@ ids-first alarm number id (other ∷ alarms) below rises = (
   ids-first alarm (other.number + 1) (other.notification.id + 1) alarms (omega (arith, below, rises.1)) rises.3,
 )
 
-ids-rising : (number id : ℕ) (alarms : List KeptAlarm) → RiseFrom number id alarms → IsRising is_id_before (map saved_alarm alarms)
+pub ids-rising : (number id : ℕ) (alarms : List KeptAlarm) → RiseFrom number id alarms → IsRising is_id_before (map saved_alarm alarms)
 ids-rising number id [] rises = tt
 ids-rising number id (alarm ∷ alarms) rises = (
   ids-first alarm (alarm.number + 1) (alarm.notification.id + 1) alarms (omega arith) rises.3,
   ids-rising (alarm.number + 1) (alarm.notification.id + 1) alarms rises.3,
 )
 
-all-alarms : (number id : ℕ) (alarms : List KeptAlarm) → RiseFrom number id alarms → AllByRecursion (λ (alarm : KeptAlarm). IsAlarm alarm.notification.body) alarms
+pub all-alarms : (number id : ℕ) (alarms : List KeptAlarm) → RiseFrom number id alarms → AllByRecursion (λ (alarm : KeptAlarm). IsAlarm alarm.notification.body) alarms
 all-alarms number id [] rises = tt
 all-alarms number id (alarm ∷ alarms) rises =
     (rises.2, all-alarms (alarm.number + 1) (alarm.notification.id + 1) alarms rises.3)

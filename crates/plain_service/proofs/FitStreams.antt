@@ -121,7 +121,7 @@ some-openers : (app : Bool) (openers : List ℕ) → app ≡ true → (app && is
 some-openers app [] named somebody = λ none. cc
 some-openers app (client ∷ openers) named somebody = λ none. cc
 
-others-open : (using : List ℕ) (streams : List OpenStream) → AllByRecursion (λ stream. is_of_application stream ≡ true) streams → AllByRecursion (IsUsed using) streams → AllByRecursion IsOfApplication (map saved_stream streams)
+pub others-open : (using : List ℕ) (streams : List OpenStream) → AllByRecursion (λ stream. is_of_application stream ≡ true) streams → AllByRecursion (IsUsed using) streams → AllByRecursion IsOfApplication (map saved_stream streams)
 others-open using [] named used = tt
 others-open using (stream ∷ streams) named used = (
   record { named = named.0; opened = some-openers (is_of_application stream) stream.openers named.0 used.0.somebody },
@@ -143,7 +143,7 @@ few-others one two three streams named few =
 
 -- no two streams have one name
 
-any-none : {X : Type 0} (test : X → Bool) (xs : List X) → AllByRecursion (λ x. test x ≡ false) xs → list_any test xs ≡ false
+pub any-none : {X : Type 0} (test : X → Bool) (xs : List X) → AllByRecursion (λ x. test x ≡ false) xs → list_any test xs ≡ false
 any-none test [] each = refl
 any-none test (x ∷ xs) each = or_from (test x) (list_any test xs) each.0 (any-none test xs each.1)
 

@@ -84,13 +84,13 @@ pub record IsSoundLog (kept : LogTable) : Type 0 where
   pub places : all_differ have_one_spot kept.streams ≡ true
 
 -- who uses the service still does when one more client does, and one who left is alone in it
-among-put : (client : ℕ) (using : List ℕ) (user : ℕ) → IsAmong using user → IsAmong (put nat_lt client using) user
+pub among-put : (client : ℕ) (using : List ℕ) (user : ℕ) → IsAmong using user → IsAmong (put nat_lt client using) user
 among-put client using user is = has-put user client using ∙ later (client == user) (has user using) is where
   later : (a b : Bool) → b ≡ true → (a || b) ≡ true
   later true b e = refl
   later false b e = e
 
-among-without : (client : ℕ) (using : List ℕ) (user : ℕ) → IsAmong using user → (user == client) ≡ false → IsAmong (without (λ other. other == client) using) user
+pub among-without : (client : ℕ) (using : List ℕ) (user : ℕ) → IsAmong using user → (user == client) ≡ false → IsAmong (without (λ other. other == client) using) user
 among-without client using user is apart =
     has-without user client using ∙ and_from (not (client == user)) (has user using) (ap not (turned client user apart)) is where
       turned : (a b : ℕ) → (b == a) ≡ false → (a == b) ≡ false
@@ -153,7 +153,7 @@ used-kept using streams each =
 -- one more change
 
 module _ (kept : LogTable) (sound : IsSoundLog kept) where
-  sound-began : (client : ℕ) → IsClient client → IsSoundLog (table_after (Began client) kept)
+  pub sound-began : (client : ℕ) → IsClient client → IsSoundLog (table_after (Began client) kept)
   sound-began client caller = record {
     users = record {
       rising = IsRising-put nat_lt IsOrder-nat_lt client kept.users sound.users.rising;
@@ -164,7 +164,7 @@ module _ (kept : LogTable) (sound : IsSoundLog kept) where
     places = sound.places;
   }
 
-  sound-opened : (client : ℕ) (name : StreamName) (second : ℕ) → IsClient client → IsAmong kept.users client → IsSoundLog (table_after (Opened client name None second) kept)
+  pub sound-opened : (client : ℕ) (name : StreamName) (second : ℕ) → IsClient client → IsAmong kept.users client → IsSoundLog (table_after (Opened client name None second) kept)
   sound-opened client name second caller user = record {
     users = sound.users;
     each = each-change_first (IsUsed kept.users) (is_named name) (with_opener client) (λ stream is. IsUsed-opened client kept.users stream caller user is) kept.streams sound.each;
@@ -172,7 +172,7 @@ module _ (kept : LogTable) (sound : IsSoundLog kept) where
     places = differ-changed have_one_spot (is_named name) (with_opener client) (λ _ _. refl) (λ _ _. refl) kept.streams ∙ sound.places;
   }
 
-  sound-made : (client : ℕ) (name : StreamName) (attrs : StreamAttrs) (second : ℕ) → IsClient client → IsAmong kept.users client → length (filter is_of_application kept.streams) < 64 → has_place kept.streams attrs ≡ false → IsSoundLog (table_after (Opened client name (Some attrs) second) kept)
+  pub sound-made : (client : ℕ) (name : StreamName) (attrs : StreamAttrs) (second : ℕ) → IsClient client → IsAmong kept.users client → length (filter is_of_application kept.streams) < 64 → has_place kept.streams attrs ≡ false → IsSoundLog (table_after (Opened client name (Some attrs) second) kept)
   sound-made client name attrs second caller user room free =
       let made = opened_stream client name attrs (stamp_after kept.last second) in
       let counted : length (filter is_of_application (kept.streams ++ made ∷ [])) ≡ length (filter is_of_application kept.streams) + length (filter is_of_application (made ∷ [])) =
@@ -187,7 +187,7 @@ module _ (kept : LogTable) (sound : IsSoundLog kept) where
         one true stream = omega arith
         one false stream = omega arith
 
-  sound-stored : (name : StreamName) (rec : LogRecord) (second : ℕ) → IsSoundLog (table_after (Stored name rec second) kept)
+  pub sound-stored : (name : StreamName) (rec : LogRecord) (second : ℕ) → IsSoundLog (table_after (Stored name rec second) kept)
   sound-stored name rec second = record {
     users = sound.users;
     each = each-change_first (IsUsed kept.users) (is_named name) (with_stored kept.last second rec)
@@ -196,7 +196,7 @@ module _ (kept : LogTable) (sound : IsSoundLog kept) where
     places = differ-changed have_one_spot (is_named name) (with_stored kept.last second rec) (λ _ _. refl) (λ _ _. refl) kept.streams ∙ sound.places;
   }
 
-  sound-closed : (client : ℕ) (name : StreamName) (second : ℕ) → IsSoundLog (table_after (Closed client name second) kept)
+  pub sound-closed : (client : ℕ) (name : StreamName) (second : ℕ) → IsSoundLog (table_after (Closed client name second) kept)
   sound-closed client name second =
       let left = closed_streams client name kept.streams in
       record {
@@ -208,7 +208,7 @@ module _ (kept : LogTable) (sound : IsSoundLog kept) where
         places = differ-filtered have_one_spot (λ stream. not (has_nobody stream)) left (differ-changed have_one_spot (is_named name) (without_opener client) (λ _ _. refl) (λ _ _. refl) kept.streams ∙ sound.places);
       }
 
-  sound-ended : (client second : ℕ) → IsSoundLog (table_after (Ended client second) kept)
+  pub sound-ended : (client second : ℕ) → IsSoundLog (table_after (Ended client second) kept)
   sound-ended client second =
       let left = left_streams client kept.streams in
       let using = without (λ other. other == client) kept.users in

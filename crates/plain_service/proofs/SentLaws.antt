@@ -61,7 +61,7 @@ filled-known time now (inr unknown) moment = by_case (int_eq time unknown_time) 
   by_case true is = moment
   by_case false is = cc
 
-accepted : (id : ℕ) (now : ℤ) (notification : Notification) → IsMoment now → IsSound notification → IsAccepted (accepted_as id now notification)
+pub accepted : (id : ℕ) (now : ℤ) (notification : Notification) → IsMoment now → IsSound notification → IsAccepted (accepted_as id now notification)
 accepted id now notification moment sound =
     let known = filled-known notification.event_time now sound.event_time moment.from in
     record {

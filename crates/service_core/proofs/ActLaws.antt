@@ -18,8 +18,8 @@ use Rattle.plain_service.specs.Replies.{reply_by}
 use Rattle.service_table.specs.Tables.{ServiceTable}
 use Rattle.service_table.specs.Answering.{status_in, told_in}
 use Rattle.service_table.specs.Steps.{log_change_in, logged, changed}
-use Rattle.service_table.specs.Conditions.{with_log}
-use Rattle.service_table.proofs.CallLaws.{logged-by, events-by, IsLogOnly, log-only}
+use Rattle.service_fit.specs.Conditions.{with_log}
+use Rattle.service_fit.proofs.CallLaws.{logged-by, events-by, IsLogOnly, log-only}
 use Rattle.service_parts.specs.Telling.{IsTold}
 use Rattle.service_core.specs.declared.parts.Acted.{Acted}
 use Rattle.service_core.specs.Acting.{HasActed}

@@ -8,7 +8,7 @@ use Rattle.log_service.specs.State.{IsSoundStream, IsSoundTable, joined_streams,
 use Rattle.log_service.proofs.FewLemmas.{few-known}
 use Rattle.plain_service.specs.Fitness.{IsFit}
 use Rattle.service_table.specs.Tables.{kept_stream_of, table_of_saved}
-use Rattle.service_table.proofs.FitReadyParts.{streams-fit, names-fit, others-fit, few-fit}
+use Rattle.service_fit.proofs.RestoredParts.{streams-fit, names-fit, others-fit, few-fit}
 
 pub log-fit : (saved : Saved) → IsFit saved → IsSoundTable (table_of_saved saved).log
 log-fit saved fit = record {

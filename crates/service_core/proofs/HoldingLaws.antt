@@ -4,6 +4,7 @@ use Rattle.std.specs.List.{flat_map}
 use Rattle.sub_queue.specs.declared.item.Content.{Content}
 use Rattle.sub_queue.specs.Items.{numbered}
 use Rattle.calls.specs.declared.entry.Entry.{Entry}
+use Rattle.ntf_history.specs.declared.subscription.Subscription.{Subscription}
 use Rattle.ntf_history.specs.Changes.{Sub, NtfChange}
 use Rattle.ntf_history.specs.Subscriptions.{subs}
 use Rattle.ntf_history.specs.Tables.{HaveQueues, kept_of}
@@ -11,15 +12,21 @@ use Rattle.plain_service.specs.Setups.{Setup}
 use Rattle.plain_service.specs.Changing.{past_of}
 use Rattle.plain_service.specs.Items.{items_for, items_of}
 use Rattle.plain_service.specs.Values.{StandsFor}
-use Rattle.service_table.specs.Tables.{ServiceTable, saved_table}
+use Rattle.service_table.specs.Tables.{ServiceTable, saved_queue, saved_table}
 use Rattle.service_table.specs.Histories.{service_of}
 use Rattle.service_table.proofs.SavedLaws.{stands-table}
 use Rattle.service_core.specs.Holding.{contents_in, items_by, items_in}
+use Rattle.service_core.specs.Valuing.{items_of_sub}
 
 pub contents-numbered : (number : ℕ) (contents : List Content) → contents_in (numbered number contents) ≡ contents
 contents-numbered number [] = refl
 contents-numbered number (content ∷ contents) =
     ap (λ rest. content ∷ rest) (contents-numbered (number + 1) contents)
+
+-- **the items of a value**
+pub items-saved : (subs : List Subscription) → flat_map items_of_sub (map saved_queue subs) ≡ flat_map items_by subs
+items-saved [] = refl
+items-saved (sub ∷ subs) = ap (λ rest. items_by sub ++ rest) (items-saved subs)
 
 items-by-history : (capacity : ℕ) (past : List NtfChange) (lasting : List Sub) → flat_map items_by (map (kept_of capacity past) lasting) ≡ flat_map (items_for capacity past) lasting
 items-by-history capacity past [] = refl

@@ -12,4 +12,5 @@ pub mod OpeningLaws
 pub mod HoldingLaws
 pub mod RestoringLaws
 pub mod FollowLaws
+mod ValueLaws
 pub mod SavingLaws

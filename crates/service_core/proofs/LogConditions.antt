@@ -1,21 +1,24 @@
 -- What calls of the log ask, by what is kept.
-use Rattle.std.proofs.Common.{◌≡◌, ℕ, ◌+◌, ◌≤◌, sym, ◌∙◌}
+use Rattle.std.proofs.Common.{◌≡◌, ◌≢◌, ℕ, ◌+◌, ◌≤◌, false, refl, sym, ◌∙◌, subst}
 use Rattle.std.specs.Prelude.{ℤ}
 use Rattle.std.specs.List.{AllByRecursion}
 use Rattle.ais_values.specs.declared.status.Status.{Status}
 use Rattle.ais_values.specs.declared.status.Status.TheVariants as status
 use Rattle.stream_config.specs.declared.attrs.StreamName.{StreamName}
 use Rattle.stream_layout.specs.Carrying.{IsFitEvent}
-use Rattle.log_history.specs.Changes.{LogChange}
-use Rattle.log_history.specs.Table.{LogTable}
+use Rattle.record_print.specs.declared.record.LogRecord.{LogRecord}
+use Rattle.log_history.specs.Changes.{LogChange, Stored}
+use Rattle.log_history.specs.KeptAnswers.{is_filled}
+use Rattle.log_history.specs.Stamps.{second_in}
+use Rattle.log_history.specs.Table.{LogTable, table_after}
 use Rattle.log_service.specs.State.{IsCallTime, HasNumberLeft}
 use Rattle.log_service.specs.Planning.{Plans, planned}
 use Rattle.log_service.specs.declared.plan.LogPlan.{LogPlan}
-use Rattle.service_table.specs.Ready.{IsReadyLog}
-use Rattle.service_table.specs.Conditions.{CanCallLog}
-use Rattle.service_table.proofs.LogSteps.{CanChange, second_in}
-use Rattle.service_table.proofs.CallLaws.{last-bound, numbers-left, change-fit, fit-by}
-use Rattle.service_core.proofs.Standing.{ready-after}
+use Rattle.service_fit.specs.Fit.{IsAlarmFirst, IsFitLog}
+use Rattle.service_fit.specs.Conditions.{CanCallLog}
+use Rattle.service_fit.proofs.LogFit.{inside, alarm-first}
+use Rattle.service_fit.proofs.LogSteps.{CanChange, fit-log}
+use Rattle.service_fit.proofs.CallLaws.{last-bound, numbers-left, change-fit, fit-by}
 
 pub call-time : (kept : LogTable) (now : ℤ) → CanCallLog kept now → IsCallTime kept now
 call-time kept now can = record { last = last-bound kept now can; from = can.moment.from; to = can.moment.to }
@@ -28,7 +31,21 @@ pub planned-fit : (kept : LogTable) (now : ℤ) (change : LogChange) (answered :
 planned-fit kept now change answered plan can early may plans =
     fit-by plan.step.status change kept plan.step.events (λ e. (plans.ok e).done) (λ n. (plans.refused n).done) (λ e. change-fit kept now change can early (may (sym plans.answer ∙ e)))
 
--- what is kept of the log after a planned call is ready
-pub planned-ready : (number : ℕ) (kept : LogTable) (change : LogChange) (answered : Status) (plan : LogPlan) → IsReadyLog number kept → second_in change ≤ 9000000000 → (answered ≡ status.Ok → CanChange kept change) → Plans kept answered change plan → IsReadyLog (number + 1) (planned plan kept)
-planned-ready number kept change answered plan ready early may plans =
-    ready-after number kept (planned plan kept) change plan.step.status ready early (λ e. may (sym plans.answer ∙ e)) (λ e. (plans.ok e).now) (λ n. (plans.refused n).now)
+-- the alarm stream stands first after a record was stored, or was not
+
+first-after : (number : ℕ) (kept later : LogTable) (stream : StreamName) (rec : LogRecord) (second : ℕ) (answered : Status) → IsFitLog number kept → second ≤ 9000000000 → (answered ≡ status.Ok → is_filled kept.streams stream ≡ false) → (answered ≡ status.Ok → later ≡ table_after (Stored stream rec second) kept) → (answered ≢ status.Ok → later ≡ kept) → IsAlarmFirst later.streams
+first-after number kept later stream rec second status.Ok fit early room made left =
+    let change = Stored stream rec second in
+    subst (λ (l : LogTable). IsAlarmFirst l.streams) (sym (made refl))
+    (alarm-first (number + 1) (table_after change kept) (fit-log number kept (inside number kept fit) change early (room refl) tt))
+first-after number kept later stream rec second _ fit early room made left =
+    let same : later ≡ kept = left (λ e. cc) in
+    subst (λ (l : LogTable). IsAlarmFirst l.streams) (sym same) (alarm-first number kept (inside number kept fit))
+
+pub planned-first : (kept : LogTable) (now : ℤ) (stream : StreamName) (rec : LogRecord) (second : ℕ) (answered : Status) (plan : LogPlan) → CanCallLog kept now → second ≤ 9000000000 → (answered ≡ status.Ok → is_filled kept.streams stream ≡ false) → Plans kept answered (Stored stream rec second) plan → IsAlarmFirst (planned plan kept).streams
+planned-first kept now stream rec second answered plan can early room plans =
+    first-after can.number kept (planned plan kept) stream rec second plan.step.status can.fit early (λ e. room (sym plans.answer ∙ e)) (λ e. (plans.ok e).now) (λ n. (plans.refused n).now)
+
+-- the alarm stream stands first
+pub first-now : (kept : LogTable) (now : ℤ) → CanCallLog kept now → IsAlarmFirst kept.streams
+first-now kept now can = alarm-first can.number kept (inside can.number kept can.fit)

@@ -21,17 +21,13 @@ use Rattle.log_history.specs.Times.{second_of}
 use Rattle.log_history.proofs.EventLaws.{fit-making}
 use Rattle.log_history.proofs.FileLists.{standing-one}
 use Rattle.log_service.specs.State.{BeginsWith, HasBegun as HasBegunLog, made_event}
-use Rattle.calls.specs.declared.entry.Entry.{Entry}
 use Rattle.plain_service.specs.Setups.{Setup, log_setup}
-use Rattle.plain_service.specs.Legal.{IsHistory}
 use Rattle.plain_service.specs.Storing.{opening_of}
-use Rattle.plain_service.specs.Values.{saved_of}
+use Rattle.plain_service.specs.Fitness.{IsFit}
 use Rattle.plain_service.proofs.FitReaders.{saved-fit}
 use Rattle.service_table.specs.Tables.{ServiceTable}
 use Rattle.service_table.specs.Histories.{service_of}
-use Rattle.service_table.specs.Ready.{IsReady}
-use Rattle.service_table.proofs.FitReady.{ready-fit}
-use Rattle.service_table.proofs.FitReadyParts.{value-table}
+use Rattle.service_table.proofs.SavedLaws.{table-stands}
 use Rattle.service_core.specs.declared.kept.Kept.{Kept}
 use Rattle.service_core.specs.Beginning.{BeginsAs, CanBeginAs}
 use Rattle.service_core.specs.Inside.{kept_table, IsKeptAs}
@@ -102,12 +98,6 @@ opened-as start cap wells log events slice deeds kept begun same done unused set
       done = done ∙ ap deeds_of_all (same ∙ is.done ∙ opening-events (log_setup setup) begins.sound.streams) ∙ opening-is setup;
     }
 
--- a service that stands for a history is ready
-ready-history : (setup : Setup) (entries : List Entry) → IsHistory setup entries → IsReady (service_of setup entries)
-ready-history setup entries history =
-    let fit = saved-fit setup entries history in
-    subst IsReady (value-table setup entries (saved_of setup entries) fit refl) (ready-fit (saved_of setup entries) fit)
-
 capacity-of : (setup : Setup) → (service_of setup []).ntf.capacity ≡ setup.capacity
 unfolding service_of
 capacity-of setup = refl
@@ -122,6 +112,6 @@ opened-kept start cap wells kept deeds can opened =
     let setup = can.0 in
     let is = opened setup can.1 in
     record {
-      ready = subst IsReady (sym is.now) (ready-history setup [] can.1.sound);
+      fit = subst IsFit (sym (table-stands setup [] (kept_table kept) is.now)) (saved-fit setup [] can.1.sound);
       capacity = sym (ap (λ (whole : ServiceTable). whole.ntf.capacity) is.now ∙ capacity-of setup ∙ can.1.capacity_is);
     }

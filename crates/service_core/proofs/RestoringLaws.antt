@@ -12,9 +12,7 @@ use Rattle.ntf_history.specs.declared.subscription.Subscription.{Subscription}
 use Rattle.ntf_history.specs.Tables.{IsSoundTable as IsSoundNtf, table_with as ntf_with}
 use Rattle.plain_service.specs.Fitness.{IsFit}
 use Rattle.service_table.specs.Tables.{ServiceTable, kept_alarm_of, kept_sub_of, table_of_saved, saved_table}
-use Rattle.service_table.specs.Ready.{IsReady}
-use Rattle.service_table.proofs.FitReady.{ready-fit}
-use Rattle.service_table.proofs.FitReadyParts.{ntf-fit, value-back}
+use Rattle.service_fit.proofs.RestoredParts.{ntf-fit, value-back}
 use Rattle.service_core.specs.declared.kept.Kept.{Kept}
 use Rattle.service_core.specs.Inside.{kept_table, IsKeptAs}
 use Rattle.service_core.specs.Restoring.{states_in, openers_in, CanAddEach}
@@ -61,7 +59,7 @@ can-add-next alarms n alarm notification view can within read copy is =
 
 pub restored-kept : (saved : Saved) (kept : Kept) → IsFit saved → kept_table kept ≡ table_of_saved saved → IsKeptAs (kept_table kept) saved.capacity
 restored-kept saved kept fit is = record {
-  ready = subst IsReady (sym is) (ready-fit saved fit);
+  fit = subst IsFit (sym (ap saved_table is ∙ value-back saved fit)) fit;
   capacity = sym (ap (λ (table : ServiceTable). table.ntf.capacity) is);
 }
 

@@ -28,8 +28,8 @@ use Rattle.plain_service.specs.Replies.{reply_by}
 use Rattle.service_table.specs.Tables.{ServiceTable}
 use Rattle.service_table.specs.Answering.{status_in}
 use Rattle.service_table.specs.Steps.{accepted_in, taken_in, standing_from, alarms_with, where_ok, changed}
-use Rattle.service_table.specs.Ready.{IsAlarmFirst, alarm_count}
-use Rattle.service_table.proofs.LogSteps.{count-is}
+use Rattle.service_fit.specs.Fit.{IsAlarmFirst, alarm_count}
+use Rattle.service_fit.proofs.LogSteps.{count-is}
 use Rattle.service_parts.specs.Telling.{IsTold}
 use Rattle.service_core.specs.declared.parts.Acted.{Acted}
 use Rattle.service_core.specs.Acting.{HasActed}

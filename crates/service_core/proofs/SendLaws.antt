@@ -7,7 +7,7 @@ use Rattle.ntf_types.specs.Sound.{IsSound}
 use Rattle.ntf_types.specs.SoundTests.{is_sound}
 use Rattle.ntf_types.proofs.SoundLaws.{is_sound-decides}
 use Rattle.log_history.specs.Table.{OpenStream}
-use Rattle.service_table.specs.Ready.{alarm_count}
+use Rattle.service_fit.specs.Fit.{alarm_count}
 
 -- a check of a notification that tells whether it is sound tells the test
 pub right : {T E : Type 0} (notification : Notification) (r : Result T E) → IsOk r ↔ IsSound notification → is_ok r ≡ is_sound notification

@@ -1,8 +1,7 @@
 -- The alarm stream tells which alarms stand; and what a write came to.
-use Rattle.std.proofs.Common.{◌≡◌, ◌≢◌, ℕ, ◌+◌, ◌≤◌, true, cond, List, [], ◌∷◌, refl, ap, sym, ◌∙◌, subst}
+use Rattle.std.proofs.Common.{◌≡◌, ℕ, true, cond, List, [], ◌∷◌, refl, ap, sym, ◌∙◌, subst}
 use Rattle.std.specs.Prelude.{ℤ, Some, None, option_map, slice_get}
 use Rattle.std.specs.Option.{option_map_or}
-use Rattle.std.specs.List.{AllByRecursion}
 use Rattle.ais_values.specs.declared.status.Status.{Status}
 use Rattle.ais_values.specs.declared.status.Status.TheVariants as status
 use Rattle.stream_config.specs.declared.attrs.StreamName.{StreamName}
@@ -16,10 +15,10 @@ use Rattle.alarm_view.specs.declared.alarm.KeptAlarm.{KeptAlarm}
 use Rattle.alarm_view.specs.Alarms.{from_record}
 use Rattle.calls.specs.declared.call.Call.TheVariants.{LogWrite}
 use Rattle.calls.specs.declared.reply.Reply.TheVariants.{Done}
-use Rattle.log_history.specs.Changes.{LogChange, Stored}
+use Rattle.log_history.specs.Changes.{Stored}
 use Rattle.log_history.specs.Deeds.{deeds_of_all}
 use Rattle.log_history.specs.Times.{second_of, record_at}
-use Rattle.log_history.specs.Table.{OpenStream, LogTable, table_after, events_of}
+use Rattle.log_history.specs.Table.{OpenStream, LogTable, events_of}
 use Rattle.log_history.specs.KeptAnswers.{kept_stream}
 use Rattle.log_service.specs.Planning.{Plans, planned}
 use Rattle.log_service.specs.declared.plan.LogPlan.{LogPlan}
@@ -29,23 +28,19 @@ use Rattle.plain_service.specs.Replies.{reply_by}
 use Rattle.service_table.specs.Tables.{ServiceTable}
 use Rattle.service_table.specs.Answering.{status_in}
 use Rattle.service_table.specs.Steps.{logged, standing_from, where_ok, changed}
-use Rattle.service_table.specs.Ready.{IsReadyStream, IsAlarmFirst, IsReadyLog}
-use Rattle.service_table.proofs.LogSteps.{CanChange, second_in, ready-log}
-use Rattle.service_table.proofs.ReadySteps.{same-log}
-use Rattle.service_table.proofs.CallLaws.{logged-by, events-by}
+use Rattle.service_fit.specs.Fit.{IsAlarmFirst}
+use Rattle.service_fit.proofs.CallLaws.{logged-by, events-by}
 use Rattle.service_parts.specs.Telling.{IsTold}
 use Rattle.service_core.specs.declared.parts.Acted.{Acted}
 use Rattle.service_core.specs.Acting.{HasActed}
 
 -- the first stream is the alarm stream
 
-pub first-passes : (number : ℕ) (kept : LogTable) (state : StreamState) → IsReadyLog number kept → Some state ≡ option_map (λ (s : OpenStream). s.state) (slice_get kept.streams 0) → PassesAttrs (kind_of state.name) state.attrs
-first-passes number kept state ready is = by_case kept.streams is (ready.each) where
-  by_case : (streams : List OpenStream) → Some state ≡ option_map (λ (s : OpenStream). s.state) (slice_get streams 0) → AllByRecursion (IsReadyStream kept.last number) streams → PassesAttrs (kind_of state.name) state.attrs
-  by_case [] same each = cc
-  by_case (s ∷ streams) same each =
-      let e : state ≡ s.state = cc in
-      subst (λ (st : StreamState). PassesAttrs (kind_of st.name) st.attrs) (sym e) each.0.attributes
+pub first-passes : (kept : List OpenStream) (state : StreamState) → IsAlarmFirst kept → Some state ≡ option_map (λ (s : OpenStream). s.state) (slice_get kept 0) → PassesAttrs (kind_of state.name) state.attrs
+first-passes [] state first is = absurd first
+first-passes (s ∷ streams) state first is =
+    let e : state ≡ s.state = cc in
+    subst (λ (st : StreamState). PassesAttrs (kind_of st.name) st.attrs) (sym e) first.1
 
 abbrev first_of_state : StreamState → ℕ
 first_of_state state = first_in state.attrs.action (records_per_file state.attrs) state.attrs.rotated state.taken
@@ -54,7 +49,7 @@ pub first-stands : (kept : List OpenStream) (state : StreamState) → IsAlarmFir
 first-stands [] state first is = absurd first
 first-stands (s ∷ streams) state first is =
     let e : state ≡ s.state = cc in
-    let named : same_name s.state.name name.Alarm ≡ true = ap (λ n. same_name n name.Alarm) first in
+    let named : same_name s.state.name name.Alarm ≡ true = ap (λ n. same_name n name.Alarm) first.0 in
     ap first_of_state e
     ∙ sym (ap (λ b. option_map_or (λ (one : OpenStream). first_of_state one.state) (cond b (Some s) (kept_stream streams name.Alarm)) 0) named)
 
@@ -93,11 +88,3 @@ write-acted kept client seq invocation flags moment time stream header body plan
       told = record { reply = told.reply ∙ plain; kept = told.kept ∙ plain };
       deeds = has ∙ ap deeds_of_all events_are ∙ ap (λ s. deeds_of_all (option_map_or (λ x. events_of x kept.log) (if_ok s (Some change)) [])) plans.answer;
     }
-
--- what is kept of the log after a call is ready
-pub ready-after : (number : ℕ) (kept later : LogTable) (change : LogChange) (answered : Status) → IsReadyLog number kept → second_in change ≤ 9000000000 → (answered ≡ status.Ok → CanChange kept change) → (answered ≡ status.Ok → later ≡ table_after change kept) → (answered ≢ status.Ok → later ≡ kept) → IsReadyLog (number + 1) later
-ready-after number kept later change status.Ok ready early can made left =
-    subst (IsReadyLog (number + 1)) (sym (made refl)) (ready-log number kept change early (can refl) ready)
-ready-after number kept later change _ ready early can made left =
-    let same : later ≡ kept = left (λ e. cc) in
-    subst (IsReadyLog (number + 1)) (sym same) (same-log number kept ready)

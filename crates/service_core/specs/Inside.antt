@@ -6,7 +6,7 @@ use Rattle.log_history.specs.Deeds.{deeds_of_all}
 use Rattle.service_table.specs.Tables.{ServiceTable, saved_table}
 use Rattle.service_table.specs.Answering.{reply_in}
 use Rattle.service_table.specs.Steps.{after_call, events_in}
-use Rattle.service_table.specs.Ready.{IsReady}
+use Rattle.plain_service.specs.Fitness.{IsFit}
 use Rattle.service_core.specs.declared.effect.Effect.{Effect}
 use Rattle.service_core.specs.declared.kept.Kept.{Kept}
 use Rattle.service_core.specs.declared.service.Service.TheInside.{Inside}
@@ -19,9 +19,13 @@ kept_table kept = table_with_parts kept.number kept.parts kept.callers.items
 abbrev pub saved_inside : Inside → Saved
 saved_inside inside = saved_table (kept_table inside.kept)
 
--- the parts are ready for the next entry, and the capacity is that of the queues
+-- the value of what is kept is fit
+abbrev pub HasFitValue : Kept → Type 0
+HasFitValue kept = IsFit (saved_table (kept_table kept))
+
+-- the value is fit, and the capacity is that of the queues
 pub record IsKeptAs (kept : ServiceTable) (cap : ℕ) : Type 0 where
-  pub ready : IsReady kept
+  pub fit : IsFit (saved_table kept)
   pub capacity : cap ≡ kept.ntf.capacity
 
 abbrev pub IsKept : Inside → Type 0

@@ -1,4 +1,5 @@
 pub mod Applying
+pub mod Valuing
 pub mod Acting
 pub mod Sending
 pub mod Inside

@@ -18,7 +18,7 @@ use Rattle.plain_service.specs.Alarms.{stream_for, record_for}
 use Rattle.plain_service.specs.Changing.{if_ok}
 use Rattle.service_table.specs.Tables.{ServiceTable}
 use Rattle.service_table.specs.Steps.{standing_from, alarms_with, where_ok}
-use Rattle.service_table.specs.Ready.{alarm_count}
+use Rattle.service_fit.specs.Fit.{alarm_count}
 use Rattle.service_parts.specs.Telling.{IsTold}
 use Rattle.service_core.specs.declared.parts.Acted.{Acted}
 

@@ -1,6 +1,6 @@
 //! Calls of all kinds.
 ghost use Rattle.std.specs.Prelude.{◌≡◌, IfOk, OnErr};
-ghost use Rattle.service_table.specs.Conditions.{CanCall};
+ghost use Rattle.service_fit.specs.Conditions.{CanCall};
 ghost use Rattle.service_core.specs.Acting.{table_of, HasActed};
 
 use crate::logging::{log_close, log_fini, log_init, log_open};

@@ -2,7 +2,7 @@
 ghost use Rattle.std.specs.Prelude.{◌≡◌, ℕ, IfOk, OnErr};
 ghost use Rattle.std.specs.Option.{option_copied};
 ghost use Rattle.calls.specs.declared.call.Call.TheVariants.{LogInit, LogOpen, LogClose, LogFini};
-ghost use Rattle.service_table.specs.Conditions.{CanCallLog};
+ghost use Rattle.service_fit.specs.Conditions.{CanCallLog};
 ghost use Rattle.service_core.specs.Acting.{table_of, HasActed};
 
 use crate::parts::{Acted, Parts};

@@ -15,9 +15,9 @@ ghost use Rattle.ntf_history.specs.Tables.{after_send, with_id};
 ghost use Rattle.ntf_service.specs.State.{CanSendMore};
 ghost use Rattle.ntf_types.specs.SoundTests.{is_sound};
 ghost use Rattle.plain_service.specs.Alarms.{stream_for};
-ghost use Rattle.service_table.specs.Conditions.{CanCall, CanCallLog};
+ghost use Rattle.service_fit.specs.Conditions.{CanCall, CanCallLog};
 ghost use Rattle.service_table.specs.Steps.{alarms_with};
-ghost use Rattle.service_table.specs.Ready.{IsAlarmFirst, IsReadyAlarm, IsReadyLog, alarm_count};
+ghost use Rattle.service_fit.specs.Fit.{IsAlarmFirst, WasStored, alarm_count};
 ghost use Rattle.service_core.specs.Acting.{table_of, HasActed};
 ghost use Rattle.service_core.specs.Sending.{sent_with, HasSent};
 ghost use Rattle.stream_layout.specs.Carrying.{IsFitEvent};
@@ -122,7 +122,7 @@ fn send_planned(
 ) -> Result<u64, AllocError>
     requires can { CanCommit parts.old.log plan }
     requires first { IsAlarmFirst parts.old.log.streams }
-    requires ready { (number : ℕ) × IsReadyLog number (planned plan parts.old.log) }
+    requires stands { IsAlarmFirst (planned plan parts.old.log).streams }
     requires sending { CanSendMore parts.old.ntf }
     requires add { is_alarm sent.now.body ≡ true
         → CanAdd (alarm_count parts.old.log.streams) sent.now parts.old.alarms }
@@ -156,13 +156,15 @@ fn send_stored(
     requires can { CanCommit parts.old.log plan }
     requires events { AllByRecursion IsFitEvent (step_of plan).events }
     requires first { IsAlarmFirst parts.old.log.streams }
-    requires ready { (number : ℕ) × IsReadyLog number (planned plan parts.old.log) }
+    requires stands { IsAlarmFirst (planned plan parts.old.log).streams }
     requires sending { CanSendMore parts.old.ntf }
     requires add { is_alarm sent.now.body ≡ true
         → CanAdd (alarm_count parts.old.log.streams) sent.now parts.old.alarms }
     requires id { with_id (parts.old.ntf.last_id + 1) sent.now ≡ sent.now }
-    ensures reply { IfOk result (λ acted. acted.told.reply ≡ reply.Sent (parts.old.ntf.last_id + 1)) }
-    ensures kept { IfOk result (λ acted. acted.told.kept ≡ reply.Sent (parts.old.ntf.last_id + 1)) }
+    ensures reply { IfOk result (λ acted.
+        acted.told.reply ≡ reply.Sent (parts.old.ntf.last_id + 1)) }
+    ensures kept { IfOk result (λ acted.
+        acted.told.kept ≡ reply.Sent (parts.old.ntf.last_id + 1)) }
     ensures deeds { IfOk result (λ acted. acted.deeds ≡ deeds_of_all (step_of plan).events) }
     ensures ok { OnOk result (table_of parts.new
         ≡ sent_with (table_of parts.old) (planned plan parts.old.log) sent.now) }
@@ -194,7 +196,7 @@ fn send_accepted(
     requires log { CanCallLog parts.old.log now }
     requires sending { CanSendMore parts.old.ntf }
     requires alarms { AllByRecursion
-        (IsReadyAlarm (alarm_count parts.old.log.streams) parts.old.ntf.last_id) parts.old.alarms }
+        (WasStored (alarm_count parts.old.log.streams) parts.old.ntf.last_id) parts.old.alarms }
     requires id { sent.now.id ≡ parts.old.ntf.last_id + 1 }
     requires time { is_negative sent.now.event_time ≡ false }
     ensures ok { IfOk result (HasSent (table_of parts.old) now sent.now (table_of parts.new)) }

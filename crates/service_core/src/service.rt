@@ -6,18 +6,17 @@ ghost use Rattle.client_window.specs.Windows.{window_of};
 ghost use Rattle.client_window.specs.Judgement.{IsJudged};
 ghost use Rattle.plain_service.specs.Setups.{Setup, IsMoment};
 ghost use Rattle.plain_service.specs.Replies.{replies_to};
-ghost use Rattle.plain_service.specs.Legal.{CanFollow, IsHistory};
+ghost use Rattle.plain_service.specs.Legal.{IsClient, CanFollow, IsHistory};
 ghost use Rattle.plain_service.specs.Values.{StandsFor};
 ghost use Rattle.plain_service.specs.Items.{items_of, is_new_receipt};
 ghost use Rattle.plain_service.specs.Fitness.{IsFit};
 ghost use Rattle.service_table.specs.Steps.{window_for, after_receipt_in};
-ghost use Rattle.service_table.specs.Ready.{IsReady};
 ghost use Rattle.ntf_history.specs.Tables.{HaveQueues, is_new_in as is_new_for_table};
 ghost use Rattle.service_core.specs.Applying.{CanApply, next_in, is_new_in};
 ghost use Rattle.service_core.specs.Beginning.{BeginsAs, CanBeginAs, HasBegun};
 ghost use Rattle.service_core.specs.Following.{HasFollowed};
-ghost use Rattle.alarm_view.specs.Alarms.{AreInOrder};
-ghost use Rattle.service_core.specs.Inside.{kept_table, HasApplied};
+ghost use Rattle.service_core.specs.Valuing.{window_in, items_held, Applies};
+ghost use Rattle.service_core.specs.Inside.{kept_table, HasFitValue, HasApplied};
 
 use crate::acting::act;
 use crate::kept::Kept;
@@ -55,11 +54,9 @@ impl Model for Service {
 
 /// What the types of the parts keep. It does nothing else.
 fn show_sound(parts: &Parts)
-    ensures queues { HaveQueues parts.now.ntf.capacity parts.now.ntf.subs }
-    ensures order { AreInOrder parts.now.alarms }
+    ensures { HaveQueues parts.now.ntf.capacity parts.now.ntf.subs }
 {
     let _ = parts.ntf.count();
-    let _ = parts.alarms.count();
 }
 
 /// Applies a client's next call. On an error nothing changes.
@@ -71,13 +68,15 @@ fn apply_call(
     now: i64,
     call: &Call,
 ) -> Result<Effect, AllocError>
-    requires ready { IsReady (kept_table kept.old) }
+    requires fit { HasFitValue kept.old }
+    requires queues { HaveQueues kept.old.parts.ntf.capacity kept.old.parts.ntf.subs }
     requires few { kept.old.number < 4000000000 }
+    requires caller { IsClient client }
     requires moment { IsMoment now }
     requires next { seq ≡ (window_for client kept.old.callers.items).next }
     ensures ok { IfOk result (λ effect.
         HasApplied (kept_table kept.old) client seq now call.now (kept_table kept.new) effect) }
-    ensures ready { IsReady (kept_table kept.new) }
+    ensures fit { HasFitValue kept.new }
     ensures capacity { kept.new.parts.ntf.capacity ≡ kept.old.parts.ntf.capacity }
     ensures err { OnErr result (kept_table kept.new ≡ kept_table kept.old) }
 {
@@ -85,7 +84,6 @@ fn apply_call(
     let acted = act(&mut kept.parts, alloc, client, seq, now, call)?;
     answer_call(&mut kept.callers, client, fresh, acted.told.kept);
     kept.number += 1;
-    show_sound(&kept.parts);
     Ok(Effect {
         reply: Some(acted.told.reply),
         deeds: acted.deeds,
@@ -94,18 +92,18 @@ fn apply_call(
 
 /// Applies a new receipt. It takes no memory.
 fn apply_receipt(kept: &mut Kept, alloc: Global, client: u16, key: u32, through: u32) -> Effect
-    requires ready { IsReady (kept_table kept.old) }
+    requires fit { HasFitValue kept.old }
+    requires queues { HaveQueues kept.old.parts.ntf.capacity kept.old.parts.ntf.subs }
     requires few { kept.old.number < 4000000000 }
     requires new { is_new_for_table kept.old.parts.ntf client key through ≡ true }
     ensures now { kept_table kept.new ≡ after_receipt_in (kept_table kept.old) client key through }
-    ensures ready { IsReady (kept_table kept.new) }
+    ensures fit { HasFitValue kept.new }
     ensures capacity { kept.new.parts.ntf.capacity ≡ kept.old.parts.ntf.capacity }
     ensures reply { result.reply ≡ None }
     ensures deeds { result.deeds ≡ [] }
 {
     kept.parts.ntf.acked(client, key, through);
     kept.number += 1;
-    show_sound(&kept.parts);
     Effect {
         reply: None,
         deeds: Seq::new(alloc),
@@ -131,8 +129,8 @@ impl Service {
         Ok((Service { kept, cap }, deeds))
     }
 
-    /// The service of a value: with it each further entry is answered as by the service that handed the value on.
-    /// `Refused` comes exactly where the value is not fit, and `Memory` only for want of memory.
+    /// The service of a value: with it each further entry is answered as by the service that handed the value on, and
+    /// of a fit value to which no history led as the value says. `Refused` comes exactly where the value is not fit, and `Memory` only for want of memory.
     pub fn restore(alloc: Global, saved: &Saved) -> Result<Service, RestoreAnswer>
         ensures ok { IfOk result (λ service. service ≡ saved.now) }
         ensures refused { IsErrOf result RestoreAnswer.Refused ↔ (¬ IsFit saved.now) }
@@ -149,20 +147,23 @@ impl Service {
         }
     }
 
-    /// The value that can be handed on. The service stays as it is; an error is want of memory.
+    /// The value that can be handed on, which is fit. The service stays as it is; an error is want of memory.
     pub fn save(&self, alloc: Global) -> Result<Saved, AllocError>
-        ensures { IfOk result (λ saved. saved ≡ self.now) }
+        ensures value { IfOk result (λ saved. saved ≡ self.now) }
+        ensures fit { IfOk result IsFit }
     {
         let saved = saving::saved(alloc, &self.kept, self.cap)?;
         Ok(saved)
     }
 
-    /// The items that subscriptions hold, in order of client, key and number. The service stays as it is; an error is
-    /// want of memory.
+    /// The items that subscriptions hold, in order of client, key and number: those of the value, and of each history
+    /// that the service stands for. The service stays as it is; an error is want of memory.
     pub fn items(&self, alloc: Global) -> Result<Seq<Held>, AllocError>
-        ensures { IfOk result (λ items. (setup : Setup) (past : List Entry) →
+        ensures value { IfOk result (λ items. items ≡ items_held self.now) }
+        ensures history { IfOk result (λ items. (setup : Setup) (past : List Entry) →
             StandsFor setup past self.now → items ≡ items_of setup past) }
     {
+        show_sound(&self.kept.parts);
         let items = holding::items_of(alloc, &self.kept.parts.ntf)?;
         Ok(items)
     }
@@ -174,12 +175,16 @@ impl Service {
         next_call(self.kept.callers.as_slice(), client)
     }
 
-    /// What the call of this number of a client is, by all replies that the client was ever given. It takes no memory.
+    /// What the call of this number of a client is, by all replies that the client was ever given: any that leave the
+    /// value's window. It takes no memory.
     pub fn judge(&self, client: u16, seq: u32) -> Judged<'_, Reply>
-        ensures { (setup : Setup) (past : List Entry) → IsHistory setup past
+        ensures value { (replies : List Reply) → window_in self.now client ≡ window_of replies
+            → IsJudged seq replies result }
+        ensures history { (setup : Setup) (past : List Entry) → IsHistory setup past
             → StandsFor setup past self.now →
             IsJudged seq (replies_to setup client past) result }
     {
+        show_sound(&self.kept.parts);
         judge_call(self.kept.callers.as_slice(), client, seq)
     }
 
@@ -191,6 +196,7 @@ impl Service {
         ensures history { (setup : Setup) (past : List Entry) → StandsFor setup past self.now
             → result ≡ is_new_receipt setup past client key through }
     {
+        show_sound(&self.kept.parts);
         self.kept.parts.ntf.is_new(client, key, through)
     }
 
@@ -202,16 +208,18 @@ impl Service {
     }
 
     /// Applies an entry: a call that has the number of its client's next one, or a new receipt, of a client from 1 to
-    /// 4,096, at a time from 0 to 9,000,000,000,000,000,000, after fewer than 4,000,000,000 entries. A service that stands
-    /// for a history stands for the history with the entry then, and the reply and the deeds are the entry's. On an error,
-    /// which is want of memory, nothing changes.
+    /// 4,096, at a time from 0 to 9,000,000,000,000,000,000, after fewer than 4,000,000,000 entries. The value, the reply
+    /// and the deeds are then what the value before and the entry say; a service that stands for a history stands for the
+    /// history with the entry then. On an error, which is want of memory, nothing changes.
     pub fn apply(&mut self, alloc: Global, entry: &Entry) -> Result<Effect, AllocError>
         requires { CanApply entry.now self.old }
+        ensures value { IfOk result (Applies entry.now self.old self.new) }
         ensures ok { IfOk result (λ effect. (setup : Setup) (past : List Entry) →
             IsHistory setup past → StandsFor setup past self.old → CanFollow setup entry.now past →
             HasFollowed setup past entry.now self.new effect) }
         ensures err { OnErr result (self.new ≡ self.old) }
     {
+        show_sound(&self.kept.parts);
         match entry {
             Entry::Called {
                 client,

@@ -2,9 +2,9 @@
 ghost use Rattle.std.specs.Prelude.{◌≡◌, ℕ, IfOk, OnErr};
 ghost use Rattle.alarm_view.specs.Alarms.{from_record};
 ghost use Rattle.calls.specs.declared.call.Call.TheVariants.{LogWrite};
-ghost use Rattle.service_table.specs.Conditions.{CanCallLog};
+ghost use Rattle.service_fit.specs.Conditions.{CanCallLog};
 ghost use Rattle.service_table.specs.Steps.{standing_from, where_ok};
-ghost use Rattle.service_table.specs.Ready.{IsReadyLog};
+ghost use Rattle.service_fit.specs.Fit.{IsAlarmFirst};
 ghost use Rattle.service_core.specs.Acting.{table_of, HasActed};
 
 use crate::parts::{Acted, Parts};
@@ -19,7 +19,7 @@ use stream_config::StreamName;
 
 /// Drops the alarms whose records stand no more.
 pub(crate) fn keep_standing(alarms: &mut AlarmView, log: &LogState)
-    requires { (number : ℕ) × IsReadyLog number log.now }
+    requires { IsAlarmFirst log.now.streams }
     ensures { alarms.new ≡ from_record (standing_from log.now.streams) alarms.old }
 {
     match log.stream_at(0) {
@@ -30,7 +30,7 @@ pub(crate) fn keep_standing(alarms: &mut AlarmView, log: &LogState)
 
 /// Drops them where a record was stored.
 fn keep_after(alarms: &mut AlarmView, log: &LogState, status: Status)
-    requires { (number : ℕ) × IsReadyLog number log.now }
+    requires { IsAlarmFirst log.now.streams }
     ensures { alarms.new ≡ where_ok status
         (from_record (standing_from log.now.streams) alarms.old) alarms.old }
 {

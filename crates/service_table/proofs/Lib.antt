@@ -5,15 +5,3 @@ pub mod ReaderSteps
 pub mod WindowSteps
 pub mod ServiceSteps
 pub mod SavedLaws
-pub mod FileSteps
-pub mod LogSteps
-pub mod EventsFit
-pub mod WindowsReady
-pub mod NtfReady
-pub mod AlarmsReady
-pub mod OkCalls
-pub mod ReadySteps
-pub mod CallLaws
-pub mod FitReady
-pub mod FitReadyParts
-pub mod FitReadyEach

@@ -2,5 +2,3 @@ pub mod Tables
 pub mod Answering
 pub mod Steps
 pub mod Histories
-pub mod Ready
-pub mod Conditions

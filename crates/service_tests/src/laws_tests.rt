@@ -74,3 +74,8 @@ fn laws_of_plain_service() {
     plain_service::law_of_steps();
     plain_service::law_of_values();
 }
+
+#[test]
+fn laws_of_service_fit() {
+    service_fit::law_of_fitness();
+}

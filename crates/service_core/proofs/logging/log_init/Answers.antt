@@ -1,7 +1,7 @@
 use Rattle.std.proofs.Common.{refl}
 use Rattle.calls.specs.declared.call.Call.TheVariants.{LogInit}
 use Rattle.log_history.specs.Changes.{Began}
-use Rattle.service_table.proofs.CallLaws.{fit-by}
+use Rattle.service_fit.proofs.CallLaws.{fit-by}
 use Rattle.service_core.specs.Acting.{table_of}
 use Rattle.service_core.proofs.ActLaws.{log-acted}
 use Rattle.service_core.proofs.logging.log_init.Goals as goal

@@ -5,7 +5,7 @@ use Rattle.calls.specs.declared.call.Call.TheVariants.{LogOpen}
 use Rattle.log_history.specs.Changes.{Opened}
 use Rattle.log_history.specs.KeptAnswers.{making_in}
 use Rattle.log_history.specs.Times.{second_of}
-use Rattle.service_table.proofs.OkCalls.{opening-can}
+use Rattle.service_fit.proofs.OkCalls.{opening-can}
 use Rattle.service_core.specs.Acting.{table_of}
 use Rattle.service_core.proofs.ActLaws.{log-acted}
 use Rattle.service_core.proofs.LogConditions.{call-time, planned-fit}

@@ -2,7 +2,7 @@ use Rattle.std.proofs.Common.{refl, ◌∙◌}
 use Rattle.calls.specs.declared.call.Call.TheVariants.{NtfSubscribe}
 use Rattle.calls.specs.declared.reply.Reply.TheVariants.{Done}
 use Rattle.ntf_history.specs.Changes.{NtfChange as ntf}
-use Rattle.service_table.proofs.CallLaws.{notified-by}
+use Rattle.service_fit.proofs.CallLaws.{notified-by}
 use Rattle.ntf_service.specs.State.{sub_of}
 use Rattle.service_core.specs.Acting.{table_of}
 use Rattle.service_core.proofs.NtfActs.{quiet-acted, same-readers}

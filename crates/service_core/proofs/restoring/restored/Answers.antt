@@ -1,7 +1,7 @@
 use Rattle.std.proofs.Common.{sym, ◌∙◌, subst}
 use Rattle.std.specs.List.{AllByRecursion}
 use Rattle.plain_service.specs.Fitness.{IsFitWindow}
-use Rattle.service_table.proofs.FitReadyEach.{alarm-fit}
+use Rattle.service_fit.proofs.RestoredEach.{alarm-fit}
 use Rattle.service_core.proofs.restoring.restored.Goals as goal
 
 pub restored_alarms-requires : goal.restored_alarms-requires

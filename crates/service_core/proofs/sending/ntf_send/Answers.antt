@@ -5,6 +5,7 @@ use Rattle.ntf_types.specs.declared.notification.Notification.{Notification}
 use Rattle.plain_service.specs.Alarms.{accepted_as}
 use Rattle.service_core.specs.Acting.{table_of}
 use Rattle.service_core.specs.Sending.{HasSent}
+use Rattle.service_core.proofs.LogConditions.{first-now}
 use Rattle.service_core.proofs.SendActs.{filled-event, sent-acted}
 use Rattle.service_core.proofs.sending.ntf_send.Goals as goal
 
@@ -22,4 +23,4 @@ returns-clause-ok c =
     let accepted = is ∙ ap (λ id. accepted_as (id + 1) c.args.now c.args.notification.now) c.last_id.ensures in
     let done : HasSent (table_of parts) c.args.now c.in_ok-sent.sent (table_of c.send_accepted.new.parts) c.in_ok-acted.acted = simp to_z-of_z at c.in_ok-acted.ensures.ok in
     let sent = subst (λ n. HasSent (table_of parts) c.args.now n (table_of c.send_accepted.new.parts) c.in_ok-acted.acted) accepted done in
-    λ seq. sent-acted (table_of parts) (table_of c.send_accepted.new.parts) c.args.client seq c.args.now c.args.notification.now c.in_ok-acted.acted c.requires.1.log.ready.alarm (sym c.is_user.ensures ∙ c.if-not-is_user.false) (sym c.is_right.ensures ∙ c.if-not-is_right.false) sent
+    λ seq. sent-acted (table_of parts) (table_of c.send_accepted.new.parts) c.args.client seq c.args.now c.args.notification.now c.in_ok-acted.acted (first-now parts.log c.args.now c.requires.1.log) (sym c.is_user.ensures ∙ c.if-not-is_user.false) (sym c.is_right.ensures ∙ c.if-not-is_right.false) sent

@@ -1,4 +1,4 @@
-use Rattle.std.proofs.Common.{◌≡◌, ◌≢◌, ◌+◌, rules, ap, sym, ◌∙◌, arith}
+use Rattle.std.proofs.Common.{◌≡◌, ◌≢◌, rules, ap, sym, ◌∙◌, arith}
 use Rattle.std.proofs.lemmas.Int.{to_z-of_z}
 use Rattle.ais_values.specs.declared.status.Status.TheVariants as status
 use Rattle.log_history.specs.Changes.{Stored}
@@ -7,10 +7,11 @@ use Rattle.log_history.specs.Table.{table_after, events_of}
 use Rattle.log_history.specs.Times.{second_of}
 use Rattle.log_service.specs.State.{stream_of_kind}
 use Rattle.log_service.specs.declared.step.Step.{Step}
-use Rattle.service_table.proofs.AlarmsReady.{can-add}
+use Rattle.service_fit.proofs.AlarmsFit.{can-add}
+use Rattle.service_fit.proofs.LogFit.{inside}
 use Rattle.service_core.specs.Acting.{table_of}
 use Rattle.service_core.specs.Sending.{sent_with, stored_of}
-use Rattle.service_core.proofs.LogConditions.{number-left, planned-fit, planned-ready}
+use Rattle.service_core.proofs.LogConditions.{number-left, planned-fit, planned-first, first-now}
 use Rattle.service_core.proofs.SendActs.{room-left, refused-sent, done-sent}
 use Rattle.service_core.proofs.sending.send_accepted.Goals as goal
 use Rattle.plain_service.proofs.HistoryEvents.{second-bound}
@@ -32,20 +33,22 @@ send_stored-requires-clause-events c =
     let plans = simp to_z-of_z at c.in_ok-plan.ensures in
     planned-fit log c.args.now (Stored (stream_of_kind c.kind_for.result) c.in_ok-rec.rec (second_of c.args.now)) _ c.in_ok-plan.plan c.requires.log (second-bound c.args.now c.requires.log.moment) (λ e. room-left (is_filled log.streams _) e) plans
 
-pub send_stored-requires-clause-ready : goal.send_stored-requires-clause-ready
-send_stored-requires-clause-ready c =
+pub send_stored-requires-clause-first : goal.send_stored-requires-clause-first
+send_stored-requires-clause-first c = first-now c.args.parts.now.log c.args.now c.requires.log
+
+pub send_stored-requires-clause-stands : goal.send_stored-requires-clause-stands
+send_stored-requires-clause-stands c =
     let fits = c.ranges.now in
     let log = c.args.parts.now.log in
-    let number = c.requires.log.number in
     let plans = simp to_z-of_z at c.in_ok-plan.ensures in
-    (number + 1, planned-ready number log (Stored (stream_of_kind c.kind_for.result) c.in_ok-rec.rec (second_of c.args.now)) _ c.in_ok-plan.plan c.requires.log.ready (second-bound c.args.now c.requires.log.moment) (λ e. room-left (is_filled log.streams _) e) plans)
+    planned-first log c.args.now (stream_of_kind c.kind_for.result) c.in_ok-rec.rec (second_of c.args.now) _ c.in_ok-plan.plan c.requires.log (second-bound c.args.now c.requires.log.moment) (λ e. room-left (is_filled log.streams _) e) plans
 
 pub send_stored-requires-clause-add : goal.send_stored-requires-clause-add
 send_stored-requires-clause-add c =
     let parts = c.args.parts.now in
     let few = c.requires.log.few in
     let id = c.requires.id in
-    λ alarm. can-add parts.log.last c.requires.log.number parts.ntf.last_id parts.log.streams c.args.sent.now parts.alarms (omega (arith, few)) alarm (omega (arith, id)) c.requires.log.ready.each c.requires.alarms
+    λ alarm. can-add parts.log.last c.requires.log.number parts.ntf.last_id parts.log.streams c.args.sent.now parts.alarms (omega (arith, few)) alarm (omega (arith, id)) (inside c.requires.log.number parts.log c.requires.log.fit).each c.requires.alarms
 
 pub returns-clause-ok : goal.returns-clause-ok
 returns-clause-ok c =

@@ -1,16 +1,21 @@
-use Rattle.std.proofs.Common.{ap, subst}
-use Rattle.ntf_history.specs.Tables.{NtfTable, HaveQueues}
-use Rattle.service_table.proofs.ReadySteps.{ready-receipt}
+use Rattle.std.proofs.Common.{ap}
+use Rattle.ntf_history.specs.Tables.{NtfTable}
+use Rattle.service_fit.proofs.FitSteps.{fit-receipt}
+use Rattle.service_fit.proofs.NtfFit.{can-send}
+use Rattle.service_fit.proofs.ValueFit.{table-of}
 use Rattle.service_core.specs.Inside.{kept_table}
 use Rattle.service_core.proofs.service.apply_receipt.Goals as goal
 
-pub returns-clause-ready : goal.returns-clause-ready
-returns-clause-ready c =
+pub acked-requires-clause-numbers : goal.acked-requires-clause-numbers
+acked-requires-clause-numbers c =
     let kept = kept_table c.args.kept.now in
-    let is = c.acked.ensures in
-    let queues = subst (λ (t : NtfTable). HaveQueues t.capacity t.subs) is c.show_sound.ensures.queues in
-    let ready = ready-receipt kept c.args.client c.args.key c.args.through c.requires.ready c.requires.few queues in
-    simp is ready
+    let fit = table-of kept c.requires.queues c.requires.fit in
+    (can-send kept.number kept.windows kept.ntf fit.few fit.ntf).items
+
+pub returns-clause-fit : goal.returns-clause-fit
+returns-clause-fit c =
+    let fit = fit-receipt (kept_table c.args.kept.now) c.args.client c.args.key c.args.through (record { queues = c.requires.queues; fit = c.requires.fit; few = c.requires.few }) in
+    simp c.acked.ensures fit
 
 pub returns-clause-capacity : goal.returns-clause-capacity
 returns-clause-capacity c = ap (λ (t : NtfTable). t.capacity) c.acked.ensures

@@ -1,14 +1,14 @@
-use Rattle.std.proofs.Common.{◌+◌, sym, ap, subst}
+use Rattle.std.proofs.Common.{sym, ap, subst}
 use Rattle.std.proofs.lemmas.Int.{to_z-of_z}
 use Rattle.log_history.specs.Changes.{Stored}
 use Rattle.log_history.specs.Table.{LogTable}
 use Rattle.log_history.specs.Times.{second_of, record_at}
 use Rattle.log_service.specs.declared.step.Step.{Step}
 use Rattle.calls.specs.declared.call.Call.TheVariants.{LogWrite}
-use Rattle.service_table.specs.Ready.{IsReadyLog}
-use Rattle.service_table.proofs.OkCalls.{call-can}
+use Rattle.service_fit.specs.Fit.{IsAlarmFirst}
+use Rattle.service_fit.proofs.OkCalls.{call-can}
 use Rattle.service_core.specs.Acting.{table_of}
-use Rattle.service_core.proofs.LogConditions.{call-time, number-left, planned-fit, planned-ready}
+use Rattle.service_core.proofs.LogConditions.{call-time, number-left, planned-fit, planned-first}
 use Rattle.service_core.proofs.Standing.{write-acted}
 use Rattle.service_core.proofs.writing.log_write.Goals as goal
 use Rattle.plain_service.proofs.HistoryEvents.{second-bound}
@@ -31,11 +31,9 @@ pub keep_after-requires : goal.keep_after-requires
 keep_after-requires c =
     let fits = c.ranges.now in
     let times = c.ranges.time in
-    let plans = simp to_z-of_z at c.in_ok-plan.ensures in (
-      c.requires.number + 1,
-      subst (λ (l : LogTable). IsReadyLog (c.requires.number + 1) l) (sym c.in_ok-acted.ensures.now)
-          (planned-ready c.requires.number c.args.parts.now.log (Stored c.args.name.now (record_at c.args.time c.args.header.now c.args.body.now c.args.now) (second_of c.args.now)) _ c.in_ok-plan.plan c.requires.ready (second-bound c.args.now c.requires.moment) (λ e. call-can (table_of c.args.parts.now) c.args.client c.args.now (LogWrite c.args.name.now 0 c.args.flags c.args.time c.args.header.now c.args.body.now) e) plans),
-    )
+    let plans = simp to_z-of_z at c.in_ok-plan.ensures in
+    subst (λ (l : LogTable). IsAlarmFirst l.streams) (sym c.in_ok-acted.ensures.now)
+    (planned-first c.args.parts.now.log c.args.now c.args.name.now (record_at c.args.time c.args.header.now c.args.body.now c.args.now) (second_of c.args.now) _ c.in_ok-plan.plan c.requires (second-bound c.args.now c.requires.moment) (λ e. call-can (table_of c.args.parts.now) c.args.client c.args.now (LogWrite c.args.name.now 0 c.args.flags c.args.time c.args.header.now c.args.body.now) e) plans)
 
 pub returns-clause-ok : goal.returns-clause-ok
 returns-clause-ok c =

@@ -10,5 +10,5 @@ returns c =
     let kept = kept_table c.self.inside.kept in
     record {
       value = c.is_new.ensures ∙ sym (new-is kept c.args.client c.args.key c.args.through) ∙ ap (λ saved. is_new_in saved c.args.client c.args.key c.args.through) c.self.view_is;
-      history = λ setup past stands. c.is_new.ensures ∙ new-stands setup past kept c.self.invariant.ready.queues (subst (StandsFor setup past) (sym c.self.view_is) stands) c.args.client c.args.key c.args.through;
+      history = λ setup past stands. c.is_new.ensures ∙ new-stands setup past kept c.show_sound.ensures (subst (StandsFor setup past) (sym c.self.view_is) stands) c.args.client c.args.key c.args.through;
     }

@@ -1,9 +1,16 @@
-use Rattle.std.proofs.Common.{ap, sym, ◌∙◌}
+use Rattle.std.proofs.Common.{ap, sym, ◌∙◌, subst}
+use Rattle.client_set.specs.Rising.{IsRising}
+use Rattle.service_table.specs.Tables.{window_before}
 use Rattle.service_table.specs.Steps.{window_for}
 use Rattle.service_core.specs.Applying.{next_in}
 use Rattle.service_core.specs.Inside.{kept_table}
 use Rattle.service_core.proofs.FollowLaws.{next-is}
+use Rattle.service_core.proofs.ValueLaws.{windows-rise}
 use Rattle.service_core.proofs.service.Service.next.Goals as goal
+
+pub next_call-requires : goal.next_call-requires
+next_call-requires c =
+    subst (IsRising window_before) (sym c.as_slice.ensures.value) (windows-rise (kept_table c.self.inside.kept) c.self.invariant.fit)
 
 pub returns : goal.returns
 returns c =

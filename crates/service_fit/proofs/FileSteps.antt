@@ -5,6 +5,7 @@ use Rattle.std.specs.Option.{option_to_list}
 use Rattle.std.specs.List.{AllByRecursion}
 use Rattle.std.proofs.lemmas.Int.{ints}
 use Rattle.std.proofs.lemmas.Bool.{and_parts, and_from}
+use Rattle.ais_values.proofs.Basics.{AllByRecursion-append}
 use Rattle.stream_config.specs.declared.attrs.FullAction.{FullAction}
 use Rattle.stream_config.specs.declared.attrs.FullAction.TheVariants.{Wrap, Halt, Rotate}
 use Rattle.stream_config.specs.declared.attrs.StreamAttrs.{StreamAttrs}
@@ -13,16 +14,16 @@ use Rattle.stream_config.specs.Events.{open_file, last_closed, most_files, files
 use Rattle.stream_config.specs.Fit.{stamps_of, rises, is_last_open, file_count, changes_file}
 use Rattle.stream_config.specs.Sizes.{records_per_file}
 use Rattle.stream_config.specs.Stamps.{stamp_after}
+use Rattle.stream_layout.proofs.StoredBytes.{same_round, begins_round}
+use Rattle.stream_layout.proofs.EventLaws.{some_records}
+use Rattle.stream_layout.proofs.CurrentFile.{rises-tail, length-last_closed, stamps-closed}
 use Rattle.record_print.specs.declared.record.LogRecord.{LogRecord}
 use Rattle.log_history.specs.Table.{OpenStream, last_after_due, with_stored}
-use Rattle.stream_layout.proofs.StoredBytes.{same_round, begins_round}
 use Rattle.log_history.specs.Stamps.{IsStampUpTo}
-use Rattle.service_table.specs.Ready.{IsReadyStream}
-use Rattle.ais_values.proofs.Basics.{AllByRecursion-append}
-use Rattle.stream_layout.proofs.EventLaws.{some_records}
 use Rattle.log_history.proofs.FileLists.{some-most}
-use Rattle.stream_layout.proofs.CurrentFile.{rises-tail, length-last_closed, stamps-closed}
 use Rattle.log_history.proofs.StreamLaws.{stamp-up-to, up-to-lt}
+use Rattle.plain_service.proofs.ListLaws.{each-weaker}
+use Rattle.service_fit.specs.Fit.{IsFitState}
 
 -- lists that have a property
 
@@ -30,11 +31,6 @@ module _ {X : Type 0} (P : X → Type 0) where
   all-behind : (xs ys : List X) → AllByRecursion P (xs ++ ys) → AllByRecursion P ys
   all-behind [] ys each = each
   all-behind (x ∷ xs) ys each = all-behind xs ys each.1
-
-module _ {X : Type 0} (P Q : X → Type 0) (weaker : (x : X) → P x → Q x) where
-  pub all-weaker : (xs : List X) → AllByRecursion P xs → AllByRecursion Q xs
-  all-weaker [] each = tt
-  all-weaker (x ∷ xs) each = (weaker x each.0, all-weaker xs each.1)
 
 -- stamps
 
@@ -129,7 +125,7 @@ stay-fit last second attrs taken files true some one due fit =
     let stamped : AllByRecursion (IsStampUpTo (pos created)) (stamps_of all) =
     subst (AllByRecursion (IsStampUpTo (pos created))) (sym same)
     (AllByRecursion-append (IsStampUpTo (pos created)) (stamps_of files) (pos closed ∷ pos created ∷ [])
-    (all-weaker (IsStampUpTo (pos last)) (IsStampUpTo (pos created)) (up-to-later last created (omega arith)) (stamps_of files) fit.stamps)
+    (each-weaker (IsStampUpTo (pos last)) (IsStampUpTo (pos created)) (up-to-later last created (omega arith)) (stamps_of files) fit.stamps)
     (stamp-up-to created closed (omega arith), (stamp-up-to created created (omega arith), tt))) in
     record {
       rising = rises-drop gone all rising;
@@ -139,8 +135,8 @@ stay-fit last second attrs taken files true some one due fit =
     }
 
 -- **a stream with one record more**
-pub ready-stored : (last second number : ℕ) (rec : LogRecord) (stream : OpenStream) → (stream.state.attrs.action ≡ Halt → stream.state.taken < records_per_file stream.state.attrs) → IsReadyStream last number stream → IsReadyStream (last_after_due last second stream.state) (number + 1) (with_stored last second rec stream)
-ready-stored last second number rec stream room ready =
+pub fit-stored : (last second number : ℕ) (rec : LogRecord) (stream : OpenStream) → (stream.state.attrs.action ≡ Halt → stream.state.taken < records_per_file stream.state.attrs) → IsFitState last number stream → IsFitState (last_after_due last second stream.state) (number + 1) (with_stored last second rec stream)
+fit-stored last second number rec stream room ready =
     let attrs = stream.state.attrs in
     let due = changes_file attrs.action (records_per_file attrs) stream.state.taken in
     let fit = stay-fit last second attrs stream.state.taken stream.state.files due (some_records attrs ready.attributes.sizes) ready.attributes.some_rotated refl
@@ -152,10 +148,10 @@ ready-stored last second number rec stream room ready =
       taken = omega (arith, ready.taken);
     }
 
-pub later-stream : (last later number : ℕ) (stream : OpenStream) → last ≤ later → IsReadyStream last number stream → IsReadyStream later (number + 1) stream
+pub later-stream : (last later number : ℕ) (stream : OpenStream) → last ≤ later → IsFitState last number stream → IsFitState later (number + 1) stream
 later-stream last later number stream le ready = record {
   attributes = ready.attributes;
   files = ready.files;
-  stamps = all-weaker (IsStampUpTo (pos last)) (IsStampUpTo (pos later)) (up-to-later last later le) (stamps_of stream.state.files) ready.stamps;
+  stamps = each-weaker (IsStampUpTo (pos last)) (IsStampUpTo (pos later)) (up-to-later last later le) (stamps_of stream.state.files) ready.stamps;
   taken = omega (arith, ready.taken);
 }

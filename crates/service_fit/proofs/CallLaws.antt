@@ -1,5 +1,5 @@
 -- What the parts ask of their calls, and what each call makes of the whole.
-use Rattle.std.proofs.Common.{◌≡◌, ◌≢◌, ℕ, ◌<◌, ◌≤◌, Bool, true, false, cond, List, [], ◌∷◌, refl, ap, sym, subst, arith}
+use Rattle.std.proofs.Common.{◌≡◌, ◌≢◌, ℕ, ◌<◌, ◌≤◌, List, [], refl, sym, subst, arith}
 use Rattle.std.specs.Prelude.{Some, ℤ}
 use Rattle.std.specs.Option.{option_map_or}
 use Rattle.std.specs.List.{AllByRecursion}
@@ -8,58 +8,46 @@ use Rattle.ais_values.specs.declared.status.Status.TheVariants as status
 use Rattle.stream_config.specs.declared.attrs.StreamName.{StreamName}
 use Rattle.stream_config.specs.declared.event.StreamEvent.{StreamEvent}
 use Rattle.stream_layout.specs.Carrying.{IsFitEvent}
-use Rattle.calls.specs.declared.call.Call.{Call}
-use Rattle.calls.specs.declared.call.Call.TheVariants.{LogInit, LogOpen, LogWrite, LogClose, LogFini, NtfInit, NtfSend, NtfSubscribe, NtfUnsubscribe, ReaderStart, ReaderRead, ReaderEnd, NtfFini}
 use Rattle.log_history.specs.Changes.{LogChange}
-use Rattle.log_history.specs.Table.{OpenStream, LogTable, is_named, table_after, events_of}
+use Rattle.log_history.specs.Stamps.{second_in}
+use Rattle.log_history.specs.Table.{OpenStream, LogTable, table_after, events_of}
 use Rattle.log_history.specs.KeptAnswers.{kept_stream}
-use Rattle.ntf_history.specs.declared.subscription.Subscription.{Subscription}
 use Rattle.ntf_history.specs.Changes.{NtfChange}
 use Rattle.ntf_history.specs.Tables.{NtfTable, after_change}
-use Rattle.ntf_service.specs.State.{IsKeyAbove}
+use Rattle.calls.specs.declared.call.Call.{Call}
+use Rattle.calls.specs.declared.call.Call.TheVariants.{LogInit, LogOpen, LogWrite, LogClose, LogFini, NtfInit, NtfSend, NtfSubscribe, NtfUnsubscribe, ReaderStart, ReaderRead, ReaderEnd, NtfFini}
 use Rattle.plain_service.specs.Setups.{IsMoment}
 use Rattle.plain_service.specs.Changing.{if_ok}
-use Rattle.service_table.specs.declared.caller.ClientWindow.{ClientWindow}
 use Rattle.service_table.specs.Tables.{ServiceTable}
 use Rattle.service_table.specs.Steps.{log_change_in, logged, notified, window_for, changed}
-use Rattle.service_table.specs.Ready.{IsReadyStream, IsReadySub, IsReady}
-use Rattle.service_table.specs.Conditions.{CanCallLog, CanCall, with_log}
-use Rattle.service_table.proofs.LogSteps.{CanChange, second_in}
-use Rattle.service_table.proofs.EventsFit.{events-fit}
-use Rattle.service_table.proofs.NtfReady.{can-send}
+use Rattle.service_fit.specs.Conditions.{CanCallLog, CanCall, with_log}
+use Rattle.service_fit.proofs.AlarmsFit.{were-stored}
+use Rattle.service_fit.proofs.EventsFit.{find-fit, events-fit}
+use Rattle.service_fit.proofs.LogFit.{inside, outside}
+use Rattle.service_fit.proofs.LogSteps.{CanChange}
+use Rattle.service_fit.proofs.NtfFit.{can-send, key-above}
+use Rattle.service_fit.proofs.ValueFit.{IsFitTable}
 
 -- conditions
 
 pub last-bound : (kept : LogTable) (now : ℤ) → CanCallLog kept now → kept.last ≤ 19999999000
-last-bound kept now can = omega (arith, can.ready.room, can.few)
-
-find-ready : (last number : ℕ) (stream : StreamName) (streams : List OpenStream) (s : OpenStream) → AllByRecursion (IsReadyStream last number) streams → kept_stream streams stream ≡ Some s → IsReadyStream last number s
-find-ready last number stream [] s each is = cc
-find-ready last number stream (one ∷ streams) s each is = by_case (is_named stream one) is (find-ready last number stream streams s each.1) where
-  by_case : (named : Bool) → cond named (Some one) (kept_stream streams stream) ≡ Some s → (kept_stream streams stream ≡ Some s → IsReadyStream last number s) → IsReadyStream last number s
-  by_case true same on = let e : one ≡ s = cc in subst (IsReadyStream last number) e each.0
-  by_case false same on = on same
+last-bound kept now can = omega (arith, (inside can.number kept can.fit).room, can.few)
 
 pub numbers-left : (kept : LogTable) (now : ℤ) (stream : StreamName) → CanCallLog kept now → (s : OpenStream) → kept_stream kept.streams stream ≡ Some s → s.state.taken < 4294967294
 numbers-left kept now stream can s is =
-    let ready = find-ready kept.last can.number stream kept.streams s can.ready.each is in
-    omega (arith, ready.taken, can.few)
+    let fit = find-fit kept.last can.number stream kept.streams s (inside can.number kept can.fit).each is in
+    omega (arith, fit.taken, can.few)
 
 pub change-fit : (kept : LogTable) (now : ℤ) (change : LogChange) → CanCallLog kept now → second_in change ≤ 9000000000 → CanChange kept change → AllByRecursion IsFitEvent (events_of change kept)
-change-fit kept now change can early may = events-fit can.number kept change can.few early may can.ready
-
-key-above : (number client seq : ℕ) (windows : List ClientWindow) (subs : List Subscription) → seq ≡ (window_for client windows).next → AllByRecursion (IsReadySub number windows) subs → IsKeyAbove client seq subs
-key-above number client seq windows [] next each = tt
-key-above number client seq windows (sub ∷ subs) next each =
-    (λ same. let e = ap (λ c. (window_for c windows).next) same in omega (arith, e, next, each.0.key), key-above number client seq windows subs next each.1)
+change-fit kept now change can early may = events-fit can.number kept change can.few early may (inside can.number kept can.fit)
 
 -- **what a call asks of all parts**
-pub call-can-come : (kept : ServiceTable) (client seq : ℕ) (now : ℤ) → IsReady kept → kept.number < 4000000000 → IsMoment now → seq ≡ (window_for client kept.windows).next → CanCall kept client seq now
-call-can-come kept client seq now ready few moment next = record {
-  log = record { number = kept.number; few = few; ready = ready.log; moment = moment };
-  sending = can-send kept.number kept.windows kept.ntf ready.few ready.ntf;
-  key = key-above kept.number client seq kept.windows kept.ntf.subs next ready.ntf.each;
-  alarms = ready.alarms;
+pub call-can-come : (kept : ServiceTable) (client seq : ℕ) (now : ℤ) → IsFitTable kept → kept.number < 4000000000 → IsMoment now → seq ≡ (window_for client kept.windows).next → CanCall kept client seq now
+call-can-come kept client seq now fit few moment next = record {
+  log = record { number = kept.number; few = few; fit = outside kept.number kept.log fit.log; moment = moment };
+  sending = can-send kept.number kept.windows kept.ntf fit.few fit.ntf;
+  key = key-above kept.number client seq kept.windows kept.ntf.users kept.ntf.subs next fit.ntf.each;
+  alarms = were-stored kept.log.streams kept.ntf.last_id kept.alarms fit.alarms;
 }
 
 -- by the status of a call

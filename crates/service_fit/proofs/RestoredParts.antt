@@ -3,30 +3,26 @@ use Rattle.std.proofs.Common.{◌≡◌, ℕ, ◌≤◌, nat_lt, Bool, true, fal
 use Rattle.std.specs.Prelude.{◌≢◌, ℤ}
 use Rattle.std.specs.List.{AllByRecursion}
 use Rattle.std.proofs.lemmas.List.{length-map, reverse-reverse}
-use Rattle.client_set.specs.Rising.{IsRising, ComesFirst}
+use Rattle.ais_values.proofs.Basics.{pos-unsigned_abs, map-map_back}
+use Rattle.client_set.specs.Rising.{IsRising}
 use Rattle.stream_config.specs.declared.attrs.StreamName.{StreamName}
 use Rattle.stream_config.specs.declared.attrs.StreamName.TheVariants as name
 use Rattle.stream_config.specs.Attributes.{kind_of, PassesAttrs}
+use Rattle.log_history.specs.Names.{is_application}
+use Rattle.log_history.specs.Chronicle.{is_empty}
+use Rattle.log_history.specs.Table.{OpenStream, has_nobody}
+use Rattle.log_history.specs.KeptAnswers.{is_of_application}
+use Rattle.ntf_history.specs.Tables.{HaveQueues, IsSoundTable, kept_first}
 use Rattle.calls.specs.declared.reply.Reply.{Reply}
-use Rattle.calls.specs.declared.entry.Entry.{Entry}
 use Rattle.calls.specs.declared.saved.Saved.{Saved}
 use Rattle.calls.specs.declared.saved.SavedWindow.{SavedWindow}
 use Rattle.calls.specs.declared.saved.SavedStream.{SavedStream}
 use Rattle.calls.specs.declared.saved.SavedAlarm.{SavedAlarm}
 use Rattle.calls.specs.declared.saved.SavedSub.{SavedSub}
-use Rattle.log_history.specs.Names.{is_application}
-use Rattle.log_history.specs.Chronicle.{is_empty}
-use Rattle.log_history.specs.Table.{OpenStream, has_nobody}
-use Rattle.log_history.specs.KeptAnswers.{is_of_application}
-use Rattle.ntf_history.specs.Tables.{IsSoundTable, kept_first}
-use Rattle.plain_service.specs.Setups.{Setup}
-use Rattle.plain_service.specs.Values.{saved_stream, saved_alarm, StandsFor}
-use Rattle.plain_service.specs.Fitness.{IsFit, IsFitStream, IsOfApplication, is_sub_before}
+use Rattle.plain_service.specs.Values.{saved_stream, saved_alarm}
+use Rattle.plain_service.specs.Fitness.{IsFit, IsFitStream, IsFitSub, IsOfApplication, is_sub_before}
 use Rattle.service_table.specs.Tables.{kept_window, kept_stream_of, kept_alarm_of, kept_sub_of, table_of_saved, saved_window, saved_queue, saved_table}
-use Rattle.service_table.specs.Histories.{service_of}
-use Rattle.service_table.proofs.SavedLaws.{stands-table}
-use Rattle.service_table.proofs.FitReady.{ready-fit}
-use Rattle.ais_values.proofs.Basics.{pos-unsigned_abs, map-map_back}
+use Rattle.service_fit.proofs.RisingMaps.{rising-mapped}
 
 -- streams: the well-known ones need no opener, and each of the others has one
 
@@ -51,7 +47,7 @@ occupied-others (stream ∷ streams) others = (occupied-other stream others.0, o
 abbrev AreKnown : List StreamName → Type 0
 AreKnown names = names ≡ name.Alarm ∷ name.Notification ∷ name.System ∷ []
 
-occupied : (streams : List SavedStream) → AreKnown (map (λ (stream : SavedStream). stream.state.name) (take 3 streams)) → AllByRecursion IsOfApplication (drop 3 streams) → AllByRecursion IsOccupied streams
+pub occupied : (streams : List SavedStream) → AreKnown (map (λ (stream : SavedStream). stream.state.name) (take 3 streams)) → AllByRecursion IsOfApplication (drop 3 streams) → AllByRecursion IsOccupied streams
 occupied [] known others = tt
 occupied (one ∷ []) known others = absurd cc
 occupied (one ∷ two ∷ []) known others = absurd cc
@@ -111,13 +107,13 @@ few-fit saved fit =
 
 -- subscriptions
 
-sub-first : (capacity : ℕ) (sub : SavedSub) (subs : List SavedSub) → ComesFirst is_sub_before sub subs → ComesFirst kept_first (kept_sub_of capacity sub) (map (kept_sub_of capacity) subs)
-sub-first capacity sub [] first = tt
-sub-first capacity sub (other ∷ subs) first = (first.0, sub-first capacity sub subs first.1)
-
-subs-rise : (capacity : ℕ) (subs : List SavedSub) → IsRising is_sub_before subs → IsRising kept_first (map (kept_sub_of capacity) subs)
-subs-rise capacity [] rising = tt
-subs-rise capacity (sub ∷ subs) rising = (sub-first capacity sub subs rising.0, subs-rise capacity subs rising.1)
+queues-fit : (saved : Saved) (subs : List SavedSub) → IsFit saved → AllByRecursion (IsFitSub saved) subs → HaveQueues saved.capacity (map (kept_sub_of saved.capacity) subs)
+queues-fit saved [] fit each = tt
+queues-fit saved (sub ∷ subs) fit each = (
+  refl,
+  record { capacity = fit.counts.capacity; first = each.0.first; numbers = omega (arith, each.0.numbers, fit.counts.entries); places = each.0.places; lost = each.0.lost },
+  queues-fit saved subs fit each.1,
+)
 
 -- **the Notification Service can be made again**
 pub ntf-fit : (saved : Saved) → IsFit saved → IsSoundTable (table_of_saved saved).ntf
@@ -126,8 +122,8 @@ ntf-fit saved fit =
     record {
       capacity = fit.counts.capacity;
       users = fit.subs.users.rising;
-      order = subs-rise saved.capacity saved.subs fit.subs.order;
-      queues = (ready-fit saved fit).queues;
+      order = rising-mapped (kept_sub_of saved.capacity) kept_first is_sub_before (λ _ _. refl) saved.subs fit.subs.order;
+      queues = queues-fit saved saved.subs fit fit.subs.each;
       few = omega (arith, mapped, fit.subs.few);
     }
 
@@ -163,8 +159,3 @@ value-back saved fit =
     ∙ ap (λ x. made saved.last_stamp saved.windows x alarms held) (map-map_back kept_stream_of saved_stream (λ _. refl) saved.streams)
     ∙ ap (λ x. made saved.last_stamp saved.windows saved.streams x held) (map-map_back kept_alarm_of saved_alarm (λ _. refl) saved.alarms)
     ∙ ap (made saved.last_stamp saved.windows saved.streams saved.alarms) (map-map_back (kept_sub_of saved.capacity) saved_queue (λ _. refl) saved.subs)
-
--- **the table of a value that stands for a history is the history's**
-pub value-table : (setup : Setup) (entries : List Entry) (saved : Saved) → IsFit saved → StandsFor setup entries saved → table_of_saved saved ≡ service_of setup entries
-value-table setup entries saved fit stands =
-    stands-table setup entries (table_of_saved saved) (ready-fit saved fit).queues (value-back saved fit ∙ stands)

@@ -1,0 +1,15 @@
+pub mod FileSteps
+pub mod RisingMaps
+pub mod RestoredParts
+pub mod RestoredEach
+pub mod LogFit
+pub mod LogSteps
+pub mod EventsFit
+pub mod WindowsFit
+pub mod NtfFit
+pub mod AlarmsFit
+pub mod ReadersFit
+pub mod OkCalls
+pub mod ValueFit
+pub mod CallLaws
+pub mod FitSteps

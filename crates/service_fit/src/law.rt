@@ -1,0 +1,17 @@
+//! The law of fit values over entries.
+ghost use Rattle.std.specs.Prelude.{ℕ, ℤ};
+ghost use Rattle.calls.specs.declared.call.Call.{Call as CallOf};
+ghost use Rattle.plain_service.specs.Fitness.{IsFit};
+ghost use Rattle.service_table.specs.Tables.{ServiceTable, saved_table};
+ghost use Rattle.service_table.specs.Steps.{after_call, after_receipt_in};
+ghost use Rattle.service_fit.specs.Laws.{CanGoOn, CanComeNext};
+
+/// Every entry that can be accepted leaves a fit value, whichever history led to the one before, or
+/// none.
+pub fn law_of_fitness()
+    ensures call { (kept : ServiceTable) (client seq : ℕ) (now : ℤ) (call : CallOf) →
+        CanComeNext kept client seq now →
+        IsFit (saved_table (after_call kept client seq now call)) }
+    ensures receipt { (kept : ServiceTable) (client key through : ℕ) → CanGoOn kept →
+        IsFit (saved_table (after_receipt_in kept client key through)) }
+{}
