@@ -2,7 +2,8 @@
 ghost use Rattle.std.specs.Prelude.{IsTrue, pos};
 ghost use Rattle.service_core.specs.Applying.{CanAcceptIn};
 
-use crate::calling::{open_of, send_of, subscribe_of, write_of};
+use crate::calling::{alarm_of, join_of, open_of, start_of, subscribe_of};
+use crate::kind::Kind;
 use calls::{Call, Entry};
 use service_core::Service;
 use std::alloc::{AllocError, Global};
@@ -10,10 +11,18 @@ use std::alloc::{AllocError, Global};
 /// The moment at which all entries are accepted.
 const NOW: i64 = 1_704_067_300_000_000_000;
 
-/// The client that writes, and the one that sends and subscribes.
+/// The client that writes, and the one that sends, subscribes and reads.
 const WRITER: u16 = 1;
 
 const SENDER: u16 = 2;
+
+/// What a service keeps before the entries that are measured: streams of applications, subscriptions and alarms.
+#[derive(Clone, Copy)]
+pub(crate) struct Setting {
+    pub(crate) streams: u32,
+    pub(crate) subs: u32,
+    pub(crate) alarms: u32,
+}
 
 /// Whether an entry of this client can be accepted.
 fn can_accept(service: &Service, client: u16) -> bool
@@ -46,48 +55,71 @@ fn apply(alloc: Global, service: &mut Service, client: u16, call: Call) -> Resul
     }
 }
 
-/// Begins the use of both services, with so many streams of applications and two subscriptions.
-pub(crate) fn apply_setting(
-    alloc: Global,
-    service: &mut Service,
-    streams: u32,
-) -> Result<(), AllocError> {
+/// Makes the streams of applications, behind the system stream.
+fn open_streams(alloc: Global, service: &mut Service, count: u32) -> Result<(), AllocError> {
     apply(alloc, service, WRITER, Call::LogInit)?;
-    apply(alloc, service, SENDER, Call::NtfInit)?;
-    apply(alloc, service, SENDER, subscribe_of(alloc, 1))?;
-    apply(alloc, service, SENDER, subscribe_of(alloc, 2))?;
-    for stream in 0..streams {
-        let call = open_of(alloc, stream)?;
+    apply(alloc, service, WRITER, join_of())?;
+    for number in 0..count {
+        let call = open_of(alloc, number)?;
         apply(alloc, service, WRITER, call)?;
     }
     Ok(())
 }
 
-/// Applies the entry of this number: each tenth is a send, and the others write to the streams in turn.
-fn apply_numbered(
-    alloc: Global,
-    service: &mut Service,
-    streams: u32,
-    number: u32,
-) -> Result<u64, AllocError> {
-    if number % 10 == 9 {
-        let call = send_of(alloc)?;
-        return apply(alloc, service, SENDER, call);
+/// Makes so many subscriptions to one type.
+fn subscribe(alloc: Global, service: &mut Service, count: u32) -> Result<(), AllocError> {
+    apply(alloc, service, SENDER, Call::NtfInit)?;
+    for id in 0..count {
+        apply(alloc, service, SENDER, subscribe_of(alloc, id))?;
     }
-    let call = write_of(alloc, number % streams.max(1))?;
-    apply(alloc, service, WRITER, call)
+    Ok(())
 }
 
-/// Applies so many mixed entries, and tells how many deeds they have.
-pub(crate) fn apply_mixed(
+/// Sends so many alarms.
+fn send_alarms(alloc: Global, service: &mut Service, count: u32) -> Result<(), AllocError> {
+    for number in 0..count {
+        let call = alarm_of(alloc, number)?;
+        apply(alloc, service, SENDER, call)?;
+    }
+    Ok(())
+}
+
+/// Brings a service to what it keeps before the entries of a kind.
+pub(crate) fn prepare(
     alloc: Global,
     service: &mut Service,
-    streams: u32,
+    setting: Setting,
+    kind: Kind,
+) -> Result<(), AllocError> {
+    open_streams(alloc, service, setting.streams)?;
+    subscribe(alloc, service, setting.subs)?;
+    send_alarms(alloc, service, setting.alarms)?;
+    if matches!(kind, Kind::Read) {
+        apply(alloc, service, SENDER, start_of(alloc, 7))?;
+    }
+    Ok(())
+}
+
+/// The client that makes the calls of a kind.
+fn caller_of(kind: Kind) -> u16 {
+    match kind {
+        Kind::Write => WRITER,
+        _ => SENDER,
+    }
+}
+
+/// Applies so many entries of a kind, and tells how many deeds they have.
+pub(crate) fn apply_all(
+    alloc: Global,
+    service: &mut Service,
+    setting: Setting,
+    kind: Kind,
     count: u32,
 ) -> Result<u64, AllocError> {
     let mut deeds = 0u64;
     for number in 0..count {
-        let done = apply_numbered(alloc, service, streams, number)?;
+        let call = kind.call(alloc, setting.streams, number)?;
+        let done = apply(alloc, service, caller_of(kind), call)?;
         deeds = deeds.wrapping_add(done);
     }
     Ok(deeds)
