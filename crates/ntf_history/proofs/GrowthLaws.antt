@@ -146,11 +146,3 @@ subs-after (Unsubscribed client id) past sub stands =
     inl (Stands-without (has_id client id) sub (subs past) stands).0
 subs-after (Sent notification record_number) past sub stands = inl stands
 subs-after (Receipted client key through) past sub stands = inl stands
-
--- a subscription that lasts was made
-pub subs-made : (past : List NtfChange) (sub : Sub) → Stands sub (subs past) → Stands (Subscribed sub) past
-subs-made [] sub stands = stands
-subs-made (change ∷ past) sub stands = elim (subs-after change past sub stands) [
-  | inl there ↦ inr (subs-made past sub there)
-  | inr made ↦ inl (sym made)
-]

@@ -1,10 +1,6 @@
 pub mod ListLaws
-pub mod KeptStreams
-pub mod FitStreams
-pub mod SentLaws
-pub mod FitAlarms
-pub mod FitSubs
-pub mod FitReaders
+pub mod LivingStreams
+pub mod FirstRecords
 pub mod WellKnown
 pub mod OkAnswers
 pub mod Possible
@@ -13,8 +9,6 @@ pub mod ItemLaws
 pub mod IdLaws
 pub mod AskedLaws
 pub mod HistoryEvents
-pub mod FitCounts
-pub mod FitStamp
 pub mod StepLaws
 pub mod FilesLaws
 pub mod RecordLaws

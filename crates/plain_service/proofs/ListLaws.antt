@@ -26,10 +26,6 @@ module _ {X : Type 0} (P : X → Type 0) where
     left true rest = rest
     left false rest = (each.0, rest)
 
-  pub each-standing : (xs : List X) → ((x : X) → Stands x xs → P x) → AllByRecursion P xs
-  each-standing [] each = tt
-  each-standing (x ∷ xs) each = (each x (inl refl), each-standing xs (λ y there. each y (inr there)))
-
   pub standing-each : (x : X) (xs : List X) → AllByRecursion P xs → Stands x xs → P x
   standing-each x [] each stands = absurd stands
   standing-each x (y ∷ ys) each (inl same) = subst P (sym same) each.0
@@ -94,6 +90,10 @@ find-none test x xs none = by_case (test x) refl none where
 pub none-each : {X : Type 0} (test : X → Bool) (xs : List X) → find test xs ≡ None → AllByRecursion (λ x. test x ≡ false) xs
 none-each test [] none = tt
 none-each test (x ∷ xs) none = let two = find-none test x xs none in (two.0, none-each test xs two.1)
+
+pub any-none : {X : Type 0} (test : X → Bool) (xs : List X) → AllByRecursion (λ x. test x ≡ false) xs → list_any test xs ≡ false
+any-none test [] each = refl
+any-none test (x ∷ xs) each = or_from (test x) (list_any test xs) each.0 (any-none test xs each.1)
 
 -- every two elements of a list differ
 

@@ -22,8 +22,6 @@ ghost use Rattle.plain_service.specs.Items.{items_of, made_for, through_for, is_
 ghost use Rattle.plain_service.specs.Asked.{lost_for, sends_asked, sends_dropped, lower_id};
 ghost use Rattle.plain_service.specs.Storing.{events_by};
 ghost use Rattle.plain_service.specs.Legal.{IsHistory};
-ghost use Rattle.plain_service.specs.Values.{saved_of};
-ghost use Rattle.plain_service.specs.Fitness.{IsFit};
 ghost use Rattle.plain_service.specs.Laws.{log_table, log_table_after, ntf_table, ntf_table_after, MovesByReceipt};
 
 /// A reply stands once it is given: a longer history changes no earlier one. A client's replies are
@@ -88,12 +86,6 @@ pub fn law_of_asked()
         ≡ sends_dropped setup past client key }
     ensures rise { (setup : Setup) (past : List EntryOf) (client key : ℕ) →
         IsRising lower_id (sends_asked setup past client key) }
-{}
-
-/// The value of a history is fit to be handed on.
-pub fn law_of_values()
-    ensures { (setup : Setup) (past : List EntryOf) → IsHistory setup past →
-        IsFit (saved_of setup past) }
 {}
 
 /// What is kept of both services after one more entry is what the entry's change makes of what was

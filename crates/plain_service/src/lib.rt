@@ -7,6 +7,5 @@ mod storage;
 
 pub use law::{
     law_of_asked, law_of_events, law_of_ids, law_of_items, law_of_replies, law_of_steps,
-    law_of_values,
 };
 pub use storage::{law_of_files, law_of_records};

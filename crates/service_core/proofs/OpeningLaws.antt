@@ -1,15 +1,12 @@
 -- A service that nobody has used stands for the empty history.
 use Rattle.std.proofs.Common.{◌≡◌, ℕ, ◌≤◌, List, [], ◌∷◌, map, refl, ap, sym, subst, ◌∙◌, arith}
-use Rattle.std.specs.Prelude.{ℤ, pos}
+use Rattle.std.specs.Prelude.{ℤ}
 use Rattle.std.specs.List.{AllByRecursion}
 use Rattle.stream_config.specs.declared.attrs.StreamAttrs.{StreamAttrs}
-use Rattle.stream_config.specs.declared.attrs.StreamName.{StreamName}
 use Rattle.stream_config.specs.declared.attrs.StreamName.TheVariants as name
-use Rattle.stream_config.specs.declared.state.LogFile.{LogFile}
 use Rattle.stream_config.specs.declared.state.StreamState.{StreamState}
 use Rattle.stream_config.specs.declared.event.StreamEvent.{StreamEvent}
 use Rattle.stream_config.specs.declared.event.StreamEvent.TheVariants as event
-use Rattle.stream_config.specs.Events.{open_file}
 use Rattle.stream_config.specs.Stamps.{stamp_after}
 use Rattle.stream_layout.specs.declared.deed.Deed.{Deed}
 use Rattle.stream_layout.specs.Carrying.{IsFitEvent}
@@ -19,26 +16,19 @@ use Rattle.log_history.specs.Legal.{IsSetup}
 use Rattle.log_history.specs.Table.{LogTable, state_of, new_state, table}
 use Rattle.log_history.specs.Times.{second_of}
 use Rattle.log_history.proofs.EventLaws.{fit-making}
-use Rattle.log_history.proofs.FileLists.{standing-one}
 use Rattle.log_service.specs.State.{BeginsWith, HasBegun as HasBegunLog, made_event}
 use Rattle.plain_service.specs.Setups.{Setup, log_setup}
 use Rattle.plain_service.specs.Storing.{opening_of}
 use Rattle.plain_service.specs.Fitness.{IsFit}
-use Rattle.plain_service.proofs.FitReaders.{saved-fit}
 use Rattle.service_table.specs.Tables.{ServiceTable}
 use Rattle.service_table.specs.Histories.{service_of}
 use Rattle.service_table.proofs.SavedLaws.{table-stands}
+use Rattle.service_fit.proofs.HistoryFit.{new-state, history-fit}
 use Rattle.service_core.specs.declared.kept.Kept.{Kept}
 use Rattle.service_core.specs.Beginning.{BeginsAs, CanBeginAs}
 use Rattle.service_core.specs.Inside.{kept_table, IsKeptAs}
 use Rattle.service_core.specs.Opening.{unused_table, HasOpened}
 use Rattle.plain_service.proofs.HistoryEvents.{second-bound}
-
--- a stream as it is made
-
-new-state : (name : StreamName) (attrs : StreamAttrs) (created : ℕ) → 1 ≤ attrs.rotated → state_of (new_stream name attrs created) ≡ new_state name attrs created
-new-state name attrs created some =
-    ap (λ (files : List LogFile). let state : StreamState = record { name = name; attrs = attrs; taken = 0; files = files } in state) (standing-one attrs (open_file (pos created)) some)
 
 -- the events of the start are those by which the well-known streams are made
 opening-events : (setup : LogSetup) → IsSetup setup → map made_event (table setup []).streams ≡ map made_stream (beginning setup).streams
@@ -112,6 +102,6 @@ opened-kept start cap wells kept deeds can opened =
     let setup = can.0 in
     let is = opened setup can.1 in
     record {
-      fit = subst IsFit (sym (table-stands setup [] (kept_table kept) is.now)) (saved-fit setup [] can.1.sound);
+      fit = subst IsFit (sym (table-stands setup [] (kept_table kept) is.now)) (history-fit setup [] can.1.sound);
       capacity = sym (ap (λ (whole : ServiceTable). whole.ntf.capacity) is.now ∙ capacity-of setup ∙ can.1.capacity_is);
     }

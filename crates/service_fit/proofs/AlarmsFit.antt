@@ -29,9 +29,9 @@ use Rattle.plain_service.specs.Setups.{IsMoment}
 use Rattle.plain_service.specs.Alarms.{first_in, stream_for, record_for}
 use Rattle.plain_service.specs.Fitness.{IsStanding}
 use Rattle.plain_service.proofs.ListLaws.{each-weaker, each-push, each-filter}
-use Rattle.plain_service.proofs.SentLaws.{IsAccepted, accepted}
 use Rattle.service_table.specs.Tables.{ServiceTable}
 use Rattle.service_table.specs.Steps.{taken_in, accepted_in, standing_from, alarms_with}
+use Rattle.service_fit.proofs.SentLaws.{IsAccepted, accepted}
 use Rattle.service_fit.specs.Fit.{IsFitState, IsAlarmFirst, alarm_count, WasStored}
 use Rattle.service_fit.proofs.LogFit.{StandInOrder}
 use Rattle.service_fit.proofs.LogSteps.{order-changed, order-left, stays, count-stored, count-is, count-more}

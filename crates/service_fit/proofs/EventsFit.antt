@@ -78,7 +78,7 @@ events-fit number kept (Began client) few early can fit = tt
 events-fit number kept (Opened client stream None second) few early can fit = tt
 events-fit number kept (Opened client stream (Some attrs) second) few early can fit =
     let last = stamp_after kept.last second in
-    (record { stream = fit-state last number (opened_stream client stream attrs last) (omega (arith, fit.room, few, early)) (fit-new client last number stream attrs can); fresh = refl }, tt)
+    (record { stream = fit-state last number (opened_stream client stream attrs last) (omega (arith, fit.room, few, early)) (fit-new client last last number stream attrs (omega arith) can); fresh = refl }, tt)
 events-fit number kept (Stored stream rec second) few early can fit =
     stored-fit number second rec kept stream few early can fit (kept_stream kept.streams stream) refl fit.each
 events-fit number kept (Closed client stream second) few early can fit =

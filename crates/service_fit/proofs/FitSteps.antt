@@ -119,7 +119,7 @@ module _ (kept : ServiceTable) (client seq : ℕ) (now : ℤ) (call : Call) (rep
     windows = callers-answered kept.number client reply kept.windows caller fit.windows;
   }
 
-  fit-status : (answer : Status) → status_in kept client call ≡ answer → IsFitTable (replied client reply (changed kept client seq now call answer))
+  pub fit-status : (answer : Status) → status_in kept client call ≡ answer → IsFitTable (replied client reply (changed kept client seq now call answer))
   fit-status status.Ok is = fit-ok is
   fit-status _ is = fit-refused
 
@@ -129,16 +129,18 @@ fit-call kept client seq now call can =
     value-of (after_call kept client seq now call)
     (fit-status kept client seq now call (reply_in kept client call) (table-of kept can.table.queues can.table.fit) can.table.few can.caller can.moment can.next (status_in kept client call) refl)
 
+-- a receipt
+pub fit-received : (kept : ServiceTable) (client key through : ℕ) → IsFitTable kept → kept.number < 4000000000 → IsFitTable (after_receipt_in kept client key through)
+fit-received kept client key through fit few = record {
+  few = omega (arith, few);
+  log = same-log kept.number kept.log fit.log;
+  ntf = fit-ntf kept.number fit.few kept.windows kept.windows (λ other number called. called) kept.ntf fit.ntf (Receipted client key through) tt;
+  alarms = fit.alarms;
+  readers = fit.readers;
+  windows = callers-later kept.number kept.windows fit.windows;
+}
+
 -- **a receipt leaves a fit value**
 pub fit-receipt : (kept : ServiceTable) (client key through : ℕ) → CanGoOn kept → IsFit (saved_table (after_receipt_in kept client key through))
 fit-receipt kept client key through can =
-    let table = table-of kept can.queues can.fit in
-    value-of (after_receipt_in kept client key through)
-    (record {
-      few = omega (arith, can.few);
-      log = same-log kept.number kept.log table.log;
-      ntf = fit-ntf kept.number table.few kept.windows kept.windows (λ other number called. called) kept.ntf table.ntf (Receipted client key through) tt;
-      alarms = table.alarms;
-      readers = table.readers;
-      windows = callers-later kept.number kept.windows table.windows;
-    })
+    value-of (after_receipt_in kept client key through) (fit-received kept client key through (table-of kept can.queues can.fit) can.few)

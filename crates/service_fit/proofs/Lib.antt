@@ -2,14 +2,17 @@ pub mod FileSteps
 pub mod RisingMaps
 pub mod RestoredParts
 pub mod RestoredEach
+pub mod KeptStreams
 pub mod LogFit
 pub mod LogSteps
 pub mod EventsFit
 pub mod WindowsFit
 pub mod NtfFit
+pub mod SentLaws
 pub mod AlarmsFit
 pub mod ReadersFit
 pub mod OkCalls
 pub mod ValueFit
 pub mod CallLaws
 pub mod FitSteps
+pub mod HistoryFit

@@ -1,21 +1,21 @@
 -- The log of a fit value stream by stream, and back.
-use Rattle.std.proofs.Common.{◌≡◌, ℕ, ◌+◌, ◌*◌, ◌-◌, ◌≤◌, true, false, Bool, cond, List, [], ◌∷◌, length, take, drop, map, refl, ap, sym, ◌∙◌, arith, le→leb}
+use Rattle.std.proofs.Common.{◌≡◌, ◌≢◌, ℕ, ◌+◌, ◌*◌, ◌-◌, ◌≤◌, true, false, Bool, cond, ◌&&◌, List, [], ◌∷◌, length, take, drop, map, refl, ap, sym, ◌∙◌, arith, le→leb}
 use Rattle.std.specs.Prelude.{filter}
 use Rattle.std.specs.List.{AllByRecursion}
 use Rattle.std.proofs.lemmas.List.{length-map, length-drop}
 use Rattle.ais_values.specs.Codes.{all_differ}
 use Rattle.stream_config.specs.declared.attrs.StreamName.TheVariants as name
 use Rattle.log_history.specs.Names.{is_application}
+use Rattle.log_history.specs.Chronicle.{is_empty}
 use Rattle.log_history.specs.FitTables.{have_one_name}
 use Rattle.log_history.specs.KeptAnswers.{is_of_application}
 use Rattle.log_history.specs.Table.{OpenStream, LogTable, has_nobody}
 use Rattle.calls.specs.declared.saved.SavedStream.{SavedStream}
 use Rattle.plain_service.specs.Fitness.{IsFitStream, IsOfApplication, have_one_name as have_one_saved_name, stand_at_one_place}
 use Rattle.plain_service.specs.Values.{saved_stream}
-use Rattle.plain_service.proofs.FitStreams.{others-open}
-use Rattle.plain_service.proofs.KeptStreams.{IsUsed, have_one_spot, IsSoundLog}
 use Rattle.plain_service.proofs.ListLaws.{each-both, each-weaker, each-mapped, mapped-each, differ-mapped, filter-each}
 use Rattle.service_table.specs.Tables.{kept_stream_of}
+use Rattle.service_fit.proofs.KeptStreams.{IsUsed, have_one_spot, IsSoundLog}
 use Rattle.service_fit.specs.Fit.{IsFitState, IsAlarmFirst, log_alone, IsFitLog}
 use Rattle.service_fit.proofs.RestoredParts.{occupied}
 
@@ -130,6 +130,17 @@ known-first (one ∷ two ∷ three ∷ others) order =
     ap (λ n. n ∷ two.state.name ∷ three.state.name ∷ []) order.0
     ∙ ap (λ n. name.Alarm ∷ n ∷ three.state.name ∷ []) order.1
     ∙ ap (λ n. name.Alarm ∷ name.Notification ∷ n ∷ []) order.2
+
+some-openers : (app : Bool) (openers : List ℕ) → app ≡ true → (app && is_empty openers) ≡ false → openers ≢ []
+some-openers app [] named somebody = λ none. cc
+some-openers app (client ∷ openers) named somebody = λ none. cc
+
+others-open : (using : List ℕ) (streams : List OpenStream) → AllByRecursion (λ stream. is_of_application stream ≡ true) streams → AllByRecursion (IsUsed using) streams → AllByRecursion IsOfApplication (map saved_stream streams)
+others-open using [] named used = tt
+others-open using (stream ∷ streams) named used = (
+  record { named = named.0; opened = some-openers (is_of_application stream) stream.openers named.0 used.0.somebody },
+  others-open using streams named.1 used.1,
+)
 
 others-are : (using : List ℕ) (streams : List OpenStream) → StandInOrder streams → AllByRecursion (IsUsed using) streams → AllByRecursion IsOfApplication (drop 3 (map saved_stream streams))
 others-are using [] order used = absurd order

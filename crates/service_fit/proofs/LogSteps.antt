@@ -30,10 +30,9 @@ use Rattle.log_history.proofs.SoundStreams.{room-left, due-grows}
 use Rattle.log_history.proofs.StreamLaws.{stamp-up-to}
 use Rattle.plain_service.specs.Fitness.{IsAmong}
 use Rattle.plain_service.specs.Legal.{IsClient}
-use Rattle.plain_service.proofs.FitStreams.{any-none}
-use Rattle.plain_service.proofs.KeptStreams.{IsSoundLog, sound-began, sound-opened, sound-made, sound-stored, sound-closed, sound-ended}
-use Rattle.plain_service.proofs.ListLaws.{each-weaker, each-push, each-filter, each-change_first, each-mapped, none-each, differ-changed, differ-filtered, differ-pushed, differ-mapped}
+use Rattle.plain_service.proofs.ListLaws.{each-weaker, each-push, each-filter, each-change_first, each-mapped, none-each, any-none, differ-changed, differ-filtered, differ-pushed, differ-mapped}
 use Rattle.service_table.specs.Steps.{taken_in}
+use Rattle.service_fit.proofs.KeptStreams.{IsSoundLog, sound-began, sound-opened, sound-made, sound-stored, sound-closed, sound-ended}
 use Rattle.service_fit.specs.Fit.{IsFitState, IsAlarmFirst, alarm_count}
 use Rattle.service_fit.proofs.FileSteps.{fit-stored, later-stream}
 use Rattle.service_fit.proofs.LogFit.{StandInOrder, IsFitInside, few-streams}
@@ -186,11 +185,11 @@ one-file attrs some = by_case attrs.action where
   by_case Halt = refl
   by_case Rotate = omega (arith, some)
 
-pub fit-new : (client last number : ℕ) (stream : StreamName) (attrs : StreamAttrs) → PassesAttrs (kind_of stream) attrs → IsFitState last number (opened_stream client stream attrs last)
-fit-new client last number stream attrs passes = record {
+pub fit-new : (client last created number : ℕ) (stream : StreamName) (attrs : StreamAttrs) → created ≤ last → PassesAttrs (kind_of stream) attrs → IsFitState last number (opened_stream client stream attrs created)
+fit-new client last created number stream attrs le passes = record {
   attributes = passes;
   files = record { rising = refl; last_open = refl; count = one-file attrs passes.some_rotated; halted = λ halts. omega arith };
-  stamps = (stamp-up-to last last (omega arith), tt);
+  stamps = (stamp-up-to last created le, tt);
   taken = omega arith;
 }
 
@@ -207,7 +206,7 @@ ends-fit number second last streams early each few room =
       omega (arith, ends-room second (9000000103 + 2 * number) 0 last streams (omega (arith, room)) (omega (arith, few, early))),
     )
 
-reopened : (last number : ℕ) (s : OpenStream) (openers : List ℕ) → IsFitState last number s → IsFitState last number (record { state = s.state; openers = openers })
+pub reopened : (last number : ℕ) (s : OpenStream) (openers : List ℕ) → IsFitState last number s → IsFitState last number (record { state = s.state; openers = openers })
 reopened last number s openers is =
     record { attributes = is.attributes; files = is.files; stamps = is.stamps; taken = is.taken }
 
@@ -252,7 +251,7 @@ module _ (number : ℕ) (kept : LogTable) (fit : IsFitInside number kept) where
       let count : length (kept.streams ++ new ∷ []) ≡ length kept.streams + 1 = length-append kept.streams (new ∷ []) in
       record {
         sound = sound-made kept fit.sound client stream attrs second can.caller can.user can.room can.free;
-        each = each-push (IsFitState last (number + 1)) kept.streams new (later-each last (omega arith)) (fit-new client last (number + 1) stream attrs passes);
+        each = each-push (IsFitState last (number + 1)) kept.streams new (later-each last (omega arith)) (fit-new client last last (number + 1) stream attrs (omega arith) passes);
         order = order-pushed kept.streams new can.named fit.order;
         names = differ-pushed have_one_name kept.streams new fit.names (any-none (is_named stream) kept.streams (none-each (is_named stream) kept.streams can.new));
         room = omega (arith, fit.room, few-streams number kept fit, count, early);

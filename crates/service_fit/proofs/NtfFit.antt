@@ -22,10 +22,10 @@ use Rattle.ntf_service.proofs.Kept.{AreKept, kept-offered, kept-received, kept-w
 use Rattle.ntf_service.proofs.Received.{filter-without}
 use Rattle.plain_service.specs.Fitness.{AreClients, IsAmong}
 use Rattle.plain_service.specs.Legal.{IsClient}
-use Rattle.plain_service.proofs.KeptStreams.{among-put, among-without}
 use Rattle.plain_service.proofs.ListLaws.{each-weaker, each-put, each-without, each-mapped, differ-filtered, differ-mapped}
 use Rattle.service_table.specs.declared.caller.ClientWindow.{ClientWindow}
 use Rattle.service_table.specs.Steps.{window_for}
+use Rattle.service_fit.proofs.KeptStreams.{among-put, among-without}
 use Rattle.service_fit.proofs.WindowsFit.{HasCalledIn, called-number}
 
 -- a kept subscription of a fit value, by the number of entries, the windows and the users

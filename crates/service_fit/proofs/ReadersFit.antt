@@ -22,12 +22,12 @@ use Rattle.calls.specs.declared.call.Call.TheVariants.{LogInit, LogOpen, LogWrit
 use Rattle.calls.specs.declared.saved.SavedReader.{SavedReader}
 use Rattle.plain_service.specs.Fitness.{IsAmong}
 use Rattle.plain_service.specs.Legal.{IsClient}
-use Rattle.plain_service.proofs.KeptStreams.{among-put, among-without}
 use Rattle.plain_service.proofs.ListLaws.{each-weaker, each-put, each-without, each-mapped}
 use Rattle.plain_service.proofs.OkAnswers.{start-ok}
 use Rattle.service_table.specs.Tables.{ServiceTable, is_reader_for, reader_for, reader_before}
 use Rattle.service_table.specs.Answering.{read_in, status_in}
 use Rattle.service_table.specs.Steps.{ntf_change_in, notified, started_at, told_alarm, readers_after}
+use Rattle.service_fit.proofs.KeptStreams.{among-put, among-without}
 use Rattle.service_fit.proofs.NtfFit.{each-left}
 use Rattle.service_fit.proofs.RisingMaps.{rising-mapped}
 use Rattle.service_fit.proofs.WindowsFit.{IsOrder-by}

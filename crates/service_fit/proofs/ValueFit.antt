@@ -2,6 +2,7 @@
 use Rattle.std.proofs.Common.{◌≡◌, ℕ, ◌+◌, ◌<◌, ◌≤◌, nat_lt, true, Bool, List, [], ◌∷◌, length, map, refl, sym, ◌∙◌, subst, arith}
 use Rattle.std.specs.Prelude.{◌⊎◌, MatchOption, slice_get}
 use Rattle.std.specs.List.{AllByRecursion}
+use Rattle.std.proofs.lemmas.Bool.{lt-ltb}
 use Rattle.std.proofs.lemmas.Bool.Decides.{nat_tests}
 use Rattle.std.proofs.lemmas.List.{length-map}
 use Rattle.client_set.specs.Rising.{IsRising, ComesFirst}
@@ -15,7 +16,6 @@ use Rattle.calls.specs.declared.saved.SavedReader.{SavedReader}
 use Rattle.plain_service.specs.Fitness.{IsFit, IsFitStream, IsFitAlarm, IsFitSub as IsFitSaved, IsFitReader, IsStanding, HaveFitStreams, HasFitStamp, HaveFitAlarms, HaveFitSubs, HaveFitReaders, is_record_before, is_id_before, is_sub_before, have_one_id as have_one_saved_id}
 use Rattle.plain_service.specs.Legal.{IsClient}
 use Rattle.plain_service.specs.Values.{saved_stream, saved_alarm}
-use Rattle.plain_service.proofs.FitAlarms.{records-rising, ids-rising, all-alarms}
 use Rattle.plain_service.proofs.ListLaws.{each-both, each-weaker, each-mapped, mapped-each, differ-mapped}
 use Rattle.service_table.specs.Tables.{ServiceTable, saved_queue, saved_table, reader_before}
 use Rattle.service_fit.specs.Fit.{IsFitState, log_alone, IsFitLog}
@@ -152,6 +152,39 @@ rise-from (alarm ∷ alarms) number id most from records ids are = (
 from-zero : (alarms : List KeptAlarm) → AllByRecursion (λ (alarm : KeptAlarm). (0 ≤ alarm.number) × (0 ≤ alarm.notification.id)) alarms
 from-zero [] = tt
 from-zero (alarm ∷ alarms) = ((omega arith, omega arith), from-zero alarms)
+
+records-first : (alarm : KeptAlarm) (number id : ℕ) (alarms : List KeptAlarm) → alarm.number < number → RiseFrom number id alarms → ComesFirst is_record_before (saved_alarm alarm) (map saved_alarm alarms)
+records-first alarm number id [] below rises = tt
+records-first alarm number id (other ∷ alarms) below rises = (
+  lt-ltb alarm.number other.number (omega (arith, below, rises.0)),
+  records-first alarm (other.number + 1) (other.notification.id + 1) alarms (omega (arith, below, rises.0)) rises.3,
+)
+
+records-rising : (number id : ℕ) (alarms : List KeptAlarm) → RiseFrom number id alarms → IsRising is_record_before (map saved_alarm alarms)
+records-rising number id [] rises = tt
+records-rising number id (alarm ∷ alarms) rises = (
+  records-first alarm (alarm.number + 1) (alarm.notification.id + 1) alarms (omega arith) rises.3,
+  records-rising (alarm.number + 1) (alarm.notification.id + 1) alarms rises.3,
+)
+
+ids-first : (alarm : KeptAlarm) (number id : ℕ) (alarms : List KeptAlarm) → alarm.notification.id < id → RiseFrom number id alarms → ComesFirst is_id_before (saved_alarm alarm) (map saved_alarm alarms)
+ids-first alarm number id [] below rises = tt
+ids-first alarm number id (other ∷ alarms) below rises = (
+  lt-ltb alarm.notification.id other.notification.id (omega (arith, below, rises.1)),
+  ids-first alarm (other.number + 1) (other.notification.id + 1) alarms (omega (arith, below, rises.1)) rises.3,
+)
+
+ids-rising : (number id : ℕ) (alarms : List KeptAlarm) → RiseFrom number id alarms → IsRising is_id_before (map saved_alarm alarms)
+ids-rising number id [] rises = tt
+ids-rising number id (alarm ∷ alarms) rises = (
+  ids-first alarm (alarm.number + 1) (alarm.notification.id + 1) alarms (omega arith) rises.3,
+  ids-rising (alarm.number + 1) (alarm.notification.id + 1) alarms rises.3,
+)
+
+all-alarms : (number id : ℕ) (alarms : List KeptAlarm) → RiseFrom number id alarms → AllByRecursion (λ (alarm : KeptAlarm). IsAlarm alarm.notification.body) alarms
+all-alarms number id [] rises = tt
+all-alarms number id (alarm ∷ alarms) rises =
+    (rises.2, all-alarms (alarm.number + 1) (alarm.notification.id + 1) alarms rises.3)
 
 stands-in : (streams : List OpenStream) (number : ℕ) → MatchOption (slice_get (map saved_stream streams) 0) ⊥ (λ stream. IsStanding stream.state number) → IsStandingIn streams number
 stands-in [] number stands = stands

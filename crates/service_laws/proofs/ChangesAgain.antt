@@ -47,7 +47,7 @@ use Rattle.plain_service.specs.Storing.{files_of, log_change_by}
 use Rattle.plain_service.specs.Storing as service
 use Rattle.plain_service.proofs.HistoryEvents.{timely, can-stamp}
 use Rattle.plain_service.proofs.Possible.{possible}
-use Rattle.plain_service.proofs.FitStreams.{IsLivingStream, living-streams}
+use Rattle.plain_service.proofs.LivingStreams.{IsLivingStream, living-streams}
 use Rattle.plain_service.proofs.ListLaws.{each-weaker, each-mapped, each-change_first}
 use Rattle.service_laws.proofs.Attempting.{IsRepeatable}
 use Rattle.service_laws.proofs.EventsAgain.{made-again, stored-again, changed-again, rises-behind}

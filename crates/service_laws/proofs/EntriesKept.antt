@@ -50,7 +50,7 @@ use Rattle.plain_service.specs.Records as records
 use Rattle.plain_service.specs.Storing.{files_of, log_change_by}
 use Rattle.plain_service.specs.Storing as service
 use Rattle.plain_service.proofs.FilesLaws.{files-work}
-use Rattle.plain_service.proofs.FitStreams.{IsLivingStream, living-streams}
+use Rattle.plain_service.proofs.LivingStreams.{IsLivingStream, living-streams}
 use Rattle.plain_service.proofs.HistoryEvents.{timely, can-stamp}
 use Rattle.plain_service.proofs.ListLaws.{each-weaker, each-mapped}
 use Rattle.plain_service.proofs.Possible.{possible}

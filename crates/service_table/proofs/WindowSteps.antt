@@ -6,7 +6,7 @@ use Rattle.std.proofs.lemmas.Bool.Decides.{nat_tests}
 use Rattle.std.proofs.lemmas.Bool.{eqb-true, or_parts}
 use Rattle.client_set.specs.Members.{has}
 use Rattle.client_set.specs.Rising.{put, ComesFirst, IsRising}
-use Rattle.client_set.proofs.RisingLaws.{has-put, map-put}
+use Rattle.client_set.proofs.RisingLaws.{IsOrder-nat_lt, IsRising-put, has-put, map-put}
 use Rattle.client_window.specs.Windows.{Kept, window_of}
 use Rattle.client_window.proofs.Keeping.{window_of-more}
 use Rattle.calls.specs.declared.call.Call.{Call}
@@ -20,7 +20,11 @@ use Rattle.service_table.specs.declared.caller.ClientWindow.{ClientWindow}
 use Rattle.service_table.specs.Tables.{client_window, is_window_for, window_before}
 use Rattle.service_table.specs.Steps.{window_for, with_reply, answered}
 use Rattle.service_table.specs.Histories.{caller_of}
-use Rattle.plain_service.proofs.FitCounts.{callers-rising}
+
+callers-rising : (entries : List Entry) → IsRising nat_lt (callers entries)
+callers-rising [] = tt
+callers-rising (Called client seq now call ∷ entries) = IsRising-put nat_lt IsOrder-nat_lt client (callers entries) (callers-rising entries)
+callers-rising (Receipted client key through now ∷ entries) = callers-rising entries
 
 -- the window that is found under a client
 found-window : (window : ℕ → Kept Reply) (client : ℕ) (clients : List ℕ) → window_for client (map (λ other. client_window other (window other)) clients) ≡ cond (has client clients) (window client) (window_of [])

@@ -72,10 +72,10 @@ fn laws_of_plain_service() {
     plain_service::law_of_records();
     plain_service::law_of_replies();
     plain_service::law_of_steps();
-    plain_service::law_of_values();
 }
 
 #[test]
 fn laws_of_service_fit() {
     service_fit::law_of_fitness();
+    service_fit::law_of_values();
 }

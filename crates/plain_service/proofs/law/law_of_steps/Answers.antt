@@ -1,4 +1,4 @@
-use Rattle.plain_service.proofs.FitAlarms.{first-later}
+use Rattle.plain_service.proofs.FirstRecords.{first-later}
 use Rattle.plain_service.proofs.StepLaws.{log-step, ntf-step, receipt-step}
 use Rattle.plain_service.proofs.law.law_of_steps.Goals as goal
 

@@ -1,69 +1,29 @@
--- What is kept of the Log Service after every history: who has a stream open uses the service, somebody has each application's
--- stream open, at most 64 of these live, and no two streams have one place.
-use Rattle.std.proofs.Common.{◌≡◌, ℕ, ◌+◌, ◌<◌, ◌≤◌, ◌==◌, nat_lt, Bool, true, false, not, ◌&&◌, ◌||◌, cond, List, [], ◌∷◌, ◌++◌, length, refl, ap, sym, ◌∙◌, subst, arith, length-append}
-use Rattle.std.specs.Prelude.{ℤ, Some, None, filter, ⊤}
-use Rattle.std.specs.List.{AllByRecursion, count_by}
+-- What each change of the log keeps: who has a stream open uses the service, somebody has each application's stream open, at
+-- most 64 of these live, and no two streams have one place.
+use Rattle.std.proofs.Common.{◌≡◌, ℕ, ◌+◌, ◌<◌, ◌≤◌, ◌==◌, nat_lt, Bool, true, false, not, ◌&&◌, ◌||◌, cond, List, [], ◌∷◌, ◌++◌, length, refl, ap, ◌∙◌, arith, length-append}
+use Rattle.std.specs.Prelude.{Some, None, filter}
+use Rattle.std.specs.List.{AllByRecursion}
 use Rattle.std.proofs.lemmas.Bool.Decides.{nat_tests}
 use Rattle.std.proofs.lemmas.List.Elements.{filter-append}
-use Rattle.std.proofs.lemmas.List.Sums.{length-filter}
-use Rattle.std.proofs.lemmas.Bool.{and_from, leb-false, not-true}
+use Rattle.std.proofs.lemmas.Bool.{and_from, not-true}
 use Rattle.std.proofs.Math.Bool.{and-false}
 use Rattle.ais_values.specs.Codes.{all_differ}
-use Rattle.ais_values.specs.declared.status.Status.TheVariants as status
+use Rattle.client_set.specs.Members.{has}
+use Rattle.client_set.specs.Rising.{put, without, IsRising}
+use Rattle.client_set.proofs.RisingLaws.{IsOrder-nat_lt, IsRising-put, IsRising-without, has-put, has-without}
 use Rattle.stream_config.specs.declared.attrs.StreamAttrs.{StreamAttrs}
 use Rattle.stream_config.specs.declared.attrs.StreamName.{StreamName}
 use Rattle.stream_config.specs.AttributeTests.{have_one_place}
 use Rattle.stream_config.specs.Stamps.{stamp_after}
 use Rattle.record_print.specs.declared.record.LogRecord.{LogRecord}
-use Rattle.client_set.specs.Members.{has}
-use Rattle.client_set.specs.Rising.{put, without, IsRising}
-use Rattle.client_set.proofs.RisingLaws.{IsOrder-nat_lt, IsRising-put, IsRising-without, has-put, has-without}
-use Rattle.calls.specs.declared.call.Call.{Call}
-use Rattle.calls.specs.declared.call.Call.TheVariants.{LogInit, LogOpen, LogWrite, LogClose, LogFini, NtfSend}
-use Rattle.calls.specs.declared.entry.Entry.{Entry}
-use Rattle.calls.specs.declared.entry.Entry.TheVariants.{Called, Receipted}
 use Rattle.log_history.specs.Names.{is_application}
-use Rattle.log_history.specs.Changes.{LogChange, Began, Opened, Stored, Closed, Ended}
-use Rattle.log_history.specs.Chronicle.{LogSetup}
+use Rattle.log_history.specs.Changes.{Began, Opened, Stored, Closed, Ended}
 use Rattle.log_history.specs.KeptAnswers.{has_place, is_of_application}
-use Rattle.log_history.specs.Legal.{IsLogHistory}
-use Rattle.log_history.specs.Table.{OpenStream, LogTable, table, is_named, has_nobody, with_opener, without_opener, with_stored, closed_streams, left_streams, kept_streams, opened_stream, table_after}
-use Rattle.log_history.proofs.AnswerLaws.{makes-stream}
-use Rattle.log_history.proofs.KeptLaws.{has-users, has-place, is-crowd}
-use Rattle.log_history.proofs.TableLaws.{table-after}
-use Rattle.plain_service.specs.Setups.{Setup}
-use Rattle.plain_service.specs.Pasts.{Past}
-use Rattle.plain_service.specs.Answers.{status_of}
-use Rattle.plain_service.specs.Changing.{past_after, past_of}
-use Rattle.plain_service.specs.Fitness.{AreClients, IsAmong}
-use Rattle.plain_service.specs.Legal.{IsClient, IsHistory}
-use Rattle.plain_service.proofs.ListLaws.{each-put, each-without, each-weaker, each-push, each-filter, each-change_first, each-mapped, differ-changed, differ-filtered, differ-pushed, differ-mapped, count-changed, count-filtered}
-use Rattle.plain_service.proofs.Possible.{past_after-by}
+use Rattle.log_history.specs.Table.{OpenStream, LogTable, is_named, has_nobody, with_opener, without_opener, with_stored, closed_streams, left_streams, kept_streams, opened_stream, table_after}
 use Rattle.log_history.proofs.FitTableLaws.{some-put}
-
--- a change by which a client joins a list has the number of one
-abbrev pub IsByClient : LogChange → Type 0
-IsByClient (Began client) = IsClient client
-IsByClient (Opened client name making second) = IsClient client
-IsByClient _ = ⊤
-
-by-client : (setup : Setup) (past : Past) (client seq : ℕ) (now : ℤ) (call : Call) → IsClient client → AllByRecursion IsByClient past.log → AllByRecursion IsByClient (past_after setup past client seq now call status.Ok).log
-by-client setup past client seq now LogInit is each = (is, each)
-by-client setup past client seq now (LogOpen name create) is each = (is, each)
-by-client setup past client seq now (LogWrite name invocation flags time header body) is each = (tt, each)
-by-client setup past client seq now (LogClose name) is each = (tt, each)
-by-client setup past client seq now LogFini is each = (tt, each)
-by-client setup past client seq now (NtfSend notification) is each = (tt, each)
-by-client setup past client seq now _ is each = each
-
--- the clients of a history's changes
-pub log-clients : (setup : Setup) (entries : List Entry) → IsHistory setup entries → AllByRecursion IsByClient (past_of setup entries).log
-log-clients setup [] history = tt
-log-clients setup (Called client seq now call ∷ entries) history =
-    past_after-by (λ after. AllByRecursion IsByClient after.log) setup (past_of setup entries) client seq now call (status_of setup (past_of setup entries) client call)
-    (log-clients setup entries history.1)
-    (λ ok. by-client setup (past_of setup entries) client seq now call history.0.0.caller (log-clients setup entries history.1))
-log-clients setup (Receipted client key through now ∷ entries) history = log-clients setup entries history.1
+use Rattle.plain_service.specs.Fitness.{AreClients, IsAmong}
+use Rattle.plain_service.specs.Legal.{IsClient}
+use Rattle.plain_service.proofs.ListLaws.{each-put, each-without, each-weaker, each-push, each-filter, each-change_first, each-mapped, differ-changed, differ-filtered, differ-pushed, differ-mapped, count-changed, count-filtered}
 
 -- a kept stream: those who have it open are users, and somebody has an application's stream open
 pub record IsUsed (using : List ℕ) (stream : OpenStream) : Type 0 where
@@ -231,36 +191,3 @@ module _ (kept : LogTable) (sound : IsSoundLog kept) where
         count-left [] = refl
         count-left (stream ∷ streams) =
             more (is_of_application stream) (without_opener client stream) stream (filter is_of_application (left_streams client streams)) (filter is_of_application streams) (count-left streams)
-
--- the last change of a history could follow: what it asks of what is kept
--- **what is kept after every history**
-pub sound-log : (setup : LogSetup) (past : List LogChange) → IsLogHistory setup past → AllByRecursion IsByClient past → IsSoundLog (table setup past)
-sound-log setup [] legal clients = record {
-  users = record { rising = tt; each = tt };
-  each = (record { rising = tt; clients = tt; users = tt; somebody = refl }, (record { rising = tt; clients = tt; users = tt; somebody = refl }, (record { rising = tt; clients = tt; users = tt; somebody = refl }, tt)));
-  few = omega arith;
-  places = apart (have_one_place setup.alarm setup.notification) (have_one_place setup.alarm setup.system) (have_one_place setup.notification setup.system) legal.first_apart legal.second_apart legal.third_apart;
-} where
-  apart : (a b c : Bool) → a ≡ false → b ≡ false → c ≡ false → (not (a || (b || false)) && (not (c || false) && true)) ≡ true
-  apart true b c one two three = cc
-  apart false true c one two three = cc
-  apart false false true one two three = cc
-  apart false false false one two three = refl
-sound-log setup (Began client ∷ past) legal clients =
-    subst IsSoundLog (sym (table-after setup (Began client) past legal)) (sound-began (table setup past) (sound-log setup past legal.1 clients.1) client clients.0)
-sound-log setup (Opened client name None second ∷ past) legal clients =
-    subst IsSoundLog (sym (table-after setup (Opened client name None second) past legal))
-    (sound-opened (table setup past) (sound-log setup past legal.1 clients.1) client name second clients.0 (has-users past client ∙ legal.0.0))
-sound-log setup (Opened client name (Some attrs) second ∷ past) legal clients =
-    let makes = makes-stream setup past client name attrs legal.0.0 legal.0.1 in
-    let streams = (table setup past).streams in
-    let few = leb-false 64 (count_by is_of_application streams) (is-crowd setup past ∙ makes.room) in
-    subst IsSoundLog (sym (table-after setup (Opened client name (Some attrs) second) past legal))
-    (sound-made (table setup past) (sound-log setup past legal.1 clients.1) client name attrs second clients.0 (has-users past client ∙ makes.using)
-    (omega (arith, length-filter is_of_application streams, few)) (has-place setup past attrs ∙ makes.free))
-sound-log setup (Stored name rec second ∷ past) legal clients =
-    subst IsSoundLog (sym (table-after setup (Stored name rec second) past legal)) (sound-stored (table setup past) (sound-log setup past legal.1 clients.1) name rec second)
-sound-log setup (Closed client name second ∷ past) legal clients =
-    subst IsSoundLog (sym (table-after setup (Closed client name second) past legal)) (sound-closed (table setup past) (sound-log setup past legal.1 clients.1) client name second)
-sound-log setup (Ended client second ∷ past) legal clients =
-    subst IsSoundLog (sym (table-after setup (Ended client second) past legal)) (sound-ended (table setup past) (sound-log setup past legal.1 clients.1) client second)
