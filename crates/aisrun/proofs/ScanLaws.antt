@@ -1,5 +1,5 @@
 -- What the commands `scan` and `find` come to, part by part.
-use Rattle.std.proofs.Common.{◌≡◌, ℕ, ◌+◌, inl, inr, List, [], ◌++◌, take, drop, Option, Some, None, refl, ap, sym, ◌∙◌, subst, append-nil}
+use Rattle.std.proofs.Common.{◌≡◌, ℕ, ◌+◌, inr, List, [], ◌++◌, take, drop, Option, Some, None, refl, ap, sym, ◌∙◌, subst, append-nil}
 use Rattle.std.specs.Io.KnownBytes.{Appends}
 use Rattle.std.proofs.KnownBytes.{Appends-nil, Appends-trans}
 use Rattle.format_expr.specs.declared.piece.Piece.{Piece}
@@ -95,8 +95,7 @@ module _ {S : Type 0} (query : RecordQuery) (pieces : List Piece) (wanted : List
   source-scan asked parted (Some Inseparable) text ends = absurd ends.2
 
   pub source-lacks : (asked : List ℕ) → IsParted query asked pieces → (text : List ℕ) → SourceLacks query pieces wanted source text → ScanLacks query asked wanted source text
-  source-lacks asked parted text (inl none) = inl none
-  source-lacks asked parted text (inr some) = inr (pieces, parted, some)
+  source-lacks asked parted text lacks = inr (pieces, parted, lacks)
 
 -- a text that does not serve, for which the source is not asked
 pub refused-scan : {S : Type 0} (query : RecordQuery) (asked wanted : List ℕ) (source : Edge S (List ℕ)) → IsUntouched source → (status : Status8) (text : List ℕ) → TextRefused query asked status text → Counting (fault_count source) unasked (ScanEnds query asked wanted source) (Some status) text

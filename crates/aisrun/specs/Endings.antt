@@ -131,8 +131,8 @@ pub data FaultLeft (setup : Setup) (state : State Alone) (next : Line) (held lef
   Showing : shows_files next ≡ true → Shows setup state world → left ≡ held → lines ≡ [] → FaultLeft setup state next held left world lines
   Working : (told : List Told) → FaultedIn setup next state told held left world → lines ≡ text_of told → FaultLeft setup state next held left world lines
 
--- some value of the disk that told these files had the count of the start: a disk without steps cannot say that the run passed
--- through it; what is known beyond is that an event that is done leaves the count
+-- there is a value of the disk that tells these files and has the count of the start. That the run passed through it is not said:
+-- of a disk a contract knows the values before a call and after it, and no steps between
 pub record StoodUpTo {D : Type 0} (disk : Edge D Files) (held : Option Files) : Type 0 where
   pub mid : D
   pub told : disk.told mid ≡ held
@@ -273,13 +273,20 @@ pub data RunLacks {S K D : Type 0} (run : Around S K D) (text : List ℕ) : Type
   Unread : text ≡ [] → LeavesAll run.stage → RunLacks run text
   Unplayed : (lines : List Line) → HasScript run lines → PlayLacks lines run.stage text → RunLacks run text
 
+-- memory ran out as records were told: before it was known whether the text serves, where the source is as it was; as the source was
+-- read for a text that serves; or behind the first records
+pub data RecordsLack {S K D : Type 0} (run : Around S K D) (text : List ℕ) : Type 0 where
+  Unjudged : text ≡ [] → LeavesAll run.stage → IsUntouched run.source → RecordsLack run text
+  Unheld : CanScan run.words → text ≡ [] → LeavesAll run.stage → RecordsLack run text
+  Untold : ScansOn run text → RecordsLack run text
+
 -- the same of each command; `expr` and words that are no command leave the source as it is
 abbrev pub LacksBy : {S K D : Type 0} → Option Command → Around S K D → List ℕ → Type 0
 LacksBy None run text = (text ≡ []) × LeavesAll run.stage × IsUntouched run.source
 LacksBy (Some Run) run text = RunLacks run text
 LacksBy (Some Check) run text = (text ≡ []) × LeavesAll run.stage
 LacksBy (Some (Expr kind)) run text = (text ≡ []) × LeavesAll run.stage × IsUntouched run.source
-LacksBy (Some (Scan query)) run text = ((text ≡ []) × LeavesAll run.stage) ⊎ ScansOn run text
+LacksBy (Some (Scan query)) run text = RecordsLack run text
 
 -- memory ran out in the sink; or elsewhere, where no object had failed, and all text up to there was written
 pub data EndsLacking {S K D : Type 0} (run : Around S K D) : Type 0 where

@@ -55,8 +55,10 @@ ScanEnds query text wanted source (Some ScriptRefused) printed = IsUntouched sou
 ScanEnds query text wanted source (Some Inseparable) printed = IsUntouched source × CannotPart query text printed
 ScanEnds query text wanted source reached printed = (pieces : List Piece) × IsParted query text pieces × SourceEnds query pieces wanted source reached printed
 
+-- memory was wanting before it was known whether the text serves, or behind that
 abbrev pub ScanLacks : {S : Type 0} → RecordQuery → (text wanted : List ℕ) → Edge S (List ℕ) → List ℕ → Type 0
-ScanLacks query text wanted source printed = (printed ≡ []) ⊎ ScanEnds query text wanted source None printed
+ScanLacks query text wanted source printed =
+    ((printed ≡ []) × IsUntouched source) ⊎ ((pieces : List Piece) × IsParted query text pieces × SourceLacks query pieces wanted source printed)
 
 -- of a text, a source and a sink
 abbrev pub ScannedBy : {S K : Type 0} → RecordQuery → (text wanted : List ℕ) → Edge S (List ℕ) → Edge K (List ℕ) → Status8 → Type 0

@@ -117,7 +117,7 @@ fn run_words<S: Source, K: Sink, D: SharedDisk>(
 /// asked for nothing, and no line is played, of a script with a line on servers that fail and come back. Where memory ran
 /// out in the sink, `Memory`, a front of a text was written; elsewhere no object had failed, and all text up to there was;
 /// `check`, `expr`, `scan`, `find` and words that are none of the program's leave disk and world as they are all the same,
-/// `expr` and such words the source too.
+/// `expr` and such words the source too, and so do `scan` and `find` where it was not yet known whether their text serves.
 ///
 /// The clauses behind them say of each run what holds at the end of every line that was played, by any status. A line tells
 /// a refusal by a client's agent exactly where the calls that the client had sent, and those of them whose reply no line

@@ -41,6 +41,7 @@ const OTHER_WORDS: &str = "\
     scan,System,a,32\n\
     scan,system,-a,32\n\
     scan,system,a,31\n\
+    scan,system,@,31\n\
     scan,system,a,16385\n\
     scan,system,a,032\n\
     scan,system,a,+32\n\

@@ -1,5 +1,5 @@
 -- The records of bytes, one after another, and the numbers of those that pass.
-use Rattle.std.proofs.Common.{◌≡◌, ℕ, ◌+◌, ◌-◌, ◌<◌, ◌≤◌, List, [], ◌∷◌, ◌++◌, length, take, drop, get_or, Bool, false, Some, slice_get, inl, inr, refl, sym, ap, ◌∙◌, subst, arith, length-append, append_assoc, append-nil}
+use Rattle.std.proofs.Common.{◌≡◌, ℕ, ◌+◌, ◌-◌, ◌<◌, ◌≤◌, List, [], ◌∷◌, ◌++◌, length, take, drop, get_or, Bool, false, Some, inl, inr, refl, sym, ap, ◌∙◌, subst, arith, length-append, append_assoc, append-nil}
 use Rattle.std.specs.List.{All, concat}
 use Rattle.std.specs.Bool.{Decides}
 use Rattle.std.specs.Str.{bytes_eq}
@@ -8,7 +8,7 @@ use Rattle.std.proofs.lemmas.Option.{slice_get_read, slice_get_within, same_Some
 use Rattle.std.proofs.lemmas.Slice.Eq.{bytes_eq-Decides}
 use Rattle.std.proofs.lemmas.List.{take_at, drop_at, take-append-drop, get_or_append_left, get_or-take, length-take-le}
 use Rattle.std.proofs.lemmas.List.Elements.{All-head, All-tail, All-push}
-use Rattle.record_scan.specs.Numbers.{IsLine, IsRecord, IsRest, AreRecords, AreNumbers}
+use Rattle.record_scan.specs.Numbers.{IsLine, IsRecord, IsRest, AreRecords, IsTextAt, AreNumbers}
 
 -- up to the first line feed
 pub line_at : (bytes : List ℕ) (place : ℕ) → place < length bytes → get_or bytes place 0 ≡ 10 → ((k : ℕ) → k < place → get_or bytes k 0 ≡ 10 → ⊥) → IsLine (take (place + 1) bytes)
@@ -135,7 +135,7 @@ all_passed Are size bytes rest made number so none over =
     (record { whole = so.whole; each = so.each; over = over }, made_so_far Are size bytes rest made number so none)
 
 -- whether the text of a number is the wanted one
-pub text_decided : (texts : List (List ℕ)) (token : ℕ) (wanted shown text : List ℕ) (same : Bool) → 0 < token → token - 1 < length texts → text ≡ get_or texts (token - 1) text → shown ≡ text → same ≡ bytes_eq shown wanted → Decides same ((0 < token) × (slice_get texts (token - 1) ≡ Some wanted))
+pub text_decided : (texts : List (List ℕ)) (token : ℕ) (wanted shown text : List ℕ) (same : Bool) → 0 < token → token - 1 < length texts → text ≡ get_or texts (token - 1) text → shown ≡ text → same ≡ bytes_eq shown wanted → Decides same (IsTextAt token wanted texts)
 text_decided texts token wanted shown text same some inside read is told =
     let found = slice_get_read texts (length texts) (token - 1) text refl inside read in
     let decides = bytes_eq-Decides shown wanted in (
@@ -143,6 +143,6 @@ text_decided texts token wanted shown text same some inside read is told =
       λ has. told ∙ decides.1 (is ∙ same_Some text wanted (sym found ∙ has.1)),
     )
 
-pub no_text : (texts : List (List ℕ)) (token : ℕ) (wanted : List ℕ) → length texts ≤ token - 1 → Decides false ((0 < token) × (slice_get texts (token - 1) ≡ Some wanted))
+pub no_text : (texts : List (List ℕ)) (token : ℕ) (wanted : List ℕ) → length texts ≤ token - 1 → Decides false (IsTextAt token wanted texts)
 no_text texts token wanted past =
     (λ yes. absurd cc, λ has. let inside = slice_get_within texts (token - 1) wanted has.1 in absurd (omega arith))

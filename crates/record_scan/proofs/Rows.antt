@@ -47,7 +47,7 @@ row_fits = record {
 
 -- the second token's text is `IN`
 row_found : HasText quoted 32 2 (codes "IN") row
-row_found = (row_texts, row_fits, lit< tt, refl)
+row_found = (row_texts, row_fits, (lit< tt, refl))
 
 -- with two variable tokens the second stands in the way
 second : IsSecondVariable (pieces_of (codes "@Sl @Cb")) 3

@@ -1,11 +1,11 @@
 -- What is read of a record are the texts that fit it.
-use Rattle.std.proofs.Common.{◌≡◌, ℕ, ◌-◌, List, [], ◌<◌, length, Bool, false, ◌↔◌, Option, Some, None, slice_get, sym, ap, ◌∙◌, subst, arith}
+use Rattle.std.proofs.Common.{◌≡◌, ℕ, ◌-◌, List, [], length, Bool, false, ◌↔◌, Option, Some, None, slice_get, sym, ap, ◌∙◌, subst, arith}
 use Rattle.std.specs.Bool.{Decides}
 use Rattle.std.proofs.lemmas.Option.{same_Some}
 use Rattle.format_expr.specs.declared.piece.Piece.{Piece}
 use Rattle.record_scan.specs.Fits.{filled, Fits}
 use Rattle.record_scan.specs.Separable.{IsSeparable}
-use Rattle.record_scan.specs.Numbers.{HasText}
+use Rattle.record_scan.specs.Numbers.{IsTextAt, HasText}
 use Rattle.record_scan.specs.Reading.{least_total, texts_from, AreAt, IsContent}
 use Rattle.record_scan.proofs.LengthLaws.{one_variable, least_within, texts_from_places}
 use Rattle.record_scan.proofs.ReadingLaws.{read_laid, read_back}
@@ -51,14 +51,14 @@ texts_only pieces size rec one other separable fit fit' =
     (sym (fits_found pieces size rec (filled pieces one) one separable content fit) ∙ fits_found pieces size rec (filled pieces one) other separable content fit')
 
 -- whether the record has the wanted text, by that of the texts found
-pub has_found : (pieces : List Piece) (size token : ℕ) (wanted rec : List ℕ) (texts shown : List (List ℕ)) (found : Option (List (List ℕ))) (same : Bool) → found ≡ Some texts → ((all : List (List ℕ)) → (found ≡ Some all) ↔ Fits pieces size rec all) → shown ≡ texts → Decides same ((0 < token) × (slice_get shown (token - 1) ≡ Some wanted)) → Decides same (HasText pieces size token wanted rec)
+pub has_found : (pieces : List Piece) (size token : ℕ) (wanted rec : List ℕ) (texts shown : List (List ℕ)) (found : Option (List (List ℕ))) (same : Bool) → found ≡ Some texts → ((all : List (List ℕ)) → (found ≡ Some all) ↔ Fits pieces size rec all) → shown ≡ texts → Decides same (IsTextAt token wanted shown) → Decides same (HasText pieces size token wanted rec)
 has_found pieces size token wanted rec texts shown found same is fits shown_is decides = (
   λ yes.
       let has = decides.0 yes in
-      (texts, (fits texts).0 is, has.0, ap (λ all. slice_get all (token - 1)) (sym shown_is) ∙ has.1),
+      (texts, (fits texts).0 is, (has.0, ap (λ all. slice_get all (token - 1)) (sym shown_is) ∙ has.1)),
   λ has.
       let one = same_Some texts has.0 (sym is ∙ (fits has.0).1 has.1) in
-      decides.1 (has.2, ap (λ all. slice_get all (token - 1)) (shown_is ∙ one) ∙ has.3),
+      decides.1 (has.2.0, ap (λ all. slice_get all (token - 1)) (shown_is ∙ one) ∙ has.2.1),
 )
 
 pub has_none : (pieces : List Piece) (size token : ℕ) (wanted rec : List ℕ) (found : Option (List (List ℕ))) → found ≡ None → ((all : List (List ℕ)) → (found ≡ Some all) ↔ Fits pieces size rec all) → Decides false (HasText pieces size token wanted rec)

@@ -26,10 +26,13 @@ pub record AreRecords (size : ℕ) (bytes : List ℕ) (records : List (List ℕ)
   pub each : All (IsRecord size) records
   pub over : IsRest size rest
 
--- the text of the token of this number, counted from 1, is the wanted one
+-- the text of this number, counted from 1, is the wanted one
+abbrev pub IsTextAt : (token : ℕ) (wanted : List ℕ) → List (List ℕ) → Type 0
+IsTextAt token wanted texts = (0 < token) × (slice_get texts (token - 1) ≡ Some wanted)
+
+-- so it is of the texts that fit a record
 abbrev pub HasText : List Piece → (size token : ℕ) (wanted : List ℕ) → List ℕ → Type 0
-HasText pieces size token wanted rec =
-    (texts : List (List ℕ)) × Fits pieces size rec texts × (0 < token) × (slice_get texts (token - 1) ≡ Some wanted)
+HasText pieces size token wanted rec = (texts : List (List ℕ)) × Fits pieces size rec texts × IsTextAt token wanted texts
 
 -- the numbers, in order and the first being this one, of the records that pass
 abbrev pub AreNumbers : (List ℕ → Type 0) → (first : ℕ) → List (List ℕ) → List ℕ → Type 0

@@ -1,9 +1,9 @@
 //! The records of a file's bytes, and those with a wanted text.
-ghost use Rattle.std.specs.Prelude.{◌≡◌, ◌≢◌, ◌+◌, ◌-◌, ◌≤◌, ◌<◌, ℕ, length, take, slice_get, slice_index, IfOk, IfSome, Some};
+ghost use Rattle.std.specs.Prelude.{◌≢◌, ◌≤◌, ◌<◌, ℕ, length, take, slice_index, IfOk, IfSome};
 ghost use Rattle.std.specs.Option.{MatchOption};
 ghost use Rattle.std.specs.Bool.{Decides};
 ghost use Rattle.record_scan.specs.Separable.{IsSeparable};
-ghost use Rattle.record_scan.specs.Numbers.{IsLine, IsRecord, IsRest, HasText, AreFound};
+ghost use Rattle.record_scan.specs.Numbers.{IsLine, IsRecord, IsRest, IsTextAt, HasText, AreFound};
 
 use crate::scan_record;
 use ais_values::Seq;
@@ -47,7 +47,7 @@ pub fn record_length(size: u32, bytes: &[u8]) -> Option<usize>
 
 /// Whether the text of this number, counted from 1, is the wanted one. It takes no memory.
 pub fn is_text(texts: &[Seq<u8>], token: u32, wanted: &[u8]) -> bool
-    ensures { Decides result ((0 < token) × (slice_get texts.now (token - 1) ≡ Some wanted.now)) }
+    ensures { Decides result (IsTextAt token wanted.now texts.now) }
 {
     if token == 0 {
         return false;

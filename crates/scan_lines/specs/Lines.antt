@@ -1,11 +1,12 @@
 -- Words of public clauses: the lines that tell of a file's records.
-use Rattle.std.specs.Prelude.{◌≡◌, ℕ, ◌<◌, ◌-◌, ◌==◌, List, [], ◌∷◌, ◌++◌, length, if◌then◌else◌, Some, slice_get, codes}
+use Rattle.std.specs.Prelude.{ℕ, ◌==◌, List, [], ◌∷◌, ◌++◌, length, if◌then◌else◌, codes}
 use Rattle.std.specs.Fmt.{decimal}
 use Rattle.format_expr.specs.declared.token.Token.{Token}
 use Rattle.format_expr.specs.declared.piece.Piece.{Piece}
 use Rattle.format_expr.specs.Tokens.{letters}
 use Rattle.script_grammar.specs.Writing.{quoted_text}
 use Rattle.record_scan.specs.Fits.{tokens_of}
+use Rattle.record_scan.specs.Numbers.{IsTextAt}
 use Rattle.scan_lines.specs.declared.shown.Shown.{Shown}
 use Rattle.scan_lines.specs.declared.shown.Shown.TheVariants.{All, Having}
 
@@ -36,4 +37,4 @@ rest_line (Having token) rest = []
 -- a record with these texts has a line
 abbrev pub IsShown : Shown → (wanted : List ℕ) → (texts : List (List ℕ)) → Type 0
 IsShown All wanted texts = Unit {0}
-IsShown (Having token) wanted texts = (0 < token) × (slice_get texts (token - 1) ≡ Some wanted)
+IsShown (Having token) wanted texts = IsTextAt token wanted texts

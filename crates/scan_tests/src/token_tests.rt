@@ -14,6 +14,9 @@ const CLASS: ClassId = ClassId {
     minor: 0xffff,
 };
 
+/// Plain text that leaves one byte of a record of 32.
+const FRONT: &str = "------------------------------";
+
 /// Tokens, their texts without a width, and with 5 places.
 const GENERIC_TOKENS: &str = "\
     Cr/         7/7    \n\
@@ -149,30 +152,35 @@ fn reads(
     }
 }
 
-/// Whether a printed record of the token with this width is read back as the text.
+/// Whether a printed record of an expression with one token is read back as the text.
 fn reads_back(
     rt: &impl Abort,
     alloc: Global,
     kind: StreamKind,
-    letters: &str,
-    width: &str,
+    text: &str,
     size: u32,
     want: Option<&[u8]>,
 ) -> bool {
-    let text = format!(in alloc; "@{letters}{width}|").expect(rt, "memory");
     let expr = parsed(rt, alloc, kind, text.as_bytes());
     let line = printed(rt, alloc, kind, &expr, size);
     reads(rt, alloc, &expr, size, line.as_slice(), want)
 }
 
-/// A token without a width, with 5 places, and with 40 in a record of 32 bytes, which is cut.
+/// A token without a width and with one, in a record that holds its text and in one that is cut.
 fn check_token(rt: &impl Abort, alloc: Global, kind: StreamKind, row: &str) {
     let (letters, texts) = row.split_once('/').expect(rt, "letters");
     let (standard, fitted) = texts.split_once('/').expect(rt, "two texts");
-    let free = reads_back(rt, alloc, kind, letters, "", 64, Some(standard.as_bytes()));
-    let wide = reads_back(rt, alloc, kind, letters, "5", 64, Some(fitted.as_bytes()));
-    let cut = reads_back(rt, alloc, kind, letters, "40", 32, None);
-    assert!(rt; free && wide && cut, "{letters}");
+    let cases = [
+        ("", "", 64, Some(standard.as_bytes())),
+        ("", "5", 64, Some(fitted.as_bytes())),
+        (FRONT, "", 32, None),
+        ("", "40", 32, None),
+    ];
+    for (front, width, size, want) in cases {
+        let text = format!(in alloc; "{front}@{letters}{width}|").expect(rt, "memory");
+        let same = reads_back(rt, alloc, kind, text.as_str(), size, want);
+        assert!(rt; same, "{text}");
+    }
 }
 
 #[test]

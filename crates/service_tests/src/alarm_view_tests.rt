@@ -10,7 +10,7 @@ use std::process::Abort;
 use std::test::Fail;
 
 /// An alarm of severity `id`, by its event time.
-fn alarm(alloc: Global, id: u8, event_time: i64) -> Result<Notification, Fail>
+fn alarm(alloc: Global, id: u16, event_time: i64) -> Result<Notification, Fail>
     ensures id { IfOk result (λ alarm. alarm.id ≡ id) }
     ensures alarm { IfOk result (λ alarm. IsAlarm alarm.body) }
 {
@@ -30,13 +30,13 @@ fn alarm(alloc: Global, id: u8, event_time: i64) -> Result<Notification, Fail>
         info: Seq::new(alloc),
         body: Body::Alarm {
             cause: 1,
-            severity: u16::from(id),
+            severity: id,
         },
     })
 }
 
 /// Filters that ask for alarms of these severities, or of all where the list is empty.
-fn alarms_of(alloc: Global, severities: &[u16]) -> Result<FilterSet, AllocError> {
+pub(crate) fn alarms_of(alloc: Global, severities: &[u16]) -> Result<FilterSet, AllocError> {
     Ok(FilterSet {
         objects: None,
         attributes: None,
@@ -54,8 +54,15 @@ fn alarms_of(alloc: Global, severities: &[u16]) -> Result<FilterSet, AllocError>
     })
 }
 
-fn add(alloc: Global, view: &mut AlarmView, number: u32, id: u8, time: i64) -> Result<(), Fail>
-    requires bound { number < 1000 }
+/// Adds an alarm of this id and time, in a record of this number.
+pub(crate) fn add(
+    alloc: Global,
+    view: &mut AlarmView,
+    number: u32,
+    id: u16,
+    time: i64,
+) -> Result<(), Fail>
+    requires bound { number < 2000 }
     requires above { IsAboveAll number id view.old }
     ensures { OnOk result (IsAboveAll (number + 1) (id + 1) view.new) }
 {
@@ -74,7 +81,7 @@ fn three_alarms(alloc: Global) -> Result<AlarmView, Fail> {
 }
 
 /// The id of the alarm at which a search of this code starts, or 0 where there is none.
-fn start_of(view: &AlarmView, code: u32, value: i64, filters: &FilterSet) -> u64 {
+pub(crate) fn start_of(view: &AlarmView, code: u32, value: i64, filters: &FilterSet) -> u64 {
     let Some(mode) = SearchMode::of(code) else {
         return 0;
     };
@@ -86,7 +93,7 @@ fn start_of(view: &AlarmView, code: u32, value: i64, filters: &FilterSet) -> u64
 
 /// The id of the next alarm in the direction of a code, or 0 where there is none; the cursor moves
 /// there.
-fn read(view: &AlarmView, cursor: &mut Cursor, code: u32, filters: &FilterSet) -> u64 {
+pub(crate) fn read(view: &AlarmView, cursor: &mut Cursor, code: u32, filters: &FilterSet) -> u64 {
     let Some(way) = Direction::of(code) else {
         return 0;
     };

@@ -2,6 +2,8 @@
 #![tactic(auto)]
 
 #[cfg(test)]
+mod alarm_order_tests;
+#[cfg(test)]
 mod alarm_view_tests;
 #[cfg(test)]
 mod calls_tests;

@@ -34,4 +34,4 @@ returns-in-Ok-Refused g c =
     text-written E L end.status end.text.items sink c.write_text.result (refused-scan query c.args.text.now c.args.wanted.now source refl end.status end.text.items refused) written
 
 pub returns-in-Err : goal.returns-in-Err
-returns-in-Err g c = lacked _ _ _ (inl refl, refl, refl) refl
+returns-in-Err g c = lacked _ _ _ (inl (refl, refl), refl, refl) refl
