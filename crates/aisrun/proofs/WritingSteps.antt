@@ -1,40 +1,18 @@
 -- What is written piece by piece.
-use Rattle.std.proofs.Common.{◌≡◌, ℕ, suc, ◌+◌, ◌<◌, ◌≤◌, List, ◌∷◌, ◌++◌, length, take, drop, get_or, Option, Some, Err, refl, ap, sym, ◌∙◌, subst, arith, append_assoc, add-one, drop-cons, take-append-drop}
+use Rattle.std.proofs.Common.{◌≡◌, ℕ, suc, ◌+◌, ◌<◌, List, ◌∷◌, ◌++◌, length, take, drop, get_or, Option, Some, Err, refl, ap, sym, ◌∙◌, subst, append_assoc, add-one, drop-cons, take-append-drop}
 use Rattle.std.specs.Io.KnownBytes.{Appends}
 use Rattle.std.proofs.KnownBytes.{Appends-trans}
-use Rattle.std.proofs.lemmas.List.{take-append-le, length-append}
 use Rattle.std.proofs.lemmas.Grind.{flat_map-append}
-use Rattle.std.proofs.Math.Seq.{take-append-add}
 use Rattle.ais_values.specs.Causes.{RoseExactlyOn}
 use Rattle.io_edge.specs.declared.answers.SinkAnswer.{SinkAnswer}
 use Rattle.io_edge.specs.declared.answers.SinkAnswer.TheVariants as sink_answer
 use Rattle.io_edge.specs.Writes.{AppendsFront}
+use Rattle.io_edge.proofs.Fronts.{front-behind, front-more}
 use Rattle.aisrun.specs.declared.ending.Status8.{Status8}
 use Rattle.aisrun.specs.Counts.{HasStood, RisesBefore}
 use Rattle.aisrun.specs.Edges.{Edge, edge, before, after}
 use Rattle.aisrun.specs.Steps.{Reaching, Written, Whole, SinkFailed, SinkLacked, Lacked, Counting, Standing, Ended, sink_status, joined_lines, unasked}
 use Rattle.aisrun.proofs.CountSteps.{other-stood, risen-behind, rises-alone, rises-read}
-
--- a front of a text is one of a longer text
-pub front-more : (old new : Option (List ℕ)) (one two : List ℕ) → AppendsFront old new one → AppendsFront old new (one ++ two)
-front-more old new one two front =
-    let bound : front.count < length one = front.bound in
-    let low : front.count ≤ length one = omega arith in
-    record {
-      count = front.count;
-      bound = omega (arith, length-append one two);
-      appended = subst (Appends old new) (sym (take-append-le front.count one two low)) front.appended;
-    }
-
--- all of one text and a front of the next
-pub front-behind : (old mid new : Option (List ℕ)) (one two : List ℕ) → Appends old mid one → AppendsFront mid new two → AppendsFront old new (one ++ two)
-front-behind old mid new one two first front =
-    let bound : front.count < length two = front.bound in
-    record {
-      count = length one + front.count;
-      bound = omega (arith, length-append one two);
-      appended = subst (Appends old new) (sym (take-append-add one two front.count)) (Appends-trans old mid new one (take front.count two) first front.appended);
-    }
 
 -- what a sink that did not take all leaves of a text
 pub unwritten : {K : Type 0} (E : Reaching) (L : List ℕ → Type 0) (sink : Edge K (List ℕ)) (answer : SinkAnswer) (reached : Option Status8) (text : List ℕ) → E reached text → RoseExactlyOn {T = Unit} (sink.faults sink.old) (sink.faults sink.new) (Err answer) sink_answer.Failed → AppendsFront (before sink) (after sink) text → Written E L sink (sink_status answer)

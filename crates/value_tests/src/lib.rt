@@ -18,6 +18,8 @@ mod io_edge_tests;
 #[cfg(test)]
 mod laws_tests;
 #[cfg(test)]
+mod load_script_tests;
+#[cfg(test)]
 mod message_net_tests;
 #[cfg(test)]
 mod record_print_tests;

@@ -1,10 +1,11 @@
 use Rattle.std.proofs.Common.{ℕ, List, ◌++◌, Some, refl, ap, sym, subst}
+use Rattle.io_edge.proofs.Fronts.{front-more}
 use Rattle.aisrun.specs.declared.ending.Status8.{Status8}
 use Rattle.aisrun.specs.declared.ending.Status8.TheVariants.{DiskFault}
 use Rattle.aisrun.specs.Edges.{edge}
 use Rattle.aisrun.specs.Endings.{fault_line}
 use Rattle.aisrun.specs.Steps.{IsNever, IsText, Written, joined_lines}
-use Rattle.aisrun.proofs.WritingSteps.{unwritten, written-behind, front-more}
+use Rattle.aisrun.proofs.WritingSteps.{unwritten, written-behind}
 use Rattle.aisrun.proofs.writing.write_broken.Goals as goal
 
 pub returns-in-Ok : goal.returns-in-Ok
