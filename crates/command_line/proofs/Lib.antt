@@ -1,0 +1,4 @@
+mod WordLaws
+mod WalkLaws
+mod LineLaws
+mod GatherLaws
