@@ -65,7 +65,7 @@ no-name name others same =
 
 -- the end that a run comes to, where neither source nor disk fails
 module _ {S K D : Type 0} (run : Around S K D) where
-  asked : (one other : Command) → command_of run.words ≡ Some one → command_of run.words ≡ Some other → one ≡ other
+  pub asked : (one other : Command) → command_of run.words ≡ Some one → command_of run.words ≡ Some other → one ≡ other
   asked one other first second = let same : Some one ≡ Some other = sym first ∙ second in cc
 
   not-reading : (kind : StreamKind) → command_of run.words ≡ Some (Expr kind) → Reads run.words → ⊥
@@ -196,7 +196,7 @@ module _ {S K D : Type 0} (run : Around S K D) where
       absurd (can.parted.separable why.piece (subst (λ (parts : List Piece). StandsInWay parts can.query.size why.piece) pieces why.first.stands))
 
   -- where the sink does not fail either, only memory may be missing
-  well : (status : Status8) → (HasRisen (fault_count run.stage.sink) → ⊥) → ((text : List ℕ) → RisesBefore (Some status) (fault_count run.source) (fault_count run.stage.disk) → Ends run (Some status) text → status ≡ Done) → Ended (fault_count run.source) (fault_count run.stage.disk) (Ends run) (WordsLack run) run.stage.sink status → IsDoneOrMemory status
+  pub well : (status : Status8) → (HasRisen (fault_count run.stage.sink) → ⊥) → ((text : List ℕ) → RisesBefore (Some status) (fault_count run.source) (fault_count run.stage.disk) → Ends run (Some status) text → status ≡ Done) → Ended (fault_count run.source) (fault_count run.stage.disk) (Ends run) (WordsLack run) run.stage.sink status → IsDoneOrMemory status
   well status sink only (Whole text e stood appends) = inl (only text e.1 e.0)
   well status sink only (SinkFailed is risen reached text e front) = absurd (sink risen)
   well status sink only (SinkLacked is stood reached text e front) = inr is

@@ -24,7 +24,7 @@ use Rattle.aisrun.specs.declared.ending.End.{End}
 use Rattle.aisrun.specs.declared.ending.Status8.{Status8}
 use Rattle.aisrun.specs.declared.ending.Status8.TheVariants.{Done, ScriptRefused, Usage, Memory, ReadFault, WriteFault, DiskFault, RootNotEmpty, TooLong, Inseparable}
 use Rattle.aisrun.specs.declared.command.Command.{Command}
-use Rattle.aisrun.specs.declared.command.Command.TheVariants.{Run, Check, Expr}
+use Rattle.aisrun.specs.declared.command.Command.TheVariants.{Run, Check, Expr, Gen, Scan}
 use Rattle.aisrun.specs.Commands.{command_of, text_of}
 use Rattle.aisrun.specs.Checking.{CheckEnds, Judged, IsScript, IsNoScript, ExprEnds, IsExpression, IsNoExpression}
 use Rattle.aisrun.specs.Counts.{HasStood}
@@ -286,6 +286,15 @@ module _ {S K D : Type 0} (run : Around S K D) where
   usage-run unknown all source (Ok one) status text =
       let E : Status8 → Type 0 = λ each. CountedEnd each one.text.items in
       subst E (sym status) (record { unknown = unknown; all = all; source = source; printed = text }, (untouched-stood run.source source, untouched-stood run.stage.disk all.disk))
+
+-- memory was wanting before anything was done
+pub lacks-early : {S K D : Type 0} (run : Around S K D) (asked : Option Command) → LeavesAll run.stage → IsUntouched run.source → LacksBy asked run []
+lacks-early run None all source = (refl, all, source)
+lacks-early run (Some Run) all source = Unknown refl all
+lacks-early run (Some Check) all source = (refl, all)
+lacks-early run (Some (Expr kind)) all source = (refl, all, source)
+lacks-early run (Some (Gen count seed)) all source = (refl, all, source)
+lacks-early run (Some (Scan query)) all source = inl (refl, all)
 
 -- the end of a part
 pub ok-ends : {X : Type 0} (end : Result End X) (P : Status8 → List ℕ → Type 0) (E : Reaching) → ((status : Status8) (text : List ℕ) → P status text → E (Some status) text) → IfOk end (λ one. P one.status one.text.items) → IfOk end (λ one. E (Some one.status) one.text.items)

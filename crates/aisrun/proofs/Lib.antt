@@ -14,4 +14,6 @@ mod ScanEndings
 mod ScanLaws
 mod StatusLaws
 mod CompletenessLaws
+mod GeneratingLaws
 mod WordLaws
+mod DashLaws

@@ -1,6 +1,6 @@
 -- Numbers among the words.
-use Rattle.std.proofs.Common.{◌≡◌, ℕ, ◌^◌, ◌<◌, List, Bool, true, false, cond, ◌&&◌, Some, None, refl, sym, ap, ◌∙◌, arith}
-use Rattle.std.specs.Prelude.{nat_le}
+use Rattle.std.proofs.Common.{◌≡◌, ℕ, ◌^◌, ◌<◌, List, Bool, true, false, cond, ◌&&◌, Option, Some, None, refl, sym, ap, ◌∙◌, arith}
+use Rattle.std.specs.Prelude.{MatchOption, nat_le}
 use Rattle.std.specs.Fmt.{decimal}
 use Rattle.std.specs.Str.Parse.{digits_value}
 use Rattle.std.proofs.lemmas.Bool.{and_parts, leb-true, le-leb}
@@ -31,3 +31,8 @@ number-unspelled low high word none =
       | false ↦ λ passes. refl
     ] in
     at test refl
+
+-- what the reading of a number gives
+pub number-read : (low high : ℕ) (word : List ℕ) (found : Option ℕ) → high < 2 ^ 64 → MatchOption found ((n : ℕ) → IsNumber low high n word → ⊥) (λ n. IsNumber low high n word) → found ≡ number_of low high word
+number-read low high word None small none = sym (number-unspelled low high word none)
+number-read low high word (Some n) small spelled = sym (number-spelled low high n word small spelled)

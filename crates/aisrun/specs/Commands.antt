@@ -1,5 +1,5 @@
 -- Words of public clauses: the words of the command line that the program knows.
-use Rattle.std.specs.Prelude.{ℕ, Bool, false, not, ◌&&◌, ◌==◌, nat_eq, nat_le, if◌then◌else◌, List, [], ◌∷◌, map, codes, string_bytes}
+use Rattle.std.specs.Prelude.{ℕ, Bool, not, ◌&&◌, nat_eq, nat_le, if◌then◌else◌, List, [], ◌∷◌, map, codes, string_bytes}
 use Rattle.std.specs.Prelude.{Option, Some, None, option_map, option_and_then}
 use Rattle.std.specs.Fmt.{decimal}
 use Rattle.std.specs.Str.Parse.{digits_value}
@@ -7,10 +7,11 @@ use Rattle.std.specs.Cmp.Lexicographic.{pointwise}
 use Rattle.std.specs.declared.string.String.{String}
 use Rattle.ais_values.specs.declared.kind.StreamKind.{StreamKind}
 use Rattle.ais_values.specs.declared.kind.StreamKind.TheVariants as kind
+use Rattle.command_line.specs.Lines.{is_dashed}
 use Rattle.scan_lines.specs.declared.shown.Shown.{Shown}
 use Rattle.scan_lines.specs.declared.shown.Shown.TheVariants as shown
 use Rattle.aisrun.specs.declared.command.Command.{Command}
-use Rattle.aisrun.specs.declared.command.Command.TheVariants.{Run, Check, Expr, Scan}
+use Rattle.aisrun.specs.declared.command.Command.TheVariants.{Run, Check, Expr, Gen, Scan}
 
 -- the bytes of each word
 abbrev pub word_bytes : {Z : Type 0} → List (String Z) → List (List ℕ)
@@ -19,11 +20,6 @@ word_bytes words = map (λ word. string_bytes word) words
 -- whether a word is this one
 abbrev pub is_word : List ℕ → List ℕ → Bool
 is_word word name = pointwise nat_eq word name
-
--- whether a word begins with a minus sign, as options do, of which the program has none
-abbrev pub is_dashed : List ℕ → Bool
-is_dashed [] = false
-is_dashed (byte ∷ bytes) = byte == 45
 
 -- the kind of streams that a word names
 abbrev pub kind_of_word : List ℕ → Option StreamKind
@@ -34,10 +30,11 @@ kind_of_word word =
     else if is_word word (codes "application") then Some kind.Application
     else None
 
--- the command of one word, and the one of three: `expr`, a kind and a text
+-- the command of one word
 abbrev pub lone_command : List ℕ → Option Command
 lone_command word = if is_word word (codes "run") then Some Run else if is_word word (codes "check") then Some Check else None
 
+-- `expr`, a kind and a text
 abbrev pub expr_command : List ℕ → List ℕ → List ℕ → Option Command
 expr_command word name text =
     if is_word word (codes "expr") && not (is_dashed text) then option_map (λ kind. Expr kind) (kind_of_word name) else None
@@ -47,6 +44,15 @@ abbrev pub number_of : (low high : ℕ) → List ℕ → Option ℕ
 number_of low high word =
     if is_word word (decimal (digits_value 10 word)) && (nat_le low (digits_value 10 word) && nat_le (digits_value 10 word) high)
     then Some (digits_value 10 word) else None
+
+-- `gen`, a count of turns, which is 1 to 100,000, and a seed below 2 to the 64
+abbrev pub gen_command : (count seed : List ℕ) → Option Command
+gen_command count seed =
+    option_and_then (λ turns. option_map (λ from. Gen turns from) (number_of 0 18446744073709551615 seed)) (number_of 1 100000 count)
+
+-- the commands of three words
+abbrev pub command_of_three : (word one two : List ℕ) → Option Command
+command_of_three word one two = if is_word word (codes "gen") then gen_command one two else expr_command word one two
 
 -- the size of records: 0, or 32 to 16,384
 abbrev pub record_size : List ℕ → Option ℕ
@@ -71,7 +77,7 @@ find_command word name text size token wanted =
 -- the command that these words give, if they give one
 abbrev pub command_of : List (List ℕ) → Option Command
 command_of (word ∷ []) = lone_command word
-command_of (word ∷ name ∷ text ∷ []) = expr_command word name text
+command_of (word ∷ one ∷ two ∷ []) = command_of_three word one two
 command_of (word ∷ name ∷ text ∷ size ∷ []) = scan_command word name text size
 command_of (word ∷ name ∷ text ∷ size ∷ token ∷ wanted ∷ []) = find_command word name text size token wanted
 command_of _ = None

@@ -16,6 +16,7 @@ use Rattle.script_lines.specs.declared.line.Line.TheVariants as line
 use Rattle.script_lines.specs.declared.answer.ScriptWhy.{ScriptWhy}
 use Rattle.script_lines.specs.Refusals.{why_word}
 use Rattle.script_language.specs.Scripts.{IsScriptOf, IsBadAt}
+use Rattle.load_script.specs.Texts.{load_text}
 use Rattle.plain_service.specs.Setups.{Setup}
 use Rattle.plain_service.specs.Storing.{opening_of}
 use Rattle.stream_layout.specs.Deeds.{calls_of_all}
@@ -31,7 +32,7 @@ use Rattle.aisrun.specs.declared.ending.Status8.{Status8}
 use Rattle.aisrun.specs.declared.ending.Status8.TheVariants.{Done, ScriptRefused, Usage, Memory, ReadFault, WriteFault, DiskFault}
 use Rattle.aisrun.specs.declared.ending.Status8.TheVariants.{RootNotEmpty, TooLong, Inseparable}
 use Rattle.aisrun.specs.declared.command.Command.{Command}
-use Rattle.aisrun.specs.declared.command.Command.TheVariants.{Run, Check, Expr, Scan}
+use Rattle.aisrun.specs.declared.command.Command.TheVariants.{Run, Check, Expr, Gen, Scan}
 use Rattle.aisrun.specs.Commands.{command_of, text_of as word_text}
 use Rattle.aisrun.specs.Counts.{HasStood, RisesBefore}
 use Rattle.aisrun.specs.Edges.{Edge, before, after, fault_count, IsUntouched, Stage, Around, LeavesAll}
@@ -191,6 +192,9 @@ pub data Succeeds {S K D : Type 0} (run : Around S K D) (text : List ℕ) : Type
   Parsed :
       (kind : StreamKind) → command_of run.words ≡ Some (Expr kind) → LeavesAll run.stage → IsUntouched run.source → TextPasses kind (word_text run.words) text
       → Succeeds run text
+  Generated :
+      (count seed : ℕ) → command_of run.words ≡ Some (Gen count seed) → LeavesAll run.stage → IsUntouched run.source → text ≡ load_text count seed
+      → Succeeds run text
   Scanned :
       (can : CanScan run.words) → LeavesAll run.stage → (bytes : List ℕ) → ReadsWhole run.source bytes → ScansAll can bytes text
       → Succeeds run text
@@ -280,12 +284,13 @@ pub data RecordsLack {S K D : Type 0} (run : Around S K D) (text : List ℕ) : T
   Unheld : CanScan run.words → text ≡ [] → LeavesAll run.stage → RecordsLack run text
   Untold : ScansOn run text → RecordsLack run text
 
--- the same of each command; `expr` and words that are no command leave the source as it is
+-- the same of each command; `expr`, `gen` and words that are no command leave the source as it is
 abbrev pub LacksBy : {S K D : Type 0} → Option Command → Around S K D → List ℕ → Type 0
 LacksBy None run text = (text ≡ []) × LeavesAll run.stage × IsUntouched run.source
 LacksBy (Some Run) run text = RunLacks run text
 LacksBy (Some Check) run text = (text ≡ []) × LeavesAll run.stage
 LacksBy (Some (Expr kind)) run text = (text ≡ []) × LeavesAll run.stage × IsUntouched run.source
+LacksBy (Some (Gen count seed)) run text = (text ≡ []) × LeavesAll run.stage × IsUntouched run.source
 LacksBy (Some (Scan query)) run text = RecordsLack run text
 
 -- memory ran out in the sink; or elsewhere, where no object had failed, and all text up to there was written

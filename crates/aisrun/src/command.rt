@@ -1,10 +1,12 @@
 //! The words of the command line.
-ghost use Rattle.std.specs.Prelude.{◌≡◌, ◌<◌, ◌^◌, map, string_bytes};
-ghost use Rattle.aisrun.specs.Commands.{command_of, expr_command, find_command, is_dashed, kind_of_word, lone_command, number_of, record_size, records_command, scan_command, text_of, wanted_of};
+ghost use Rattle.std.specs.Prelude.{◌≡◌, ◌<◌, ◌^◌, IfOk, map, string_bytes};
+ghost use Rattle.aisrun.specs.Commands.{command_of, command_of_three, expr_command, find_command, gen_command, kind_of_word, lone_command, number_of, record_size, records_command, scan_command, text_of, wanted_of};
 
 use ais_values::StreamKind;
+use command_line::{is_dashed, read_line};
 use scan_lines::Shown;
 use script::whole_number;
+use std::alloc::{AllocError, Global};
 
 /// What is asked of a file of records.
 #[derive(Clone, Copy, Debug, PartialEq, Eq)]
@@ -26,6 +28,8 @@ pub enum Command {
     Check,
     /// Tell whether the third word is a format expression for streams of a kind, and of how many pieces.
     Expr { kind: StreamKind },
+    /// Print the script of so many turns, 1 to 100,000, from a seed on.
+    Gen { count: u32, seed: u64 },
     /// Print the records that the source gives, with the texts of the tokens of the third word.
     Scan { query: RecordQuery },
 }
@@ -54,17 +58,7 @@ fn kind_of_word(word: &str) -> Option<StreamKind>
     }
 }
 
-// Whether a word begins with a minus sign.
-fn is_dashed(word: &str) -> bool
-    ensures { result ≡ is_dashed word.now }
-{
-    match word.as_bytes() {
-        [] => false,
-        [first, ..] => *first == b'-',
-    }
-}
-
-// The command of three words.
+// The command on an expression.
 fn expr_command(word: &str, name: &str, text: &str) -> Option<Command>
     ensures { result ≡ expr_command word.now name.now text.now }
 {
@@ -85,6 +79,37 @@ fn number_of(word: &str, low: u64, high: u64) -> Option<u32>
     match whole_number(word.as_bytes(), low, high) {
         None => None,
         Some(number) => Some(number as u32),
+    }
+}
+
+// The seed that a word spells.
+fn seed_of(word: &str) -> Option<u64>
+    ensures { result ≡ number_of 0 18446744073709551615 word.now }
+{
+    whole_number(word.as_bytes(), 0, u64::MAX)
+}
+
+// The command that makes a script.
+fn gen_command(count: &str, seed: &str) -> Option<Command>
+    ensures { result ≡ gen_command count.now seed.now }
+{
+    match number_of(count, 1, 100_000) {
+        None => None,
+        Some(count) => match seed_of(seed) {
+            None => None,
+            Some(seed) => Some(Command::Gen { count, seed }),
+        },
+    }
+}
+
+// The command of three words.
+fn command_of_three(word: &str, one: &str, two: &str) -> Option<Command>
+    ensures { result ≡ command_of_three word.now one.now two.now }
+{
+    if word == "gen" {
+        gen_command(one, two)
+    } else {
+        expr_command(word, one, two)
     }
 }
 
@@ -145,28 +170,32 @@ fn find_command(
     }
 }
 
-/// The command that these words give; None exactly where they are none of the program's.
-pub fn command_of(words: &[String]) -> Option<Command>
-    ensures { result ≡ command_of (map (λ word. string_bytes word) words.now) }
+// The command of a line of words.
+fn command_in(words: &[&str]) -> Option<Command>
+    ensures { result ≡ command_of (map (λ word. word.now) words.now) }
 {
-    match words {
-        [word] => lone_command(word.as_str()),
-        [word, name, text] => expr_command(word.as_str(), name.as_str(), text.as_str()),
-        [word, name, text, size] => scan_command(
-            word.as_str(),
-            name.as_str(),
-            text.as_str(),
-            size.as_str(),
-        ),
-        [word, name, text, size, token, wanted] => find_command(
-            word.as_str(),
-            name.as_str(),
-            text.as_str(),
-            size.as_str(),
-            token.as_str(),
-            wanted.as_str(),
-        ),
+    match *words {
+        [word] => lone_command(word),
+        [word, one, two] => command_of_three(word, one, two),
+        [word, name, text, size] => scan_command(word, name, text, size),
+        [word, name, text, size, token, wanted] => {
+            find_command(word, name, text, size, token, wanted)
+        }
         _ => None,
+    }
+}
+
+/// The command that these words give; None exactly where they are none of the program's.
+///
+/// `Err` only where memory ran out.
+pub fn command_of(alloc: Global, words: &[String]) -> Result<Option<Command>, AllocError>
+    ensures { IfOk result (λ found.
+        found ≡ command_of (map (λ word. string_bytes word) words.now)) }
+{
+    match read_line(alloc, words) {
+        Ok(None) => Ok(None),
+        Ok(Some(line)) => Ok(command_in(line.as_slice())),
+        Err(_) => Err(AllocError),
     }
 }
 

@@ -7,6 +7,7 @@ mod check;
 mod command;
 mod ending;
 mod expr;
+mod generating;
 mod input;
 mod playing;
 mod reading;

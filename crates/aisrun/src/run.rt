@@ -1,8 +1,8 @@
 //! The top call: the words, a source, a sink, a disk and a world, and the status that the run ends with.
-ghost use Rattle.std.specs.Prelude.{◌≡◌, ◌≤◌, length};
+ghost use Rattle.std.specs.Prelude.{◌≡◌, ◌≤◌, Some, length};
 ghost use Rattle.aisrun.specs.AfterFault.{KeepsAtFault};
-ghost use Rattle.aisrun.specs.Commands.{word_bytes};
-ghost use Rattle.aisrun.specs.Completing.{CanCheck, CanParse, CanRun, HoldsRecords, IsDoneOrMemory};
+ghost use Rattle.aisrun.specs.Commands.{command_of, word_bytes};
+ghost use Rattle.aisrun.specs.Completing.{CanCheck, CanGenerate, CanParse, CanRun, HoldsRecords, IsDoneOrMemory};
 ghost use Rattle.aisrun.specs.Counts.{HasRisen, NoneRises, RisesBy};
 ghost use Rattle.aisrun.specs.declared.ending.Status8.{Status8};
 ghost use Rattle.aisrun.specs.Edges.{around, edge, fault_count, stage};
@@ -18,6 +18,7 @@ use crate::check::run_check;
 use crate::command::{Command, command_of, text_of, wanted_of};
 use crate::ending::{Status8, usage};
 use crate::expr::check_text;
+use crate::generating::generate;
 use crate::input::{INPUT_LIMIT, write_unread};
 use crate::playing::play;
 use crate::reading::{Script, read_script};
@@ -71,7 +72,36 @@ fn run_script<S: Source, K: Sink, D: SharedDisk>(
     }
 }
 
-// What the words ask for is done.
+// The command that the words are is done.
+fn run_command<S: Source, K: Sink, D: SharedDisk>(
+    alloc: Global,
+    command: Command,
+    words: &[String],
+    source: &mut S,
+    out: &mut K,
+    disk: &mut D,
+    world: &mut World,
+) -> Status8
+    requires asked { Some command ≡ command_of (word_bytes words.now) }
+    requires empty { world.old ≡ empty_world }
+    ensures { let run = around (word_bytes words.now)
+        (edge S.left S.faults source.old source.new) (edge K.written K.faults out.old out.new)
+        (edge D.files D.faults disk.old disk.new) world.old world.new
+        in Ended (fault_count run.source) (fault_count run.stage.disk) (Ends run)
+        (WordsLack run) run.stage.sink result }
+{
+    match command {
+        Command::Run => run_script(alloc, source, out, disk, world),
+        Command::Check => run_check(alloc, source, out),
+        Command::Expr { kind } => write_end(out, check_text(alloc, kind, text_of(words))),
+        Command::Gen { count, seed } => generate(alloc, count, seed, out),
+        Command::Scan { query } => {
+            scan(alloc, query, text_of(words), wanted_of(words), source, out)
+        }
+    }
+}
+
+// The words are read, and what they ask for is done.
 fn run_words<S: Source, K: Sink, D: SharedDisk>(
     alloc: Global,
     words: &[String],
@@ -87,14 +117,10 @@ fn run_words<S: Source, K: Sink, D: SharedDisk>(
         in Ended (fault_count run.source) (fault_count run.stage.disk) (Ends run)
         (WordsLack run) run.stage.sink result }
 {
-    match command_of(words) {
-        None => write_end(out, usage(alloc)),
-        Some(Command::Run) => run_script(alloc, source, out, disk, world),
-        Some(Command::Check) => run_check(alloc, source, out),
-        Some(Command::Expr { kind }) => write_end(out, check_text(alloc, kind, text_of(words))),
-        Some(Command::Scan { query }) => {
-            scan(alloc, query, text_of(words), wanted_of(words), source, out)
-        }
+    match command_of(alloc, words) {
+        Ok(Some(command)) => run_command(alloc, command, words, source, out, disk, world),
+        Ok(None) => write_end(out, usage(alloc)),
+        Err(_) => Status8::Memory,
     }
 }
 
@@ -102,7 +128,8 @@ fn run_words<S: Source, K: Sink, D: SharedDisk>(
 ///
 /// The words `run` read the source to its end as a script and play it over the disk: its first line begins a cluster, and
 /// the others are its events, whose lines are written as each event ends. The words `check` read it to its end and tell
-/// whether it is a script. The words `expr KIND TEXT` tell whether the text is a format expression; the source stays unread.
+/// whether it is a script. The words `expr KIND TEXT` tell whether the text is a format expression, and the words
+/// `gen COUNT SEED` write the script of a large run, of so many turns from a seed on; the source stays unread.
 /// The words `scan KIND TEXT SIZE` read the source to its end as records of the size and print of each the texts of the tokens of
 /// the expression, `find KIND TEXT SIZE TOKEN WORD` of those in which the token of this number has the word as its text. Before
 /// the source is read a text is refused that is no expression (`ScriptRefused`), or of whose tokens the texts cannot be told apart
@@ -116,8 +143,9 @@ fn run_words<S: Source, K: Sink, D: SharedDisk>(
 /// it is said that a value of the disk that tells the files of the events before has the count of the start. The disk is
 /// asked for nothing, and no line is played, of a script with a line on servers that fail and come back. Where memory ran
 /// out in the sink, `Memory`, a front of a text was written; elsewhere no object had failed, and all text up to there was;
-/// `check`, `expr`, `scan`, `find` and words that are none of the program's leave disk and world as they are all the same,
-/// `expr` and such words the source too, and so do `scan` and `find` where it was not yet known whether their text serves.
+/// `check`, `expr`, `gen`, `scan`, `find` and words that are none of the program's leave disk and world as they are all the
+/// same, `expr`, `gen` and such words the source too, and so do `scan` and `find` where it was not yet known whether their
+/// text serves.
 ///
 /// The clauses behind them say of each run what holds at the end of every line that was played, by any status. A line tells
 /// a refusal by a client's agent exactly where the calls that the client had sent, and those of them whose reply no line
@@ -168,7 +196,7 @@ pub fn run<S: Source, K: Sink, D: SharedDisk>(
     ensures want_tells { TellsAtWant (D.files disk.old) (D.files disk.new) world.new }
 
     // Where nothing fails, a script without lines on failures is played, a script is checked, an expression is taken apart,
-    // and records are told: only memory may be missing.
+    // a script is made, and records are told: only memory may be missing.
     ensures completes { CanRun (word_bytes words.now) (S.left source.old) (D.files disk.old)
         → NoneRises (S.faults source.old, S.faults source.new) (K.faults out.old, K.faults out.new)
         (D.faults disk.old, D.faults disk.new) → IsDoneOrMemory result }
@@ -176,6 +204,8 @@ pub fn run<S: Source, K: Sink, D: SharedDisk>(
         → ¬ HasRisen (S.faults source.old, S.faults source.new)
         → ¬ HasRisen (K.faults out.old, K.faults out.new) → IsDoneOrMemory result }
     ensures exprs { CanParse (word_bytes words.now)
+        → ¬ HasRisen (K.faults out.old, K.faults out.new) → IsDoneOrMemory result }
+    ensures generates { CanGenerate (word_bytes words.now)
         → ¬ HasRisen (K.faults out.old, K.faults out.new) → IsDoneOrMemory result }
     ensures scans { HoldsRecords (word_bytes words.now) (S.left source.old)
         → ¬ HasRisen (S.faults source.old, S.faults source.new)

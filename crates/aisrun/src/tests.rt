@@ -37,6 +37,14 @@ const OTHER_WORDS: &str = "\
     expr,system\n\
     check,check\n\
     expr,alarm,a,b\n\
+    gen\n\
+    gen,1\n\
+    gen,0,1\n\
+    gen,100001,1\n\
+    gen,01,1\n\
+    gen,1,-1\n\
+    gen,1,18446744073709551616\n\
+    gen,1,1,1\n\
     scan,system,a\n\
     scan,System,a,32\n\
     scan,system,-a,32\n\
@@ -75,7 +83,12 @@ const ENDS: &str = "\
     expr,system,ab@||1|bad 3 LoneAt\n;\
     expr,alarm,@Nq||1|bad 2 UnknownToken\n;\
     expr,system,@Cb256||1|bad 5 BadWidth\n;\
-    expr,application,@Cb0||1|bad 3 BadWidth\n";
+    expr,application,@Cb0||1|bad 3 BadWidth\n;\
+    gen,2,1||0|cluster start=1704067200000000000 queue=2 callbacks=256\n\
+    log 1 init A.2.1\nlog 1 open system\nntf 2 init A.1.1\nsettle\n\
+    log 1 write system inv=1 flags=0 gen sev=3 class=0.0.0 user=\"g\" body=\"16838\"\n\
+    log 1 write system inv=2 flags=0 gen sev=4 class=0.0.0 user=\"g\" body=\"5758\"\n\
+    settle\nservers\n";
 
 /// The words, the input, the exit status and the text, parted by `|` and `;`. Where the status is not 0 the source fails, if it is read.
 const SCANS: &str = "\

@@ -5,6 +5,7 @@ use Rattle.aisrun.proofs.RefusalLaws.{declines-rightly}
 use Rattle.aisrun.proofs.TimeLaws.{commits-in-time}
 use Rattle.aisrun.proofs.FaultLaws.{keeps-at-fault}
 use Rattle.aisrun.proofs.CompletenessLaws.{completes, checks, exprs, scans}
+use Rattle.aisrun.proofs.GeneratingLaws.{generates}
 use Rattle.aisrun.proofs.run.run.Goals as goal
 
 pub returns-clause-ends : goal.returns-clause-ends
@@ -66,6 +67,10 @@ returns-clause-checks g c can reads sink =
 pub returns-clause-exprs : goal.returns-clause-exprs
 returns-clause-exprs g c can sink =
     exprs _ c.run_words.result c.run_words.ensures can sink
+
+pub returns-clause-generates : goal.returns-clause-generates
+returns-clause-generates g c can sink =
+    generates _ c.run_words.result c.run_words.ensures can sink
 
 pub returns-clause-scans : goal.returns-clause-scans
 returns-clause-scans g c holds reads sink =

@@ -1,72 +1,31 @@
-use Rattle.std.proofs.Common.{ℕ, List, [], ◌≡◌, map, Option, Some, None, refl, ap, sym, ◌∙◌, subst}
-use Rattle.std.specs.Prelude.{IfOk, string_bytes}
-use Rattle.aisrun.specs.declared.command.Command.{Command}
-use Rattle.aisrun.specs.declared.command.Command.TheVariants.{Run, Check, Expr, Scan}
-use Rattle.aisrun.specs.Checking.{CheckEnds, ExprEnds}
-use Rattle.aisrun.specs.Commands.{command_of, text_of, wanted_of}
-use Rattle.aisrun.specs.Edges.{around, edge, fault_count, stage}
-use Rattle.aisrun.specs.Endings.{Ends, LacksBy}
-use Rattle.aisrun.specs.RunSteps.{InputEnds, InputLacks, WordsLack}
-use Rattle.aisrun.specs.ScanSteps.{ScanEnds, ScanLacks}
-use Rattle.aisrun.specs.Steps.{Counting, Ended, IsNone, Standing, unasked}
-use Rattle.aisrun.proofs.EndingSteps.{check-run, end-written, expr-run, input-lack, input-run, usage-run, ok-ends}
-use Rattle.aisrun.proofs.ScanEndings.{scan-lack, scan-run}
-use Rattle.aisrun.proofs.WritingSteps.{ended-alone, ended-as}
+use Rattle.std.proofs.Common.{◌≡◌, ℕ, List, None, map, refl, sym}
+use Rattle.std.specs.Prelude.{string_bytes}
+use Rattle.aisrun.specs.Commands.{command_of}
+use Rattle.aisrun.specs.Edges.{around, edge, fault_count}
+use Rattle.aisrun.specs.Endings.{Ends}
+use Rattle.aisrun.specs.RunSteps.{WordsLack}
+use Rattle.aisrun.specs.Steps.{Counting, Standing}
+use Rattle.aisrun.proofs.EndingSteps.{end-written, lacked, lacks-early, usage-run}
 use Rattle.aisrun.proofs.run.run_words.Goals as goal
 
-pub returns-in-None : goal.returns-in-None
-returns-in-None g c =
+pub run_command-requires-clause-asked : goal.run_command-requires-clause-asked
+run_command-requires-clause-asked g c = rw c.in-Ok-Some.field-0-is at c.in-Ok-Some.ensures
+
+pub returns-in-Ok-None : goal.returns-in-Ok-None
+returns-in-Ok-None g c =
     let words : List (List ℕ) = map (λ word. string_bytes word) c.args.words.now in
-    let asked : command_of words ≡ None = sym c.command_of.ensures ∙ c.in-None.is in
+    let asked : command_of words ≡ None = sym (rw c.in-Ok-None.field-0-is at c.in-Ok-None.ensures) in
     let source = edge g.S.Source.left g.S.Source.faults c.args.source.now c.args.source.now in
     let sink = edge g.K.Sink.written g.K.Sink.faults c.args.out.now c.write_end.new.out in
     let disk = edge g.D.SharedDisk.files g.D.SharedDisk.faults c.args.disk.now c.args.disk.now in
     let run = around words source sink disk c.args.world.now c.args.world.now in
-    end-written (Counting (fault_count source) (fault_count disk) (Ends run)) (Standing (fault_count source) (fault_count disk) (WordsLack run)) c.usage.result sink c.write_end.result c.write_end.ensures (usage-run run asked (record { disk = refl; world = refl }) refl c.usage.result c.usage.ensures.status c.usage.ensures.text) (subst (λ (o : Option Command). LacksBy o run []) (sym asked) (refl, record { disk = refl; world = refl }, refl), refl, refl)
+    end-written (Counting (fault_count source) (fault_count disk) (Ends run)) (Standing (fault_count source) (fault_count disk) (WordsLack run)) c.usage.result sink c.write_end.result c.write_end.ensures (usage-run run asked (record { disk = refl; world = refl }) refl c.usage.result c.usage.ensures.status c.usage.ensures.text) (lacks-early run (command_of words) (record { disk = refl; world = refl }) refl, refl, refl)
 
-pub returns-in-Some-Run : goal.returns-in-Some-Run
-returns-in-Some-Run g c =
+pub returns-in-Err : goal.returns-in-Err
+returns-in-Err g c =
     let words : List (List ℕ) = map (λ word. string_bytes word) c.args.words.now in
-    let asked : command_of words ≡ Some Run = sym c.command_of.ensures ∙ c.in-Some-Run.is ∙ ap Some c.in-Some-Run.field-0-is in
-    let source = edge g.S.Source.left g.S.Source.faults c.args.source.now c.run_script.new.source in
-    let sink = edge g.K.Sink.written g.K.Sink.faults c.args.out.now c.run_script.new.out in
-    let disk = edge g.D.SharedDisk.files g.D.SharedDisk.faults c.args.disk.now c.run_script.new.disk in
-    let scene = stage sink disk c.args.world.now c.run_script.new.world in
-    let run = around words source sink disk c.args.world.now c.run_script.new.world in
-    ended-as (fault_count source) (fault_count disk) (InputEnds source scene) (Ends run) (InputLacks source scene) (WordsLack run) sink c.run_script.result (input-run run asked) (input-lack run asked) c.run_script.ensures
-
-pub returns-in-Some-Check : goal.returns-in-Some-Check
-returns-in-Some-Check g c =
-    let words : List (List ℕ) = map (λ word. string_bytes word) c.args.words.now in
-    let asked : command_of words ≡ Some Check = sym c.command_of.ensures ∙ c.in-Some-Check.is ∙ ap Some c.in-Some-Check.field-0-is in
-    let source = edge g.S.Source.left g.S.Source.faults c.args.source.now c.run_check.new.source in
-    let sink = edge g.K.Sink.written g.K.Sink.faults c.args.out.now c.run_check.new.out in
-    let disk = edge g.D.SharedDisk.files g.D.SharedDisk.faults c.args.disk.now c.args.disk.now in
-    let run = around words source sink disk c.args.world.now c.args.world.now in
-    ended-alone (fault_count source) (fault_count disk) (CheckEnds source) (Ends run) IsNone (WordsLack run) sink c.run_check.result refl (check-run run asked (record { disk = refl; world = refl })) (λ text none. subst (λ (o : Option Command). LacksBy o run text) (sym asked) (none, record { disk = refl; world = refl })) c.run_check.ensures
-
-pub returns-in-Some-Expr : goal.returns-in-Some-Expr
-returns-in-Some-Expr g c =
-    let words : List (List ℕ) = map (λ word. string_bytes word) c.args.words.now in
-    let kind = c.in-Some-Expr.kind in
-    let asked : command_of words ≡ Some (Expr kind) = sym c.command_of.ensures ∙ c.in-Some-Expr.is ∙ ap Some c.in-Some-Expr.field-0-is in
     let source = edge g.S.Source.left g.S.Source.faults c.args.source.now c.args.source.now in
-    let sink = edge g.K.Sink.written g.K.Sink.faults c.args.out.now c.write_end-in-Some-Expr.new.out in
+    let sink = edge g.K.Sink.written g.K.Sink.faults c.args.out.now c.args.out.now in
     let disk = edge g.D.SharedDisk.files g.D.SharedDisk.faults c.args.disk.now c.args.disk.now in
     let run = around words source sink disk c.args.world.now c.args.world.now in
-    end-written (Counting (fault_count source) (fault_count disk) (Ends run)) (Standing (fault_count source) (fault_count disk) (WordsLack run)) c.check_text.result sink c.write_end-in-Some-Expr.result c.write_end-in-Some-Expr.ensures (ok-ends c.check_text.result (ExprEnds kind (text_of words)) (Counting (fault_count source) (fault_count disk) (Ends run)) (expr-run run kind asked (record { disk = refl; world = refl }) refl) (subst (λ (said : List ℕ). IfOk c.check_text.result (λ one. ExprEnds kind said one.status one.text.items)) c.text_of.ensures c.check_text.ensures)) (subst (λ (o : Option Command). LacksBy o run []) (sym asked) (refl, record { disk = refl; world = refl }, refl), refl, refl)
-
-pub returns-in-Some-Scan : goal.returns-in-Some-Scan
-returns-in-Some-Scan g c =
-    let words : List (List ℕ) = map (λ word. string_bytes word) c.args.words.now in
-    let query = c.in-Some-Scan.query in
-    let asked : command_of words ≡ Some (Scan query) = sym c.command_of.ensures ∙ c.in-Some-Scan.is ∙ ap Some c.in-Some-Scan.field-0-is in
-    let source = edge g.S.Source.left g.S.Source.faults c.args.source.now c.scan.new.source in
-    let sink = edge g.K.Sink.written g.K.Sink.faults c.args.out.now c.scan.new.out in
-    let disk = edge g.D.SharedDisk.files g.D.SharedDisk.faults c.args.disk.now c.args.disk.now in
-    let run = around words source sink disk c.args.world.now c.args.world.now in
-    let text = c.text_of-in-Some-Scan.result.now in
-    let wanted = c.wanted_of.result.now in
-    let by_wanted = subst (λ (one : List ℕ). Ended (fault_count source) unasked (ScanEnds query text one source) (ScanLacks query text one source) sink c.scan.result) c.wanted_of.ensures c.scan.ensures in
-    let by_words = subst (λ (one : List ℕ). Ended (fault_count source) unasked (ScanEnds query one (wanted_of words) source) (ScanLacks query one (wanted_of words) source) sink c.scan.result) c.text_of-in-Some-Scan.ensures by_wanted in
-    ended-alone (fault_count source) (fault_count disk) (ScanEnds query (text_of words) (wanted_of words) source) (Ends run) (ScanLacks query (text_of words) (wanted_of words) source) (WordsLack run) sink c.scan.result refl (scan-run run query asked (record { disk = refl; world = refl })) (scan-lack run query asked (record { disk = refl; world = refl })) by_words
+    lacked (Counting (fault_count source) (fault_count disk) (Ends run)) (Standing (fault_count source) (fault_count disk) (WordsLack run)) sink (lacks-early run (command_of words) (record { disk = refl; world = refl }) refl, refl, refl) refl
