@@ -1,0 +1,4 @@
+mod Words
+mod Fixed
+mod Turns
+mod Whole
