@@ -23,7 +23,7 @@ use Rattle.cluster_core.specs.Beginning.{Begun}
 use Rattle.cluster_core.specs.Broken.{Broken}
 use Rattle.cluster_core.specs.Playing.{EventDone, FaultLeaves}
 use Rattle.cluster_core.specs.Worlds.{HasState, IsGood, Shows, TellsFiles}
-use Rattle.cluster_core.proofs.SettlingLines.{printed-append}
+use Rattle.cluster_clients.proofs.ToldLines.{printed-append}
 use Rattle.cluster_events.specs.Runs.RunBy.{Started, Went}
 use Rattle.aisrun.specs.Playing.{files_told, Goes, LinePlayed, Played, text_of}
 use Rattle.aisrun.specs.declared.ending.Status8.{Status8}

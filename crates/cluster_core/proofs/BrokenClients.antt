@@ -28,12 +28,14 @@ use Rattle.client_agent.specs.declared.answers.How.{How}
 use Rattle.client_agent.specs.declared.answers.How.TheVariants.{One, All}
 use Rattle.client_agent.specs.Seen.{Seen}
 use Rattle.cluster_core.specs.declared.world.World.{World as Kept}
-use Rattle.cluster_core.specs.Clients.{place_of, dispatch_as}
-use Rattle.cluster_core.specs.Taken.{taken_as}
+use Rattle.cluster_clients.specs.Clients.{place_of, dispatch_as}
+use Rattle.cluster_clients.specs.Taken.{taken_as}
 use Rattle.cluster_core.specs.Worlds.{TellsFiles, LeavesFiles, StandsIn}
-use Rattle.cluster_core.specs.Delivered.{IsFetched, again, HearsAll}
+use Rattle.cluster_clients.specs.Spelled.{IsFetched}
+use Rattle.cluster_core.specs.Delivered.{again, HearsAll}
 use Rattle.cluster_core.specs.Broken.{IsFedOf, BreaksAlone, BreaksAloneIf}
-use Rattle.cluster_core.specs.PartlyDone.{SaysUnasked, TakesPartly, AsksPartly, MayDispatch, AllStandIn}
+use Rattle.cluster_clients.specs.PartlyDone.{TakesPartly, AsksPartly, MayDispatch}
+use Rattle.cluster_core.specs.PartlyDone.{SaysUnasked, AllStandIn}
 use Rattle.cluster_core.proofs.TakenSteps.{any_shelf, dispatched-moved, asked-moved}
 use Rattle.cluster_core.proofs.ChainSteps.{again-goes, resent-by, resent-stand}
 use Rattle.cluster_core.proofs.RoundSteps.{hear-answered, files-same, All-at}

@@ -40,13 +40,13 @@ use Rattle.mirror.specs.Nodes.{Server, down, at_rest, replies_owed}
 use Rattle.mirror.specs.Hearing.{IsRequestHeard, IsReceiptHeard, IsHeardAtRest, ignored, accepted_alone, repeated}
 use Rattle.mirror.specs.Working.{deeds_in, replies_in}
 use Rattle.cluster_core.specs.declared.world.World.{World as Kept}
-use Rattle.cluster_core.specs.Spelled.{AreSpelled}
-use Rattle.cluster_core.specs.Heard.{posted_all, lines_all}
+use Rattle.cluster_clients.specs.Spelled.{AreSpelled}
+use Rattle.cluster_clients.specs.Posted.{posted_all, lines_all, PostsSome}
 use Rattle.cluster_core.specs.Worlds.{Shows, IsGood, TellsFiles, heard_by, drained}
 use Rattle.cluster_core.specs.Broken.{LeavesBetween, Broken, Faulted}
 use Rattle.cluster_core.specs.Errors.{BreaksOff}
 use Rattle.cluster_core.specs.Rounds.{StopsInDrain}
-use Rattle.cluster_core.specs.PartlyDone.{PostsSome, IsPartlyTold, SaysUnasked}
+use Rattle.cluster_core.specs.PartlyDone.{IsPartlyTold, SaysUnasked}
 use Rattle.cluster_core.proofs.ServerSteps.{state_with, answered-history, IsHeardBy}
 use Rattle.cluster_core.proofs.WorkSteps.{IsWorked, drain-steady, each-posted}
 use Rattle.cluster_core.proofs.UnaskedSteps.{lone-unasked, unasked-same}

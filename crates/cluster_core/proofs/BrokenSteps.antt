@@ -31,11 +31,12 @@ use Rattle.cluster_events.proofs.Broken.{Says-tells, Sound-holds, Tells-both}
 use Rattle.client_agent.specs.Seen.{Seen}
 use Rattle.lone_cluster.specs.Lone.{Alone}
 use Rattle.cluster_core.specs.declared.world.World.{World as Kept}
-use Rattle.cluster_core.specs.Spelled.{AreSpelled}
-use Rattle.cluster_core.specs.Clients.{ShowsAgents}
+use Rattle.cluster_clients.specs.Spelled.{AreSpelled}
+use Rattle.cluster_clients.specs.Clients.{ShowsAgents}
 use Rattle.cluster_core.specs.Worlds.{Shows, IsGood, TellsFiles, LeavesFiles}
 use Rattle.cluster_core.specs.Broken.{LeavesBetween, IsFedOf, Broken}
-use Rattle.cluster_core.specs.PartlyDone.{PartlyShows, SaysUnasked}
+use Rattle.cluster_clients.specs.PartlyDone.{PartlyShows}
+use Rattle.cluster_core.specs.PartlyDone.{SaysUnasked}
 use Rattle.cluster_core.proofs.FilesSteps.{left-same, left-told}
 use Rattle.cluster_core.proofs.ServerSteps.{agents-as}
 use Rattle.cluster_core.proofs.TakenSteps.{IsMoved}

@@ -24,15 +24,15 @@ use Rattle.lone_cluster.specs.Lone.{Alone, lone, IsGoodAlone}
 use Rattle.lone_cluster.proofs.Serving.{lone-serves}
 use Rattle.cluster_core.specs.declared.world.World.{World as Kept}
 use Rattle.client_agent.specs.Seen.{Seen, seen_of}
-use Rattle.cluster_core.specs.Spelled.{AreSpelled, IsNumberIn}
-use Rattle.cluster_core.specs.Clients.{place_of}
+use Rattle.cluster_clients.specs.Spelled.{AreSpelled, IsNumberIn}
+use Rattle.cluster_clients.specs.Clients.{place_of}
 use Rattle.cluster_core.specs.Worlds.{Shows, IsGood, HasState, Happened, Does, DoesIf, StandsIn, heard_by}
 use Rattle.cluster_core.specs.Delivered.{again, resent_by, HearsAll, StandAll}
 use Rattle.cluster_core.specs.PartlyDone.{SaysUnasked}
-use Rattle.cluster_core.proofs.DispatchSteps.{absent, seen-at}
+use Rattle.cluster_clients.proofs.DispatchSteps.{absent, seen-at}
 use Rattle.cluster_core.proofs.UnaskedSteps.{lone-unasked}
 use Rattle.cluster_core.proofs.ListSteps.{All-take}
-use Rattle.cluster_core.proofs.SettlingLines.{printed-append}
+use Rattle.cluster_clients.proofs.ToldLines.{printed-append}
 
 -- one event after another
 pub happened-then : (setup : Setup) (first : Outcome (State Alone)) (event : State Alone → Outcome (State Alone)) (middle new : Kept) (before between after : List (List ℕ)) → Happened setup first middle before between → Happened setup (event first.state) new between after → Happened setup (and_then first event) new before after

@@ -21,7 +21,8 @@ use Rattle.cluster_core.specs.declared.world.World.{World}
 use Rattle.cluster_core.specs.Worlds.{Shows, DoesIf, DoesOn, Pushes, StandsIn, heard_by, drained, pushed}
 use Rattle.cluster_core.specs.Broken.{BreaksIf, BreaksAloneIf}
 use Rattle.cluster_core.specs.Errors.{BreaksOffIf, BreaksOff}
-use Rattle.cluster_core.specs.Rounds.{PlaysOn, Plays, any_state, IsIdle, IsIdleWithAll, IsIdleWithItems, heard_so, all_turned, clients_turned, state_turned, items_taken, FindsReply, StopsInDrain, StopsInTurn, StopsInTurns, StopsInClient, StopsInClients, StopsInEach, StopsInRound}
+use Rattle.cluster_clients.specs.Replies.{FindsReply}
+use Rattle.cluster_core.specs.Rounds.{PlaysOn, Plays, any_state, IsIdle, IsIdleWithAll, IsIdleWithItems, heard_so, all_turned, clients_turned, state_turned, items_taken, StopsInDrain, StopsInTurn, StopsInTurns, StopsInClient, StopsInClients, StopsInEach, StopsInRound}
 use Rattle.cluster_core.proofs.BrokenSteps.{happened-broken}
 use Rattle.cluster_core.proofs.RoundSteps.{hear-plays, drain-plays, pushed-plays, pushed-items, All-at, at-rest, turns-go, clients-go, items-go, drain-go, hear-go, push-go}
 use Rattle.cluster_core.proofs.ErrorSteps.{Leads, Follows, StopsBehind, StopsAs, each-stops, lacks-after, lacks-whole, off-after, off-so}

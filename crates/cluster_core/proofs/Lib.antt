@@ -1,19 +1,11 @@
 pub mod CauseSteps
 mod ListSteps
-mod PostingSteps
-mod DispatchSteps
-mod ListingSteps
-mod DeliverySteps
-mod AskSteps
 mod FilesSteps
 mod ServerSteps
-mod PostAllSteps
 mod HeldSteps
 pub mod WorkSteps
 mod TakenSteps
 pub mod SettlingLines
-mod HeedingSteps
-mod ReplySteps
 mod RoundSteps
 mod MeasureSteps
 mod FetchSteps

@@ -11,10 +11,9 @@ use Rattle.plain_service.specs.Setups.{Setup, IsMoment}
 use Rattle.plain_service.specs.Storing.{files_of}
 use Rattle.service_laws.specs.PlainOf.{plain_of}
 use Rattle.cluster_facts.specs.Types.{Ask, Call, Reply, Item, Message, Request, Answer, Delivery, Receipt}
-use Rattle.cluster_facts.specs.Service.{Plain}
+use Rattle.cluster_facts.specs.Service.{Plain, is_new, answers_in}
 use Rattle.cluster_facts.specs.Agents.{Agent, Living, call_of, refusal, kept_call, find_living}
 use Rattle.cluster_facts.specs.History.{Hand, Empty, Waiting, Applied, Ready, Judged, New, Repeat, Old, Ahead, judged_call}
-use Rattle.cluster_facts.specs.Service.{is_new, answers_in}
 use Rattle.cluster_facts.specs.World.{World, message_at, number_of}
 use Rattle.cluster_events.specs.Outcomes.{Outcome, for_each}
 use Rattle.cluster_events.specs.Servers.{State, in_world}
@@ -26,8 +25,8 @@ use Rattle.client_agent.specs.declared.answers.How.{How}
 use Rattle.client_agent.specs.declared.answers.How.TheVariants.{One, All}
 use Rattle.client_agent.specs.Seen.{Seen, seen_of}
 use Rattle.cluster_core.specs.declared.world.World.{World as Kept}
-use Rattle.cluster_core.specs.Asked.{AllStarted}
-use Rattle.cluster_core.specs.Clients.{seen_all}
+use Rattle.cluster_clients.specs.Asked.{AllStarted}
+use Rattle.cluster_clients.specs.Clients.{seen_all}
 use Rattle.cluster_core.specs.Delivered.{again, resent_by, Delivers}
 use Rattle.mirror.specs.Nodes.{Server}
 use Rattle.cluster_core.specs.Worlds.{Shows, IsGood, HasState, Does, DoesOn, Happened, TellsFiles, LeavesFiles, pushed, drained, Pushes}

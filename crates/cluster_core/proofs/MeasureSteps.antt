@@ -24,13 +24,14 @@ use Rattle.client_agent.specs.Seen.{Seen}
 use Rattle.lone_cluster.specs.Lone.{Alone, lone, IsGoodAlone}
 use Rattle.lone_cluster.proofs.Serving.{lone-serves, lone-spends}
 use Rattle.cluster_core.specs.declared.world.World.{World}
-use Rattle.cluster_core.specs.Spelled.{AreSpelled}
-use Rattle.cluster_core.specs.Clients.{seen_all}
+use Rattle.cluster_clients.specs.Spelled.{AreSpelled}
+use Rattle.cluster_clients.specs.Clients.{seen_all}
 use Rattle.cluster_core.specs.Worlds.{Shows, HasState}
 use Rattle.cluster_core.specs.Settling.{DoesSettle}
-use Rattle.cluster_core.specs.Rounds.{kept_lines, PlaysOn, any_state, round_played, SettlesSo}
+use Rattle.cluster_clients.specs.Heeded.{kept_lines}
+use Rattle.cluster_core.specs.Rounds.{PlaysOn, any_state, round_played, SettlesSo}
 use Rattle.cluster_core.proofs.FilesSteps.{left-told, left-same, left-both}
-use Rattle.cluster_core.proofs.SettlingLines.{kept-append}
+use Rattle.cluster_clients.proofs.ToldLines.{kept-append}
 
 -- What is left to do, by what the world of the code keeps.
 

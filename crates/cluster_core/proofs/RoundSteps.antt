@@ -32,20 +32,23 @@ use Rattle.lone_cluster.specs.Lone.{Alone, lone, IsGoodAlone}
 use Rattle.lone_cluster.proofs.Serving.{lone-serves, lone-says}
 use Rattle.event_text.specs.Texts.{printed}
 use Rattle.cluster_core.specs.declared.world.World.{World}
-use Rattle.cluster_core.specs.Spelled.{AreSpelled}
+use Rattle.cluster_clients.specs.Spelled.{AreSpelled}
 use Rattle.client_agent.specs.Seen.{Seen, seen_of}
-use Rattle.cluster_core.specs.Clients.{seen_all, place_of}
-use Rattle.cluster_core.specs.Taken.{taken_as}
+use Rattle.cluster_clients.specs.Clients.{seen_all, place_of}
+use Rattle.cluster_clients.specs.Taken.{taken_as}
 use Rattle.cluster_core.specs.Worlds.{IsActive, IsGood, Shows, HasState, TellsFiles, LeavesFiles, Happened, DoesIf, DoesOn, Pushes, heard_by, StandsIn, drained, pushed}
 use Rattle.cluster_core.specs.PartlyDone.{SaysUnasked}
-use Rattle.cluster_core.specs.Rounds.{kept_lines, Event, Played, PlaysOn, Plays, HasStateOf, IsIdle, IsItem, IsIdleWithAll, IsIdleWithItems, any_state, turned, all_turned, client_turned, clients_turned, state_turned, item_taken, items_taken, round_pushed, round_played, heard_so, message_taken, reply_taken, answer_taken, FindsReply, Heeds}
-use Rattle.cluster_core.proofs.PostingSteps.{spelled-length}
-use Rattle.cluster_core.proofs.DispatchSteps.{absent, seen-at}
-use Rattle.cluster_core.proofs.HeedingSteps.{taken-places}
+use Rattle.cluster_clients.specs.Heeded.{kept_lines, Heeds}
+use Rattle.cluster_clients.specs.Replies.{FindsReply}
+use Rattle.cluster_core.specs.Rounds.{Event, Played, PlaysOn, Plays, HasStateOf, IsIdle, IsItem, IsIdleWithAll, IsIdleWithItems, any_state, turned, all_turned, client_turned, clients_turned, state_turned, item_taken, items_taken, round_pushed, round_played, heard_so, message_taken, reply_taken, answer_taken}
+use Rattle.cluster_clients.proofs.PostingSteps.{spelled-length}
+use Rattle.cluster_clients.proofs.DispatchSteps.{absent, seen-at}
+use Rattle.cluster_clients.proofs.HeedingSteps.{taken-places}
 use Rattle.cluster_core.proofs.TakenSteps.{taken-goes}
 use Rattle.cluster_core.proofs.UnaskedSteps.{lone-unasked}
 use Rattle.cluster_core.proofs.FilesSteps.{left-told, left-same, left-both}
-use Rattle.cluster_core.proofs.SettlingLines.{kept-append, loud-append, SameButPlace, hear-places, hear-measured, IsQuiet, drain-quiet, push-quiet}
+use Rattle.cluster_clients.proofs.ToldLines.{kept-append, loud-append, SameButPlace}
+use Rattle.cluster_core.proofs.SettlingLines.{hear-places, hear-measured, IsQuiet, drain-quiet, push-quiet}
 use Rattle.cluster_core.proofs.ListSteps.{All-take}
 
 -- Events that happened are events that were played.
@@ -481,12 +484,6 @@ reply-ready client number found world finds has =
 pub answer-nothing : (message : Message) (world : World) (lines : List (List ℕ)) → ((client number : ℕ) (call : Call) → message ≡ Request client number call → ⊥) → Plays any_state (answer_taken message) world world lines lines false
 answer-nothing (Request client number call) world lines never held setup state good shows so = absurd (never client number call refl)
 answer-nothing _ world lines never held setup state good shows so = played-nothing setup state world lines held good shows
-
--- an element that is read is that at its place
-pub index-is : {X : Type 0} (xs : List X) (n : ℕ) (x y : X) → x ≡ get_or xs n x → slice_get xs n ≡ Some y → x ≡ y
-index-is [] n x y is found = cc
-index-is (first ∷ xs) zero x y is found = let same : first ≡ y = cc in is ∙ same
-index-is (first ∷ xs) (suc n) x y is found = index-is xs n x y is found
 
 -- An agent takes or misses a reply or an item.
 

@@ -40,7 +40,7 @@ use Rattle.mirror.specs.declared.heard.Role.TheVariants.{Active}
 use Rattle.mirror.specs.Nodes.{Server, HasRoom, at_rest, at_work}
 use Rattle.mirror.specs.Hearing.{IsRequestHeard, IsReceiptHeard, IsHeardAtRest, CanHear, ignored, accepted_alone, repeated}
 use Rattle.cluster_core.specs.declared.world.World.{World as Kept}
-use Rattle.cluster_core.specs.Clients.{ShowsAgents}
+use Rattle.cluster_clients.specs.Clients.{ShowsAgents}
 use Rattle.cluster_core.specs.Heard.{reason_of, reason_lines, IsToldHeard}
 use Rattle.cluster_core.specs.Worlds.{IsActive, Shows, IsGood, HasState, Happened, heard_by}
 use Rattle.mirror.proofs.NodeLaws.{count-is}

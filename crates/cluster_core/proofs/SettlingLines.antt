@@ -1,13 +1,11 @@
 -- What is printed of the events of a round, and which of them were loud.
-use Rattle.std.proofs.Common.{◌≡◌, ℕ, suc, inl, inr, Bool, true, false, ◌||◌, nat_lt, if◌then◌else◌, Option, Some, None, List, [], ◌∷◌, ◌++◌, length, refl, ap, sym, ◌∙◌, subst, append_assoc, append-nil, arith}
+use Rattle.std.proofs.Common.{◌≡◌, ℕ, suc, Bool, true, false, ◌||◌, nat_lt, if◌then◌else◌, Option, Some, None, List, [], ◌∷◌, ◌++◌, length, refl, ap, sym, ◌∙◌, subst}
 use Rattle.std.specs.List.{AllByRecursion}
-use Rattle.std.proofs.lemmas.Bool.Decides.{leb_tells}
 use Rattle.cluster_facts.specs.Types.{Call, Reply, Entry, Called, Receipted, Message, Request, Answer, Delivery, Receipt}
-use Rattle.cluster_facts.specs.Lists.{without}
 use Rattle.cluster_facts.specs.Service.{Plain, answers_in, is_new}
 use Rattle.cluster_facts.specs.History.{Hand, Empty, Waiting, Applied, Ready, Judged, New, Repeat, Old, Ahead, judged_call, committed}
 use Rattle.cluster_facts.specs.World.{World, knows}
-use Rattle.cluster_events.specs.Lines.{Told, Posted, Committed, Ignored, is_ignored, is_progress}
+use Rattle.cluster_events.specs.Lines.{Told, Posted, Committed, Ignored}
 use Rattle.cluster_events.specs.declared.lines.Why.{Why}
 use Rattle.cluster_events.specs.Outcomes.{Outcome, for_each}
 use Rattle.cluster_events.specs.ClientEvents.{post, post_lines}
@@ -15,61 +13,11 @@ use Rattle.cluster_events.specs.Servers.{State, in_world, drain}
 use Rattle.cluster_events.specs.Events.{reply_at, post_again, request_as, receipt_as, hear_at_rest, hear_by, hear, push_by, push}
 use Rattle.cluster_events.specs.Settling.{is_loud}
 use Rattle.cluster_events.proofs.Carrying.{IsMadeItem}
-use Rattle.event_text.specs.Texts.{printed, lines_of}
+use Rattle.event_text.specs.Texts.{printed}
 use Rattle.lone_cluster.specs.Lone.{Alone, lone}
-use Rattle.cluster_core.specs.Rounds.{kept_lines}
-
--- Lines of several events.
-
-pub printed-append : (second first : List Told) → printed (second ++ first) ≡ printed first ++ printed second
-printed-append [] first = sym (append-nil (printed first))
-printed-append (line ∷ second) first =
-    ap (λ front. front ++ lines_of line) (printed-append second first) ∙ append_assoc (printed first) (printed second) (lines_of line)
-
-pub without-append : (second first : List Told) → without is_ignored (second ++ first) ≡ without is_ignored second ++ without is_ignored first
-without-append [] first = refl
-without-append (line ∷ second) first =
-    let deeper = without-append second first in
-    elim (is_ignored line) as (λ b. (if b then without is_ignored (second ++ first) else line ∷ without is_ignored (second ++ first)) ≡ (if b then without is_ignored second else line ∷ without is_ignored second) ++ without is_ignored first) [
-      | true ↦ deeper
-      | false ↦ ap (λ rest. line ∷ rest) deeper
-    ]
-
-pub kept-append : (second first : List Told) → kept_lines (second ++ first) ≡ kept_lines first ++ kept_lines second
-kept-append second first = ap printed (without-append second first) ∙ printed-append (without is_ignored second) (without is_ignored first)
-
-swap : (a b c : Bool) → (a || (b || c)) ≡ (b || (a || c))
-swap true true c = refl
-swap true false c = refl
-swap false true c = refl
-swap false false c = refl
-
-or-false : (b : Bool) → b ≡ (b || false)
-or-false true = refl
-or-false false = refl
-
-pub loud-append : (second first : List Told) → is_loud (second ++ first) ≡ (is_loud first || is_loud second)
-loud-append [] first = or-false (is_loud first)
-loud-append (line ∷ second) first =
-    ap (λ rest. is_progress line || rest) (loud-append second first) ∙ swap (is_progress line) (is_loud first) (is_loud second)
-
--- Numbers that grow.
-
-pub not-less : (n : ℕ) → nat_lt n n ≡ false
-not-less n = elim (leb_tells (suc n) n) [ inl below ↦ let less = below.1 in absurd (omega arith) | inr not ↦ not.0 ]
-
-pub less-one : (n : ℕ) → nat_lt n (suc n) ≡ true
-less-one n = elim (leb_tells (suc n) (suc n)) [ inl below ↦ below.0 | inr not ↦ let less = not.1 in absurd (omega arith) ]
+use Rattle.cluster_clients.specs.Heeded.{kept_lines}
 
 -- Outcomes that differ at most in the places that lines on messages without effect name.
-
-pub record SameButPlace {S : Type 0} (one other : Outcome S) : Type 0 where
-  pub state : one.state ≡ other.state
-  pub lines : kept_lines one.told ≡ kept_lines other.told
-  pub loud : is_loud one.told ≡ is_loud other.told
-
-pub same-outcome : {S : Type 0} (outcome : Outcome S) → SameButPlace outcome outcome
-same-outcome outcome = record { state = refl; lines = refl; loud = refl }
 
 module _ (plain : Plain) (one other : ℕ) where
   request-places : (client number : ℕ) (call : Call) (verdict : Judged) (state : State Alone) → SameButPlace (request_as plain (lone plain) one client number call verdict state) (request_as plain (lone plain) other client number call verdict state)

@@ -19,12 +19,12 @@ use Rattle.cluster_events.specs.declared.lines.ServerRole.{ServerRole}
 use Rattle.cluster_events.specs.declared.lines.Standing.{Standing}
 use Rattle.cluster_events.specs.Servers.{State}
 use Rattle.cluster_events.specs.Running.{Shelf, listed, shown, show_by}
-use Rattle.lone_cluster.specs.Lone.{Alone, lone, standing_alone}
-use Rattle.lone_cluster.specs.Lone.{number_in_hand as number_alone}
+use Rattle.lone_cluster.specs.Lone.{Alone, lone, standing_alone, number_in_hand as number_alone}
 use Rattle.event_text.specs.Texts.{printed, refused_line, file_line, text_line, file_text_lines, shown_lines}
 use Rattle.cluster_core.specs.declared.world.World.{World}
-use Rattle.cluster_core.specs.Spelled.{AreSpelled}
-use Rattle.cluster_core.specs.Shelves.{sizes_of, listed_lines, ListsFiles, bytes_of, shelf_of}
+use Rattle.cluster_clients.specs.Spelled.{AreSpelled}
+use Rattle.cluster_clients.specs.Files.{sizes_of, listed_lines, ListsFiles, bytes_of}
+use Rattle.cluster_core.specs.Shelves.{shelf_of}
 use Rattle.cluster_core.specs.Worlds.{IsActive, Shows, IsGood, Happened, Does}
 use Rattle.cluster_core.specs.Showing.{role_shown, standing_of, refused, files_listed, file_shown, ShowsOn}
 use Rattle.cluster_core.specs.Reading.{TellsRead}

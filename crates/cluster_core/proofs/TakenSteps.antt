@@ -26,10 +26,10 @@ use Rattle.client_agent.specs.declared.answers.How.{How}
 use Rattle.client_agent.specs.declared.answers.How.TheVariants.{One, All}
 use Rattle.client_agent.specs.Seen.{Seen}
 use Rattle.cluster_core.specs.declared.world.World.{World as Kept}
-use Rattle.cluster_core.specs.Spelled.{AreSpelled}
-use Rattle.cluster_core.specs.Clients.{ShowsAgents, dispatch_as, Dispatches}
-use Rattle.cluster_core.specs.Taken.{taken_as, Takes}
-use Rattle.cluster_core.specs.Asked.{Asks}
+use Rattle.cluster_clients.specs.Spelled.{AreSpelled}
+use Rattle.cluster_clients.specs.Clients.{ShowsAgents, dispatch_as, Dispatches}
+use Rattle.cluster_clients.specs.Taken.{taken_as, Takes}
+use Rattle.cluster_clients.specs.Asked.{Asks}
 use Rattle.cluster_core.specs.Worlds.{IsActive, Shows, IsGood, Happened}
 
 -- a state with another world, whose history, time and places are the same

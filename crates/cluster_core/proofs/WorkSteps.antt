@@ -33,8 +33,8 @@ use Rattle.mirror.specs.declared.heard.Role.TheVariants.{Active}
 use Rattle.mirror.specs.Nodes.{Server, at_rest, replies_owed}
 use Rattle.mirror.specs.Working.{deeds_in, replies_in, worked, emptied}
 use Rattle.cluster_core.specs.declared.world.World.{World as Kept}
-use Rattle.cluster_core.specs.Spelled.{AreSpelled}
-use Rattle.cluster_core.specs.Heard.{posted_all, lines_all, PostsAll}
+use Rattle.cluster_clients.specs.Spelled.{AreSpelled}
+use Rattle.cluster_clients.specs.Posted.{posted_all, lines_all, PostsAll}
 use Rattle.cluster_core.specs.Worlds.{Shows, IsGood, HasState, TellsFiles, LeavesFiles, Happened, drained, pushed}
 use Rattle.cluster_core.proofs.HeldSteps.{held-range, calls-few}
 use Rattle.cluster_core.proofs.ServerSteps.{state_with, answered-history, agents-as}

@@ -27,8 +27,8 @@ use Rattle.cluster_events.specs.Breaking.{Tells, Holds}
 use Rattle.lone_cluster.specs.Lone.{Alone, lone}
 use Rattle.mirror.specs.Nodes.{down, at_work}
 use Rattle.cluster_core.specs.declared.world.World.{World}
-use Rattle.cluster_core.specs.Spelled.{AreSpelled}
-use Rattle.cluster_core.specs.Clients.{ShowsAgents}
+use Rattle.cluster_clients.specs.Spelled.{AreSpelled}
+use Rattle.cluster_clients.specs.Clients.{ShowsAgents}
 use Rattle.cluster_core.specs.Worlds.{IsGood, Shows, TellsFiles}
 
 -- a disk that told files tells some between those of the history without its last entry and those of the history: any attempts

@@ -1,7 +1,6 @@
 -- Words of bodies alone: messages of the net that are delivered.
-use Rattle.std.specs.Prelude.{◌≡◌, ℕ, Bool, true, false, Option, Some, None, List}
+use Rattle.std.specs.Prelude.{◌≡◌, ℕ, Bool, true, false, None, List}
 use Rattle.wire.specs.declared.message.Message.{Message}
-use Rattle.wire.specs.MessageSpelling.{MessageFits}
 use Rattle.plain_service.specs.Setups.{Setup}
 use Rattle.service_laws.specs.PlainOf.{plain_of}
 use Rattle.cluster_facts.specs.Types.{Request, Answer, Delivery, Receipt}
@@ -13,14 +12,7 @@ use Rattle.cluster_events.specs.Servers.{State}
 use Rattle.cluster_events.specs.Events.{hear, delivered, deliver, resend}
 use Rattle.lone_cluster.specs.Lone.{Alone, lone}
 use Rattle.cluster_core.specs.declared.world.World.{World}
-use Rattle.cluster_core.specs.Spelled.{AreSpelled}
 use Rattle.cluster_core.specs.Worlds.{Shows, IsGood, Happened, Does}
-
--- what the net has at this place
-abbrev pub IsFetched : ℕ → List (List ℕ) → Option Message → Type 0
-IsFetched place net None = (messages : List Message) → AreSpelled messages net → message_at place messages ≡ None
-IsFetched place net (Some message) =
-    MessageFits message × ((messages : List Message) → AreSpelled messages net → message_at place messages ≡ Some message)
 
 -- a reply or an item, which is for an agent; a request or a receipt, which is for the active server
 abbrev pub is_for_agent : Message → Bool

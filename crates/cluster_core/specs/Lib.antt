@@ -1,11 +1,6 @@
-pub mod Spelled
-pub mod Clients
 pub mod Shelves
-pub mod Listing
 pub mod Worlds
 pub mod Heard
-pub mod Taken
-pub mod Asked
 pub mod Rounds
 pub mod Settling
 pub mod Delivered
@@ -17,5 +12,4 @@ pub mod Beginning
 pub mod Starting
 pub mod Showing
 pub mod Reading
-pub mod Answers
 pub mod Errors

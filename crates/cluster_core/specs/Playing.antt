@@ -12,8 +12,8 @@ use Rattle.cluster_events.specs.Stopping.{EventStops}
 use Rattle.event_text.specs.Texts.{printed}
 use Rattle.lone_cluster.specs.Lone.{Alone, lone}
 use Rattle.cluster_core.specs.declared.world.World.{World}
-use Rattle.cluster_core.specs.declared.answer.EventAnswer.{EventAnswer}
-use Rattle.cluster_core.specs.declared.answer.EventAnswer.TheVariants.{Memory, DiskFault}
+use Rattle.cluster_clients.specs.declared.answer.EventAnswer.{EventAnswer}
+use Rattle.cluster_clients.specs.declared.answer.EventAnswer.TheVariants.{Memory, DiskFault}
 use Rattle.cluster_core.specs.Broken.{BreaksOn}
 use Rattle.cluster_core.specs.Errors.{FaultsIf}
 use Rattle.cluster_core.specs.Shelves.{shelf_of}

@@ -1,37 +1,25 @@
 -- Words of bodies alone: what the events of a round of `settle` come to. Lines on messages without effect are left out.
-use Rattle.std.specs.Prelude.{◌≡◌, ℕ, nat_lt, Bool, true, false, nat_eq, if◌then◌else◌, Option, Some, None, List, [], ◌∷◌, ◌++◌, length}
-use Rattle.std.specs.List.{AllByRecursion, starts_with}
-use Rattle.wire_code.specs.Spelling.{number_text}
+use Rattle.std.specs.Prelude.{◌≡◌, ℕ, Bool, Option, List, ◌++◌}
+use Rattle.std.specs.List.{AllByRecursion}
 use Rattle.disk_model.specs.Disk.{Files}
-use Rattle.cluster_facts.specs.Types.{Message, Reply, Answer, Delivery}
-use Rattle.cluster_facts.specs.Lists.{Stands, without}
+use Rattle.cluster_facts.specs.Types.{Message, Delivery}
+use Rattle.cluster_facts.specs.Lists.{Stands}
 use Rattle.cluster_facts.specs.Messages.{answers_to}
 use Rattle.cluster_facts.specs.History.{Empty}
 use Rattle.cluster_events.specs.Events.{reply_at, hear}
-use Rattle.cluster_facts.specs.Service.{Plain, IsPlain}
-use Rattle.cluster_facts.specs.World.{World as WorldOf, number_of}
-use Rattle.cluster_events.specs.Lines.{Told, is_ignored}
+use Rattle.cluster_facts.specs.World.{number_of}
+use Rattle.cluster_events.specs.Lines.{Told}
 use Rattle.cluster_events.specs.Outcomes.{Outcome, quietly, for_each}
 use Rattle.cluster_events.specs.Servers.{State, in_world}
 use Rattle.cluster_events.specs.Settling.{take_answer_by, take_answer, turn, client_turns, take_pushed, push_round, round, is_loud, Rounds}
 use Rattle.cluster_events.specs.Stopping.{EachStops, TurnStops, ClientStops, RoundStops, SettleStops}
-use Rattle.client_agent.specs.declared.answers.Taken.{Taken}
-use Rattle.client_agent.specs.declared.answers.Taken.TheVariants.{Answered, Item as TookItem, Missed}
-use Rattle.client_agent.specs.Seen.{Seen}
-use Rattle.event_text.specs.Texts.{printed, reply_line}
 use Rattle.lone_cluster.specs.Lone.{Alone, lone}
 use Rattle.cluster_core.specs.declared.world.World.{World}
-use Rattle.cluster_core.specs.Spelled.{AreSpelled, Posts, PostsOrNot}
-use Rattle.cluster_core.specs.Clients.{ShowsAgents}
-use Rattle.cluster_core.specs.Taken.{taken_as}
+use Rattle.cluster_clients.specs.Taken.{taken_as}
 use Rattle.plain_service.specs.Setups.{Setup}
 use Rattle.service_laws.specs.PlainOf.{plain_of}
 use Rattle.cluster_core.specs.Worlds.{IsGood, Shows, TellsFiles, LeavesFiles}
 use Rattle.cluster_core.specs.Errors.{Stopping}
-
--- what is printed of lines, but for those on messages without effect
-abbrev pub kept_lines : List Told → List (List ℕ)
-kept_lines told = printed (without is_ignored told)
 
 -- an event of states, by the setup
 abbrev pub Event : Type 0
@@ -175,45 +163,3 @@ pub record Settling (setup : Setup) (start : State Alone) (now : World) (before 
 abbrev pub SettlesSo : World → World → List (List ℕ) → List (List ℕ) → Bool → Option Files → Option Files → Type 0
 SettlesSo old now before after loud held left =
     (setup : Setup) (start : State Alone) → IsGood setup start → Shows setup start old → Settling setup start now before after loud held left
-
--- A reply or an item at its client's agent.
-
--- what became of a message that an agent took or missed is told; nothing is told of one that it missed
-abbrev pub IsHeeded : ℕ → Taken → List (List ℕ) → List (List ℕ) → List (List ℕ) → List (List ℕ) → Bool → Type 0
-IsHeeded client (Answered number reply) old new before after loud =
-    (new ≡ old) × (after ≡ before ++ reply_line client number reply ∷ []) × (loud ≡ true)
-IsHeeded client (TookItem receipt) old new before after loud =
-    Posts receipt old new before after × (loud ≡ nat_lt (length old) (length new))
-IsHeeded client (Missed why) old new before after loud = (new ≡ old) × (after ≡ before) × (loud ≡ false)
-
--- of what an agent took or missed, the receipt was posted or not
-abbrev pub MayPost : Taken → List (List ℕ) → List (List ℕ) → Type 0
-MayPost (TookItem receipt) old new = PostsOrNot receipt old new
-MayPost _ old new = new ≡ old
-
--- a reply or an item was delivered: the net and the agents that there are now, the lines, and whether it was taken
-abbrev pub Heeds : Message → List (List ℕ) → List (List ℕ) → List Seen → List Seen → List (List ℕ) → List (List ℕ) → Bool → Type 0
-Heeds message old_net new_net old new before after loud =
-    (plain : Plain) (world : WorldOf) → IsPlain plain → AreSpelled world.net old_net → ShowsAgents world old
-    → AreSpelled (taken_as plain 0 message world).state.net new_net × ShowsAgents (taken_as plain 0 message world).state new
-    × (after ≡ before ++ kept_lines (taken_as plain 0 message world).told) × (loud ≡ is_loud (taken_as plain 0 message world).told)
-
--- how the spelling of a reply to a client's call begins
-abbrev pub reply_front : ℕ → ℕ → List ℕ
-reply_front client number = 2 ∷ (number_text 2 client ++ number_text 4 number)
-
--- the newest byte string that begins so
-abbrev pub first_with : List ℕ → List (List ℕ) → Option (List ℕ)
-first_with front [] = None
-first_with front (bytes ∷ net) = if starts_with nat_eq bytes front then Some bytes else first_with front net
-
--- what was found, beside the reply that the messages give
-abbrev pub IsReplyFound : ℕ → ℕ → Option Reply → Option Message → Type 0
-IsReplyFound client number value None = value ≡ None
-IsReplyFound client number value (Some message) =
-    (reply : Reply) × (message ≡ Answer client number reply) × (value ≡ Some reply)
-
--- the newest reply to the call among the messages that the net spells, if there is one
-abbrev pub FindsReply : ℕ → ℕ → List (List ℕ) → Option Message → Type 0
-FindsReply client number net found =
-    (messages : List Message) → AreSpelled messages net → IsReplyFound client number (reply_at number (answers_to client messages)) found

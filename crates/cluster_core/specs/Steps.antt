@@ -16,7 +16,7 @@ use Rattle.cluster_events.specs.Running.{Shelf, Happens}
 use Rattle.client_agent.specs.declared.answers.How.{How}
 use Rattle.lone_cluster.specs.Lone.{Alone, lone}
 use Rattle.cluster_core.specs.declared.world.World.{World}
-use Rattle.cluster_core.specs.Clients.{dispatch_as}
+use Rattle.cluster_clients.specs.Clients.{dispatch_as}
 use Rattle.cluster_core.specs.Broken.{BreaksOn}
 use Rattle.cluster_core.specs.Playing.{FaultLeaves}
 use Rattle.cluster_core.specs.Shelves.{shelf_of}

@@ -17,8 +17,8 @@ use Rattle.event_text.specs.Texts.{printed}
 use Rattle.lone_cluster.specs.Lone.{Alone, lone, IsGoodAlone}
 use Rattle.mirror.specs.Nodes.{Server, down, at_rest, at_work}
 use Rattle.cluster_core.specs.declared.world.World.{World}
-use Rattle.cluster_core.specs.Spelled.{AreSpelled}
-use Rattle.cluster_core.specs.Clients.{ShowsAgents}
+use Rattle.cluster_clients.specs.Spelled.{AreSpelled}
+use Rattle.cluster_clients.specs.Clients.{ShowsAgents}
 
 -- the active server of a history without its entry in hand, by this entry
 abbrev pub IsActive : Setup → List Entry → Hand → Server → Type 0

@@ -2,48 +2,17 @@
 ghost use Rattle.std.specs.Prelude.{◌≡◌, true, IfOk, OnOk, OnErr};
 ghost use Rattle.cluster_core.specs.Broken.{BreaksAlone, BreaksAloneIf};
 ghost use Rattle.wire.specs.MessageSpelling.{MessageFits};
-ghost use Rattle.wire.specs.Messages.{Spells};
 ghost use Rattle.cluster_core.specs.Worlds.{HasState, DoesIf, StandsIn};
-ghost use Rattle.cluster_core.specs.Delivered.{IsFetched, is_for_agent, is_for_server, delivered_by, Delivers};
+ghost use Rattle.cluster_clients.specs.Spelled.{IsFetched};
+ghost use Rattle.cluster_core.specs.Delivered.{is_for_agent, is_for_server, delivered_by, Delivers};
 
 use crate::World;
-use crate::deliver::take;
 use crate::hearing::hear;
 use ais_values::Seq;
-use message_net::Net;
+use cluster_clients::{fetch, take};
 use std::alloc::{AllocError, Global};
 use std::mem;
-use wire::{Message, decode, law_of_spellings};
-
-/// A longer string of the net is not read.
-const BYTES: usize = 4_294_967_294;
-
-/// The message that these bytes spell. Where they spell none, or are more than 4,294,967,294, it answers as if memory ran out.
-fn read_message(alloc: Global, bytes: &[u8]) -> Result<Message, AllocError>
-    ensures { IfOk result (λ message. Spells message bytes.now) }
-{
-    if bytes.len() > BYTES {
-        return Err(AllocError);
-    }
-    match decode(alloc, bytes) {
-        Ok(message) => Ok(message),
-        Err(_) => Err(AllocError),
-    }
-}
-
-/// The message of this number in the net.
-fn fetch(alloc: Global, net: &Net, place: u64) -> Result<Option<Message>, AllocError>
-    ensures { IfOk result (λ found. IsFetched place net.now found) }
-{
-    law_of_spellings();
-    match net.at(place) {
-        None => Ok(None),
-        Some(bytes) => match read_message(alloc, bytes) {
-            Ok(message) => Ok(Some(message)),
-            Err(error) => Err(error),
-        },
-    }
-}
+use wire::Message;
 
 /// Whether the message is a reply or an item, which are for an agent.
 fn is_for_agent(message: &Message) -> bool

@@ -2,9 +2,10 @@
 ghost use Rattle.std.specs.Prelude.{ℕ, List, IfOk, IfErr};
 ghost use Rattle.script_language.specs.Lines.{Spells};
 
+use crate::World;
 use crate::playing::play;
-use crate::{EventAnswer, World};
 use ais_values::Seq;
+use cluster_clients::EventAnswer;
 use disk_model::{DiskAnswer, SharedDisk};
 use script_lines::Line;
 use std::alloc::Global;
@@ -13,7 +14,7 @@ use std::mem;
 impl World {
     ghost use Rattle.cluster_core.specs.Worlds.{HasState};
     ghost use Rattle.cluster_core.specs.Playing.{IsLoneLine, DoesEvent, EventBroken};
-    ghost use Rattle.cluster_core.specs.Answers.{RisesAtFault};
+    ghost use Rattle.cluster_clients.specs.Answers.{RisesAtFault};
 
     /// Does what a line of a script asks for while no server fails, and answers with the lines that it prints, each with its line
     /// feed. A cluster line, the lines on failures of servers and a time below that in force are no part of it.

@@ -8,9 +8,9 @@ ghost use Rattle.cluster_core.specs.Broken.{BreaksAloneIf};
 ghost use Rattle.cluster_core.specs.PartlyDone.{IsPartlyTold};
 
 use crate::World;
-use crate::posting::post_all;
 use ais_values::Seq;
 use calls::{Entry, History};
+use cluster_clients::post_all;
 use cluster_events::Why;
 use event_text::{put_entry, put_ignored};
 use message_net::Net;

@@ -9,8 +9,6 @@ ghost use Rattle.cluster_core.specs.Steps.{IsCaller, IsInRange, asked_by, dispat
 ghost use Rattle.cluster_core.specs.Broken.{BreaksAlone};
 
 use crate::World;
-use crate::agents::dispatch;
-use crate::ask::ask;
 use crate::delivering::deliver;
 use crate::pushing::push;
 use crate::resending::resend;
@@ -20,6 +18,7 @@ use crate::working::drain;
 use ais_values::Seq;
 use calls::Ask;
 use client_agent::How;
+use cluster_clients::{ask, dispatch};
 use disk_model::{DiskAnswer, SharedDisk};
 use script_lines::Line;
 use std::alloc::{AllocError, Global};

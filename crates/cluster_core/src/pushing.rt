@@ -4,8 +4,8 @@ ghost use Rattle.cluster_core.specs.Worlds.{HasState, Pushes};
 ghost use Rattle.cluster_core.specs.Broken.{BreaksAlone};
 
 use crate::World;
-use crate::posting::post_all;
 use ais_values::Seq;
+use cluster_clients::post_all;
 use std::alloc::{AllocError, Global};
 use std::mem;
 use wire::Message;

@@ -6,10 +6,9 @@ ghost use Rattle.cluster_core.specs.Worlds.{HasState, Does};
 ghost use Rattle.cluster_core.specs.Delivered.{HearsAll, StandAll, resent_by};
 
 use crate::World;
-use crate::agents::place_of;
 use crate::hearing::hear;
-use crate::posting::number_in;
 use ais_values::Seq;
+use cluster_clients::{number_in, place_of};
 use std::alloc::{AllocError, Global};
 use std::mem;
 use wire::Message;

@@ -1,25 +1,20 @@
 //! A round of `settle`: the servers work, each message that a client sends again is heard and its reply taken, and all items are
 //! pushed and taken. Lines on messages without effect are left out.
-ghost use Rattle.std.specs.Prelude.{◌≡◌, ◌<◌, ◌++◌, ℕ, length, map, slice_get, Some, if◌then◌else◌, IfOk, IfErr, OnOk, OnErr};
+ghost use Rattle.std.specs.Prelude.{◌≡◌, ◌++◌, if◌then◌else◌, IfOk, IfErr, OnOk, OnErr};
 ghost use Rattle.ais_values.specs.Causes.{RoseExactlyOn};
 ghost use Rattle.disk_model.specs.declared.answers.DiskAnswer.{DiskAnswer};
 ghost use Rattle.wire_code.specs.Spelling.{IsClient, IsCount};
-ghost use Rattle.cluster_facts.specs.Agents.{Agent as AgentOf, resent};
-ghost use Rattle.client_agent.specs.Seen.{Seen, seen_of};
 ghost use Rattle.cluster_core.specs.Worlds.{HasState, StandsIn};
 ghost use Rattle.cluster_core.specs.Broken.{BreaksAloneIf};
 ghost use Rattle.cluster_core.specs.Errors.{BreaksOffIf};
 ghost use Rattle.cluster_core.specs.Rounds.{PlaysOn, Plays, HasStateOf, IsIdle, IsIdleWithAll, IsIdleWithItems, any_state, heard_so, answer_taken, reply_taken, message_taken, turned, all_turned, client_turned, clients_turned, state_turned, items_taken, round_pushed, round_played, StopsInTurn, StopsInTurns, StopsInClient, StopsInClients, StopsInEach, StopsInRound};
 
 use crate::World;
-use crate::agents::place_of;
 use crate::hearing::hear;
-use crate::heeding::heed;
 use crate::pushing::push;
-use crate::replies::reply_to;
 use crate::working::drain;
 use ais_values::Seq;
-use client_agent::Agent;
+use cluster_clients::{clients_of, heed, place_of, reply_to, sent_again};
 use disk_model::{DiskAnswer, SharedDisk};
 use std::alloc::{AllocError, Global};
 use std::mem;
@@ -197,16 +192,6 @@ fn turn_all<D: SharedDisk>(
     Ok(loud)
 }
 
-/// The messages that the agent at a place sends again.
-fn sent_again(alloc: Global, agents: &[Agent], at: usize) -> Result<Seq<Message>, AllocError>
-    requires { at < length agents.now }
-    ensures { IfOk result (λ messages. (client places : ℕ) (agent : AgentOf) →
-        slice_get agents.now at ≡ Some (seen_of client places agent) →
-        messages ≡ resent client agent) }
-{
-    agents[at].resend(alloc)
-}
-
 /// A turn for each message that a client sends again. Answers whether something went on.
 fn turn_client<D: SharedDisk>(
     alloc: Global,
@@ -259,17 +244,6 @@ fn turn_clients<D: SharedDisk>(
         }
     }
     Ok(loud)
-}
-
-/// The clients that were ever called, by rising number.
-fn clients_of(alloc: Global, agents: &[Agent]) -> Result<Vec<u16>, AllocError>
-    ensures { IfOk result (λ clients. clients.items ≡ map (λ (one : Seen). one.client) agents.now) }
-{
-    let mut clients = Vec::new(alloc);
-    for agent in agents {
-        clients.push(agent.client())?;
-    }
-    Ok(clients)
 }
 
 /// Turns for all clients, by rising number. Answers whether something went on.

@@ -1,19 +1,17 @@
 //! What is shown of servers and files, and refusals.
-ghost use Rattle.std.specs.Prelude.{◌≡◌, ◌≤◌, length, IfOk, IfSome, OnOk, IsErrOf};
+ghost use Rattle.std.specs.Prelude.{◌≡◌, OnOk, IsErrOf};
 ghost use Rattle.ais_values.specs.Causes.{RoseExactlyOn};
-ghost use Rattle.disk_model.specs.Disk.{bytes_at};
 ghost use Rattle.disk_model.specs.declared.answers.DiskAnswer.{DiskAnswer};
 ghost use Rattle.script_lines.specs.declared.line.Line.TheVariants.{Cat};
-ghost use Rattle.cluster_core.specs.Shelves.{bytes_of};
 ghost use Rattle.cluster_core.specs.Worlds.{Does};
 ghost use Rattle.cluster_core.specs.Reading.{TellsRead};
 ghost use Rattle.cluster_core.specs.Showing.{role_shown, standing_of, refused, servers_listed, files_listed, file_shown, ShowsOn};
 
 use crate::World;
-use crate::files::list_files;
 use ais_values::{Seq, Text};
+use cluster_clients::{list_files, read_file};
 use cluster_events::{ServerRole, Standing};
-use disk_model::{DiskAnswer, DiskFault, SharedDisk};
+use disk_model::{DiskAnswer, SharedDisk};
 use event_text::{put_refused, put_server, put_shown};
 use mirror::Role;
 use script_lines::{Line, Server};
@@ -99,60 +97,6 @@ pub(crate) fn show_files<D: SharedDisk>(
     match lines.append(&mut listed) {
         Ok(()) => Ok(()),
         Err(_) => Err(DiskAnswer::Memory),
-    }
-}
-
-/// The first bytes of a file, so many of them; fewer where the disk gives fewer. Where none is asked for the disk is not read.
-/// `Failed` comes exactly where the disk's count of faults rose.
-fn read_front<D: SharedDisk>(
-    alloc: Global,
-    disk: &mut D,
-    name: &[u8],
-    size: u64,
-) -> Result<Seq<u8>, DiskAnswer>
-    ensures told { IfOk result (λ bytes. IfSome (D.files disk.old) (λ files.
-        bytes ≡ bytes_at files name.now 0 size)) }
-    ensures bound { IfOk result (λ bytes. length bytes ≤ size) }
-    ensures unread { size ≡ 0 → disk.new ≡ disk.old }
-    ensures same { D.files disk.new ≡ D.files disk.old }
-    ensures cause { RoseExactlyOn (D.faults disk.old) (D.faults disk.new) result DiskAnswer.Failed }
-{
-    if size == 0 {
-        return Ok(Seq::new(alloc));
-    }
-    let mut bytes = match vec![in alloc; 0; size as usize] {
-        Ok(bytes) => bytes,
-        Err(_) => return Err(DiskAnswer::Memory),
-    };
-    match disk.read(name, 0, bytes.as_mut_slice()) {
-        Ok(count) => {
-            bytes.truncate(count);
-            Ok(Seq::from_vec(bytes))
-        }
-        Err(DiskFault::Failed) => Err(DiskAnswer::Failed),
-    }
-}
-
-/// The bytes of a file; `None` where there is no file of that name. `Failed` comes exactly where the disk's count of faults
-/// rose.
-fn read_file<D: SharedDisk>(
-    alloc: Global,
-    disk: &mut D,
-    name: &[u8],
-) -> Result<Option<Seq<u8>>, DiskAnswer>
-    ensures told { IfOk result (λ bytes. IfSome (D.files disk.old) (λ files.
-        bytes ≡ bytes_of files name.now)) }
-    ensures same { D.files disk.new ≡ D.files disk.old }
-    ensures cause { RoseExactlyOn (D.faults disk.old) (D.faults disk.new) result DiskAnswer.Failed }
-{
-    let size = match disk.len(name) {
-        Ok(Some(size)) => size,
-        Ok(None) => return Ok(None),
-        Err(DiskFault::Failed) => return Err(DiskAnswer::Failed),
-    };
-    match read_front(alloc, disk, name, size) {
-        Ok(bytes) => Ok(Some(bytes)),
-        Err(answer) => Err(answer),
     }
 }
 

@@ -4,15 +4,14 @@ ghost use Rattle.std.specs.List.{AllByRecursion};
 ghost use Rattle.ais_values.specs.Causes.{RoseExactlyOn};
 ghost use Rattle.disk_model.specs.declared.answers.DiskAnswer.{DiskAnswer};
 ghost use Rattle.wire.specs.MessageSpelling.{MessageInRange};
-ghost use Rattle.cluster_core.specs.Heard.{PostsAll};
-ghost use Rattle.cluster_core.specs.PartlyDone.{PostsSome};
+ghost use Rattle.cluster_clients.specs.Posted.{PostsAll, PostsSome};
 ghost use Rattle.cluster_core.specs.Errors.{BreaksOff};
 ghost use Rattle.cluster_core.specs.Rounds.{StopsInDrain};
 ghost use Rattle.cluster_core.specs.Worlds.{HasState, DoesOn, drained};
 
 use crate::World;
-use crate::posting::post_all;
 use ais_values::Seq;
+use cluster_clients::post_all;
 use cluster_events::ServerRole;
 use disk_model::{DiskAnswer, SharedDisk};
 use event_text::put_server;

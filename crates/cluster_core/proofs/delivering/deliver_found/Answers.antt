@@ -1,6 +1,6 @@
 use Rattle.std.proofs.Common.{Option, subst}
 use Rattle.wire.specs.declared.message.Message.{Message}
-use Rattle.cluster_core.specs.Delivered.{IsFetched}
+use Rattle.cluster_clients.specs.Spelled.{IsFetched}
 use Rattle.cluster_core.proofs.BrokenClients.{delivery-breaks}
 use Rattle.cluster_core.proofs.FetchSteps.{delivers-fetched, delivers-nothing}
 use Rattle.cluster_core.proofs.delivering.deliver_found.Goals as goal

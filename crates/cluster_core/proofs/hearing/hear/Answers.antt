@@ -4,7 +4,7 @@ use Rattle.calls.specs.declared.entry.Entry.{Entry}
 use Rattle.cluster_core.specs.Heard.{IsToldHeard}
 use Rattle.cluster_core.specs.PartlyDone.{IsPartlyTold}
 use Rattle.cluster_core.specs.Worlds.{StandsIn}
-use Rattle.cluster_core.proofs.DispatchSteps.{on-err}
+use Rattle.cluster_clients.proofs.DispatchSteps.{on-err}
 use Rattle.cluster_core.proofs.ServerSteps.{message-happens, receive-conditions, has-room, heard-by, heard-range}
 use Rattle.cluster_core.proofs.BrokenServers.{hears-break}
 use Rattle.cluster_core.proofs.BrokenClients.{same-breaks-if}

@@ -1,7 +1,7 @@
 use Rattle.std.proofs.Common.{Bool, subst}
 use Rattle.std.proofs.lemmas.Result.{on_ok_weaker}
 use Rattle.cluster_core.specs.Delivered.{Delivers}
-use Rattle.cluster_core.proofs.DispatchSteps.{on-err}
+use Rattle.cluster_clients.proofs.DispatchSteps.{on-err}
 use Rattle.cluster_core.proofs.LineBroken.{alone-as}
 use Rattle.cluster_core.proofs.LineSteps.{delivers-refused-after}
 use Rattle.cluster_core.proofs.playing.deliver_line.Goals as goal

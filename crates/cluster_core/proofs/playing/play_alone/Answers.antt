@@ -5,7 +5,7 @@ use Rattle.cluster_core.specs.Worlds.{Does}
 use Rattle.cluster_core.specs.Showing.{refused}
 use Rattle.cluster_core.specs.Playing.{IsLoneLine}
 use Rattle.cluster_core.specs.Steps.{IsInRange, PlaysAlone}
-use Rattle.cluster_core.proofs.DispatchSteps.{on-err}
+use Rattle.cluster_clients.proofs.DispatchSteps.{on-err}
 use Rattle.cluster_core.proofs.ServerSteps.{moment-same}
 use Rattle.cluster_core.proofs.LineSteps.{plays-as, plays-time, plays-log, plays-ntf, plays-deliver, plays-resend, plays-mirror, plays-ack, plays-push, plays-one, plays-all, plays-servers}
 use Rattle.cluster_core.proofs.playing.play_alone.Goals as goal

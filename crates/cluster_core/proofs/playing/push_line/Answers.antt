@@ -3,7 +3,7 @@ use Rattle.std.proofs.lemmas.Result.{on_ok_weaker}
 use Rattle.script_lines.specs.declared.line.Line.{Line}
 use Rattle.cluster_core.specs.Worlds.{Does}
 use Rattle.cluster_core.specs.Showing.{refused}
-use Rattle.cluster_core.proofs.DispatchSteps.{on-err}
+use Rattle.cluster_clients.proofs.DispatchSteps.{on-err}
 use Rattle.cluster_core.proofs.WorkSteps.{is-some, is-none}
 use Rattle.cluster_core.proofs.LineSteps.{pushes-busy, pushes-does}
 use Rattle.cluster_core.proofs.playing.push_line.Goals as goal

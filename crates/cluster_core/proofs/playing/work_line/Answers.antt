@@ -4,7 +4,7 @@ use Rattle.script_lines.specs.declared.line.Line.{Line}
 use Rattle.script_lines.specs.declared.line.Line.TheVariants as line
 use Rattle.cluster_core.specs.Worlds.{Does}
 use Rattle.cluster_core.specs.Showing.{refused}
-use Rattle.cluster_core.proofs.DispatchSteps.{on-err}
+use Rattle.cluster_clients.proofs.DispatchSteps.{on-err}
 use Rattle.cluster_core.proofs.WorkSteps.{is-some, is-none}
 use Rattle.cluster_core.proofs.LineBroken.{ends-broken, work-broken}
 use Rattle.cluster_core.proofs.LineSteps.{plays-as, plays-alone, plays-idle, plays-work, played-as, ends-ok, ends-cause}

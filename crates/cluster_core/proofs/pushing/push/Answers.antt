@@ -2,9 +2,8 @@ use Rattle.std.proofs.Common.{List, sym, subst}
 use Rattle.std.specs.List.{AllByRecursion}
 use Rattle.wire.specs.declared.message.Message.{Message}
 use Rattle.wire.specs.MessageSpelling.{MessageInRange}
-use Rattle.cluster_core.specs.Heard.{PostsAll}
-use Rattle.cluster_core.specs.PartlyDone.{PostsSome}
-use Rattle.cluster_core.proofs.DispatchSteps.{on-err}
+use Rattle.cluster_clients.specs.Posted.{PostsAll, PostsSome}
+use Rattle.cluster_clients.proofs.DispatchSteps.{on-err}
 use Rattle.cluster_core.proofs.BrokenServers.{push-breaks}
 use Rattle.cluster_core.proofs.BrokenClients.{same-breaks}
 use Rattle.cluster_core.proofs.WorkSteps.{pushes, is-active, items-range}

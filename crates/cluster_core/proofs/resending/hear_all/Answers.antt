@@ -1,7 +1,7 @@
 use Rattle.std.proofs.lemmas.List.{take_all}
 use Rattle.wire.specs.MessageSpelling.{MessageInRange}
-use Rattle.cluster_core.proofs.DispatchSteps.{on-err}
-use Rattle.cluster_core.proofs.PostAllSteps.{all-read}
+use Rattle.cluster_clients.proofs.DispatchSteps.{on-err}
+use Rattle.cluster_clients.proofs.PostAllSteps.{all-read}
 use Rattle.cluster_core.proofs.BrokenClients.{hears-stop, hears-stop-within}
 use Rattle.cluster_core.proofs.ChainSteps.{hears-none_yet, hears-one_more, hears-whole, still-standing, all-range}
 use Rattle.cluster_core.proofs.resending.hear_all.Goals as goal

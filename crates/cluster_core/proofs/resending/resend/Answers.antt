@@ -2,7 +2,7 @@ use Rattle.std.proofs.Common.{◌≡◌, Some, List, get_or, ap, sym, ◌∙◌,
 use Rattle.std.proofs.lemmas.Result.{on_ok_weaker, on_err_weaker}
 use Rattle.wire.specs.declared.message.Message.{Message}
 use Rattle.client_agent.specs.Seen.{Seen}
-use Rattle.cluster_core.specs.Clients.{place_of}
+use Rattle.cluster_clients.specs.Clients.{place_of}
 use Rattle.cluster_core.specs.Delivered.{HearsAll, StandAll}
 use Rattle.cluster_core.specs.PartlyDone.{AllStandIn}
 use Rattle.cluster_core.specs.Broken.{BreaksAloneIf}

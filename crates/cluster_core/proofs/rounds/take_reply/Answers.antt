@@ -2,7 +2,8 @@ use Rattle.std.proofs.Common.{Option, Some, subst}
 use Rattle.std.proofs.lemmas.Result.{IfOk-weaker, on_err_weaker}
 use Rattle.wire.specs.declared.message.Message.{Message}
 use Rattle.cluster_core.specs.Worlds.{StandsIn}
-use Rattle.cluster_core.specs.Rounds.{any_state, FindsReply}
+use Rattle.cluster_clients.specs.Replies.{FindsReply}
+use Rattle.cluster_core.specs.Rounds.{any_state}
 use Rattle.cluster_core.proofs.BrokenClients.{same-breaks-if}
 use Rattle.cluster_core.proofs.ErrorSteps.{alone-so}
 use Rattle.cluster_core.proofs.ErrorTurns.{reply-follows}

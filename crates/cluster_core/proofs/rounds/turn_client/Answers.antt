@@ -3,7 +3,7 @@ use Rattle.std.proofs.lemmas.Result.{IfOk-weaker, IfErr-weaker}
 use Rattle.wire.specs.declared.message.Message.{Message}
 use Rattle.cluster_facts.specs.Agents.{Agent, resent}
 use Rattle.client_agent.specs.Seen.{Seen, seen_of}
-use Rattle.cluster_core.specs.Clients.{place_of}
+use Rattle.cluster_clients.specs.Clients.{place_of}
 use Rattle.cluster_core.specs.Errors.{BreaksOffIf}
 use Rattle.cluster_core.specs.Rounds.{HasStateOf, PlaysOn, IsIdle, IsIdleWithAll, all_turned, StopsInTurns, StopsInClient}
 use Rattle.cluster_core.proofs.RoundSteps.{client-absent, sent-are, client-ready, client-plays}

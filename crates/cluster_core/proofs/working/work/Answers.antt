@@ -1,5 +1,5 @@
 use Rattle.std.proofs.Common.{◌≡◌, List, ℕ, length, Err, ap, subst}
-use Rattle.cluster_core.specs.Heard.{PostsAll}
+use Rattle.cluster_clients.specs.Posted.{PostsAll}
 use Rattle.cluster_core.proofs.BrokenClients.{same-breaks-if}
 use Rattle.cluster_core.proofs.BrokenServers.{work-lacks, work-untold, work-faults}
 use Rattle.cluster_core.proofs.WorkSteps.{works, worked-range, taken-back}

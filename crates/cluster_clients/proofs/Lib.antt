@@ -1,0 +1,10 @@
+pub mod ToldLines
+pub mod PostingSteps
+pub mod PostAllSteps
+pub mod ReadSteps
+pub mod DispatchSteps
+pub mod ListingSteps
+pub mod DeliverySteps
+pub mod AskSteps
+pub mod HeedingSteps
+pub mod ReplySteps
