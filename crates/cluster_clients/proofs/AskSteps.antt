@@ -23,8 +23,8 @@ use Rattle.cluster_clients.specs.Spelled.{AreSpelled, Posts, PostsOrNot}
 use Rattle.cluster_clients.specs.Clients.{seen_all, ShowsAgents, place_of}
 use Rattle.cluster_clients.specs.Asked.{CanCallAt, IsSentAt, HasFitRequest, IsToldSent, place_for, IsPlaced, Asks, MayPost, IsPartlyPlaced}
 use Rattle.cluster_clients.specs.PartlyDone.{PartlyShows, AsksPartly}
-use Rattle.cluster_clients.proofs.DispatchSteps.{absent, first-above, others-same, seen-at, set-same, handed-shows}
-use Rattle.cluster_clients.proofs.DeliverySteps.{Ends, found-own, seen-some, agent_for, get-some}
+use Rattle.cluster_clients.proofs.DispatchSteps.{fresh-agent, first-above, others-same, seen-at, set-same, handed-shows}
+use Rattle.cluster_clients.proofs.DeliverySteps.{found-own, seen-some, agent_for, get-some}
 use Rattle.cluster_events.proofs.Sound.{put-keeps, put-stands}
 
 -- The request of a call can be posted.
@@ -118,6 +118,10 @@ asked-by : (plain : Plain) (client : ℕ) (asked : Ask) (world : World) (status 
 asked-by plain client asked world status is = ap (λ s. ask_by plain client (call_of asked) s world) is
 
 -- what is refused changes nothing
+abbrev Ends : List (List ℕ) → List Seen → List (List ℕ) → List (List ℕ) → Outcome World → Type 0
+Ends net seen before after outcome =
+    AreSpelled outcome.state.net net × ShowsAgents outcome.state seen × (after ≡ before ++ printed outcome.told)
+
 asks-refused : (plain : Plain) (client : ℕ) (asked : Ask) (status : Status) (world : World) (new_net : List (List ℕ)) (new : List Seen) (before after : List (List ℕ)) → refusal asked (world.agents client) ≡ Some status → AreSpelled world.net new_net → ShowsAgents world new → after ≡ before ++ declined_line client status ∷ [] → Ends new_net new before after (ask plain client asked world)
 asks-refused plain client asked status world new_net new before after refused spelled shows lines =
     subst (Ends new_net new before after) (sym (asked-by plain client asked world (Some status) refused)) (spelled, shows, lines)
@@ -149,11 +153,6 @@ asks-at callbacks client at asked old_net new_net old new before after (Posted m
       rising = subst (λ cs. IsRising nat_lt cs) (sym stays) moved.rising;
       listed = λ other. subst (λ cs. Stands other cs ⊎ (agents other ≡ fresh)) (sym stays) (moved.listed other);
     })
-
-fresh-agent : (client : ℕ) (old : List Seen) (world : World) → ShowsAgents world old → place_of client old ≡ None → (Stands client world.clients → ⊥) × (world.agents client ≡ fresh)
-fresh-agent client old world shows none =
-    let nowhere = absent client world.places world.agents world.clients (ap (place_of client) (sym shows.shown) ∙ none) in
-    (nowhere, elim (shows.listed client) [ inl stands ↦ absurd (nowhere stands) | inr is ↦ is ])
 
 pub asks-first-refused : (callbacks client : ℕ) (asked : Ask) (status : Status) (seen : Seen) (old_net new_net : List (List ℕ)) (old new : List Seen) (before after : List (List ℕ)) → place_of client old ≡ None → IsSent client callbacks asked fresh (Refused status) seen → new_net ≡ old_net → new ≡ old → after ≡ before ++ declined_line client status ∷ [] → Asks callbacks client asked old_net new_net old new before after
 asks-first-refused callbacks client asked status seen old_net new_net old new before after none is net agents lines plain world is_plain spelled shows places =

@@ -1,27 +1,25 @@
--- A reply or an item is delivered to its client's agent as the world has it.
-use Rattle.std.proofs.Common.{◌≡◌, ℕ, zero, suc, ◌+◌, ◌<◌, inl, inr, Bool, true, false, ◌==◌, cond, nat_lt, nat_le, if◌then◌else◌, Option, Some, None, List, [], ◌∷◌, ◌++◌, length, slice_get, slice_set, refl, ap, sym, ◌∙◌, subst, arith}
+-- What an agent makes of a reply or an item is what the world has it make.
+use Rattle.std.proofs.Common.{◌≡◌, ℕ, zero, suc, ◌+◌, ◌<◌, Bool, true, false, ◌==◌, cond, nat_lt, nat_le, if◌then◌else◌, Option, Some, None, List, [], ◌∷◌, length, slice_get, slice_set, refl, ap, sym, ◌∙◌, subst, arith}
 use Rattle.std.specs.List.{position_from}
 use Rattle.std.proofs.lemmas.Iterator.Adapters.{position_from-zero}
 use Rattle.wire.specs.MessageSpelling.{MessageInRange}
 use Rattle.cluster_facts.specs.Types.{Call, Reply, Item, Callback, Written, Success, Message, Answer, Delivery, Receipt}
 use Rattle.cluster_facts.specs.Service.{Plain}
-use Rattle.cluster_facts.specs.Agents.{Living, Agent, fresh, kept_call, callbacks_of, lacks_place, after_reply, find_living, after_item}
+use Rattle.cluster_facts.specs.Agents.{Living, Agent, kept_call, callbacks_of, lacks_place, after_reply, find_living, after_item}
 use Rattle.cluster_facts.specs.World.{World, posted, with_agent}
 use Rattle.cluster_facts.proofs.Words.{by_test}
 use Rattle.cluster_events.specs.Lines.{Ignored, Replied}
 use Rattle.cluster_events.specs.Outcomes.{Outcome}
 use Rattle.cluster_events.specs.ClientEvents.{post_lines, reply_by, take_reply, item_as, item_by, take_item, Takes as TakesIt, Misses}
 use Rattle.cluster_events.specs.declared.lines.Why.TheVariants.{Left, TakenItem, AheadItem}
-use Rattle.client_agent.specs.declared.answers.MissedWhy.{MissedWhy}
 use Rattle.client_agent.specs.declared.answers.Taken.{Taken}
 use Rattle.client_agent.specs.declared.answers.Taken.TheVariants.{Answered, Item as TookItem, Missed}
 use Rattle.client_agent.specs.Seen.{Seen, seen_of}
 use Rattle.client_agent.specs.Steps.{IsReplyTo, IsReply, IsItemBy, IsItem, IsTaken, IsFor}
-use Rattle.event_text.specs.Texts.{printed, ignored_line, reply_line}
-use Rattle.cluster_clients.specs.Spelled.{AreSpelled, Posts}
 use Rattle.cluster_clients.specs.Clients.{ShowsAgents, place_of}
-use Rattle.cluster_clients.specs.Taken.{receiver_of, missed_by_none, why_of, IsTakenAt, HasFitReceipt, IsTold, taken_as, Takes}
-use Rattle.cluster_clients.proofs.DispatchSteps.{absent, seen-at, set-same, handed-shows}
+use Rattle.cluster_clients.specs.Taken.{taken_as}
+use Rattle.cluster_clients.specs.Taking.{receiver_of, why_of, IsTakenAt, HasFitReceipt}
+use Rattle.cluster_clients.proofs.DispatchSteps.{seen-at}
 
 -- The agent that is found is its client's.
 
@@ -152,43 +150,7 @@ receipt-range client at message old new receipt found receiver range within is =
     let done = is one.0.client one.0.places (agent_for one.0) there in
     taken-receipt one.0.client one.0.places message (agent_for one.0) receipt done.0 (found-for client at old message found receiver one.0 one.1) range done.1
 
--- What a delivery comes to.
-
--- an outcome that is one line on a message without effect
-abbrev pub Ends : List (List ℕ) → List Seen → List (List ℕ) → List (List ℕ) → Outcome World → Type 0
-Ends net seen before after outcome = AreSpelled outcome.state.net net × ShowsAgents outcome.state seen × (after ≡ before ++ printed outcome.told)
-
--- a client without an agent misses it
-pub takes-absent : (place client : ℕ) (message : Message) (old_net new_net : List (List ℕ)) (old new : List Seen) (before after : List (List ℕ)) → receiver_of message ≡ Some client → place_of client old ≡ None → new_net ≡ old_net → new ≡ old → after ≡ before ++ ignored_line place (missed_by_none message) ∷ [] → Takes place message old_net new_net old new before after
-takes-absent place client message old_net new_net old new before after receiver none net agents lines plain world is_plain spelled shows =
-    let nowhere = absent client world.places world.agents world.clients (ap (place_of client) (sym shows.shown) ∙ none) in
-    let is_fresh : world.agents client ≡ fresh = elim (shows.listed client) [ inl stands ↦ absurd (nowhere stands) | inr is ↦ is ] in
-    by-message message receiver is_fresh lines
-  where
-    spelled_now : AreSpelled world.net new_net
-    spelled_now = subst (λ n. AreSpelled world.net n) (sym net) spelled
-
-    shows_now : ShowsAgents world new
-    shows_now = subst (λ s. ShowsAgents world s) (sym agents) shows
-
-    by-message : (m : Message) → receiver_of m ≡ Some client → world.agents client ≡ fresh → after ≡ before ++ ignored_line place (missed_by_none m) ∷ [] → Ends new_net new before after (taken_as plain place m world)
-    by-message (Answer receiver number reply) is is_fresh lines =
-        let e : client ≡ receiver = cc in
-        let A : ℕ → Type 0 = λ c. world.agents c ≡ fresh in
-        let own = subst A e is_fresh in
-        let none_kept : kept_call number (world.agents receiver).kept ≡ None = ap (λ (a : Agent). kept_call number a.kept) own in
-        let outcome : take_reply place receiver number reply world ≡ reply_by place receiver number reply None world = ap (λ o. reply_by place receiver number reply o world) none_kept in
-        subst (Ends new_net new before after) (sym outcome) (spelled_now, shows_now, lines)
-    by-message (Delivery receiver key item) is is_fresh lines =
-        let e : client ≡ receiver = cc in
-        let A : ℕ → Type 0 = λ c. world.agents c ≡ fresh in
-        let own = subst A e is_fresh in
-        let none_living : find_living key (world.agents receiver).living ≡ None = ap (λ (a : Agent). find_living key a.living) own in
-        let outcome : take_item plain place receiver key item world ≡ item_by plain place receiver key item None world = ap (λ o. item_by plain place receiver key item o world) none_living in
-        subst (Ends new_net new before after) (sym outcome) (spelled_now, shows_now, lines)
-    by-message _ is is_fresh lines = cc
-
--- What an agent makes of a message is what the world has it make.
+-- What becomes of the message.
 
 abbrev pub agents_with : ℕ → Agent → World → World
 agents_with client next world = record world { agents = with_agent client next world.agents }
@@ -274,38 +236,6 @@ came plain place client at message world old new taken shows found receiver is =
       new_is = done.2;
       old_is = there.1;
     }
-
-pub takes-missed : (place client at : ℕ) (message : Message) (old_net new_net : List (List ℕ)) (old new : List Seen) (before after : List (List ℕ)) (why : MissedWhy) → receiver_of message ≡ Some client → place_of client old ≡ Some at → IsTakenAt at message old (Missed why) new → new_net ≡ old_net → after ≡ before ++ ignored_line place (why_of why) ∷ [] → Takes place message old_net new_net old new before after
-takes-missed place client at message old_net new_net old new before after why receiver found is net lines plain world is_plain spelled shows =
-    let came_so = came plain place client at message world old new (Missed why) shows found receiver is in
-    let same : new ≡ old = came_so.new_is ∙ ap (λ s. slice_set old at s) came_so.became.1 ∙ set-same old at (seen_of client world.places (world.agents client)) came_so.old_is in
-    let spelled_now : AreSpelled world.net new_net = subst (λ n. AreSpelled world.net n) (sym net) spelled in
-    let shows_now : ShowsAgents world new = subst (λ s. ShowsAgents world s) (sym same) shows in
-    subst (Ends new_net new before after) (sym came_so.became.0) (spelled_now, shows_now, lines)
-
-pub takes-answered : (place client at number : ℕ) (message : Message) (reply : Reply) (old_net new_net : List (List ℕ)) (old new : List Seen) (before after : List (List ℕ)) → receiver_of message ≡ Some client → place_of client old ≡ Some at → IsTakenAt at message old (Answered number reply) new → new_net ≡ old_net → after ≡ before ++ reply_line client number reply ∷ [] → Takes place message old_net new_net old new before after
-takes-answered place client at number message reply old_net new_net old new before after receiver found is net lines plain world is_plain spelled shows =
-    let came_so = came plain place client at message world old new (Answered number reply) shows found receiver is in
-    let next = came_so.became.1 in
-    let spelled_now : AreSpelled world.net new_net = subst (λ n. AreSpelled world.net n) (sym net) spelled in
-    let shows_now : ShowsAgents (agents_with client next world) new = handed-shows client at old new next world shows came_so.here (came_so.new_is ∙ ap (λ s. slice_set old at s) came_so.became.3) in
-    subst (Ends new_net new before after) (sym came_so.became.2) (spelled_now, shows_now, lines)
-
-pub takes-item : (place client at : ℕ) (message receipt : Message) (old_net new_net : List (List ℕ)) (old new : List Seen) (before after : List (List ℕ)) → receiver_of message ≡ Some client → place_of client old ≡ Some at → IsTakenAt at message old (TookItem receipt) new → Posts receipt old_net new_net before after → Takes place message old_net new_net old new before after
-takes-item place client at message receipt old_net new_net old new before after receiver found is posts plain world is_plain spelled shows =
-    let came_so = came plain place client at message world old new (TookItem receipt) shows found receiver is in
-    let next = came_so.became.0 in
-    let done = posts plain world.net is_plain spelled in
-    let shows_now = handed-shows client at old new next world shows came_so.here (came_so.new_is ∙ ap (λ s. slice_set old at s) came_so.became.2) in
-    subst (Ends new_net new before after) (sym came_so.became.1) (done.0, record { shown = shows_now.shown; rising = shows_now.rising; listed = shows_now.listed }, done.1)
-
-pub takes-told : (place client at : ℕ) (message : Message) (old_net new_net : List (List ℕ)) (old new : List Seen) (before after : List (List ℕ)) (taken : Taken) → receiver_of message ≡ Some client → place_of client old ≡ Some at → IsTakenAt at message old taken new → IsTold place client taken old_net new_net before after → Takes place message old_net new_net old new before after
-takes-told place client at message old_net new_net old new before after (Answered number reply) receiver found is told =
-    takes-answered place client at number message reply old_net new_net old new before after receiver found is told.0 told.1
-takes-told place client at message old_net new_net old new before after (TookItem receipt) receiver found is told =
-    takes-item place client at message receipt old_net new_net old new before after receiver found is told
-takes-told place client at message old_net new_net old new before after (Missed why) receiver found is told =
-    takes-missed place client at message old_net new_net old new before after why receiver found is told.0 told.1
 
 pub fit-receipt : (client at : ℕ) (message : Message) (old new : List Seen) (taken : Taken) → place_of client old ≡ Some at → receiver_of message ≡ Some client → MessageInRange message → at < length old → IsTakenAt at message old taken new → HasFitReceipt taken
 fit-receipt client at message old new (TookItem receipt) found receiver range within is = receipt-range client at message old new receipt found receiver range within is

@@ -47,6 +47,12 @@ pub absent : (client places : ℕ) (agents : ℕ → Agent) (clients : List ℕ)
 absent client places agents clients none stands =
     absent-from client places 0 agents clients (sym (position_from-zero (is_of client) (seen_all places agents clients)) ∙ none) stands
 
+-- **a client that is not found has a fresh agent**
+pub fresh-agent : (client : ℕ) (old : List Seen) (world : World) → ShowsAgents world old → place_of client old ≡ None → (Stands client world.clients → ⊥) × (world.agents client ≡ fresh)
+fresh-agent client old world shows none =
+    let nowhere = absent client world.places world.agents world.clients (ap (place_of client) (sym shows.shown) ∙ none) in
+    (nowhere, elim (shows.listed client) [ inl stands ↦ absurd (nowhere stands) | inr is ↦ is ])
+
 -- a client that is found stands at its place
 pub record IsAt (client places place start : ℕ) (agents : ℕ → Agent) (clients : List ℕ) : Type 0 where
   pub index : ℕ
@@ -160,9 +166,7 @@ declined how client old new before after status world shows same added refused =
 -- a client without an agent is refused
 pub dispatch-absent : (how : How) (client : ℕ) (old new : List Seen) (before after : List (List ℕ)) → place_of client old ≡ None → new ≡ old → after ≡ before ++ declined_line client BadHandle ∷ [] → Dispatches how client old new before after
 dispatch-absent how client old new before after none same added world shows =
-    let nowhere = absent client world.places world.agents world.clients (ap (place_of client) (sym shows.shown) ∙ none) in
-    let is_fresh : world.agents client ≡ fresh = elim (shows.listed client) [ inl stands ↦ absurd (nowhere stands) | inr is ↦ is ] in
-    let refused : dispatch_refusal (world.agents client) ≡ Some BadHandle = ap dispatch_refusal is_fresh in
+    let refused : dispatch_refusal (world.agents client) ≡ Some BadHandle = ap dispatch_refusal (fresh-agent client old world shows none).1 in
     declined how client old new before after BadHandle world shows same added refused
 
 -- the agent at the place, where it is found

@@ -6,5 +6,5 @@ pub mod DispatchSteps
 pub mod ListingSteps
 pub mod DeliverySteps
 pub mod AskSteps
-pub mod HeedingSteps
+pub mod TakingSteps
 pub mod ReplySteps

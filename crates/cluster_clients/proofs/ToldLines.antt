@@ -6,7 +6,7 @@ use Rattle.cluster_events.specs.Lines.{Told, is_ignored, is_progress}
 use Rattle.cluster_events.specs.Outcomes.{Outcome}
 use Rattle.cluster_events.specs.Settling.{is_loud}
 use Rattle.event_text.specs.Texts.{printed, lines_of}
-use Rattle.cluster_clients.specs.Heeded.{kept_lines}
+use Rattle.cluster_clients.specs.Taken.{kept_lines}
 
 pub printed-append : (second first : List Told) → printed (second ++ first) ≡ printed first ++ printed second
 printed-append [] first = sym (append-nil (printed first))

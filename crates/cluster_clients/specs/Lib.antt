@@ -4,7 +4,7 @@ pub mod Clients
 pub mod Files
 pub mod Listing
 pub mod Taken
-pub mod Heeded
+pub mod Taking
 pub mod Replies
 pub mod Asked
 pub mod PartlyDone

@@ -33,7 +33,7 @@ use Rattle.cluster_core.specs.Worlds.{Shows, IsGood, TellsFiles, LeavesFiles}
 use Rattle.cluster_core.specs.Broken.{BreaksIf, BreaksAloneIf, Faulted}
 use Rattle.cluster_core.specs.Errors.{Stopping, FaultsIf, BreaksOffIf, BreaksOff}
 use Rattle.cluster_core.specs.PartlyDone.{SaysUnasked}
-use Rattle.cluster_clients.specs.Heeded.{kept_lines}
+use Rattle.cluster_clients.specs.Taken.{kept_lines}
 use Rattle.cluster_core.specs.Rounds.{Event, PlaysOn, SettlesSo, any_state, StopsInRound, StopsInSettle}
 use Rattle.cluster_clients.proofs.ToldLines.{printed-append, without-append}
 use Rattle.cluster_core.proofs.UnaskedSteps.{lone-unasked}

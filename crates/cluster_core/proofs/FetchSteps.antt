@@ -1,5 +1,5 @@
 -- Messages that are read back from the net.
-use Rattle.std.proofs.Common.{◌≡◌, ℕ, true, false, Some, None, List, refl, ap, sym, subst}
+use Rattle.std.proofs.Common.{◌≡◌, ℕ, Bool, true, false, Some, None, List, refl, ap, sym, subst}
 use Rattle.wire.specs.declared.message.Message.{Message}
 use Rattle.wire.specs.MessageSpelling.{MessageFits, MessageInRange}
 use Rattle.service_laws.specs.PlainOf.{plain_of}
@@ -51,10 +51,10 @@ is-for plain past (Delivery client key item) of agent server = cc
 is-for plain past (Receipt client key through) of agent server = cc
 is-for plain past _ of agent server = elim of [ ]
 
-pub delivers-agent : (place : ℕ) (message : Message) (old : Kept) (net : List (List ℕ)) (agents : List Rattle.client_agent.specs.Seen.Seen) (before after : List (List ℕ)) → is_for_agent message ≡ true → Takes place message old.net net old.agents agents before after → DoesIf (StandsIn message) (delivered_by place message) old (record old { net = net; agents = agents }) before after
-delivers-agent place message old net agents before after is takes setup state good shows stands =
+pub delivers-agent : (place : ℕ) (message : Message) (old : Kept) (net : List (List ℕ)) (agents : List Rattle.client_agent.specs.Seen.Seen) (before after : List (List ℕ)) (loud : Bool) → is_for_agent message ≡ true → Takes (Some place) message old.net net old.agents agents before after loud → DoesIf (StandsIn message) (delivered_by place message) old (record old { net = net; agents = agents }) before after
+delivers-agent place message old net agents before after loud is takes setup state good shows stands =
     let H : Outcome (State Alone) → Type 0 = λ outcome. Happened setup outcome (record old { net = net; agents = agents }) before after in
-    subst H (sym (delivered-agent (plain_of setup) place message state is)) (takes-happens setup place message state old net agents before after good shows stands takes)
+    subst H (sym (delivered-agent (plain_of setup) place message state is)) (takes-happens setup place message state old net agents before after loud good shows stands takes)
 
 pub delivers-server : (place : ℕ) (message : Message) (old new : Kept) (before after : List (List ℕ)) → is_for_server message ≡ true → DoesIf (StandsIn message) (heard_by place message) old new before after → DoesIf (StandsIn message) (delivered_by place message) old new before after
 delivers-server place message old new before after is hears setup state good shows stands =

@@ -28,7 +28,7 @@ use Rattle.cluster_clients.specs.Spelled.{AreSpelled}
 use Rattle.cluster_clients.specs.Clients.{seen_all}
 use Rattle.cluster_core.specs.Worlds.{Shows, HasState}
 use Rattle.cluster_core.specs.Settling.{DoesSettle}
-use Rattle.cluster_clients.specs.Heeded.{kept_lines}
+use Rattle.cluster_clients.specs.Taken.{kept_lines}
 use Rattle.cluster_core.specs.Rounds.{PlaysOn, any_state, round_played, SettlesSo}
 use Rattle.cluster_core.proofs.FilesSteps.{left-told, left-same, left-both}
 use Rattle.cluster_clients.proofs.ToldLines.{kept-append}

@@ -35,15 +35,14 @@ use Rattle.cluster_core.specs.declared.world.World.{World}
 use Rattle.cluster_clients.specs.Spelled.{AreSpelled}
 use Rattle.client_agent.specs.Seen.{Seen, seen_of}
 use Rattle.cluster_clients.specs.Clients.{seen_all, place_of}
-use Rattle.cluster_clients.specs.Taken.{taken_as}
+use Rattle.cluster_clients.specs.Taken.{taken_as, kept_lines, Takes}
 use Rattle.cluster_core.specs.Worlds.{IsActive, IsGood, Shows, HasState, TellsFiles, LeavesFiles, Happened, DoesIf, DoesOn, Pushes, heard_by, StandsIn, drained, pushed}
 use Rattle.cluster_core.specs.PartlyDone.{SaysUnasked}
-use Rattle.cluster_clients.specs.Heeded.{kept_lines, Heeds}
 use Rattle.cluster_clients.specs.Replies.{FindsReply}
 use Rattle.cluster_core.specs.Rounds.{Event, Played, PlaysOn, Plays, HasStateOf, IsIdle, IsItem, IsIdleWithAll, IsIdleWithItems, any_state, turned, all_turned, client_turned, clients_turned, state_turned, item_taken, items_taken, round_pushed, round_played, heard_so, message_taken, reply_taken, answer_taken}
 use Rattle.cluster_clients.proofs.PostingSteps.{spelled-length}
 use Rattle.cluster_clients.proofs.DispatchSteps.{absent, seen-at}
-use Rattle.cluster_clients.proofs.HeedingSteps.{taken-places}
+use Rattle.cluster_clients.proofs.TakingSteps.{taken-places}
 use Rattle.cluster_core.proofs.TakenSteps.{taken-goes}
 use Rattle.cluster_core.proofs.UnaskedSteps.{lone-unasked}
 use Rattle.cluster_core.proofs.FilesSteps.{left-told, left-same, left-both}
@@ -487,11 +486,11 @@ answer-nothing _ world lines never held setup state good shows so = played-nothi
 
 -- An agent takes or misses a reply or an item.
 
-pub take-plays : (message : Message) (old : World) (net : List (List ℕ)) (agents : List Seen) (before after : List (List ℕ)) (loud : Bool) → Heeds message old.net net old.agents agents before after loud → Plays (StandsIn message) (message_taken message) old (record old { net = net; agents = agents }) before after loud
-take-plays message old net agents before after loud heeds held setup state good shows stands =
+pub take-plays : (message : Message) (old : World) (net : List (List ℕ)) (agents : List Seen) (before after : List (List ℕ)) (loud : Bool) → Takes None message old.net net old.agents agents before after loud → Plays (StandsIn message) (message_taken message) old (record old { net = net; agents = agents }) before after loud
+take-plays message old net agents before after loud takes held setup state good shows stands =
     let plain = plain_of setup in
     let outcome = taken_as plain 0 message state.world in
-    let done = heeds plain state.world (is_plain setup) shows.net shows.agents in
+    let done = takes plain state.world (is_plain setup) shows.net shows.agents in
     let goes = taken-goes plain (is_plain setup) 0 message state.world stands good.steady.sound in
     let core : state.world.core ≡ outcome.state.core = sym goes.core in
     let A : Core → Type 0 = λ c. IsActive setup c.answered c.hand old.a in

@@ -15,9 +15,10 @@ use Rattle.cluster_events.specs.Settling.{is_loud}
 use Rattle.cluster_events.proofs.Carrying.{IsMadeItem}
 use Rattle.event_text.specs.Texts.{printed}
 use Rattle.lone_cluster.specs.Lone.{Alone, lone}
-use Rattle.cluster_clients.specs.Heeded.{kept_lines}
+use Rattle.cluster_clients.specs.Taken.{kept_lines}
+use Rattle.cluster_clients.proofs.ToldLines.{printed-append, kept-append, loud-append, not-less, less-one, SameButPlace, same-outcome}
 
--- Outcomes that differ at most in the places that lines on messages without effect name.
+-- Events whose messages have other numbers differ at most in the places that lines on messages without effect name.
 
 module _ (plain : Plain) (one other : ℕ) where
   request-places : (client number : ℕ) (call : Call) (verdict : Judged) (state : State Alone) → SameButPlace (request_as plain (lone plain) one client number call verdict state) (request_as plain (lone plain) other client number call verdict state)

@@ -1,5 +1,5 @@
 -- Events of agents and net in the world of the code: the servers stay as they are.
-use Rattle.std.proofs.Common.{◌≡◌, ℕ, Option, Some, None, List, [], refl, ap, sym, ◌∙◌, subst}
+use Rattle.std.proofs.Common.{◌≡◌, ℕ, Bool, Option, Some, None, List, [], refl, ap, sym, ◌∙◌, subst}
 use Rattle.script_lines.specs.declared.line.Line.{Line}
 use Rattle.script_lines.specs.declared.line.Line.TheVariants as line
 use Rattle.plain_service.specs.Setups.{Setup, IsMoment}
@@ -99,8 +99,8 @@ shows-taken setup place message state old net agents good stands shows spelled s
     let goes = taken-goes plain (is_plain setup) place message state.world stands good.steady.sound in
     shows-moved setup state (taken_as plain place message state.world).state old net agents shows (taken-moved plain place message state.world goes) spelled seen
 
-pub takes-happens : (setup : Setup) (place : ℕ) (message : Message) (state : State Alone) (old : Kept) (net : List (List ℕ)) (agents : List Seen) (before after : List (List ℕ)) → IsGood setup state → Shows setup state old → Stands message state.world.net → Takes place message old.net net old.agents agents before after → Happened setup (in_world (taken_as (plain_of setup) place message) state) (record old { net = net; agents = agents }) before after
-takes-happens setup place message state old net agents before after good shows stands takes =
+pub takes-happens : (setup : Setup) (place : ℕ) (message : Message) (state : State Alone) (old : Kept) (net : List (List ℕ)) (agents : List Seen) (before after : List (List ℕ)) (loud : Bool) → IsGood setup state → Shows setup state old → Stands message state.world.net → Takes (Some place) message old.net net old.agents agents before after loud → Happened setup (in_world (taken_as (plain_of setup) place message) state) (record old { net = net; agents = agents }) before after
+takes-happens setup place message state old net agents before after loud good shows stands takes =
     let done = takes (plain_of setup) state.world (is_plain setup) shows.net shows.agents in
     (shows-taken setup place message state old net agents good stands shows done.0 done.1, good-taken setup place message state good stands, done.2)
 

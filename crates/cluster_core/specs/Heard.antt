@@ -4,6 +4,7 @@ use Rattle.cluster_facts.specs.Types.{Entry}
 use Rattle.cluster_events.specs.declared.lines.Why.{Why}
 use Rattle.cluster_events.specs.declared.lines.Why.TheVariants.{OldRequest, AheadRequest, Busy, DoneReceipt}
 use Rattle.event_text.specs.Texts.{entry_line, ignored_line}
+use Rattle.cluster_clients.specs.Posted.{PostsAll}
 use Rattle.mirror.specs.declared.heard.Why.{Why as Reason}
 use Rattle.mirror.specs.declared.heard.Why.TheVariants.{Old, Ahead, Busy as BusyWith, Done, NotForRole}
 use Rattle.mirror.specs.declared.heard.Outcome.{Outcome}

@@ -12,6 +12,7 @@ use Rattle.cluster_facts.specs.World.{World}
 use Rattle.cluster_events.specs.Lines.{Told}
 use Rattle.cluster_events.specs.Saying.{entries_told, Says}
 use Rattle.mirror.specs.declared.heard.Heard.{Heard}
+use Rattle.cluster_clients.specs.Posted.{PostsSome}
 
 -- an entry was committed or not
 abbrev pub MayCommit : Option Entry → List Entry → List Entry → Type 0

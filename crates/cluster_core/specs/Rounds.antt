@@ -15,7 +15,7 @@ use Rattle.cluster_events.specs.Settling.{take_answer_by, take_answer, turn, cli
 use Rattle.cluster_events.specs.Stopping.{EachStops, TurnStops, ClientStops, RoundStops, SettleStops}
 use Rattle.lone_cluster.specs.Lone.{Alone, lone}
 use Rattle.cluster_core.specs.declared.world.World.{World}
-use Rattle.cluster_clients.specs.Taken.{taken_as}
+use Rattle.cluster_clients.specs.Taken.{taken_as, kept_lines}
 use Rattle.plain_service.specs.Setups.{Setup}
 use Rattle.service_laws.specs.PlainOf.{plain_of}
 use Rattle.cluster_core.specs.Worlds.{IsGood, Shows, TellsFiles, LeavesFiles}

@@ -4,6 +4,7 @@ use Rattle.std.specs.FinMap as files
 use Rattle.plain_service.specs.Setups.{Setup}
 use Rattle.plain_service.specs.Storing.{files_of}
 use Rattle.cluster_events.specs.Running.{Shelf}
+use Rattle.cluster_clients.specs.Files.{sizes_of, bytes_of}
 use Rattle.event_text.specs.Texts.{file_text_lines}
 
 -- what stands in the files of each history of a setup

@@ -42,14 +42,17 @@ fn deliver_to_agent(
         world.old world.new lines.old.items lines.new.items) }
     ensures err { OnErr result (BreaksAloneIf (StandsIn message.now) world.old world.new) }
 {
-    take(
+    match take(
         alloc,
         &mut world.net,
         &mut world.agents,
         lines,
-        place,
+        Some(place),
         message,
-    )
+    ) {
+        Ok(_) => Ok(()),
+        Err(error) => Err(error),
+    }
 }
 
 /// Delivers a message of this number in the net: a reply or an item to its agent, a request or a receipt to the active server.

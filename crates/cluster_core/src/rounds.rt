@@ -14,7 +14,7 @@ use crate::hearing::hear;
 use crate::pushing::push;
 use crate::working::drain;
 use ais_values::Seq;
-use cluster_clients::{clients_of, heed, place_of, reply_to, sent_again};
+use cluster_clients::{clients_of, place_of, reply_to, sent_again};
 use disk_model::{DiskAnswer, SharedDisk};
 use std::alloc::{AllocError, Global};
 use std::mem;
@@ -75,7 +75,14 @@ fn take(
         world.old world.new lines.old.items lines.new.items loud) }
     ensures err { OnErr result (BreaksAloneIf (StandsIn message.now) world.old world.new) }
 {
-    heed(alloc, &mut world.net, &mut world.agents, lines, message)
+    cluster_clients::take(
+        alloc,
+        &mut world.net,
+        &mut world.agents,
+        lines,
+        None,
+        message,
+    )
 }
 
 /// The same, of a message that is let go.

@@ -1,21 +1,23 @@
-use Rattle.std.proofs.Common.{◌≡◌, ◌++◌, ◌∷◌, [], Some, None, refl, ap, sym, ◌∙◌}
-use Rattle.std.proofs.lemmas.Result.{on_ok_weaker}
-use Rattle.event_text.specs.Texts.{ignored_line}
+use Rattle.std.proofs.Common.{◌≡◌, ◌++◌, Some, None, ap, sym, ◌∙◌}
 use Rattle.cluster_clients.specs.Clients.{place_of}
-use Rattle.cluster_clients.specs.Taken.{receiver_of}
-use Rattle.cluster_clients.proofs.DispatchSteps.{on-err}
-use Rattle.cluster_clients.proofs.DeliverySteps.{takes-absent}
-use Rattle.cluster_clients.proofs.HeedingSteps.{nothing-taken}
+use Rattle.cluster_clients.specs.Taken.{number_told}
+use Rattle.cluster_clients.specs.Taking.{receiver_of, missed_lines}
+use Rattle.cluster_clients.proofs.TakingSteps.{takes-nothing, takes-absent, nothing-taken}
 use Rattle.cluster_clients.proofs.taking.take.Goals as goal
 
-pub returns-in-None-place_of-clause-ok : goal.returns-in-None-place_of-clause-ok
-returns-in-None-place_of-clause-ok c =
+pub returns-in-None-clause-ok : goal.returns-in-None-clause-ok
+returns-in-None-clause-ok c =
+    takes-nothing c.args.place c.args.message.now c.args.net.now c.args.agents.now c.args.lines.now.items (sym c.in-None.ensures)
+
+pub returns-in-Ok-clause-ok : goal.returns-in-Ok-clause-ok
+returns-in-Ok-clause-ok c =
     let old = c.args.agents.now in
     let client = c.in-Some.client in
+    let before = c.args.lines.now.items in
     let receiver : receiver_of c.args.message.now ≡ Some client = sym c.in-Some.ensures in
     let none : place_of client old ≡ None = ap (place_of client) (sym c.as_slice.ensures) ∙ sym c.in-None-place_of.ensures in
-    on_ok_weaker c.put_ignored.result (λ added. takes-absent c.args.place client c.args.message.now c.args.net.now c.args.net.now old old c.args.lines.now.items c.put_ignored.new.lines.items receiver none refl refl (added ∙ ap (λ why. c.args.lines.now.items ++ ignored_line c.args.place why ∷ []) c.missed_by_none.ensures)) c.put_ignored.ensures.ok
+    takes-absent c.args.place client c.args.message.now c.args.net.now old before c.put_missed.new.lines.items receiver none (c.in-Ok.ensures ∙ ap (λ why. before ++ missed_lines c.args.place why) c.missed_by_none.ensures)
 
-pub returns-in-None-place_of-clause-err : goal.returns-in-None-place_of-clause-err
-returns-in-None-place_of-clause-err c =
-    on-err c.put_ignored.result (nothing-taken c.args.place c.args.message.now c.args.net.now c.args.agents.now)
+pub returns-in-Err-clause-err : goal.returns-in-Err-clause-err
+returns-in-Err-clause-err c =
+    nothing-taken (number_told c.args.place) c.args.message.now c.args.net.now c.args.agents.now

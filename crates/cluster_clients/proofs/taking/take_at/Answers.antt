@@ -1,9 +1,10 @@
 use Rattle.std.proofs.Common.{List, sym, subst}
-use Rattle.std.proofs.lemmas.Result.{on_ok_weaker, on_err_weaker}
+use Rattle.std.proofs.lemmas.Result.{IfOk-weaker, on_err_weaker}
 use Rattle.client_agent.specs.Seen.{Seen}
 use Rattle.cluster_clients.specs.PartlyDone.{TakesPartly}
-use Rattle.cluster_clients.proofs.DeliverySteps.{found-within, found-for, fit-receipt, takes-told}
-use Rattle.cluster_clients.proofs.HeedingSteps.{nothing-taken, taken-partly}
+use Rattle.cluster_clients.specs.Taken.{number_told}
+use Rattle.cluster_clients.proofs.DeliverySteps.{found-within, found-for, fit-receipt}
+use Rattle.cluster_clients.proofs.TakingSteps.{takes-told, taken-partly, nothing-taken}
 use Rattle.cluster_clients.proofs.taking.take_at.Goals as goal
 
 pub receive_at-requires-clause-client : goal.receive_at-requires-clause-client
@@ -16,15 +17,15 @@ tell_taken-requires c =
 
 pub returns-in-Ok-clause-ok : goal.returns-in-Ok-clause-ok
 returns-in-Ok-clause-ok c =
-    on_ok_weaker c.tell_taken.result (λ told. takes-told c.args.place c.args.client c.args.at c.args.message.now c.args.net.now c.tell_taken.new.net c.args.agents.now c.receive_at.new.agents c.args.lines.now.items c.tell_taken.new.lines.items c.in-Ok.taken c.requires.receiver c.requires.found c.in-Ok.ensures.ok told) c.tell_taken.ensures.ok
+    IfOk-weaker c.tell_taken.result _ _ (λ loud told. takes-told c.args.place c.args.client c.args.at c.args.message.now c.args.net.now c.tell_taken.new.net c.args.agents.now c.receive_at.new.agents c.args.lines.now.items c.tell_taken.new.lines.items c.in-Ok.taken loud c.requires.receiver c.requires.found c.in-Ok.ensures.ok told) c.tell_taken.ensures.ok
 
 pub returns-in-Ok-clause-err : goal.returns-in-Ok-clause-err
 returns-in-Ok-clause-err c =
-    on_err_weaker c.tell_taken.result (λ may. taken-partly c.args.place c.args.client c.args.at c.args.message.now c.args.net.now c.tell_taken.new.net c.args.agents.now c.receive_at.new.agents c.in-Ok.taken c.requires.receiver c.requires.found c.in-Ok.ensures.ok may) c.tell_taken.ensures.err
+    on_err_weaker c.tell_taken.result (taken-partly (number_told c.args.place) c.args.client c.args.at c.args.message.now c.args.net.now c.tell_taken.new.net c.args.agents.now c.receive_at.new.agents c.in-Ok.taken c.requires.receiver c.requires.found c.in-Ok.ensures.ok) c.tell_taken.ensures.err
 
 pub returns-in-Err-clause-err : goal.returns-in-Err-clause-err
 returns-in-Err-clause-err c =
+    let place = number_told c.args.place in
     let net = c.args.net.now in
     let old = c.args.agents.now in
-    let T : List Seen → Type 0 = λ agents. TakesPartly c.args.place c.args.message.now net net old agents in
-    subst T (sym c.in-Err.ensures.err) (nothing-taken c.args.place c.args.message.now net old)
+    subst (λ (agents : List Seen). TakesPartly place c.args.message.now net net old agents) (sym c.in-Err.ensures.err) (nothing-taken place c.args.message.now net old)

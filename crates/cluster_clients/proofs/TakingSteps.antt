@@ -1,13 +1,15 @@
--- An agent takes or misses a reply or an item, and nothing is told of what it misses.
+-- A reply or an item is delivered to its client's agent as the world has it.
 use Rattle.std.proofs.Common.{◌≡◌, ℕ, suc, inl, inr, Bool, true, false, nat_lt, nat_le, if◌then◌else◌, Option, Some, None, List, [], ◌∷◌, ◌++◌, length, slice_set, refl, ap, sym, ◌∙◌, subst, append-nil}
 use Rattle.cluster_facts.specs.Types.{Call, Reply, Item, Message, Answer, Delivery, Receipt}
 use Rattle.cluster_facts.specs.Service.{Plain}
 use Rattle.cluster_facts.specs.Agents.{Living, Agent, fresh, kept_call, callbacks_of, lacks_place, find_living}
 use Rattle.cluster_facts.specs.World.{World, knows, posted}
 use Rattle.cluster_events.specs.Lines.{Told, Posted, Ignored, Replied}
+use Rattle.cluster_events.specs.declared.lines.Why.{Why}
+use Rattle.cluster_events.specs.declared.lines.Why.TheVariants.{AnsweredReply, GoneItem}
 use Rattle.cluster_events.specs.Outcomes.{Outcome}
 use Rattle.cluster_events.specs.ClientEvents.{Fate, fate_of, item_as, item_by, take_item, reply_by, take_reply, post_lines}
-use Rattle.cluster_events.specs.ClientEvents.Fate.{Takes, Misses}
+use Rattle.cluster_events.specs.ClientEvents.Fate.{Takes as TakesIt, Misses}
 use Rattle.cluster_events.specs.Settling.{is_loud}
 use Rattle.client_agent.specs.declared.answers.MissedWhy.{MissedWhy}
 use Rattle.client_agent.specs.declared.answers.Taken.{Taken}
@@ -17,10 +19,10 @@ use Rattle.client_agent.specs.Steps.{IsTaken}
 use Rattle.event_text.specs.Texts.{printed, reply_line}
 use Rattle.cluster_clients.specs.Spelled.{AreSpelled, Posts}
 use Rattle.cluster_clients.specs.Clients.{ShowsAgents, place_of}
-use Rattle.cluster_clients.specs.Taken.{receiver_of, IsTakenAt, taken_as}
+use Rattle.cluster_clients.specs.Taken.{taken_as, kept_lines, number_told, lines_told, Takes}
+use Rattle.cluster_clients.specs.Taking.{receiver_of, missed_by_none, why_of, missed_lines, IsTakenAt, IsTold, MayPost}
 use Rattle.cluster_clients.specs.PartlyDone.{PartlyShows, TakesPartly}
-use Rattle.cluster_clients.specs.Heeded.{kept_lines, IsHeeded, MayPost, Heeds}
-use Rattle.cluster_clients.proofs.DispatchSteps.{absent, seen-at, set-same, handed-shows}
+use Rattle.cluster_clients.proofs.DispatchSteps.{fresh-agent, seen-at, set-same, handed-shows}
 use Rattle.cluster_clients.proofs.PostingSteps.{spelled-length}
 use Rattle.cluster_clients.proofs.DeliverySteps.{reply-no-item, item-receipt, agents_with, came}
 use Rattle.cluster_clients.proofs.ToldLines.{SameButPlace, same-outcome, not-less, less-one}
@@ -43,7 +45,7 @@ module _ (plain : Plain) (one other : ℕ) (world : World) where
 
   fate-places : (client key : ℕ) (item : Item) (found : Living) (fate : Fate) → SameButPlace (item_as plain one client key item found fate world) (item_as plain other client key item found fate world)
   fate-places client key item found (Misses why) = record { state = refl; lines = refl; loud = refl }
-  fate-places client key item found Takes = same-outcome (item_as plain one client key item found Takes world)
+  fate-places client key item found TakesIt = same-outcome (item_as plain one client key item found TakesIt world)
 
   item-places : (client key : ℕ) (item : Item) (found : Option Living) → SameButPlace (item_by plain one client key item found world) (item_by plain other client key item found world)
   item-places client key item None = record { state = refl; lines = refl; loud = refl }
@@ -57,46 +59,66 @@ module _ (plain : Plain) (one other : ℕ) (world : World) where
 
 -- What a delivery comes to.
 
-abbrev Ends : List (List ℕ) → List Seen → List (List ℕ) → List (List ℕ) → Bool → Outcome World → Type 0
-Ends net seen before after loud outcome =
-    AreSpelled outcome.state.net net × ShowsAgents outcome.state seen × (after ≡ before ++ kept_lines outcome.told) × (loud ≡ is_loud outcome.told)
+abbrev Ends : Option ℕ → List (List ℕ) → List Seen → List (List ℕ) → List (List ℕ) → Bool → Outcome World → Type 0
+Ends place net seen before after loud outcome =
+    AreSpelled outcome.state.net net × ShowsAgents outcome.state seen × (after ≡ before ++ lines_told place outcome.told) × (loud ≡ is_loud outcome.told)
 
-pub heeds-absent : (client : ℕ) (message : Message) (net : List (List ℕ)) (seen : List Seen) (lines : List (List ℕ)) → receiver_of message ≡ Some client → place_of client seen ≡ None → Heeds message net net seen seen lines lines false
-heeds-absent client message net seen lines receiver none plain world is_plain spelled shows =
-    let nowhere = absent client world.places world.agents world.clients (ap (place_of client) (sym shows.shown) ∙ none) in
-    let is_fresh : world.agents client ≡ fresh = elim (shows.listed client) [ inl stands ↦ absurd (nowhere stands) | inr is ↦ is ] in
-    by-message message receiver is_fresh
+-- lines of which none is on a message without effect are told in each case
+told-so : (place : Option ℕ) (told : List Told) → kept_lines told ≡ printed told → printed told ≡ lines_told place told
+told-so None told kept = sym kept
+told-so (Some number) told kept = refl
+
+missed-so : (place : Option ℕ) (why : Why) → missed_lines place why ≡ lines_told place (Ignored (number_told place) why ∷ [])
+missed-so None why = refl
+missed-so (Some number) why = refl
+
+-- other messages are for no agent
+pub takes-nothing : (place : Option ℕ) (message : Message) (net : List (List ℕ)) (seen : List Seen) (lines : List (List ℕ)) → receiver_of message ≡ None → Takes place message net net seen seen lines lines false
+takes-nothing place message net seen lines none plain world is_plain spelled shows = by-message message none
   where
-    by-message : (m : Message) → receiver_of m ≡ Some client → world.agents client ≡ fresh → Ends net seen lines lines false (taken_as plain 0 m world)
-    by-message (Answer receiver number reply) is is_fresh =
-        let e : client ≡ receiver = cc in
-        let A : ℕ → Type 0 = λ c. world.agents c ≡ fresh in
-        let own = subst A e is_fresh in
-        let none_kept : kept_call number (world.agents receiver).kept ≡ None = ap (λ (a : Agent). kept_call number a.kept) own in
-        let outcome : take_reply 0 receiver number reply world ≡ reply_by 0 receiver number reply None world = ap (λ o. reply_by 0 receiver number reply o world) none_kept in
-        subst (Ends net seen lines lines false) (sym outcome) (spelled, shows, sym (append-nil lines), refl)
-    by-message (Delivery receiver key item) is is_fresh =
-        let e : client ≡ receiver = cc in
-        let A : ℕ → Type 0 = λ c. world.agents c ≡ fresh in
-        let own = subst A e is_fresh in
-        let none_living : find_living key (world.agents receiver).living ≡ None = ap (λ (a : Agent). find_living key a.living) own in
-        let outcome : take_item plain 0 receiver key item world ≡ item_by plain 0 receiver key item None world = ap (λ o. item_by plain 0 receiver key item o world) none_living in
-        subst (Ends net seen lines lines false) (sym outcome) (spelled, shows, sym (append-nil lines), refl)
-    by-message _ is is_fresh = cc
+    same : lines ≡ lines ++ lines_told place []
+    same = sym (append-nil lines) ∙ ap (λ more. lines ++ more) (told-so place [] refl)
 
-heeds-missed : (client at : ℕ) (message : Message) (net : List (List ℕ)) (old new : List Seen) (lines : List (List ℕ)) (why : MissedWhy) → receiver_of message ≡ Some client → place_of client old ≡ Some at → IsTakenAt at message old (Missed why) new → Heeds message net net old new lines lines false
-heeds-missed client at message net old new lines why receiver found is plain world is_plain spelled shows =
-    let came_so = came plain 0 client at message world old new (Missed why) shows found receiver is in
+    by-message : (m : Message) → receiver_of m ≡ None → Ends place net seen lines lines false (taken_as plain (number_told place) m world)
+    by-message (Answer receiver number reply) is = cc
+    by-message (Delivery receiver key item) is = cc
+    by-message _ is = (spelled, shows, same, refl)
+
+-- a client without an agent misses it
+pub takes-absent : (place : Option ℕ) (client : ℕ) (message : Message) (net : List (List ℕ)) (seen : List Seen) (before after : List (List ℕ)) → receiver_of message ≡ Some client → place_of client seen ≡ None → after ≡ before ++ missed_lines place (missed_by_none message) → Takes place message net net seen seen before after false
+takes-absent place client message net seen before after receiver none lines plain world is_plain spelled shows =
+    by-message message receiver lines
+  where
+    own : (receiver : ℕ) → client ≡ receiver → world.agents receiver ≡ fresh
+    own receiver same = subst (λ c. world.agents c ≡ fresh) same (fresh-agent client seen world shows none).1
+
+    by-message : (m : Message) → receiver_of m ≡ Some client → after ≡ before ++ missed_lines place (missed_by_none m) → Ends place net seen before after false (taken_as plain (number_told place) m world)
+    by-message (Answer receiver number reply) is lines =
+        let e : client ≡ receiver = cc in
+        let none_kept : kept_call number (world.agents receiver).kept ≡ None = ap (λ (a : Agent). kept_call number a.kept) (own receiver e) in
+        let outcome : take_reply (number_told place) receiver number reply world ≡ reply_by (number_told place) receiver number reply None world = ap (λ o. reply_by (number_told place) receiver number reply o world) none_kept in
+        subst (Ends place net seen before after false) (sym outcome) (spelled, shows, lines ∙ ap (λ more. before ++ more) (missed-so place AnsweredReply), refl)
+    by-message (Delivery receiver key item) is lines =
+        let e : client ≡ receiver = cc in
+        let none_living : find_living key (world.agents receiver).living ≡ None = ap (λ (a : Agent). find_living key a.living) (own receiver e) in
+        let outcome : take_item plain (number_told place) receiver key item world ≡ item_by plain (number_told place) receiver key item None world = ap (λ o. item_by plain (number_told place) receiver key item o world) none_living in
+        subst (Ends place net seen before after false) (sym outcome) (spelled, shows, lines ∙ ap (λ more. before ++ more) (missed-so place GoneItem), refl)
+    by-message _ is lines = cc
+
+takes-missed : (place : Option ℕ) (client at : ℕ) (message : Message) (net : List (List ℕ)) (old new : List Seen) (before after : List (List ℕ)) (why : MissedWhy) → receiver_of message ≡ Some client → place_of client old ≡ Some at → IsTakenAt at message old (Missed why) new → after ≡ before ++ missed_lines place (why_of why) → Takes place message net net old new before after false
+takes-missed place client at message net old new before after why receiver found is lines plain world is_plain spelled shows =
+    let came_so = came plain (number_told place) client at message world old new (Missed why) shows found receiver is in
     let same : new ≡ old = came_so.new_is ∙ ap (λ s. slice_set old at s) came_so.became.1 ∙ set-same old at (seen_of client world.places (world.agents client)) came_so.old_is in
     let shows_now : ShowsAgents world new = subst (λ s. ShowsAgents world s) (sym same) shows in
-    subst (Ends net new lines lines false) (sym came_so.became.0) (spelled, shows_now, sym (append-nil lines), refl)
+    subst (Ends place net new before after false) (sym came_so.became.0) (spelled, shows_now, lines ∙ ap (λ more. before ++ more) (missed-so place (why_of why)), refl)
 
-heeds-answered : (client at number : ℕ) (message : Message) (reply : Reply) (net : List (List ℕ)) (old new : List Seen) (before after : List (List ℕ)) → receiver_of message ≡ Some client → place_of client old ≡ Some at → IsTakenAt at message old (Answered number reply) new → after ≡ before ++ reply_line client number reply ∷ [] → Heeds message net net old new before after true
-heeds-answered client at number message reply net old new before after receiver found is lines plain world is_plain spelled shows =
-    let came_so = came plain 0 client at message world old new (Answered number reply) shows found receiver is in
+takes-answered : (place : Option ℕ) (client at number : ℕ) (message : Message) (reply : Reply) (net : List (List ℕ)) (old new : List Seen) (before after : List (List ℕ)) → receiver_of message ≡ Some client → place_of client old ≡ Some at → IsTakenAt at message old (Answered number reply) new → after ≡ before ++ reply_line client number reply ∷ [] → Takes place message net net old new before after true
+takes-answered place client at number message reply net old new before after receiver found is lines plain world is_plain spelled shows =
+    let came_so = came plain (number_told place) client at message world old new (Answered number reply) shows found receiver is in
+    let call = came_so.became.0 in
     let next = came_so.became.1 in
     let shows_now : ShowsAgents (agents_with client next world) new = handed-shows client at old new next world shows came_so.here (came_so.new_is ∙ ap (λ s. slice_set old at s) came_so.became.3) in
-    subst (Ends net new before after true) (sym came_so.became.2) (spelled, shows_now, lines, refl)
+    subst (Ends place net new before after true) (sym came_so.became.2) (spelled, shows_now, lines ∙ ap (λ more. before ++ more) (told-so place (Replied client number call reply ∷ []) refl), refl)
 
 -- the receipt of an item is posted, and its posting is loud
 
@@ -125,37 +147,36 @@ receipt-loud plain (Receipt client key through) net is =
     ]
 receipt-loud plain _ net is = elim is [ ]
 
-heeds-item : (client at : ℕ) (message receipt : Message) (old_net new_net : List (List ℕ)) (old new : List Seen) (before after : List (List ℕ)) → receiver_of message ≡ Some client → place_of client old ≡ Some at → IsTakenAt at message old (TookItem receipt) new → Posts receipt old_net new_net before after → Heeds message old_net new_net old new before after (nat_lt (length old_net) (length new_net))
-heeds-item client at message receipt old_net new_net old new before after receiver found is posts plain world is_plain spelled shows =
-    let came_so = came plain 0 client at message world old new (TookItem receipt) shows found receiver is in
+takes-item : (place : Option ℕ) (client at : ℕ) (message receipt : Message) (old_net new_net : List (List ℕ)) (old new : List Seen) (before after : List (List ℕ)) → receiver_of message ≡ Some client → place_of client old ≡ Some at → IsTakenAt at message old (TookItem receipt) new → Posts receipt old_net new_net before after → Takes place message old_net new_net old new before after (nat_lt (length old_net) (length new_net))
+takes-item place client at message receipt old_net new_net old new before after receiver found is posts plain world is_plain spelled shows =
+    let came_so = came plain (number_told place) client at message world old new (TookItem receipt) shows found receiver is in
     let there = seen-at client at old world shows found in
     let taken = is client world.places (world.agents client) there.1 in
     let a_receipt = receipt-is client message world receipt taken.0 taken.1 in
     let next = came_so.became.0 in
     let done = posts plain world.net is_plain spelled in
     let shows_now = handed-shows client at old new next world shows came_so.here (came_so.new_is ∙ ap (λ s. slice_set old at s) came_so.became.2) in
-    let lines = receipt-lines receipt (post_lines plain receipt world.net) (suc (length world.net)) (knows plain receipt world.net) a_receipt refl in
-    let loud : nat_lt (length old_net) (length new_net) ≡ is_loud (post_lines plain receipt world.net) =
+    let told = post_lines plain receipt world.net in
+    let lines = told-so place told (receipt-lines receipt told (suc (length world.net)) (knows plain receipt world.net) a_receipt refl) in
+    let loud : nat_lt (length old_net) (length new_net) ≡ is_loud told =
     (λ i. nat_lt (sym (spelled-length world.net old_net spelled) i) (sym (spelled-length (posted plain receipt world.net) new_net done.0) i))
     ∙ receipt-loud plain receipt world.net a_receipt
     in
-    subst (Ends new_net new before after (nat_lt (length old_net) (length new_net))) (sym came_so.became.1) (done.0, record { shown = shows_now.shown; rising = shows_now.rising; listed = shows_now.listed }, done.1 ∙ ap (λ l. before ++ l) (sym lines), loud)
+    subst (Ends place new_net new before after (nat_lt (length old_net) (length new_net))) (sym came_so.became.1) (done.0, record { shown = shows_now.shown; rising = shows_now.rising; listed = shows_now.listed }, done.1 ∙ ap (λ more. before ++ more) lines, loud)
 
 -- the agent at a place took or missed it
-pub heeds-told : (client at : ℕ) (message : Message) (old_net new_net : List (List ℕ)) (old new : List Seen) (before after : List (List ℕ)) (taken : Taken) (loud : Bool) → receiver_of message ≡ Some client → place_of client old ≡ Some at → IsTakenAt at message old taken new → IsHeeded client taken old_net new_net before after loud → Heeds message old_net new_net old new before after loud
-heeds-told client at message old_net new_net old new before after (Answered number reply) loud receiver found is told =
-    let H : List (List ℕ) → Bool → Type 0 = λ net b. Heeds message old_net net old new before after b in
-    let N : List (List ℕ) → Type 0 = λ net. H net loud in
-    subst N (sym told.0) (subst (H old_net) (sym told.2) (heeds-answered client at number message reply old_net old new before after receiver found is told.1))
-heeds-told client at message old_net new_net old new before after (TookItem receipt) loud receiver found is told =
-    let H : Bool → Type 0 = λ b. Heeds message old_net new_net old new before after b in
-    subst H (sym told.1) (heeds-item client at message receipt old_net new_net old new before after receiver found is told.0)
-heeds-told client at message old_net new_net old new before after (Missed why) loud receiver found is told =
-    let H : List (List ℕ) → List (List ℕ) → Bool → Type 0 = λ net lines b. Heeds message old_net net old new before lines b in
-    let missed = heeds-missed client at message old_net old new before why receiver found is in
-    let one : H new_net before false = subst (λ net. H net before false) (sym told.0) missed in
-    let two : H new_net after false = subst (λ lines. H new_net lines false) (sym told.1) one in
-    subst (λ b. H new_net after b) (sym told.2) two
+pub takes-told : (place : Option ℕ) (client at : ℕ) (message : Message) (old_net new_net : List (List ℕ)) (old new : List Seen) (before after : List (List ℕ)) (taken : Taken) (loud : Bool) → receiver_of message ≡ Some client → place_of client old ≡ Some at → IsTakenAt at message old taken new → IsTold place client taken old_net new_net before after loud → Takes place message old_net new_net old new before after loud
+takes-told place client at message old_net new_net old new before after (Answered number reply) loud receiver found is told =
+    let T : List (List ℕ) → Bool → Type 0 = λ net b. Takes place message old_net net old new before after b in
+    let N : List (List ℕ) → Type 0 = λ net. T net loud in
+    subst N (sym told.0) (subst (T old_net) (sym told.2) (takes-answered place client at number message reply old_net old new before after receiver found is told.1))
+takes-told place client at message old_net new_net old new before after (TookItem receipt) loud receiver found is told =
+    let T : Bool → Type 0 = λ b. Takes place message old_net new_net old new before after b in
+    subst T (sym told.1) (takes-item place client at message receipt old_net new_net old new before after receiver found is told.0)
+takes-told place client at message old_net new_net old new before after (Missed why) loud receiver found is told =
+    let T : List (List ℕ) → Bool → Type 0 = λ net b. Takes place message old_net net old new before after b in
+    let N : List (List ℕ) → Type 0 = λ net. T net loud in
+    subst N (sym told.0) (subst (T old_net) (sym told.2) (takes-missed place client at message old_net old new before after why receiver found is told.1))
 
 -- A delivery that breaks off.
 
