@@ -239,6 +239,16 @@ pub may-given : (how : How) (client place : ℕ) (old new : List Seen) (taken : 
 may-given how client place old new taken found at world shows =
     inr (dispatch-given how client place old new [] (lines_for client taken) (lines_for client taken ++ dispatched_line client (length taken) ∷ []) taken found at refl refl world shows).0
 
+-- the agents of a world whose agents, clients and places are the same
+pub agents-as : (world other : World) (seen : List Seen) → other.places ≡ world.places → other.agents ≡ world.agents → other.clients ≡ world.clients → ShowsAgents world seen → ShowsAgents other seen
+agents-as world other seen places agents clients shows =
+    let A : ℕ → (ℕ → Agent) → List ℕ → Type 0 = λ p a c. ShowsAgents (record world { places = p; agents = a; clients = c }) seen in
+    let start : A world.places world.agents world.clients = record { shown = shows.shown; rising = shows.rising; listed = shows.listed } in
+    let one : A other.places world.agents world.clients = subst (λ p. A p world.agents world.clients) (sym places) start in
+    let two : A other.places other.agents world.clients = subst (λ a. A other.places a world.clients) (sym agents) one in
+    let all : A other.places other.agents other.clients = subst (λ c. A other.places other.agents c) (sym clients) two in
+    record { shown = all.shown; rising = all.rising; listed = all.listed }
+
 -- an element that is read is that at its place
 -- an element that is read is that at its place
 pub index-is : {X : Type 0} (xs : List X) (n : ℕ) (x y : X) → x ≡ get_or xs n x → slice_get xs n ≡ Some y → x ≡ y

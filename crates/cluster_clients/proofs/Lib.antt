@@ -1,3 +1,4 @@
+pub mod ListSteps
 pub mod ToldLines
 pub mod PostingSteps
 pub mod PostAllSteps

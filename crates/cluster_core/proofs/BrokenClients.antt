@@ -41,7 +41,7 @@ use Rattle.cluster_core.proofs.ChainSteps.{again-goes, resent-by, resent-stand}
 use Rattle.cluster_core.proofs.RoundSteps.{hear-answered, files-same, All-at}
 use Rattle.cluster_core.proofs.UnaskedSteps.{lone-unasked}
 use Rattle.cluster_core.proofs.BrokenSteps.{sound-fed, unasked-fed, event-broken, shown-broken, happened-broken}
-use Rattle.cluster_core.proofs.ListSteps.{All-take}
+use Rattle.cluster_clients.proofs.ListSteps.{All-take}
 
 -- what a line on agents is
 line-kept : (setup : Setup) (next : Line) (state : State Alone) (outcome : Outcome (State Alone)) → IsSteady (plain_of setup) IsGoodAlone state → Happens (plain_of setup) any_shelf (lone (plain_of setup)) next state outcome → IsSteady (plain_of setup) IsGoodAlone outcome.state × Says (plain_of setup) state.world outcome.state.world outcome.told

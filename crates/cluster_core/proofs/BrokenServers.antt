@@ -51,7 +51,7 @@ use Rattle.cluster_core.proofs.ServerSteps.{state_with, answered-history, IsHear
 use Rattle.cluster_core.proofs.WorkSteps.{IsWorked, drain-steady, each-posted}
 use Rattle.cluster_core.proofs.UnaskedSteps.{lone-unasked, unasked-same}
 use Rattle.cluster_core.proofs.BrokenSteps.{left-between, same-between, unworked-between, lacking-between, failing-between, whole-broken, nothing-broken}
-use Rattle.cluster_core.proofs.ListSteps.{All-take}
+use Rattle.cluster_clients.proofs.ListSteps.{All-take}
 
 -- Messages that were posted in part.
 

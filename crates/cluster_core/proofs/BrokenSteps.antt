@@ -38,7 +38,7 @@ use Rattle.cluster_core.specs.Broken.{LeavesBetween, IsFedOf, Broken}
 use Rattle.cluster_clients.specs.PartlyDone.{PartlyShows}
 use Rattle.cluster_core.specs.PartlyDone.{SaysUnasked}
 use Rattle.cluster_core.proofs.FilesSteps.{left-same, left-told}
-use Rattle.cluster_core.proofs.ServerSteps.{agents-as}
+use Rattle.cluster_clients.proofs.DispatchSteps.{agents-as}
 use Rattle.cluster_core.proofs.TakenSteps.{IsMoved}
 use Rattle.cluster_core.proofs.UnaskedSteps.{unasked-same, times-both, deals-both, grown-none}
 

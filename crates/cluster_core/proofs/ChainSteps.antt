@@ -31,7 +31,7 @@ use Rattle.cluster_core.specs.Delivered.{again, resent_by, HearsAll, StandAll}
 use Rattle.cluster_core.specs.PartlyDone.{SaysUnasked}
 use Rattle.cluster_clients.proofs.DispatchSteps.{absent, seen-at}
 use Rattle.cluster_core.proofs.UnaskedSteps.{lone-unasked}
-use Rattle.cluster_core.proofs.ListSteps.{All-take}
+use Rattle.cluster_clients.proofs.ListSteps.{All-take}
 use Rattle.cluster_clients.proofs.ToldLines.{printed-append}
 
 -- one event after another

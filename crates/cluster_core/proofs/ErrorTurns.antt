@@ -26,7 +26,7 @@ use Rattle.cluster_core.specs.Rounds.{PlaysOn, Plays, any_state, IsIdle, IsIdleW
 use Rattle.cluster_core.proofs.BrokenSteps.{happened-broken}
 use Rattle.cluster_core.proofs.RoundSteps.{hear-plays, drain-plays, pushed-plays, pushed-items, All-at, at-rest, turns-go, clients-go, items-go, drain-go, hear-go, push-go}
 use Rattle.cluster_core.proofs.ErrorSteps.{Leads, Follows, StopsBehind, StopsAs, each-stops, lacks-after, lacks-whole, off-after, off-so}
-use Rattle.cluster_core.proofs.ListSteps.{All-take}
+use Rattle.cluster_clients.proofs.ListSteps.{All-take}
 
 -- What the events of a round lead to.
 

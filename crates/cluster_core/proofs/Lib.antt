@@ -1,5 +1,4 @@
 pub mod CauseSteps
-mod ListSteps
 mod FilesSteps
 mod ServerSteps
 mod HeldSteps

@@ -48,7 +48,7 @@ use Rattle.cluster_core.proofs.UnaskedSteps.{lone-unasked}
 use Rattle.cluster_core.proofs.FilesSteps.{left-told, left-same, left-both}
 use Rattle.cluster_clients.proofs.ToldLines.{kept-append, loud-append, SameButPlace}
 use Rattle.cluster_core.proofs.SettlingLines.{hear-places, hear-measured, IsQuiet, drain-quiet, push-quiet}
-use Rattle.cluster_core.proofs.ListSteps.{All-take}
+use Rattle.cluster_clients.proofs.ListSteps.{All-take}
 
 -- Events that happened are events that were played.
 

@@ -40,9 +40,9 @@ use Rattle.mirror.specs.declared.heard.Role.TheVariants.{Active}
 use Rattle.mirror.specs.Nodes.{Server, HasRoom, at_rest, at_work}
 use Rattle.mirror.specs.Hearing.{IsRequestHeard, IsReceiptHeard, IsHeardAtRest, CanHear, ignored, accepted_alone, repeated}
 use Rattle.cluster_core.specs.declared.world.World.{World as Kept}
-use Rattle.cluster_clients.specs.Clients.{ShowsAgents}
 use Rattle.cluster_core.specs.Heard.{reason_of, reason_lines, IsToldHeard}
 use Rattle.cluster_core.specs.Worlds.{IsActive, Shows, IsGood, HasState, Happened, heard_by}
+use Rattle.cluster_clients.proofs.DispatchSteps.{agents-as}
 use Rattle.mirror.proofs.NodeLaws.{count-is}
 
 -- A state with its hand as a variable is the state.
@@ -67,16 +67,6 @@ answered-history setup state (Ready entry) good =
     history-of setup good.begins state.world.now state.world.core.answered (IsLegal-before (plain_of setup) state.world.now entry state.world.core.answered good.steady.sound.facts.legal) good.range.1
 answered-history setup state (Waiting entry) good = elim good.steady.good [ ]
 answered-history setup state (Applied entry) good = elim good.steady.good [ ]
-
--- the agents of a world whose agents, clients and places are the same
-pub agents-as : (world other : World) (seen : List Rattle.client_agent.specs.Seen.Seen) → other.places ≡ world.places → other.agents ≡ world.agents → other.clients ≡ world.clients → ShowsAgents world seen → ShowsAgents other seen
-agents-as world other seen places agents clients shows =
-    let A : ℕ → (ℕ → Rattle.cluster_facts.specs.Agents.Agent) → List ℕ → Type 0 = λ p a c. ShowsAgents (record world { places = p; agents = a; clients = c }) seen in
-    let start : A world.places world.agents world.clients = record { shown = shows.shown; rising = shows.rising; listed = shows.listed } in
-    let one : A other.places world.agents world.clients = subst (λ p. A p world.agents world.clients) (sym places) start in
-    let two : A other.places other.agents world.clients = subst (λ a. A other.places a world.clients) (sym agents) one in
-    let all : A other.places other.agents other.clients = subst (λ c. A other.places other.agents c) (sym clients) two in
-    record { shown = all.shown; rising = all.rising; listed = all.listed }
 
 -- A message that is heard.
 

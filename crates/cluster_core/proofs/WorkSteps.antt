@@ -37,7 +37,8 @@ use Rattle.cluster_clients.specs.Spelled.{AreSpelled}
 use Rattle.cluster_clients.specs.Posted.{posted_all, lines_all, PostsAll}
 use Rattle.cluster_core.specs.Worlds.{Shows, IsGood, HasState, TellsFiles, LeavesFiles, Happened, drained, pushed}
 use Rattle.cluster_core.proofs.HeldSteps.{held-range, calls-few}
-use Rattle.cluster_core.proofs.ServerSteps.{state_with, answered-history, agents-as}
+use Rattle.cluster_clients.proofs.DispatchSteps.{agents-as}
+use Rattle.cluster_core.proofs.ServerSteps.{state_with, answered-history}
 
 -- Work.
 
