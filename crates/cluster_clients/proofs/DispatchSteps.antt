@@ -1,5 +1,5 @@
 -- Callbacks of a client are handed out as the world has it.
-use Rattle.std.proofs.Common.{◌≡◌, ℕ, zero, suc, ◌+◌, ◌<◌, ◌⊎◌, inl, inr, Bool, ◌==◌, cond, nat_lt, if◌then◌else◌, Option, Some, None, List, [], ◌∷◌, ◌++◌, length, slice_get, slice_set, get_or, reverse, refl, ap, sym, ◌∙◌, subst, arith, append_assoc, append-nil}
+use Rattle.std.proofs.Common.{◌≡◌, ℕ, zero, suc, ◌+◌, ◌<◌, ◌⊎◌, inl, inr, Bool, ◌==◌, cond, nat_lt, if◌then◌else◌, Option, Some, None, List, [], ◌∷◌, ◌++◌, length, slice_get, slice_set, reverse, refl, ap, sym, ◌∙◌, subst, arith, append_assoc, append-nil}
 use Rattle.std.specs.Prelude.{Result, Ok, Err, OnErr}
 use Rattle.std.specs.List.{flat_map, position_from}
 use Rattle.std.proofs.lemmas.Iterator.Adapters.{position_from-zero}
@@ -248,10 +248,3 @@ agents-as world other seen places agents clients shows =
     let two : A other.places other.agents world.clients = subst (λ a. A other.places a world.clients) (sym agents) one in
     let all : A other.places other.agents other.clients = subst (λ c. A other.places other.agents c) (sym clients) two in
     record { shown = all.shown; rising = all.rising; listed = all.listed }
-
--- an element that is read is that at its place
--- an element that is read is that at its place
-pub index-is : {X : Type 0} (xs : List X) (n : ℕ) (x y : X) → x ≡ get_or xs n x → slice_get xs n ≡ Some y → x ≡ y
-index-is [] n x y is found = cc
-index-is (first ∷ xs) zero x y is found = let same : first ≡ y = cc in is ∙ same
-index-is (first ∷ xs) (suc n) x y is found = index-is xs n x y is found

@@ -1,6 +1,7 @@
 -- Lines of several events, and which events are loud.
-use Rattle.std.proofs.Common.{◌≡◌, ℕ, suc, inl, inr, Bool, true, false, ◌||◌, nat_lt, if◌then◌else◌, List, [], ◌∷◌, ◌++◌, refl, ap, sym, ◌∙◌, append_assoc, append-nil, arith}
-use Rattle.std.proofs.lemmas.Bool.Decides.{leb_tells}
+use Rattle.std.proofs.Common.{◌≡◌, ℕ, suc, Bool, true, false, ◌||◌, nat_lt, if◌then◌else◌, List, [], ◌∷◌, ◌++◌, refl, ap, sym, ◌∙◌, append_assoc, append-nil, arith}
+use Rattle.std.proofs.Math.Bool.{or-false}
+use Rattle.std.proofs.lemmas.Bool.{lt-ltb, le-ltb}
 use Rattle.cluster_facts.specs.Lists.{without}
 use Rattle.cluster_events.specs.Lines.{Told, is_ignored, is_progress}
 use Rattle.cluster_events.specs.Outcomes.{Outcome}
@@ -31,22 +32,18 @@ swap true false c = refl
 swap false true c = refl
 swap false false c = refl
 
-or-false : (b : Bool) → b ≡ (b || false)
-or-false true = refl
-or-false false = refl
-
 pub loud-append : (second first : List Told) → is_loud (second ++ first) ≡ (is_loud first || is_loud second)
-loud-append [] first = or-false (is_loud first)
+loud-append [] first = sym (or-false (is_loud first))
 loud-append (line ∷ second) first =
     ap (λ rest. is_progress line || rest) (loud-append second first) ∙ swap (is_progress line) (is_loud first) (is_loud second)
 
 -- Numbers that grow.
 
 pub not-less : (n : ℕ) → nat_lt n n ≡ false
-not-less n = elim (leb_tells (suc n) n) [ inl below ↦ let less = below.1 in absurd (omega arith) | inr not ↦ not.0 ]
+not-less n = le-ltb n n (omega arith)
 
 pub less-one : (n : ℕ) → nat_lt n (suc n) ≡ true
-less-one n = elim (leb_tells (suc n) (suc n)) [ inl below ↦ below.0 | inr not ↦ let less = not.1 in absurd (omega arith) ]
+less-one n = lt-ltb n (suc n) (omega arith)
 
 -- Outcomes that differ at most in the places that lines on messages without effect name.
 
