@@ -1,5 +1,5 @@
 -- A reply or an item is delivered to its client's agent as the world has it.
-use Rattle.std.proofs.Common.{◌≡◌, ℕ, suc, inl, inr, Bool, true, false, nat_lt, nat_le, if◌then◌else◌, Option, Some, None, List, [], ◌∷◌, ◌++◌, length, slice_set, refl, ap, sym, ◌∙◌, subst, append-nil}
+use Rattle.std.proofs.Common.{◌≡◌, ℕ, suc, ◌⊎◌, slice_get, inl, inr, Bool, true, false, nat_lt, nat_le, if◌then◌else◌, Option, Some, None, List, [], ◌∷◌, ◌++◌, length, slice_set, refl, ap, sym, ◌∙◌, subst, append-nil}
 use Rattle.cluster_facts.specs.Types.{Call, Reply, Item, Message, Answer, Delivery, Receipt}
 use Rattle.cluster_facts.specs.Service.{Plain}
 use Rattle.cluster_facts.specs.Agents.{Living, Agent, fresh, kept_call, callbacks_of, lacks_place, find_living}
@@ -21,10 +21,10 @@ use Rattle.cluster_clients.specs.Spelled.{AreSpelled, Posts}
 use Rattle.cluster_clients.specs.Clients.{ShowsAgents, place_of}
 use Rattle.cluster_clients.specs.Taken.{taken_as, kept_lines, number_told, lines_told, Takes}
 use Rattle.cluster_clients.specs.Taking.{receiver_of, missed_by_none, why_of, missed_lines, IsTakenAt, IsTold, MayPost}
-use Rattle.cluster_clients.specs.PartlyDone.{PartlyShows, TakesPartly}
+use Rattle.cluster_clients.specs.PartlyDone.{TakesPartly}
 use Rattle.cluster_clients.proofs.DispatchSteps.{fresh-agent, seen-at, set-same, handed-shows}
 use Rattle.cluster_clients.proofs.PostingSteps.{spelled-length}
-use Rattle.cluster_clients.proofs.DeliverySteps.{reply-no-item, item-receipt, agents_with, came}
+use Rattle.cluster_clients.proofs.DeliverySteps.{reply-no-item, item-receipt, Became, came}
 use Rattle.cluster_clients.proofs.ToldLines.{SameButPlace, same-outcome, not-less, less-one}
 
 -- The places that lines on messages without effect name change nothing else.
@@ -62,6 +62,11 @@ module _ (plain : Plain) (one other : ℕ) (world : World) where
 abbrev Ends : Option ℕ → List (List ℕ) → List Seen → List (List ℕ) → List (List ℕ) → Bool → Outcome World → Type 0
 Ends place net seen before after loud outcome =
     AreSpelled outcome.state.net net × ShowsAgents outcome.state seen × (after ≡ before ++ lines_told place outcome.told) × (loud ≡ is_loud outcome.told)
+
+-- the same but for the agents
+abbrev Tells : Option ℕ → List (List ℕ) → List (List ℕ) → List (List ℕ) → Bool → Outcome World → Type 0
+Tells place net before after loud outcome =
+    AreSpelled outcome.state.net net × (after ≡ before ++ lines_told place outcome.told) × (loud ≡ is_loud outcome.told)
 
 -- lines of which none is on a message without effect are told in each case
 told-so : (place : Option ℕ) (told : List Told) → kept_lines told ≡ printed told → printed told ≡ lines_told place told
@@ -105,20 +110,34 @@ takes-absent place client message net seen before after receiver none lines plai
         subst (Ends place net seen before after false) (sym outcome) (spelled, shows, lines ∙ ap (λ more. before ++ more) (missed-so place GoneItem), refl)
     by-message _ is lines = cc
 
+-- **the agents after the agent at a place took or missed the message**
+took : (plain : Plain) (place client at : ℕ) (message : Message) (world : World) (old new : List Seen) (taken : Taken) → receiver_of message ≡ Some client → place_of client old ≡ Some at → ShowsAgents world old → IsTakenAt at message old taken new → ShowsAgents (taken_as plain place message world).state new
+took plain place client at message world old new taken receiver found shows is =
+    let came_so = came plain place client at message world old new taken shows found receiver is in
+    by-taken taken came_so.seen came_so.here came_so.old_is came_so.new_is came_so.became
+  where
+    by-taken : (t : Taken) (seen : Seen) → slice_get world.clients at ≡ Some client → slice_get old at ≡ Some (seen_of client world.places (world.agents client)) → new ≡ slice_set old at seen → Became plain place client world t seen (taken_as plain place message world) → ShowsAgents (taken_as plain place message world).state new
+    by-taken (Answered number reply) seen here old_is new_is became =
+        subst (λ (o : Outcome World). ShowsAgents o.state new) (sym became.2) (handed-shows client at old new became.1 world shows here (new_is ∙ ap (λ s. slice_set old at s) became.3))
+    by-taken (TookItem receipt) seen here old_is new_is became =
+        let now = handed-shows client at old new became.0 world shows here (new_is ∙ ap (λ s. slice_set old at s) became.2) in
+        subst (λ (o : Outcome World). ShowsAgents o.state new) (sym became.1) (record { shown = now.shown; rising = now.rising; listed = now.listed })
+    by-taken (Missed why) seen here old_is new_is became =
+        let same : new ≡ old = new_is ∙ ap (λ s. slice_set old at s) became.1 ∙ set-same old at (seen_of client world.places (world.agents client)) old_is in
+        subst (λ (o : Outcome World). ShowsAgents o.state new) (sym became.0) (subst (λ s. ShowsAgents world s) (sym same) shows)
+
 takes-missed : (place : Option ℕ) (client at : ℕ) (message : Message) (net : List (List ℕ)) (old new : List Seen) (before after : List (List ℕ)) (why : MissedWhy) → receiver_of message ≡ Some client → place_of client old ≡ Some at → IsTakenAt at message old (Missed why) new → after ≡ before ++ missed_lines place (why_of why) → Takes place message net net old new before after false
 takes-missed place client at message net old new before after why receiver found is lines plain world is_plain spelled shows =
     let came_so = came plain (number_told place) client at message world old new (Missed why) shows found receiver is in
-    let same : new ≡ old = came_so.new_is ∙ ap (λ s. slice_set old at s) came_so.became.1 ∙ set-same old at (seen_of client world.places (world.agents client)) came_so.old_is in
-    let shows_now : ShowsAgents world new = subst (λ s. ShowsAgents world s) (sym same) shows in
-    subst (Ends place net new before after false) (sym came_so.became.0) (spelled, shows_now, lines ∙ ap (λ more. before ++ more) (missed-so place (why_of why)), refl)
+    let rest = subst (Tells place net before after false) (sym came_so.became.0) (spelled, lines ∙ ap (λ more. before ++ more) (missed-so place (why_of why)), refl) in
+    (rest.0, took plain (number_told place) client at message world old new (Missed why) receiver found shows is, rest.1, rest.2)
 
 takes-answered : (place : Option ℕ) (client at number : ℕ) (message : Message) (reply : Reply) (net : List (List ℕ)) (old new : List Seen) (before after : List (List ℕ)) → receiver_of message ≡ Some client → place_of client old ≡ Some at → IsTakenAt at message old (Answered number reply) new → after ≡ before ++ reply_line client number reply ∷ [] → Takes place message net net old new before after true
 takes-answered place client at number message reply net old new before after receiver found is lines plain world is_plain spelled shows =
     let came_so = came plain (number_told place) client at message world old new (Answered number reply) shows found receiver is in
-    let call = came_so.became.0 in
-    let next = came_so.became.1 in
-    let shows_now : ShowsAgents (agents_with client next world) new = handed-shows client at old new next world shows came_so.here (came_so.new_is ∙ ap (λ s. slice_set old at s) came_so.became.3) in
-    subst (Ends place net new before after true) (sym came_so.became.2) (spelled, shows_now, lines ∙ ap (λ more. before ++ more) (told-so place (Replied client number call reply ∷ []) refl), refl)
+    let told = Replied client number came_so.became.0 reply ∷ [] in
+    let rest = subst (Tells place net before after true) (sym came_so.became.2) (spelled, lines ∙ ap (λ more. before ++ more) (told-so place told refl), refl) in
+    (rest.0, took plain (number_told place) client at message world old new (Answered number reply) receiver found shows is, rest.1, rest.2)
 
 -- the receipt of an item is posted, and its posting is loud
 
@@ -153,16 +172,15 @@ takes-item place client at message receipt old_net new_net old new before after 
     let there = seen-at client at old world shows found in
     let taken = is client world.places (world.agents client) there.1 in
     let a_receipt = receipt-is client message world receipt taken.0 taken.1 in
-    let next = came_so.became.0 in
     let done = posts plain world.net is_plain spelled in
-    let shows_now = handed-shows client at old new next world shows came_so.here (came_so.new_is ∙ ap (λ s. slice_set old at s) came_so.became.2) in
     let told = post_lines plain receipt world.net in
     let lines = told-so place told (receipt-lines receipt told (suc (length world.net)) (knows plain receipt world.net) a_receipt refl) in
     let loud : nat_lt (length old_net) (length new_net) ≡ is_loud told =
     (λ i. nat_lt (sym (spelled-length world.net old_net spelled) i) (sym (spelled-length (posted plain receipt world.net) new_net done.0) i))
     ∙ receipt-loud plain receipt world.net a_receipt
     in
-    subst (Ends place new_net new before after (nat_lt (length old_net) (length new_net))) (sym came_so.became.1) (done.0, record { shown = shows_now.shown; rising = shows_now.rising; listed = shows_now.listed }, done.1 ∙ ap (λ more. before ++ more) lines, loud)
+    let rest = subst (Tells place new_net before after (nat_lt (length old_net) (length new_net))) (sym came_so.became.1) (done.0, done.1 ∙ ap (λ more. before ++ more) lines, loud) in
+    (rest.0, took plain (number_told place) client at message world old new (TookItem receipt) receiver found shows is, rest.1, rest.2)
 
 -- the agent at a place took or missed it
 pub takes-told : (place : Option ℕ) (client at : ℕ) (message : Message) (old_net new_net : List (List ℕ)) (old new : List Seen) (before after : List (List ℕ)) (taken : Taken) (loud : Bool) → receiver_of message ≡ Some client → place_of client old ≡ Some at → IsTakenAt at message old taken new → IsTold place client taken old_net new_net before after loud → Takes place message old_net new_net old new before after loud
@@ -184,24 +202,15 @@ takes-told place client at message old_net new_net old new before after (Missed 
 pub nothing-taken : (place : ℕ) (message : Message) (net : List (List ℕ)) (agents : List Seen) → TakesPartly place message net net agents agents
 nothing-taken place message net agents plain world is_plain spelled shows = record { net_is = inl spelled; agents_are = inl shows }
 
-partly-with : (plain : Plain) (world : World) (outcome other : Outcome World) (net : List (List ℕ)) (agents : List Seen) → outcome ≡ other → PartlyShows world other.state net agents → PartlyShows world outcome.state net agents
-partly-with plain world outcome other net agents is partly = subst (λ (o : Outcome World). PartlyShows world o.state net agents) (sym is) partly
-
 -- the agent took or missed it, and its receipt was posted or not
 pub taken-partly : (place client at : ℕ) (message : Message) (old_net new_net : List (List ℕ)) (old new : List Seen) (taken : Taken) → receiver_of message ≡ Some client → place_of client old ≡ Some at → IsTakenAt at message old taken new → MayPost taken old_net new_net → TakesPartly place message old_net new_net old new
-taken-partly place client at message old_net new_net old new (Answered number reply) receiver found is posts plain world is_plain spelled shows =
-    let came_so = came plain place client at message world old new (Answered number reply) shows found receiver is in
-    let next = came_so.became.1 in
-    let shows_now : ShowsAgents (agents_with client next world) new = handed-shows client at old new next world shows came_so.here (came_so.new_is ∙ ap (λ s. slice_set old at s) came_so.became.3) in
-    let other : Outcome World = record { state = agents_with client next world; told = Replied client number came_so.became.0 reply ∷ [] } in
-    partly-with plain world (taken_as plain place message world) other new_net new came_so.became.2 (record { net_is = inl (subst (λ n. AreSpelled world.net n) (sym posts) spelled); agents_are = inr shows_now })
-taken-partly place client at message old_net new_net old new (TookItem receipt) receiver found is posts plain world is_plain spelled shows =
-    let came_so = came plain place client at message world old new (TookItem receipt) shows found receiver is in
-    let next = came_so.became.0 in
-    let shows_now = handed-shows client at old new next world shows came_so.here (came_so.new_is ∙ ap (λ s. slice_set old at s) came_so.became.2) in
-    let other : Outcome World = record { state = record world { net = posted plain receipt world.net; agents = Rattle.cluster_facts.specs.World.with_agent client next world.agents }; told = post_lines plain receipt world.net } in
-    partly-with plain world (taken_as plain place message world) other new_net new came_so.became.1 (record { net_is = posts plain world.net is_plain spelled; agents_are = inr (record { shown = shows_now.shown; rising = shows_now.rising; listed = shows_now.listed }) })
-taken-partly place client at message old_net new_net old new (Missed why) receiver found is posts plain world is_plain spelled shows =
-    let came_so = came plain place client at message world old new (Missed why) shows found receiver is in
-    let same : new ≡ old = came_so.new_is ∙ ap (λ s. slice_set old at s) came_so.became.1 ∙ set-same old at (seen_of client world.places (world.agents client)) came_so.old_is in
-    record { net_is = inl (subst (λ n. AreSpelled world.net n) (sym posts) spelled); agents_are = inl (subst (λ s. ShowsAgents world s) (sym same) shows) }
+taken-partly place client at message old_net new_net old new taken receiver found is posts plain world is_plain spelled shows = record {
+  net_is = by-taken taken is posts;
+  agents_are = inr (took plain place client at message world old new taken receiver found shows is);
+}
+  where
+    by-taken : (t : Taken) → IsTakenAt at message old t new → MayPost t old_net new_net → AreSpelled world.net new_net ⊎ AreSpelled (taken_as plain place message world).state.net new_net
+    by-taken (TookItem receipt) is posts =
+        subst (λ (o : Outcome World). AreSpelled world.net new_net ⊎ AreSpelled o.state.net new_net) (sym (came plain place client at message world old new (TookItem receipt) shows found receiver is).became.1) (posts plain world.net is_plain spelled)
+    by-taken (Answered number reply) is same = inl (subst (λ n. AreSpelled world.net n) (sym same) spelled)
+    by-taken (Missed why) is same = inl (subst (λ n. AreSpelled world.net n) (sym same) spelled)
