@@ -47,6 +47,7 @@ use Rattle.cluster_core.specs.Broken.{LeavesBetween, Broken, Faulted}
 use Rattle.cluster_core.specs.Errors.{BreaksOff}
 use Rattle.cluster_core.specs.Rounds.{StopsInDrain}
 use Rattle.cluster_core.specs.PartlyDone.{IsPartlyTold, SaysUnasked}
+use Rattle.cluster_clients.proofs.DispatchSteps.{agents-as}
 use Rattle.cluster_core.proofs.ServerSteps.{state_with, answered-history, IsHeardBy}
 use Rattle.cluster_core.proofs.WorkSteps.{IsWorked, drain-steady, each-posted}
 use Rattle.cluster_core.proofs.UnaskedSteps.{lone-unasked, unasked-same}
@@ -97,7 +98,7 @@ accepted-breaks setup state old a net history entry held good shows partly goes 
     elim partly.commits [
       | inl same ↦ nothing-broken setup before held (left_as old a net history) good spelled shows.agents (same ∙ shows.history) shows.now
       | inr more ↦ whole-broken setup before after.state after.told held held (left_as old a net history) goes.holds.sound goes.carried spelled
-          (Rattle.cluster_core.proofs.ServerSteps.agents-as before.world after.state.world old.agents refl refl refl shows.agents)
+          (agents-as before.world after.state.world old.agents refl refl refl shows.agents)
           (more ∙ ap (λ rest. entry ∷ rest) shows.history) shows.now
           (unworked-between setup before entry held)
     ]
@@ -110,7 +111,7 @@ repeated-breaks setup state old a net history message held good shows partly goe
     elim (posts-one setup message state.world.net old.net net partly.posts shows.net) [
       | inl spelled ↦ nothing-broken setup before held (left_as old a net history) good spelled shows.agents known shows.now
       | inr spelled ↦ whole-broken setup before after.state after.told held held (left_as old a net history) goes.holds.sound goes.carried spelled
-          (Rattle.cluster_core.proofs.ServerSteps.agents-as before.world after.state.world old.agents refl refl refl shows.agents)
+          (agents-as before.world after.state.world old.agents refl refl refl shows.agents)
           known shows.now (same-between setup before held good)
     ]
 
@@ -232,7 +233,7 @@ work-untold-by setup state (Ready entry) old a net heard held left good shows so
     elim (answer-breaks setup state entry state.world.net old.net net owed shows.net) [
       | inl spelled ↦ whole-broken setup before before [] held left (record old { a = a; net = net }) good.steady.sound (unasked-same (plain_of setup) before.world) spelled shows.agents shows.history shows.now between
       | inr spelled ↦ whole-broken setup before after.state after.told held left (record old { a = a; net = net }) (drain-steady setup before good.steady).sound (drained-goes setup before good) spelled
-          (Rattle.cluster_core.proofs.ServerSteps.agents-as before.world after.state.world old.agents refl refl refl shows.agents)
+          (agents-as before.world after.state.world old.agents refl refl refl shows.agents)
           shows.history shows.now between
     ]
 work-untold-by setup state (Waiting entry) old a net heard held left good shows some is posts files = elim good.steady.good [ ]
@@ -318,7 +319,7 @@ push-breaks-by setup state Empty old net items held good shows idle are posts =
     let T : Outcome (State Alone) → Type 0 = λ outcome. SaysUnasked plain rest.world outcome.state.world outcome.told in
     let other = record rest.world { net = posted_all plain front rest.world.net } in
     whole-broken setup rest (record { world = other; peers = rest.peers }) (lines_all plain front rest.world.net) held held (record old { net = net }) (subst S same goes.holds.steady).sound (subst T same goes.carried) done.1
-    (Rattle.cluster_core.proofs.ServerSteps.agents-as rest.world other old.agents refl refl refl shows.agents)
+    (agents-as rest.world other old.agents refl refl refl shows.agents)
     shows.history shows.now (same-between setup rest held good)
 push-breaks-by setup state (Ready entry) old net items held good shows idle are posts =
     let same = sym (ap (λ (server : Server). server.owed) shows.active) ∙ idle in

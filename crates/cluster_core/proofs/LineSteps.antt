@@ -33,6 +33,7 @@ use Rattle.cluster_core.specs.Worlds.{Shows, IsGood, HasState, Does, DoesOn, Hap
 use Rattle.cluster_core.specs.Settling.{DoesSettle}
 use Rattle.cluster_core.specs.Showing.{files_listed, file_shown, ShowsOn}
 use Rattle.cluster_core.proofs.FilesSteps.{left-same}
+use Rattle.cluster_clients.proofs.DispatchSteps.{agents-as}
 use Rattle.cluster_core.proofs.ServerSteps.{state_with}
 use Rattle.cluster_core.specs.Shelves.{shelf_of}
 use Rattle.cluster_core.specs.Steps.{asked_by, dispatched_by, deliver_at, work_done, PlaysAlone, Plays, EndsAs}
@@ -181,7 +182,7 @@ plays-time now old before moment later setup state good shows =
           link = shows.link;
           back = shows.back;
           net = shows.net;
-          agents = Rattle.cluster_core.proofs.ServerSteps.agents-as state.world world old.agents refl refl refl shows.agents;
+          agents = agents-as state.world world old.agents refl refl refl shows.agents;
           history = shows.history;
           now = refl;
           armed = shows.armed;
