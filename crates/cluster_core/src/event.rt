@@ -3,7 +3,7 @@ ghost use Rattle.std.specs.Prelude.{ℕ, List, IfOk, IfErr};
 ghost use Rattle.script_language.specs.Lines.{Spells};
 
 use crate::World;
-use crate::playing::play;
+use crate::parts::play_whole;
 use ais_values::Seq;
 use cluster_clients::EventAnswer;
 use disk_model::{DiskAnswer, SharedDisk};
@@ -25,10 +25,10 @@ impl World {
     /// one telling that the server is down.
     ///
     /// `Memory` comes where memory ran out: some of the line was done, without its lines. The history is legal; each client's
-    /// calls in it are the first of those that it had sent before, and what came to it is of the time in force, which stays. Each
-    /// client was fed the beginning of its items, each reply that it took is the history's, and the files are between. The same is
-    /// answered where the history has 4,000,000,000 entries, where a client's agent has numbered 4,294,967,294 calls, and where a
-    /// string of the net has more than 4,294,967,294 bytes.
+    /// calls in it are the first of those that it had sent before, and what came to it is of the time in force or of an
+    /// earlier one; that time stays. Each client was fed the beginning of its items, each reply that it took is the
+    /// history's, and the files are between. The same is answered where the history has 4,000,000,000 entries, where a
+    /// client's agent has numbered 4,294,967,294 calls, and where a string of the net has more than 4,294,967,294 bytes.
     pub fn event<D: SharedDisk>(
         &mut self,
         alloc: Global,
@@ -45,7 +45,7 @@ impl World {
         ensures cause { RisesAtFault (D.faults disk.old) (D.faults disk.new) result }
     {
         let mut lines = Vec::new(alloc);
-        match play(alloc, self, &mut lines, line, disk) {
+        match play_whole(alloc, self, &mut lines, line, disk) {
             Ok(()) => Ok(Seq::from_vec(lines)),
             Err(DiskAnswer::Memory) => {
                 mem::drop(lines);

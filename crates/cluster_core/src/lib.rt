@@ -2,14 +2,13 @@
 #![tactic(auto)]
 
 mod beginning;
-mod delivering;
 mod event;
 mod hearing;
+mod lone;
+mod parts;
 mod playing;
 mod pushing;
-mod resending;
-mod rounds;
-mod settling;
+mod serving;
 mod showing;
 mod working;
 mod world;
