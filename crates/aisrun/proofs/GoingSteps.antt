@@ -23,7 +23,7 @@ use Rattle.cluster_core.specs.Beginning.{Begun}
 use Rattle.cluster_core.specs.Broken.{Broken}
 use Rattle.cluster_core.specs.Playing.{EventDone, FaultLeaves}
 use Rattle.cluster_core.specs.Worlds.{HasState, IsGood, Shows, TellsFiles}
-use Rattle.cluster_core.proofs.SettlingLines.{printed-append}
+use Rattle.cluster_clients.proofs.ToldLines.{printed-append}
 use Rattle.cluster_events.specs.Runs.RunBy.{Started, Went}
 use Rattle.aisrun.specs.Playing.{files_told, Goes, LinePlayed, Played, text_of}
 use Rattle.aisrun.specs.declared.ending.Status8.{Status8}
@@ -112,7 +112,7 @@ going-plays setup places held left world lines text going = record {
 
 pub going-state : (setup : Setup) (places : ℕ) (held left : Option Files) (world : World) (lines : List Line) (text : List ℕ) → Going setup places held left world lines text → HasState world
 going-state setup places held left world lines text going =
-    record { setup = setup; state = going.state; good = going.good; shows = going.shows }
+    record { setup = setup; state = going.state; good = going.good; shows = going.shows; so = tt }
 
 -- the lines behind can still follow
 pub follow-next : (setup : Setup) (state : State Alone) (held left : Option Files) (old new : World) (next : Line) (others : List Line) (printed_lines : List (List ℕ)) → IsGood setup state → Shows setup state old → EventDone setup state next printed_lines held left new → CanFollow (time_behind old.now next) others → CanFollow new.now others
@@ -214,5 +214,5 @@ fault-left setup state line.Files held left old new lines good shows leaves =
 fault-left setup state (line.Cat name) held left old new lines good shows leaves =
     Showing refl (subst (λ (world : World). Shows setup state world) (sym leaves.0) shows) leaves.2 (ap joined_lines leaves.1)
 fault-left setup state _ held left old new lines good shows leaves =
-    let fault = leaves setup state good shows tt in
+    let fault = leaves setup state good shows in
     Working fault.0 fault.1 (ap joined_lines fault.2)

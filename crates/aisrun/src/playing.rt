@@ -17,7 +17,8 @@ ghost use Rattle.aisrun.specs.Steps.{CanFollow, Ended, EventsEnd, FindsNames, Ha
 use crate::ending::{Status8, root_holds};
 use crate::writing::{unwritten, write_broken, write_lines, write_text};
 use ais_values::{Duplicate, Text};
-use cluster_core::{EventAnswer, World};
+use cluster_clients::EventAnswer;
+use cluster_core::World;
 use disk_model::{DiskAnswer, SharedDisk};
 use io_edge::Sink;
 use script_lines::Line;

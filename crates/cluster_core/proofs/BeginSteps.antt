@@ -34,15 +34,11 @@ good-start setup places begins = record {
 
 shows-start : (setup : Setup) (places : ℕ) → Shows setup (lone_start setup.start places) (world_of (at_rest setup []) setup.start places)
 shows-start setup places = record {
-  active = refl;
-  partner = refl;
-  link = refl;
-  back = refl;
+  own = record { active = refl; rest = record { partner = refl; nothing = (refl, refl); unarmed = refl } };
   net = tt;
   agents = record { shown = refl; rising = tt; listed = λ client. inr refl };
   history = refl;
   now = refl;
-  armed = refl;
   callbacks = refl;
 }
 

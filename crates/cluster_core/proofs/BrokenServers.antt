@@ -1,5 +1,5 @@
 -- A message that the active server hears, its work and a push that break off.
-use Rattle.std.proofs.Common.{◌≡◌, ℕ, zero, suc, ◌⊎◌, inl, inr, Bool, true, false, Option, Some, None, List, [], ◌∷◌, ◌++◌, length, take, refl, ap, sym, ◌∙◌, subst}
+use Rattle.std.proofs.Common.{◌≡◌, ℕ, zero, suc, ◌≤◌, ◌⊎◌, inl, inr, Bool, true, false, Option, Some, None, List, [], ◌∷◌, ◌++◌, length, take, refl, ap, sym, ◌∙◌, subst, arith}
 use Rattle.std.specs.Prelude.{IsSome, option_map}
 use Rattle.calls.specs.History.{Pushed}
 use Rattle.disk_model.specs.Disk.{Files}
@@ -28,7 +28,7 @@ use Rattle.cluster_events.specs.Events.{post_again, request_as, receipt_as, hear
 use Rattle.cluster_events.specs.Saying.{Says}
 use Rattle.cluster_events.specs.Serving.{IsSteady}
 use Rattle.cluster_events.proofs.Telling.{Says-same}
-use Rattle.cluster_events.proofs.Carrying.{Goes, hear-goes, drain-goes, IsMadeItem, held-made, post_all-goes}
+use Rattle.cluster_events.proofs.Carrying.{Goes, hear-goes, IsMadeItem, held-made, post_all-goes}
 use Rattle.event_text.specs.Texts.{server_line}
 use Rattle.lone_cluster.specs.Lone.{Alone, lone, IsGoodAlone, accept_alone, net_answering}
 use Rattle.lone_cluster.proofs.Serving.{lone-serves}
@@ -39,19 +39,25 @@ use Rattle.mirror.specs.declared.heard.Role.TheVariants.{Active}
 use Rattle.mirror.specs.Nodes.{Server, down, at_rest, replies_owed}
 use Rattle.mirror.specs.Hearing.{IsRequestHeard, IsReceiptHeard, IsHeardAtRest, ignored, accepted_alone, repeated}
 use Rattle.mirror.specs.Working.{deeds_in, replies_in}
-use Rattle.cluster_core.specs.declared.world.World.{World as Kept}
-use Rattle.cluster_core.specs.Spelled.{AreSpelled}
-use Rattle.cluster_core.specs.Heard.{posted_all, lines_all}
-use Rattle.cluster_core.specs.Worlds.{Shows, IsGood, TellsFiles, heard_by, drained}
-use Rattle.cluster_core.specs.Broken.{LeavesBetween, Broken, Faulted}
-use Rattle.cluster_core.specs.Errors.{BreaksOff}
-use Rattle.cluster_core.specs.Rounds.{StopsInDrain}
-use Rattle.cluster_core.specs.PartlyDone.{PostsSome, IsPartlyTold, SaysUnasked}
+use Rattle.cluster_rounds.specs.declared.cluster.Cluster.{Cluster}
+use Rattle.cluster_core.specs.declared.lone.Lone.{Lone}
+use Rattle.cluster_core.specs.LoneKit.{lone_kit, drained}
+use Rattle.cluster_clients.specs.Spelled.{AreSpelled}
+use Rattle.cluster_clients.specs.Posted.{posted_all, lines_all, PostsSome}
+use Rattle.ais_values.specs.Causes.{Rose}
+use Rattle.cluster_rounds.specs.Worlds.{Shows, IsGood, TellsFiles, any_state, heard_by}
+use Rattle.cluster_rounds.specs.Broken.{LeavesBetween, Broken}
+use Rattle.cluster_rounds.specs.Came.{DiskSeen, Ended, ComesOff}
+use Rattle.cluster_rounds.specs.Rounds.{EndsStep}
+use Rattle.cluster_core.specs.PartlyDone.{IsPartlyTold}
+use Rattle.cluster_rounds.specs.PartlyDone.{SaysUnasked}
+use Rattle.cluster_clients.proofs.DispatchSteps.{agents-as}
 use Rattle.cluster_core.proofs.ServerSteps.{state_with, answered-history, IsHeardBy}
-use Rattle.cluster_core.proofs.WorkSteps.{IsWorked, drain-steady, each-posted}
-use Rattle.cluster_core.proofs.UnaskedSteps.{lone-unasked, unasked-same}
-use Rattle.cluster_core.proofs.BrokenSteps.{left-between, same-between, unworked-between, lacking-between, failing-between, whole-broken, nothing-broken}
-use Rattle.cluster_core.proofs.ListSteps.{All-take}
+use Rattle.cluster_core.proofs.WorkSteps.{IsWorked, drain-steady, drained-goes, each-posted}
+use Rattle.cluster_core.specs.LoneLaws.{lone_laws, lone-unasked}
+use Rattle.cluster_rounds.proofs.UnaskedSteps.{unasked-same}
+use Rattle.cluster_rounds.proofs.BrokenSteps.{left-between, same-between, unworked-between, lacking-between, failing-between, whole-broken, nothing-broken}
+use Rattle.cluster_clients.proofs.ListSteps.{All-take}
 
 -- Messages that were posted in part.
 
@@ -82,39 +88,39 @@ abbrev GoesSo : Setup → State Alone → Outcome (State Alone) → Type 0
 GoesSo setup state outcome = Goes (SaysUnasked (plain_of setup)) (IsSteady (plain_of setup) IsGoodAlone) state outcome
 
 -- what the code is left as
-abbrev left_as : Kept → Server → List (List ℕ) → Pushed → Kept
-left_as old a net history = record old { a = a; net = net; history = history }
+abbrev left_as : Cluster Lone → Server → List (List ℕ) → Pushed → Cluster Lone
+left_as old a net history = record old { servers = record old.servers { a = a }; net = net; history = history }
 
-ignored-breaks : (setup : Setup) (state : State Alone) (old : Kept) (a : Server) (net : List (List ℕ)) (history : Pushed) (why : Reason) (held : Option Files) → IsGood setup state → Shows setup state old → IsPartlyTold (ignored why) old.net net old.history.entries history.entries → Broken setup state held held (left_as old a net history)
+ignored-breaks : (setup : Setup) (state : State Alone) (old : Cluster Lone) (a : Server) (net : List (List ℕ)) (history : Pushed) (why : Reason) (held : Option Files) → (IsGood lone_kit) setup state → (Shows lone_kit) setup state old → IsPartlyTold (ignored why) old.net net old.history.entries history.entries → Broken setup state held held (left_as old a net history)
 ignored-breaks setup state old a net history why held good shows partly =
-    nothing-broken setup state held (left_as old a net history) good (posts-none setup state.world.net old.net net partly.posts shows.net) shows.agents (partly.commits ∙ shows.history) shows.now
+    (nothing-broken lone_kit lone_laws) setup state held (left_as old a net history) good (posts-none setup state.world.net old.net net partly.posts shows.net) shows.agents (partly.commits ∙ shows.history) shows.now
 
-accepted-breaks : (setup : Setup) (state : State Alone) (old : Kept) (a : Server) (net : List (List ℕ)) (history : Pushed) (entry : Entry) (held : Option Files) → IsGood setup (state_with state Empty) → Shows setup (state_with state Empty) old → IsPartlyTold (accepted_alone entry) old.net net old.history.entries history.entries → GoesSo setup (state_with state Empty) (accept_alone entry (state_with state Empty)) → Broken setup (state_with state Empty) held held (left_as old a net history)
+accepted-breaks : (setup : Setup) (state : State Alone) (old : Cluster Lone) (a : Server) (net : List (List ℕ)) (history : Pushed) (entry : Entry) (held : Option Files) → (IsGood lone_kit) setup (state_with state Empty) → (Shows lone_kit) setup (state_with state Empty) old → IsPartlyTold (accepted_alone entry) old.net net old.history.entries history.entries → GoesSo setup (state_with state Empty) (accept_alone entry (state_with state Empty)) → Broken setup (state_with state Empty) held held (left_as old a net history)
 accepted-breaks setup state old a net history entry held good shows partly goes =
     let before = state_with state Empty in
     let after = accept_alone entry before in
     let spelled = posts-none setup state.world.net old.net net partly.posts shows.net in
     elim partly.commits [
-      | inl same ↦ nothing-broken setup before held (left_as old a net history) good spelled shows.agents (same ∙ shows.history) shows.now
-      | inr more ↦ whole-broken setup before after.state after.told held held (left_as old a net history) goes.holds.sound goes.carried spelled
-          (Rattle.cluster_core.proofs.ServerSteps.agents-as before.world after.state.world old.agents refl refl refl shows.agents)
+      | inl same ↦ (nothing-broken lone_kit lone_laws) setup before held (left_as old a net history) good spelled shows.agents (same ∙ shows.history) shows.now
+      | inr more ↦ (whole-broken lone_kit lone_laws) setup before after.state after.told held held (left_as old a net history) goes.holds.sound goes.carried spelled
+          (agents-as before.world after.state.world old.agents refl refl refl shows.agents)
           (more ∙ ap (λ rest. entry ∷ rest) shows.history) shows.now
-          (unworked-between setup before entry held)
+          ((unworked-between lone_kit lone_laws) setup before entry held)
     ]
 
-repeated-breaks : (setup : Setup) (state : State Alone) (old : Kept) (a : Server) (net : List (List ℕ)) (history : Pushed) (message : Message) (held : Option Files) → IsGood setup (state_with state Empty) → Shows setup (state_with state Empty) old → IsPartlyTold (repeated message) old.net net old.history.entries history.entries → GoesSo setup (state_with state Empty) (in_world (post (plain_of setup) message) (state_with state Empty)) → Broken setup (state_with state Empty) held held (left_as old a net history)
+repeated-breaks : (setup : Setup) (state : State Alone) (old : Cluster Lone) (a : Server) (net : List (List ℕ)) (history : Pushed) (message : Message) (held : Option Files) → (IsGood lone_kit) setup (state_with state Empty) → (Shows lone_kit) setup (state_with state Empty) old → IsPartlyTold (repeated message) old.net net old.history.entries history.entries → GoesSo setup (state_with state Empty) (in_world (post (plain_of setup) message) (state_with state Empty)) → Broken setup (state_with state Empty) held held (left_as old a net history)
 repeated-breaks setup state old a net history message held good shows partly goes =
     let before = state_with state Empty in
     let after = in_world (post (plain_of setup) message) before in
     let known = partly.commits ∙ shows.history in
     elim (posts-one setup message state.world.net old.net net partly.posts shows.net) [
-      | inl spelled ↦ nothing-broken setup before held (left_as old a net history) good spelled shows.agents known shows.now
-      | inr spelled ↦ whole-broken setup before after.state after.told held held (left_as old a net history) goes.holds.sound goes.carried spelled
-          (Rattle.cluster_core.proofs.ServerSteps.agents-as before.world after.state.world old.agents refl refl refl shows.agents)
-          known shows.now (same-between setup before held good)
+      | inl spelled ↦ (nothing-broken lone_kit lone_laws) setup before held (left_as old a net history) good spelled shows.agents known shows.now
+      | inr spelled ↦ (whole-broken lone_kit lone_laws) setup before after.state after.told held held (left_as old a net history) goes.holds.sound goes.carried spelled
+          (agents-as before.world after.state.world old.agents refl refl refl shows.agents)
+          known shows.now ((same-between lone_kit lone_laws) setup before held good)
     ]
 
-request-breaks : (setup : Setup) (state : State Alone) (old : Kept) (a : Server) (net : List (List ℕ)) (history : Pushed) (heard : Heard) (place client number : ℕ) (call : Call) (verdict : Judged) (held : Option Files) → IsGood setup (state_with state Empty) → Shows setup (state_with state Empty) old → IsRequestHeard setup state.world.core.answered client number call state.world.now verdict heard a → IsPartlyTold heard old.net net old.history.entries history.entries → GoesSo setup (state_with state Empty) (request_as (plain_of setup) (lone (plain_of setup)) place client number call verdict (state_with state Empty)) → Broken setup (state_with state Empty) held held (left_as old a net history)
+request-breaks : (setup : Setup) (state : State Alone) (old : Cluster Lone) (a : Server) (net : List (List ℕ)) (history : Pushed) (heard : Heard) (place client number : ℕ) (call : Call) (verdict : Judged) (held : Option Files) → (IsGood lone_kit) setup (state_with state Empty) → (Shows lone_kit) setup (state_with state Empty) old → IsRequestHeard setup state.world.core.answered client number call state.world.now verdict heard a → IsPartlyTold heard old.net net old.history.entries history.entries → GoesSo setup (state_with state Empty) (request_as (plain_of setup) (lone (plain_of setup)) place client number call verdict (state_with state Empty)) → Broken setup (state_with state Empty) held held (left_as old a net history)
 request-breaks setup state old a net history heard place client number call New held good shows is partly goes =
     let T : Heard → Type 0 = λ h. IsPartlyTold h old.net net old.history.entries history.entries in
     accepted-breaks setup state old a net history (Called client number state.world.now call) held good shows (subst T is.0 partly) goes
@@ -130,7 +136,7 @@ request-breaks setup state old a net history heard place client number call Ahea
     let T : Heard → Type 0 = λ h. IsPartlyTold h old.net net old.history.entries history.entries in
     ignored-breaks setup (state_with state Empty) old a net history AheadMessage held good shows (subst T is.0 partly)
 
-receipt-breaks : (setup : Setup) (state : State Alone) (old : Kept) (a : Server) (net : List (List ℕ)) (history : Pushed) (heard : Heard) (place client key through : ℕ) (new : Bool) (held : Option Files) → IsGood setup (state_with state Empty) → Shows setup (state_with state Empty) old → IsReceiptHeard setup state.world.core.answered client key through state.world.now new heard a → IsPartlyTold heard old.net net old.history.entries history.entries → GoesSo setup (state_with state Empty) (receipt_as (lone (plain_of setup)) place client key through new (state_with state Empty)) → Broken setup (state_with state Empty) held held (left_as old a net history)
+receipt-breaks : (setup : Setup) (state : State Alone) (old : Cluster Lone) (a : Server) (net : List (List ℕ)) (history : Pushed) (heard : Heard) (place client key through : ℕ) (new : Bool) (held : Option Files) → (IsGood lone_kit) setup (state_with state Empty) → (Shows lone_kit) setup (state_with state Empty) old → IsReceiptHeard setup state.world.core.answered client key through state.world.now new heard a → IsPartlyTold heard old.net net old.history.entries history.entries → GoesSo setup (state_with state Empty) (receipt_as (lone (plain_of setup)) place client key through new (state_with state Empty)) → Broken setup (state_with state Empty) held held (left_as old a net history)
 receipt-breaks setup state old a net history heard place client key through true held good shows is partly goes =
     let T : Heard → Type 0 = λ h. IsPartlyTold h old.net net old.history.entries history.entries in
     accepted-breaks setup state old a net history (Receipted client key through state.world.now) held good shows (subst T is.0 partly) goes
@@ -138,7 +144,7 @@ receipt-breaks setup state old a net history heard place client key through fals
     let T : Heard → Type 0 = λ h. IsPartlyTold h old.net net old.history.entries history.entries in
     ignored-breaks setup (state_with state Empty) old a net history Done held good shows (subst T is.0 partly)
 
-rest-breaks : (setup : Setup) (state : State Alone) (old : Kept) (a : Server) (net : List (List ℕ)) (history : Pushed) (heard : Heard) (place : ℕ) (message : Message) (held : Option Files) → IsGood setup (state_with state Empty) → Shows setup (state_with state Empty) old → IsHeardAtRest setup state.world.core.answered state.world.now message heard a → IsPartlyTold heard old.net net old.history.entries history.entries → GoesSo setup (state_with state Empty) (hear_at_rest (plain_of setup) (lone (plain_of setup)) place message (state_with state Empty)) → Broken setup (state_with state Empty) held held (left_as old a net history)
+rest-breaks : (setup : Setup) (state : State Alone) (old : Cluster Lone) (a : Server) (net : List (List ℕ)) (history : Pushed) (heard : Heard) (place : ℕ) (message : Message) (held : Option Files) → (IsGood lone_kit) setup (state_with state Empty) → (Shows lone_kit) setup (state_with state Empty) old → IsHeardAtRest setup state.world.core.answered state.world.now message heard a → IsPartlyTold heard old.net net old.history.entries history.entries → GoesSo setup (state_with state Empty) (hear_at_rest (plain_of setup) (lone (plain_of setup)) place message (state_with state Empty)) → Broken setup (state_with state Empty) held held (left_as old a net history)
 rest-breaks setup state old a net history heard place (Request client number call) held good shows is partly goes =
     request-breaks setup state old a net history heard place client number call (judged_call state.world.core.answered client number) held good shows is partly goes
 rest-breaks setup state old a net history heard place (Receipt client key through) held good shows is partly goes =
@@ -147,35 +153,30 @@ rest-breaks setup state old a net history heard place _ held good shows is partl
     let T : Heard → Type 0 = λ h. IsPartlyTold h old.net net old.history.entries history.entries in
     ignored-breaks setup (state_with state Empty) old a net history (NotForRole Active) held good shows (subst T is.0 partly)
 
-pub heard-goes : (setup : Setup) (place : ℕ) (message : Message) (state : State Alone) → IsGood setup state → Stands message state.world.net → GoesSo setup state (heard_by place message setup state)
+pub heard-goes : (setup : Setup) (place : ℕ) (message : Message) (state : State Alone) → (IsGood lone_kit) setup state → Stands message state.world.net → GoesSo setup state ((heard_by lone_kit) place message setup state)
 heard-goes setup place message state good stands =
     let plain = plain_of setup in
     hear-goes plain (is_plain setup) (lone plain) IsGoodAlone (lone-serves plain (is_plain setup)) (SaysUnasked plain) (lone-unasked plain) place message state stands good.steady
 
-hears-break-by : (setup : Setup) (state : State Alone) (hand : Hand) (old : Kept) (a : Server) (net : List (List ℕ)) (history : Pushed) (heard : Heard) (place : ℕ) (message : Message) (held : Option Files) → IsGood setup (state_with state hand) → Shows setup (state_with state hand) old → Stands message state.world.net → IsHeardBy old.a old.now message heard a → IsPartlyTold heard old.net net old.history.entries history.entries → Broken setup (state_with state hand) held held (left_as old a net history)
+hears-break-by : (setup : Setup) (state : State Alone) (hand : Hand) (old : Cluster Lone) (a : Server) (net : List (List ℕ)) (history : Pushed) (heard : Heard) (place : ℕ) (message : Message) (held : Option Files) → (IsGood lone_kit) setup (state_with state hand) → (Shows lone_kit) setup (state_with state hand) old → Stands message state.world.net → IsHeardBy old.servers.a old.now message heard a → IsPartlyTold heard old.net net old.history.entries history.entries → Broken setup (state_with state hand) held held (left_as old a net history)
 hears-break-by setup state Empty old a net history heard place message held good shows stands hears partly =
     let past = state.world.core.answered in
-    let now : IsHeardAtRest setup past old.now message heard a = hears.rest setup past (answered-history setup state Empty good) shows.active in
+    let now : IsHeardAtRest setup past old.now message heard a = hears.rest setup past (answered-history setup state Empty good) shows.own.active in
     let is = subst (λ now. IsHeardAtRest setup past now message heard a) shows.now now in
     rest-breaks setup state old a net history heard place message held good shows is partly (heard-goes setup place message (state_with state Empty) good stands)
 hears-break-by setup state (Ready entry) old a net history heard place message held good shows stands hears partly =
     let past = state.world.core.answered in
     let T : Heard → Type 0 = λ h. IsPartlyTold h old.net net old.history.entries history.entries in
-    ignored-breaks setup (state_with state (Ready entry)) old a net history (BusyWith (suc (length past))) held good shows (subst T (hears.busy setup past entry shows.active).0 partly)
+    ignored-breaks setup (state_with state (Ready entry)) old a net history (BusyWith (suc (length past))) held good shows (subst T (hears.busy setup past entry shows.own.active).0 partly)
 hears-break-by setup state (Waiting entry) old a net history heard place message held good shows stands hears partly = elim good.steady.good [ ]
 hears-break-by setup state (Applied entry) old a net history heard place message held good shows stands hears partly = elim good.steady.good [ ]
 
 -- **what a message is left as that was heard, and told in part**
-pub hears-break : (setup : Setup) (state : State Alone) (old : Kept) (a : Server) (net : List (List ℕ)) (history : Pushed) (heard : Heard) (place : ℕ) (message : Message) (held : Option Files) → IsGood setup state → Shows setup state old → Stands message state.world.net → IsHeardBy old.a old.now message heard a → IsPartlyTold heard old.net net old.history.entries history.entries → Broken setup state held held (record old { a = a; net = net; history = history })
+pub hears-break : (setup : Setup) (state : State Alone) (old : Cluster Lone) (a : Server) (net : List (List ℕ)) (history : Pushed) (heard : Heard) (place : ℕ) (message : Message) (held : Option Files) → (IsGood lone_kit) setup state → (Shows lone_kit) setup state old → Stands message state.world.net → IsHeardBy old.servers.a old.now message heard a → IsPartlyTold heard old.net net old.history.entries history.entries → Broken setup state held held (record old { servers = record old.servers { a = a }; net = net; history = history })
 hears-break setup state old a net history heard place message held good shows stands hears partly =
     hears-break-by setup state state.world.core.hand old a net history heard place message held good shows stands hears partly
 
 -- Work.
-
-pub drained-goes : (setup : Setup) (state : State Alone) → IsGood setup state → SaysUnasked (plain_of setup) state.world (drained setup state).state.world (drained setup state).told
-drained-goes setup state good =
-    let plain = plain_of setup in
-    (drain-goes plain (is_plain setup) (lone plain) IsGoodAlone (lone-serves plain (is_plain setup)) (SaysUnasked plain) (lone-unasked plain) state good.steady).carried
 
 -- with nothing in hand nothing is owed
 rest-owes : (setup : Setup) (past : List Entry) (a : Server) → a ≡ at_rest setup past → IsSome a.owed → ⊥
@@ -186,22 +187,22 @@ rest-owes setup past a is some =
     none : IsSome (at_rest setup past).owed → ⊥
     none some = cc
 
-work-lacks-by : (setup : Setup) (state : State Alone) (hand : Hand) (old : Kept) (a : Server) (count : ℕ) (held left : Option Files) → IsGood setup (state_with state hand) → Shows setup (state_with state hand) old → IsSome old.a.owed → LacksMemoryAfter (calls_of_all (deeds_in old.a.owed)) count held left → Broken setup (state_with state hand) held left (record old { a = a })
-work-lacks-by setup state Empty old a count held left good shows some lacks = absurd (rest-owes setup state.world.core.answered old.a shows.active some)
+work-lacks-by : (setup : Setup) (state : State Alone) (hand : Hand) (old : Cluster Lone) (a : Server) (count : ℕ) (held left : Option Files) → (IsGood lone_kit) setup (state_with state hand) → (Shows lone_kit) setup (state_with state hand) old → IsSome old.servers.a.owed → LacksMemoryAfter (calls_of_all (deeds_in old.servers.a.owed)) count held left → Broken setup (state_with state hand) held left (record old { servers = record old.servers { a = a } })
+work-lacks-by setup state Empty old a count held left good shows some lacks = absurd (rest-owes setup state.world.core.answered old.servers.a shows.own.active some)
 work-lacks-by setup state (Ready entry) old a count held left good shows some lacks =
     let now = state_with state (Ready entry) in
     let L : Server → Type 0 = λ server. LacksMemoryAfter (calls_of_all (deeds_in server.owed)) count held left in
-    whole-broken setup now now [] held left (record old { a = a }) good.steady.sound (unasked-same (plain_of setup) now.world) shows.net shows.agents shows.history shows.now (lacking-between setup now entry count held left (subst L shows.active lacks))
+    (whole-broken lone_kit lone_laws) setup now now [] held left (record old { servers = record old.servers { a = a } }) good.steady.sound (unasked-same (plain_of setup) now.world) shows.net shows.agents shows.history shows.now ((lacking-between lone_kit lone_laws) setup now entry count held left (subst L shows.own.active lacks))
 work-lacks-by setup state (Waiting entry) old a count held left good shows some lacks = elim good.steady.good [ ]
 work-lacks-by setup state (Applied entry) old a count held left good shows some lacks = elim good.steady.good [ ]
 
 -- **what work is left as for which memory ran out within its deeds**
-pub work-lacks : (setup : Setup) (state : State Alone) (old : Kept) (a : Server) (count : ℕ) (held left : Option Files) → IsGood setup state → Shows setup state old → IsSome old.a.owed → LacksMemoryAfter (calls_of_all (deeds_in old.a.owed)) count held left → Broken setup state held left (record old { a = a })
+pub work-lacks : (setup : Setup) (state : State Alone) (old : Cluster Lone) (a : Server) (count : ℕ) (held left : Option Files) → (IsGood lone_kit) setup state → (Shows lone_kit) setup state old → IsSome old.servers.a.owed → LacksMemoryAfter (calls_of_all (deeds_in old.servers.a.owed)) count held left → Broken setup state held left (record old { servers = record old.servers { a = a } })
 work-lacks setup state old a count held left good shows some lacks =
     work-lacks-by setup state state.world.core.hand old a count held left good shows some lacks
 
 -- the deeds are done
-done-between : (setup : Setup) (state : State Alone) (entry : Entry) (held left : Option Files) → IsGood setup (state_with state (Ready entry)) → left ≡ option_map (all_applied (calls_of_all (deeds_of setup state.world.core.answered entry))) held → TellsFiles setup state held → LeavesBetween setup (entry ∷ state.world.core.answered) held left
+done-between : (setup : Setup) (state : State Alone) (entry : Entry) (held left : Option Files) → (IsGood lone_kit) setup (state_with state (Ready entry)) → left ≡ option_map (all_applied (calls_of_all (deeds_of setup state.world.core.answered entry))) held → TellsFiles setup state held → LeavesBetween setup (entry ∷ state.world.core.answered) held left
 done-between setup state entry None left good done tells = done
 done-between setup state entry (Some files) left good done tells =
     let past = state.world.core.answered in
@@ -211,15 +212,15 @@ done-between setup state entry (Some files) left good done tells =
     let leaves : left ≡ Some (files_of setup (entry ∷ past)) =
     done ∙ ap (λ (f : Files). Some (all_applied calls f)) tells ∙ ap Some (sym (same-applied calls (files_of setup past)) ∙ made)
     in
-    left-between setup (drained setup before).state (Some files) left (record { begins = good.begins; steady = drain-steady setup before good.steady; range = good.range; moment = good.moment }) leaves
+    (left-between lone_kit lone_laws) setup (drained setup before).state (Some files) left (record { begins = good.begins; steady = drain-steady setup before good.steady; range = good.range; moment = good.moment }) leaves
 
 answer-breaks : (setup : Setup) (state : State Alone) (entry : Entry) (net : List Message) (old new : List (List ℕ)) → PostsSome (replies_owed setup state.world.core.answered entry) old new → AreSpelled net old → AreSpelled net new ⊎ AreSpelled (net_answering (plain_of setup) state.world.core.answered entry net) new
 answer-breaks setup state (Called client number time call) net old new posts spelled =
     posts-one setup (Answer client number ((plain_of setup).reply state.world.core.answered client number time call)) net old new posts spelled
 answer-breaks setup state (Receipted client key through time) net old new posts spelled = inl (posts-none setup net old new posts spelled)
 
-work-untold-by : (setup : Setup) (state : State Alone) (hand : Hand) (old : Kept) (a : Server) (net : List (List ℕ)) (heard : Heard) (held left : Option Files) → IsGood setup (state_with state hand) → Shows setup (state_with state hand) old → IsSome old.a.owed → IsWorked old.a heard a → PostsSome heard.to_net old.net net → left ≡ option_map (all_applied (calls_of_all (deeds_in old.a.owed))) held → Broken setup (state_with state hand) held left (record old { a = a; net = net })
-work-untold-by setup state Empty old a net heard held left good shows some is posts files = absurd (rest-owes setup state.world.core.answered old.a shows.active some)
+work-untold-by : (setup : Setup) (state : State Alone) (hand : Hand) (old : Cluster Lone) (a : Server) (net : List (List ℕ)) (heard : Heard) (held left : Option Files) → (IsGood lone_kit) setup (state_with state hand) → (Shows lone_kit) setup (state_with state hand) old → IsSome old.servers.a.owed → IsWorked old.servers.a heard a → PostsSome heard.to_net old.net net → left ≡ option_map (all_applied (calls_of_all (deeds_in old.servers.a.owed))) held → Broken setup (state_with state hand) held left (record old { servers = record old.servers { a = a }; net = net })
+work-untold-by setup state Empty old a net heard held left good shows some is posts files = absurd (rest-owes setup state.world.core.answered old.servers.a shows.own.active some)
 work-untold-by setup state (Ready entry) old a net heard held left good shows some is posts files =
     let past = state.world.core.answered in
     let before = state_with state (Ready entry) in
@@ -227,19 +228,19 @@ work-untold-by setup state (Ready entry) old a net heard held left good shows so
     let P : Heard → Type 0 = λ h. PostsSome h.to_net old.net net in
     let O : Server → Type 0 = λ server. PostsSome (replies_in server.owed) old.net net in
     let F : Server → Type 0 = λ server. left ≡ option_map (all_applied (calls_of_all (deeds_in server.owed))) held in
-    let owed : PostsSome (replies_owed setup past entry) old.net net = subst O shows.active (subst P is.heard_is posts) in
-    let between = done-between setup state entry held left good (subst F shows.active files) in
+    let owed : PostsSome (replies_owed setup past entry) old.net net = subst O shows.own.active (subst P is.heard_is posts) in
+    let between = done-between setup state entry held left good (subst F shows.own.active files) in
     elim (answer-breaks setup state entry state.world.net old.net net owed shows.net) [
-      | inl spelled ↦ whole-broken setup before before [] held left (record old { a = a; net = net }) good.steady.sound (unasked-same (plain_of setup) before.world) spelled shows.agents shows.history shows.now between
-      | inr spelled ↦ whole-broken setup before after.state after.told held left (record old { a = a; net = net }) (drain-steady setup before good.steady).sound (drained-goes setup before good) spelled
-          (Rattle.cluster_core.proofs.ServerSteps.agents-as before.world after.state.world old.agents refl refl refl shows.agents)
+      | inl spelled ↦ (whole-broken lone_kit lone_laws) setup before before [] held left (record old { servers = record old.servers { a = a }; net = net }) good.steady.sound (unasked-same (plain_of setup) before.world) spelled shows.agents shows.history shows.now between
+      | inr spelled ↦ (whole-broken lone_kit lone_laws) setup before after.state after.told held left (record old { servers = record old.servers { a = a }; net = net }) (drain-steady setup before good.steady).sound (drained-goes setup before good) spelled
+          (agents-as before.world after.state.world old.agents refl refl refl shows.agents)
           shows.history shows.now between
     ]
 work-untold-by setup state (Waiting entry) old a net heard held left good shows some is posts files = elim good.steady.good [ ]
 work-untold-by setup state (Applied entry) old a net heard held left good shows some is posts files = elim good.steady.good [ ]
 
 -- **what work is left as whose deeds are done, and whose reply was posted or not**
-pub work-untold : (setup : Setup) (state : State Alone) (old : Kept) (a : Server) (net : List (List ℕ)) (heard : Heard) (held left : Option Files) → IsGood setup state → Shows setup state old → IsSome old.a.owed → IsWorked old.a heard a → PostsSome heard.to_net old.net net → left ≡ option_map (all_applied (calls_of_all (deeds_in old.a.owed))) held → Broken setup state held left (record old { a = a; net = net })
+pub work-untold : (setup : Setup) (state : State Alone) (old : Cluster Lone) (a : Server) (net : List (List ℕ)) (heard : Heard) (held left : Option Files) → (IsGood lone_kit) setup state → (Shows lone_kit) setup state old → IsSome old.servers.a.owed → IsWorked old.servers.a heard a → PostsSome heard.to_net old.net net → left ≡ option_map (all_applied (calls_of_all (deeds_in old.servers.a.owed))) held → Broken setup state held left (record old { servers = record old.servers { a = a }; net = net })
 work-untold setup state old a net heard held left good shows some is posts files =
     work-untold-by setup state state.world.core.hand old a net heard held left good shows some is posts files
 
@@ -259,57 +260,48 @@ Says-stood plain world =
       writes = says.writes;
     }
 
-work-fails-by : (setup : Setup) (state : State Alone) (hand : Hand) (old : Kept) (a : Server) (count : ℕ) (held left : Option Files) → IsGood setup (state_with state hand) → Shows setup (state_with state hand) old → IsSome old.a.owed → a ≡ down → FailsAfter (calls_of_all (deeds_in old.a.owed)) count held left → Faulted setup (StopsInDrain setup) (state_with state hand) (Stood ServerA Down ∷ []) held left (record old { a = a })
-work-fails-by setup state Empty old a count held left good shows some fell fails = absurd (rest-owes setup state.world.core.answered old.a shows.active some)
-work-fails-by setup state (Ready entry) old a count held left good shows some fell fails =
+work-ends-by : (setup : Setup) (state : State Alone) (hand : Hand) (old : Cluster Lone) (a : Server) (before after : List (List ℕ)) (count : ℕ) (held left : DiskSeen) → after ≡ before ++ server_line ServerA Down ∷ [] → IsSome old.servers.a.owed → a ≡ down → FailsAfter (calls_of_all (deeds_in old.servers.a.owed)) count held.files left.files → held.faults ≤ left.faults → Rose held.faults left.faults → (IsGood lone_kit) setup (state_with state hand) → (Shows lone_kit) setup (state_with state hand) old → (Ended lone_kit) setup (state_with state hand) ((EndsStep lone_kit) setup) (record old { servers = record old.servers { a = a } }) before after held left
+work-ends-by setup state Empty old a before after count held left told some fell fails later rose good shows = absurd (rest-owes setup state.world.core.answered old.servers.a shows.own.active some)
+work-ends-by setup state (Ready entry) old a before after count held left told some fell fails later rose good shows =
     let now = state_with state (Ready entry) in
-    let L : Server → Type 0 = λ server. FailsAfter (calls_of_all (deeds_in server.owed)) count held left in
+    let L : Server → Type 0 = λ server. FailsAfter (calls_of_all (deeds_in server.owed)) count held.files left.files in
     record {
-      reached = now;
-      entry = entry;
-      lines = [];
-      stops = refl;
-      printed = refl;
-      says = Says-stood (plain_of setup) now.world;
-      good = good;
-      in_hand = refl;
-      fell = fell;
-      shows = record {
-        active = refl;
-        partner = shows.partner;
-        link = shows.link;
-        back = shows.back;
-        net = shows.net;
-        agents = shows.agents;
-        history = shows.history;
-        now = shows.now;
-        armed = shows.armed;
-        callbacks = shows.callbacks;
+      happened = λ number. true;
+      end = record { state = now; told = Stood ServerA Down ∷ [] };
+      ends = record {
+        later = omega arith;
+        is = λ fails agrees. record { mirror = refl; ack = refl; works = record { entry = entry; ready = refl; is = refl } };
       };
-      files = failing-between setup now entry count held left (subst L shows.active fails);
+      later = later;
+      rose = rose;
+      good = good;
+      says = Says-stood (plain_of setup) now.world;
+      fell = record { entry = entry; ready = refl; fell = fell; rest = shows.own.rest };
+      net = shows.net;
+      agents = shows.agents;
+      history = shows.history;
+      now = shows.now;
+      callbacks = shows.callbacks;
+      lines = told;
+      files = (failing-between lone_kit lone_laws) setup now entry count held.files left.files (subst L shows.own.active fails);
     }
-work-fails-by setup state (Waiting entry) old a count held left good shows some fell fails = elim good.steady.good [ ]
-work-fails-by setup state (Applied entry) old a count held left good shows some fell fails = elim good.steady.good [ ]
+work-ends-by setup state (Waiting entry) old a before after count held left told some fell fails later rose good shows = elim good.steady.good [ ]
+work-ends-by setup state (Applied entry) old a before after count held left told some fell fails later rose good shows = elim good.steady.good [ ]
 
 -- **what work is left as in whose deeds the disk had a fault**
-pub work-fails : (setup : Setup) (state : State Alone) (old : Kept) (a : Server) (count : ℕ) (held left : Option Files) → IsGood setup state → Shows setup state old → IsSome old.a.owed → a ≡ down → FailsAfter (calls_of_all (deeds_in old.a.owed)) count held left → Faulted setup (StopsInDrain setup) state (Stood ServerA Down ∷ []) held left (record old { a = a })
-work-fails setup state old a count held left good shows some fell fails =
-    work-fails-by setup state state.world.core.hand old a count held left good shows some fell fails
-
--- **what work is left as after a fault that was told**
-pub work-faults : (old : Kept) (a : Server) (before after : List (List ℕ)) (count : ℕ) (held left : Option Files) → after ≡ before ++ server_line ServerA Down ∷ [] → IsSome old.a.owed → a ≡ down → FailsAfter (calls_of_all (deeds_in old.a.owed)) count held left → BreaksOff StopsInDrain Failed old (record old { a = a }) before after held left
-work-faults old a before after count held left told some fell fails = λ setup state good shows so.
-    (Stood ServerA Down ∷ [], work-fails setup state old a count held left good shows some fell fails, told)
+pub work-ends : (old : Cluster Lone) (a : Server) (before after : List (List ℕ)) (count : ℕ) (held left : DiskSeen) → after ≡ before ++ server_line ServerA Down ∷ [] → IsSome old.servers.a.owed → a ≡ down → FailsAfter (calls_of_all (deeds_in old.servers.a.owed)) count held.files left.files → held.faults ≤ left.faults → Rose held.faults left.faults → (ComesOff lone_kit) any_state (EndsStep lone_kit) Failed old (record old { servers = record old.servers { a = a } }) before after held left
+work-ends old a before after count held left told some fell fails later rose setup state good shows so =
+    work-ends-by setup state state.world.core.hand old a before after count held left told some fell fails later rose good shows
 
 -- A push.
 
-push-breaks-by : (setup : Setup) (state : State Alone) (hand : Hand) (old : Kept) (net : List (List ℕ)) (items : List Message) (held : Option Files) → IsGood setup (state_with state hand) → Shows setup (state_with state hand) old → old.a.owed ≡ None → ((past : List Entry) → IsHistory setup past → old.a ≡ at_rest setup past → items ≡ (plain_of setup).held past) → PostsSome items old.net net → Broken setup (state_with state hand) held held (record old { net = net })
+push-breaks-by : (setup : Setup) (state : State Alone) (hand : Hand) (old : Cluster Lone) (net : List (List ℕ)) (items : List Message) (held : Option Files) → (IsGood lone_kit) setup (state_with state hand) → (Shows lone_kit) setup (state_with state hand) old → old.servers.a.owed ≡ None → ((past : List Entry) → IsHistory setup past → old.servers.a ≡ at_rest setup past → items ≡ (plain_of setup).held past) → PostsSome items old.net net → Broken setup (state_with state hand) held held (record old { net = net })
 push-breaks-by setup state Empty old net items held good shows idle are posts =
     let plain = plain_of setup in
     let past = state.world.core.answered in
     let rest = state_with state Empty in
     let P : List Message → Type 0 = λ messages. PostsSome messages old.net net in
-    let done = subst P (are past (answered-history setup state Empty good) shows.active) posts plain state.world.net (is_plain setup) shows.net in
+    let done = subst P (are past (answered-history setup state Empty good) shows.own.active) posts plain state.world.net (is_plain setup) shows.net in
     let front = take done.0 (plain.held past) in
     let made = All-take (IsMadeItem plain past) done.0 (plain.held past) (held-made plain (is_plain setup) past) in
     let goes = post_all-goes plain (is_plain setup) (lone plain) IsGoodAlone (lone-serves plain (is_plain setup)) (SaysUnasked plain) (lone-unasked plain) front rest (record { steady = good.steady; empty = refl }) made in
@@ -317,16 +309,16 @@ push-breaks-by setup state Empty old net items held good shows idle are posts =
     let S : Outcome (State Alone) → Type 0 = λ outcome. IsSteady plain IsGoodAlone outcome.state in
     let T : Outcome (State Alone) → Type 0 = λ outcome. SaysUnasked plain rest.world outcome.state.world outcome.told in
     let other = record rest.world { net = posted_all plain front rest.world.net } in
-    whole-broken setup rest (record { world = other; peers = rest.peers }) (lines_all plain front rest.world.net) held held (record old { net = net }) (subst S same goes.holds.steady).sound (subst T same goes.carried) done.1
-    (Rattle.cluster_core.proofs.ServerSteps.agents-as rest.world other old.agents refl refl refl shows.agents)
-    shows.history shows.now (same-between setup rest held good)
+    (whole-broken lone_kit lone_laws) setup rest (record { world = other; peers = rest.peers }) (lines_all plain front rest.world.net) held held (record old { net = net }) (subst S same goes.holds.steady).sound (subst T same goes.carried) done.1
+    (agents-as rest.world other old.agents refl refl refl shows.agents)
+    shows.history shows.now ((same-between lone_kit lone_laws) setup rest held good)
 push-breaks-by setup state (Ready entry) old net items held good shows idle are posts =
-    let same = sym (ap (λ (server : Server). server.owed) shows.active) ∙ idle in
+    let same = sym (ap (λ (server : Server). server.owed) shows.own.active) ∙ idle in
     cc
 push-breaks-by setup state (Waiting entry) old net items held good shows idle are posts = elim good.steady.good [ ]
 push-breaks-by setup state (Applied entry) old net items held good shows idle are posts = elim good.steady.good [ ]
 
 -- **what a push is left as of which some items were posted**
-pub push-breaks : (setup : Setup) (state : State Alone) (old : Kept) (net : List (List ℕ)) (items : List Message) (held : Option Files) → IsGood setup state → Shows setup state old → old.a.owed ≡ None → ((past : List Entry) → IsHistory setup past → old.a ≡ at_rest setup past → items ≡ (plain_of setup).held past) → PostsSome items old.net net → Broken setup state held held (record old { net = net })
+pub push-breaks : (setup : Setup) (state : State Alone) (old : Cluster Lone) (net : List (List ℕ)) (items : List Message) (held : Option Files) → (IsGood lone_kit) setup state → (Shows lone_kit) setup state old → old.servers.a.owed ≡ None → ((past : List Entry) → IsHistory setup past → old.servers.a ≡ at_rest setup past → items ≡ (plain_of setup).held past) → PostsSome items old.net net → Broken setup state held held (record old { net = net })
 push-breaks setup state old net items held good shows idle are posts =
     push-breaks-by setup state state.world.core.hand old net items held good shows idle are posts

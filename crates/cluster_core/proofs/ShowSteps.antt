@@ -19,16 +19,19 @@ use Rattle.cluster_events.specs.declared.lines.ServerRole.{ServerRole}
 use Rattle.cluster_events.specs.declared.lines.Standing.{Standing}
 use Rattle.cluster_events.specs.Servers.{State}
 use Rattle.cluster_events.specs.Running.{Shelf, listed, shown, show_by}
-use Rattle.lone_cluster.specs.Lone.{Alone, lone, standing_alone}
-use Rattle.lone_cluster.specs.Lone.{number_in_hand as number_alone}
+use Rattle.lone_cluster.specs.Lone.{Alone, lone, standing_alone, number_in_hand as number_alone}
 use Rattle.event_text.specs.Texts.{printed, refused_line, file_line, text_line, file_text_lines, shown_lines}
-use Rattle.cluster_core.specs.declared.world.World.{World}
-use Rattle.cluster_core.specs.Spelled.{AreSpelled}
-use Rattle.cluster_core.specs.Shelves.{sizes_of, listed_lines, ListsFiles, bytes_of, shelf_of}
-use Rattle.cluster_core.specs.Worlds.{IsActive, Shows, IsGood, Happened, Does}
+use Rattle.cluster_clients.specs.Spelled.{AreSpelled}
+use Rattle.cluster_clients.specs.Files.{sizes_of, listed_lines, ListsFiles, bytes_of}
+use Rattle.cluster_core.specs.Shelves.{shelf_of}
 use Rattle.cluster_core.specs.Showing.{role_shown, standing_of, refused, files_listed, file_shown, ShowsOn}
 use Rattle.cluster_core.specs.Reading.{TellsRead}
 use Rattle.mirror.proofs.NodeLaws.{count-is}
+use Rattle.cluster_rounds.specs.declared.cluster.Cluster.{Cluster}
+use Rattle.cluster_core.specs.declared.lone.Lone.{Lone}
+use Rattle.cluster_core.specs.LoneKit.{lone_kit}
+use Rattle.cluster_rounds.specs.Worlds.{Shows, IsGood, Happened, Does}
+use Rattle.cluster_core.specs.LoneKit.{IsActive}
 
 -- The standing.
 
@@ -60,18 +63,18 @@ same-standing one other a b net link back hand =
     ∙ ap (λ x. standing_with other.role_of_a other.role_of_b other.net other.link x one.in_hand) back
     ∙ ap (λ x. standing_with other.role_of_a other.role_of_b other.net other.link other.back x) hand
 
-standing-is : (setup : Setup) (state : State Alone) (world : World) → Shows setup state world → standing_of world ≡ standing_alone state
+standing-is : (setup : Setup) (state : State Alone) (world : Cluster Lone) → (Shows lone_kit) setup state world → standing_of world ≡ standing_alone state
 standing-is setup state world shows =
     same-standing (standing_of world) (standing_alone state)
-    (ap (λ armed. role_shown armed world.a.role) shows.armed ∙ ap (role_shown false) (active-role setup state.world.core.answered state.world.core.hand world.a shows.active))
-    (ap (λ armed. role_shown armed world.b.role) shows.armed ∙ ap (λ (s : Server). role_shown false s.role) shows.partner)
+    (ap (λ armed. role_shown armed world.servers.a.role) shows.own.rest.unarmed ∙ ap (role_shown false) (active-role setup state.world.core.answered state.world.core.hand world.servers.a shows.own.active))
+    (ap (λ armed. role_shown armed world.servers.b.role) shows.own.rest.unarmed ∙ ap (λ (s : Server). role_shown false s.role) shows.own.rest.partner)
     (spelled-length state.world.net world.net shows.net)
-    (ap length shows.link)
-    (ap length shows.back)
-    (active-hand setup state.world.core.answered state.world.core.hand world.a shows.active)
+    (ap length shows.own.rest.nothing.0)
+    (ap length shows.own.rest.nothing.1)
+    (active-hand setup state.world.core.answered state.world.core.hand world.servers.a shows.own.active)
 
 -- **a refusal tells how the servers stand**
-pub refused-does : (next : Line) (world : World) (before after : List (List ℕ)) → after ≡ before ++ refused_line next (standing_of world) ∷ [] → Does (refused next) world world before after
+pub refused-does : (next : Line) (world : Cluster Lone) (before after : List (List ℕ)) → after ≡ before ++ refused_line next (standing_of world) ∷ [] → (Does lone_kit) (refused next) world world before after
 refused-does next world before after is setup state good shows =
     (shows, good, is ∙ ap (λ standing. before ++ refused_line next standing ∷ []) (standing-is setup state world shows))
 
@@ -92,7 +95,7 @@ abbrev shelf_with : List (List ℕ × ℕ) → Option (List (List ℕ)) → Shel
 shelf_with ones texts = record { listing = λ past. ones; text = λ name past. texts }
 
 -- **the files are listed**
-pub files-shown : (world : World) (before after lines : List (List ℕ)) (held : Option Files) → ListsFiles held lines → after ≡ before ++ lines → ShowsOn files_listed world before after held
+pub files-shown : (world : Cluster Lone) (before after lines : List (List ℕ)) (held : Option Files) → ListsFiles held lines → after ≡ before ++ lines → ShowsOn files_listed world before after held
 files-shown world before after lines None lists is setup state good shows tells =
     (shelf_with lists.listed None, tt, (shows, good, is ∙ ap (λ l. before ++ l) (lists.shown ∙ sym (printed-listed lists.listed []))))
 files-shown world before after lines (Some held) lists is setup state good shows tells =
@@ -108,13 +111,13 @@ files-shown world before after lines (Some held) lists is setup state good shows
     )
 
 -- what is told of the bytes that were read is what is shown of their lines
-tells-by : (setup : Setup) (name : List ℕ) (read : Option (List ℕ)) (world : World) (before after : List (List ℕ)) → TellsRead (line.Cat name) read world before after → (state : State Alone) → IsGood setup state → Shows setup state world → Happened setup (show_by (lone (plain_of setup)) name (option_map file_text_lines read) state) world before after
+tells-by : (setup : Setup) (name : List ℕ) (read : Option (List ℕ)) (world : Cluster Lone) (before after : List (List ℕ)) → TellsRead (line.Cat name) read world before after → (state : State Alone) → (IsGood lone_kit) setup state → (Shows lone_kit) setup state world → (Happened lone_kit) setup (show_by (lone (plain_of setup)) name (option_map file_text_lines read) state) world before after
 tells-by setup name None world before after tells state good shows = tells setup state good shows
 tells-by setup name (Some bytes) world before after tells state good shows =
     (shows, good, tells ∙ ap (λ l. before ++ l) (sym (printed-shown (file_text_lines bytes) [])))
 
 -- **a file is shown, or the line is refused**
-pub file-shown : (next : Line) (name : List ℕ) (read : Option (List ℕ)) (world : World) (before after : List (List ℕ)) (held : Option Files) → next ≡ line.Cat name → IfSome held (λ f. read ≡ bytes_of f name) → TellsRead next read world before after → ShowsOn (file_shown name) world before after held
+pub file-shown : (next : Line) (name : List ℕ) (read : Option (List ℕ)) (world : Cluster Lone) (before after : List (List ℕ)) (held : Option Files) → next ≡ line.Cat name → IfSome held (λ f. read ≡ bytes_of f name) → TellsRead next read world before after → ShowsOn (file_shown name) world before after held
 file-shown next name read world before after None is told tells setup state good shows none = (
   shelf_with [] (option_map file_text_lines read),
   tt,
@@ -124,6 +127,6 @@ file-shown next name read world before after (Some held) is told tells setup sta
     let same : read ≡ bytes_of (files_of setup state.world.core.answered) name = told ∙ ap (λ f. bytes_of f name) own in (
       shelf_of setup,
       refl,
-      subst (λ r. Happened setup (show_by (lone (plain_of setup)) name (option_map file_text_lines r) state) world before after) same
+      subst (λ r. (Happened lone_kit) setup (show_by (lone (plain_of setup)) name (option_map file_text_lines r) state) world before after) same
           (tells-by setup name read world before after (subst (λ l. TellsRead l read world before after) is tells) state good shows),
     )

@@ -1,5 +1,5 @@
 -- What the work of the entry in hand and a push come to in the world of the code.
-use Rattle.std.proofs.Common.{◌≡◌, ℕ, suc, Bool, true, false, if◌then◌else◌, ℤ, Option, Some, None, List, [], ◌∷◌, ◌++◌, length, take, refl, ap, sym, ◌∙◌, subst, arith, append-nil}
+use Rattle.std.proofs.Common.{◌≡◌, ℕ, suc, nat_lt, Bool, true, false, if◌then◌else◌, ℤ, Option, Some, None, List, [], ◌∷◌, ◌++◌, length, take, refl, ap, sym, ◌∙◌, subst, arith}
 use Rattle.std.specs.Prelude.{IfSome, IsSome, is_some, option_map}
 use Rattle.std.specs.List.{AllByRecursion}
 use Rattle.std.proofs.Math.Seq.{take-append_seam}
@@ -28,16 +28,29 @@ use Rattle.cluster_events.proofs.Carrying.{drain-goes, push-goes}
 use Rattle.event_text.specs.Texts.{printed}
 use Rattle.lone_cluster.specs.Lone.{Alone, lone, IsGoodAlone, net_answering, lines_answering}
 use Rattle.lone_cluster.proofs.Serving.{lone-serves, lone-says}
+use Rattle.cluster_core.specs.LoneLaws.{lone_laws, lone-unasked}
 use Rattle.mirror.specs.declared.heard.Heard.{Heard}
 use Rattle.mirror.specs.declared.heard.Role.TheVariants.{Active}
 use Rattle.mirror.specs.Nodes.{Server, at_rest, replies_owed}
 use Rattle.mirror.specs.Working.{deeds_in, replies_in, worked, emptied}
-use Rattle.cluster_core.specs.declared.world.World.{World as Kept}
-use Rattle.cluster_core.specs.Spelled.{AreSpelled}
-use Rattle.cluster_core.specs.Heard.{posted_all, lines_all, PostsAll}
-use Rattle.cluster_core.specs.Worlds.{Shows, IsGood, HasState, TellsFiles, LeavesFiles, Happened, drained, pushed}
+use Rattle.cluster_rounds.specs.declared.cluster.Cluster.{Cluster}
+use Rattle.cluster_core.specs.declared.lone.Lone.{Lone}
+use Rattle.cluster_core.specs.LoneKit.{lone_kit, IsActive, drained}
+use Rattle.cluster_clients.specs.Spelled.{AreSpelled}
+use Rattle.cluster_clients.specs.Posted.{posted_all, lines_all, PostsAll}
+use Rattle.cluster_rounds.specs.Worlds.{Shows, IsGood, IsIdle, HasState, HasStateOf, TellsFiles, LeavesFiles, Happened, pushed}
+use Rattle.cluster_rounds.specs.Kits.{servers_at}
+use Rattle.cluster_rounds.specs.PartlyDone.{SaysUnasked}
+use Rattle.cluster_rounds.specs.Came.{DiskSeen, Advances}
+use Rattle.cluster_events.specs.Servers.{advance, drain}
+use Rattle.cluster_events.proofs.Devices.{comes-alone}
+use Rattle.cluster_clients.proofs.ToldLines.{not-less}
+use Rattle.cluster_rounds.proofs.HearSteps.{IsQuiet, quiet-answer}
+use Rattle.cluster_rounds.proofs.RoundSteps.{played-quiet, played-flag}
+use Rattle.cluster_rounds.proofs.CameSteps.{ends-longer}
 use Rattle.cluster_core.proofs.HeldSteps.{held-range, calls-few}
-use Rattle.cluster_core.proofs.ServerSteps.{state_with, answered-history, agents-as}
+use Rattle.cluster_clients.proofs.DispatchSteps.{agents-as}
+use Rattle.cluster_core.proofs.ServerSteps.{state_with, answered-history}
 
 -- Work.
 
@@ -52,7 +65,7 @@ drain-steady setup state steady =
     (drain-goes plain (is_plain setup) (lone plain) IsGoodAlone (lone-serves plain (is_plain setup)) (Says plain) (lone-says plain) state steady).holds.steady
 
 -- the deeds of an entry make the files of the history with it
-works-files : (setup : Setup) (state : State Alone) (entry : Entry) (held left : Option Files) → IsGood setup (state_with state (Ready entry)) → left ≡ option_map (all_applied (calls_of_all (deeds_of setup state.world.core.answered entry))) held → IfSome held (λ files. files ≡ files_of setup state.world.core.answered) → left ≡ option_map (λ files. files_of setup (entry ∷ state.world.core.answered)) held
+works-files : (setup : Setup) (state : State Alone) (entry : Entry) (held left : Option Files) → (IsGood lone_kit) setup (state_with state (Ready entry)) → left ≡ option_map (all_applied (calls_of_all (deeds_of setup state.world.core.answered entry))) held → IfSome held (λ files. files ≡ files_of setup state.world.core.answered) → left ≡ option_map (λ files. files_of setup (entry ∷ state.world.core.answered)) held
 works-files setup state entry None left good done tells = done
 works-files setup state entry (Some files) left good done tells =
     let past = state.world.core.answered in
@@ -66,13 +79,13 @@ pub record IsWorked (old : Server) (heard : Heard) (new : Server) : Type 0 where
   pub new_is : new ≡ emptied old
 
 -- what is so with the lines and the files
-abbrev DrainsTo : Setup → State Alone → Kept → List (List ℕ) → List (List ℕ) → Option Files → Option Files → Type 0
-DrainsTo setup state new before after held left = Happened setup (drained setup state) new before after × (TellsFiles setup state held → LeavesFiles setup (drained setup state).state held left)
+abbrev DrainsTo : Setup → State Alone → Cluster Lone → List (List ℕ) → List (List ℕ) → Option Files → Option Files → Type 0
+DrainsTo setup state new before after held left = (Happened lone_kit) setup (drained setup state) new before after × (TellsFiles setup state held → LeavesFiles setup (drained setup state).state held left)
 
-works-by : (setup : Setup) (state : State Alone) (hand : Hand) (old : Kept) (a : Server) (net : List (List ℕ)) (heard : Heard) (before after : List (List ℕ)) (held left : Option Files) → IsGood setup (state_with state hand) → Shows setup (state_with state hand) old → IsSome old.a.owed → IsWorked old.a heard a → PostsAll heard.to_net old.net net before after → left ≡ option_map (all_applied (calls_of_all (deeds_in old.a.owed))) held → DrainsTo setup (state_with state hand) (record old { a = a; net = net }) before after held left
+works-by : (setup : Setup) (state : State Alone) (hand : Hand) (old : Cluster Lone) (a : Server) (net : List (List ℕ)) (heard : Heard) (before after : List (List ℕ)) (held left : Option Files) → (IsGood lone_kit) setup (state_with state hand) → (Shows lone_kit) setup (state_with state hand) old → IsSome old.servers.a.owed → IsWorked old.servers.a heard a → PostsAll heard.to_net old.net net before after → left ≡ option_map (all_applied (calls_of_all (deeds_in old.servers.a.owed))) held → DrainsTo setup (state_with state hand) (record old { servers = record old.servers { a = a }; net = net }) before after held left
 works-by setup state Empty old a net heard before after held left good shows some is posts files =
     let S : Server → Type 0 = λ server. IsSome server.owed in
-    absurd (none (subst S shows.active some))
+    absurd (none (subst S shows.own.active some))
   where
     none : IsSome (at_rest setup state.world.core.answered).owed → ⊥
     none some = cc
@@ -81,49 +94,85 @@ works-by setup state (Ready entry) old a net heard before after held left good s
     let before_work = state_with state (Ready entry) in
     let P : Heard → Type 0 = λ h. PostsAll h.to_net old.net net before after in
     let O : Server → Type 0 = λ server. PostsAll (replies_in server.owed) old.net net before after in
-    let owed : PostsAll (replies_owed setup past entry) old.net net before after = subst O shows.active (subst P is.heard_is posts) in
+    let owed : PostsAll (replies_owed setup past entry) old.net net before after = subst O shows.own.active (subst P is.heard_is posts) in
     let done = answer-posts setup past entry state.world.net old.net net before after owed shows.net in
-    let empty : a ≡ at_rest setup (entry ∷ past) = is.new_is ∙ ap emptied shows.active in
+    let empty : a ≡ at_rest setup (entry ∷ past) = is.new_is ∙ ap emptied shows.own.active in
     let F : Server → Type 0 = λ server. left ≡ option_map (all_applied (calls_of_all (deeds_in server.owed))) held in (
       (
         record {
-          active = empty;
-          partner = shows.partner;
-          link = shows.link;
-          back = shows.back;
+          own = record { active = empty; rest = shows.own.rest };
           net = done.0;
           agents = agents-as before_work.world (drained setup before_work).state.world old.agents refl refl refl shows.agents;
           history = shows.history;
           now = shows.now;
-          armed = shows.armed;
           callbacks = shows.callbacks;
         },
         record { begins = good.begins; steady = drain-steady setup before_work good.steady; range = good.range; moment = good.moment },
         done.1,
       ),
-      works-files setup state entry held left good (subst F shows.active files),
+      works-files setup state entry held left good (subst F shows.own.active files),
     )
 works-by setup state (Waiting entry) old a net heard before after held left good shows some is posts files = elim good.steady.good [ ]
 works-by setup state (Applied entry) old a net heard before after held left good shows some is posts files = elim good.steady.good [ ]
 
-pub works : (setup : Setup) (state : State Alone) (old : Kept) (a : Server) (net : List (List ℕ)) (heard : Heard) (before after : List (List ℕ)) (held left : Option Files) → IsGood setup state → Shows setup state old → IsSome old.a.owed → IsWorked old.a heard a → PostsAll heard.to_net old.net net before after → left ≡ option_map (all_applied (calls_of_all (deeds_in old.a.owed))) held → Happened setup (drained setup state) (record old { a = a; net = net }) before after × (TellsFiles setup state held → LeavesFiles setup (drained setup state).state held left)
+pub works : (setup : Setup) (state : State Alone) (old : Cluster Lone) (a : Server) (net : List (List ℕ)) (heard : Heard) (before after : List (List ℕ)) (held left : Option Files) → (IsGood lone_kit) setup state → (Shows lone_kit) setup state old → IsSome old.servers.a.owed → IsWorked old.servers.a heard a → PostsAll heard.to_net old.net net before after → left ≡ option_map (all_applied (calls_of_all (deeds_in old.servers.a.owed))) held → (Happened lone_kit) setup (drained setup state) (record old { servers = record old.servers { a = a }; net = net }) before after × (TellsFiles setup state held → LeavesFiles setup (drained setup state).state held left)
 works setup state old a net heard before after held left good shows some is posts files =
     works-by setup state state.world.core.hand old a net heard before after held left good shows some is posts files
 
--- with nothing in hand nothing is done
-idles-by : (setup : Setup) (state : State Alone) (hand : Hand) (old : Kept) (before : List (List ℕ)) (held : Option Files) → IsGood setup (state_with state hand) → Shows setup (state_with state hand) old → old.a.owed ≡ None → Happened setup (drained setup (state_with state hand)) old before before × (TellsFiles setup (state_with state hand) held → LeavesFiles setup (drained setup (state_with state hand)).state held held)
-idles-by setup state Empty old before held good shows idle = (
-  (shows, good, sym (append-nil before)),
-  Rattle.cluster_core.proofs.FilesSteps.left-same setup (state_with state Empty) held,
-)
-idles-by setup state (Ready entry) old before held good shows idle =
-    let same = sym (ap (λ (server : Server). server.owed) shows.active) ∙ idle in
-    cc
-idles-by setup state (Waiting entry) old before held good shows idle = elim good.steady.good [ ]
-idles-by setup state (Applied entry) old before held good shows idle = elim good.steady.good [ ]
+-- what the work of an entry in hand prints is no progress
+drain-by : (plain : Plain) (hand : Hand) (state : State Alone) → IsQuiet (drain (lone plain) (state_with state hand)).told
+drain-by plain Empty state = record { lines = refl; quiet = refl }
+drain-by plain (Waiting entry) state = record { lines = refl; quiet = refl }
+drain-by plain (Applied entry) state = record { lines = refl; quiet = refl }
+drain-by plain (Ready (Called client number time call)) state =
+    quiet-answer plain client number (plain.reply state.world.core.answered client number time call) state.world.net
+drain-by plain (Ready (Receipted client key through time)) state = record { lines = refl; quiet = refl }
 
-pub idles : (setup : Setup) (state : State Alone) (old : Kept) (before : List (List ℕ)) (held : Option Files) → IsGood setup state → Shows setup state old → old.a.owed ≡ None → Happened setup (drained setup state) old before before × (TellsFiles setup state held → LeavesFiles setup (drained setup state).state held held)
-idles setup state old before held good shows idle = idles-by setup state state.world.core.hand old before held good shows idle
+pub drained-quiet : (setup : Setup) (state : State Alone) → IsQuiet (drained setup state).told
+drained-quiet setup state = drain-by (plain_of setup) state.world.core.hand state
+
+pub drained-goes : (setup : Setup) (state : State Alone) → (IsGood lone_kit) setup state → SaysUnasked (plain_of setup) state.world (drained setup state).state.world (drained setup state).told
+drained-goes setup state good =
+    let plain = plain_of setup in
+    (drain-goes plain (is_plain setup) (lone plain) IsGoodAlone (lone-serves plain (is_plain setup)) (SaysUnasked plain) (lone-unasked plain) state good.steady).carried
+
+-- **the work of the entry in hand is a step of the servers**
+pub work-comes : (old : Cluster Lone) (a : Server) (net : List (List ℕ)) (heard : Heard) (before after : List (List ℕ)) (held left : DiskSeen) → IsSome old.servers.a.owed → IsWorked old.servers.a heard a → PostsAll heard.to_net old.net net before after → left.files ≡ option_map (all_applied (calls_of_all (deeds_in old.servers.a.owed))) held.files → left.faults ≡ held.faults → (Advances lone_kit) true old (record old { servers = record old.servers { a = a }; net = net }) before after held left
+work-comes old a net heard before after held left some is posts files faults setup state good shows so =
+    let outcome = drained setup state in
+    let new = record old { servers = record old.servers { a = a }; net = net } in
+    let done = works setup state old a net heard before after held.files left.files good shows some is posts files in
+    let quiet = (played-quiet lone_kit lone_laws) setup state outcome new before after held.files left.files done.0 (drained-quiet setup state) done.1 in
+    let past = length old.history.entries in
+    record {
+      happened = λ number. false;
+      outcome = outcome;
+      comes = comes-alone (drained setup) (λ number. false) state (ends-longer outcome.state.world.core.answered state.world.core.answered (drained-goes setup state good).says.answers);
+      caused = λ never number. refl;
+      outlives = faults;
+      played = (played-flag lone_kit lone_laws) setup state outcome new before after false (nat_lt past past) held.files left.files (sym (not-less past)) quiet;
+    }
+
+-- with nothing in hand nothing is done
+rests-by : (setup : Setup) (state : State Alone) (hand : Hand) (a : Server) → IsActive setup state.world.core.answered hand a → a.owed ≡ None → advance (lone (plain_of setup)) (state_with state hand) ≡ None
+rests-by setup state Empty a active idle = refl
+rests-by setup state (Ready entry) a active idle =
+    let same = sym (ap (λ (server : Server). server.owed) active) ∙ idle in
+    cc
+rests-by setup state (Waiting entry) a active idle = elim active [ ]
+rests-by setup state (Applied entry) a active idle = elim active [ ]
+
+pub rests : (old : Cluster Lone) → old.servers.a.owed ≡ None → (setup : Setup) (fails : ℕ → Bool) (state : State Alone) → (IsGood lone_kit) setup state → (Shows lone_kit) setup state old → advance (servers_at lone_kit setup fails) state ≡ None
+rests old idle setup fails state good shows = rests-by setup state state.world.core.hand old.servers.a shows.own.active idle
+
+-- with nothing in hand nothing is owed
+owes-none : (setup : Setup) (past : List Entry) (hand : Hand) (a : Server) → IsActive setup past hand a → hand ≡ Empty → a.owed ≡ None
+owes-none setup past hand a active empty =
+    let A : Hand → Type 0 = λ h. IsActive setup past h a in
+    ap (λ (server : Server). server.owed) (subst A empty active)
+
+pub idle-owes : (old : Cluster Lone) → (HasStateOf lone_kit) IsIdle old → old.servers.a.owed ≡ None
+idle-owes old has = owes-none has.setup has.state.world.core.answered has.state.world.core.hand old.servers.a has.shows.own.active has.so
 
 pub own-number : (client number : ℕ) (time : ℤ) (call : Call) (past : List Entry) → IsNumbered (calls_in client (Called client number time call ∷ past)) → number ≡ suc (length (calls_in client past))
 own-number client number time call past numbered =
@@ -135,7 +184,7 @@ pub taken-back : {X : Type 0} (before put after : List X) (line : X) (count : �
 taken-back before put after line count is put_is after_is =
     after_is ∙ ap (λ lines. take count lines) put_is ∙ ap (λ n. take n (before ++ line ∷ [])) is ∙ take-append_seam before (line ∷ [])
 
-replies-range : (setup : Setup) (state : State Alone) (entry : Entry) → IsGood setup (state_with state (Ready entry)) → AllByRecursion MessageInRange (replies_owed setup state.world.core.answered entry)
+replies-range : (setup : Setup) (state : State Alone) (entry : Entry) → (IsGood lone_kit) setup (state_with state (Ready entry)) → AllByRecursion MessageInRange (replies_owed setup state.world.core.answered entry)
 replies-range setup state (Called client number time call) good =
     let past = state.world.core.answered in
     let is = own-number client number time call past (good.steady.sound.facts.legal.numbered client) in
@@ -145,19 +194,19 @@ replies-range setup state (Called client number time call) good =
     ((record { least = can.from; most = can.to }, record { least = omega arith; most = omega arith }), tt)
 replies-range setup state (Receipted client key through time) good = tt
 
-worked-range-by : (setup : Setup) (state : State Alone) (hand : Hand) (old : Kept) (heard : Heard) (a : Server) → IsGood setup (state_with state hand) → Shows setup (state_with state hand) old → IsWorked old.a heard a → AllByRecursion MessageInRange heard.to_net
+worked-range-by : (setup : Setup) (state : State Alone) (hand : Hand) (old : Cluster Lone) (heard : Heard) (a : Server) → (IsGood lone_kit) setup (state_with state hand) → (Shows lone_kit) setup (state_with state hand) old → IsWorked old.servers.a heard a → AllByRecursion MessageInRange heard.to_net
 worked-range-by setup state Empty old heard a good shows is =
     let H : Heard → Type 0 = λ h. AllByRecursion MessageInRange h.to_net in
     let O : Server → Type 0 = λ server. AllByRecursion MessageInRange (replies_in server.owed) in
-    subst H (sym is.heard_is) (subst O (sym shows.active) tt)
+    subst H (sym is.heard_is) (subst O (sym shows.own.active) tt)
 worked-range-by setup state (Ready entry) old heard a good shows is =
     let H : Heard → Type 0 = λ h. AllByRecursion MessageInRange h.to_net in
     let O : Server → Type 0 = λ server. AllByRecursion MessageInRange (replies_in server.owed) in
-    subst H (sym is.heard_is) (subst O (sym shows.active) (replies-range setup state entry good))
+    subst H (sym is.heard_is) (subst O (sym shows.own.active) (replies-range setup state entry good))
 worked-range-by setup state (Waiting entry) old heard a good shows is = elim good.steady.good [ ]
 worked-range-by setup state (Applied entry) old heard a good shows is = elim good.steady.good [ ]
 
-pub worked-range : (old : Kept) (heard : Heard) (a : Server) → HasState old → IsWorked old.a heard a → AllByRecursion MessageInRange heard.to_net
+pub worked-range : (old : Cluster Lone) (heard : Heard) (a : Server) → (HasState lone_kit) old → IsWorked old.servers.a heard a → AllByRecursion MessageInRange heard.to_net
 worked-range old heard a stands is =
     worked-range-by stands.setup stands.state stands.state.world.core.hand old heard a stands.good stands.shows is
 
@@ -171,35 +220,31 @@ each-posted plain (item ∷ items) state =
     let told = (in_world (post plain item) state).told in
     ap (λ (outcome : Outcome (State Alone)). record { state = outcome.state; told = outcome.told ++ told }) (each-posted plain items next)
 
-pub push-steady : (setup : Setup) (state : State Alone) → IsSteady (plain_of setup) IsGoodAlone state → state.world.core.hand ≡ Empty → IsSteady (plain_of setup) IsGoodAlone (pushed setup state).state
+pub push-steady : (setup : Setup) (state : State Alone) → IsSteady (plain_of setup) IsGoodAlone state → state.world.core.hand ≡ Empty → IsSteady (plain_of setup) IsGoodAlone ((pushed lone_kit) setup state).state
 push-steady setup state steady empty =
     let plain = plain_of setup in
     (push-goes plain (is_plain setup) (lone plain) IsGoodAlone (lone-serves plain (is_plain setup)) (Says plain) (lone-says plain) state (record { steady = steady; empty = empty })).holds.steady
 
-pushes-by : (setup : Setup) (state : State Alone) (hand : Hand) (old : Kept) (net : List (List ℕ)) (items : List Message) (before after : List (List ℕ)) → IsGood setup (state_with state hand) → Shows setup (state_with state hand) old → old.a.owed ≡ None → ((past : List Entry) → old.a ≡ at_rest setup past → items ≡ (plain_of setup).held past) → PostsAll items old.net net before after → Happened setup (pushed setup (state_with state hand)) (record old { net = net }) before after × (items ≡ (plain_of setup).held state.world.core.answered)
+pushes-by : (setup : Setup) (state : State Alone) (hand : Hand) (old : Cluster Lone) (net : List (List ℕ)) (items : List Message) (before after : List (List ℕ)) → (IsGood lone_kit) setup (state_with state hand) → (Shows lone_kit) setup (state_with state hand) old → old.servers.a.owed ≡ None → ((past : List Entry) → old.servers.a ≡ at_rest setup past → items ≡ (plain_of setup).held past) → PostsAll items old.net net before after → (Happened lone_kit) setup ((pushed lone_kit) setup (state_with state hand)) (record old { net = net }) before after × (items ≡ (plain_of setup).held state.world.core.answered)
 pushes-by setup state Empty old net items before after good shows idle are posts =
     let plain = plain_of setup in
     let past = state.world.core.answered in
     let rest = state_with state Empty in
-    let is : items ≡ plain.held past = are past shows.active in
+    let is : items ≡ plain.held past = are past shows.own.active in
     let P : List Message → Type 0 = λ messages. PostsAll messages old.net net before after in
     let done = subst P is posts plain state.world.net (is_plain setup) shows.net in
     let steady = push-steady setup rest good.steady refl in
     let same = each-posted plain (plain.held past) rest in
     let S : Outcome (State Alone) → Type 0 = λ outcome. IsSteady plain IsGoodAlone outcome.state in
-    let H : Outcome (State Alone) → Type 0 = λ outcome. Happened setup outcome (record old { net = net }) before after in
+    let H : Outcome (State Alone) → Type 0 = λ outcome. (Happened lone_kit) setup outcome (record old { net = net }) before after in
     let other = record rest.world { net = posted_all plain (plain.held past) rest.world.net } in
     let whole : H (record { state = record { world = other; peers = rest.peers }; told = lines_all plain (plain.held past) rest.world.net }) = (
       record {
-        active = shows.active;
-        partner = shows.partner;
-        link = shows.link;
-        back = shows.back;
+        own = record { active = shows.own.active; rest = shows.own.rest };
         net = done.0;
         agents = agents-as rest.world other old.agents refl refl refl shows.agents;
         history = shows.history;
         now = shows.now;
-        armed = shows.armed;
         callbacks = shows.callbacks;
       },
       record { begins = good.begins; steady = subst S same steady; range = good.range; moment = good.moment },
@@ -207,39 +252,39 @@ pushes-by setup state Empty old net items before after good shows idle are posts
     ) in
     (subst H (sym same) whole, is)
 pushes-by setup state (Ready entry) old net items before after good shows idle are posts =
-    let same = sym (ap (λ (server : Server). server.owed) shows.active) ∙ idle in
+    let same = sym (ap (λ (server : Server). server.owed) shows.own.active) ∙ idle in
     cc
 pushes-by setup state (Waiting entry) old net items before after good shows idle are posts = elim good.steady.good [ ]
 pushes-by setup state (Applied entry) old net items before after good shows idle are posts = elim good.steady.good [ ]
 
-pub pushes : (setup : Setup) (state : State Alone) (old : Kept) (net : List (List ℕ)) (items : List Message) (before after : List (List ℕ)) → IsGood setup state → Shows setup state old → old.a.owed ≡ None → ((past : List Entry) → old.a ≡ at_rest setup past → items ≡ (plain_of setup).held past) → PostsAll items old.net net before after → Happened setup (pushed setup state) (record old { net = net }) before after × (items ≡ (plain_of setup).held state.world.core.answered)
+pub pushes : (setup : Setup) (state : State Alone) (old : Cluster Lone) (net : List (List ℕ)) (items : List Message) (before after : List (List ℕ)) → (IsGood lone_kit) setup state → (Shows lone_kit) setup state old → old.servers.a.owed ≡ None → ((past : List Entry) → old.servers.a ≡ at_rest setup past → items ≡ (plain_of setup).held past) → PostsAll items old.net net before after → (Happened lone_kit) setup ((pushed lone_kit) setup state) (record old { net = net }) before after × (items ≡ (plain_of setup).held state.world.core.answered)
 pushes setup state old net items before after good shows idle are posts =
     pushes-by setup state state.world.core.hand old net items before after good shows idle are posts
 
 -- the server is active
-active-by : (setup : Setup) (state : State Alone) (hand : Hand) (old : Kept) → IsGood setup (state_with state hand) → Shows setup (state_with state hand) old → old.a.role ≡ Active
-active-by setup state Empty old good shows = ap (λ (server : Server). server.role) shows.active
-active-by setup state (Ready entry) old good shows = ap (λ (server : Server). server.role) shows.active
+active-by : (setup : Setup) (state : State Alone) (hand : Hand) (old : Cluster Lone) → (IsGood lone_kit) setup (state_with state hand) → (Shows lone_kit) setup (state_with state hand) old → old.servers.a.role ≡ Active
+active-by setup state Empty old good shows = ap (λ (server : Server). server.role) shows.own.active
+active-by setup state (Ready entry) old good shows = ap (λ (server : Server). server.role) shows.own.active
 active-by setup state (Waiting entry) old good shows = elim good.steady.good [ ]
 active-by setup state (Applied entry) old good shows = elim good.steady.good [ ]
 
-pub is-active : (old : Kept) → HasState old → old.a.role ≡ Active
+pub is-active : (old : Cluster Lone) → (HasState lone_kit) old → old.servers.a.role ≡ Active
 is-active old stands = active-by stands.setup stands.state stands.state.world.core.hand old stands.good stands.shows
 
-items-range-by : (setup : Setup) (state : State Alone) (hand : Hand) (old : Kept) (items : List Message) → IsGood setup (state_with state hand) → Shows setup (state_with state hand) old → old.a.owed ≡ None → ((past : List Entry) → old.a ≡ at_rest setup past → items ≡ (plain_of setup).held past) → AllByRecursion MessageInRange items
+items-range-by : (setup : Setup) (state : State Alone) (hand : Hand) (old : Cluster Lone) (items : List Message) → (IsGood lone_kit) setup (state_with state hand) → (Shows lone_kit) setup (state_with state hand) old → old.servers.a.owed ≡ None → ((past : List Entry) → old.servers.a ≡ at_rest setup past → items ≡ (plain_of setup).held past) → AllByRecursion MessageInRange items
 items-range-by setup state Empty old items good shows idle are =
     let past = state.world.core.answered in
     let history = answered-history setup state Empty good in
     let R : List Message → Type 0 = λ messages. AllByRecursion MessageInRange messages in
-    subst R (sym (are past shows.active)) (held-range setup past history good.range good.steady.sound.facts.legal.numbered)
+    subst R (sym (are past shows.own.active)) (held-range setup past history good.range good.steady.sound.facts.legal.numbered)
 items-range-by setup state (Ready entry) old items good shows idle are =
-    let same = sym (ap (λ (server : Server). server.owed) shows.active) ∙ idle in
+    let same = sym (ap (λ (server : Server). server.owed) shows.own.active) ∙ idle in
     cc
 items-range-by setup state (Waiting entry) old items good shows idle are = elim good.steady.good [ ]
 items-range-by setup state (Applied entry) old items good shows idle are = elim good.steady.good [ ]
 
 -- the items of a push can be posted
-pub items-range : (old : Kept) (items : List Message) → HasState old → old.a.owed ≡ None → ((setup : Setup) (past : List Entry) → old.a ≡ at_rest setup past → items ≡ (plain_of setup).held past) → AllByRecursion MessageInRange items
+pub items-range : (old : Cluster Lone) (items : List Message) → (HasState lone_kit) old → old.servers.a.owed ≡ None → ((setup : Setup) (past : List Entry) → old.servers.a ≡ at_rest setup past → items ≡ (plain_of setup).held past) → AllByRecursion MessageInRange items
 items-range old items stands idle are =
     items-range-by stands.setup stands.state stands.state.world.core.hand old items stands.good stands.shows idle (are stands.setup)
 

@@ -11,8 +11,8 @@ use Rattle.plain_service.specs.Setups.{Setup}
 use Rattle.plain_service.specs.Storing.{opening_of}
 use Rattle.lone_cluster.specs.Lone.{lone_start}
 use Rattle.cluster_core.specs.declared.world.World.{World}
-use Rattle.cluster_core.specs.declared.answer.EventAnswer.{EventAnswer}
-use Rattle.cluster_core.specs.declared.answer.EventAnswer.TheVariants.{Memory, DiskFault}
+use Rattle.cluster_clients.specs.declared.answer.EventAnswer.{EventAnswer}
+use Rattle.cluster_clients.specs.declared.answer.EventAnswer.TheVariants.{Memory, DiskFault}
 use Rattle.cluster_core.specs.Worlds.{Shows, IsGood, LeavesFiles}
 
 -- a cluster line tells this setup, and how many callbacks each agent's queue holds; no other line tells one

@@ -1,87 +1,34 @@
 -- Words of public clauses: what stands where an event breaks off, for want of memory or by a fault of the disk.
-use Rattle.std.specs.Prelude.{◌≡◌, ℕ, Option, Some, None, List, ◌∷◌}
-use Rattle.std.specs.List.{AllByRecursion}
+use Rattle.std.specs.Prelude.{◌≡◌, Option, List, ◌∷◌}
 use Rattle.disk_model.specs.Disk.{Files}
 use Rattle.plain_service.specs.Setups.{Setup}
 use Rattle.service_laws.specs.PlainOf.{plain_of}
-use Rattle.service_laws.specs.Disks.{service_disk}
-use Rattle.service_laws.specs.StorageOf.{storage_of}
 use Rattle.script_lines.specs.declared.line.Line.{Line}
 use Rattle.script_lines.specs.declared.line.Server.TheVariants.{A as ServerA}
-use Rattle.cluster_facts.specs.Types.{Call, Reply, Callback, Entry}
-use Rattle.cluster_facts.specs.Lists.{Stands, EndsIn, IsCounted, without}
-use Rattle.cluster_facts.specs.Service.{Plain}
-use Rattle.cluster_facts.specs.Messages.{sent_by, calls_in}
-use Rattle.cluster_facts.specs.Storage.{Between, dealt_in}
-use Rattle.cluster_facts.specs.Agents.{fed_of}
-use Rattle.cluster_facts.specs.History.{Ready, committed, time_of}
-use Rattle.cluster_facts.specs.World.{World as WorldOf}
-use Rattle.cluster_facts.specs.Facts.{Fits, IsToldItem}
+use Rattle.cluster_facts.specs.Types.{Entry}
+use Rattle.cluster_facts.specs.Lists.{without}
+use Rattle.cluster_facts.specs.History.{Ready, committed}
 use Rattle.cluster_events.specs.declared.lines.ServerRole.TheVariants.{Down}
 use Rattle.cluster_events.specs.Lines.{Told, Stood, is_ignored}
 use Rattle.cluster_events.specs.Outcomes.{Outcome}
 use Rattle.cluster_events.specs.Servers.{State}
-use Rattle.cluster_events.specs.Saying.{entries_told, deals_told, Says}
+use Rattle.cluster_events.specs.Saying.{Says}
 use Rattle.cluster_events.specs.Stopping.{EventStops}
-use Rattle.cluster_events.specs.Breaking.{Tells, Holds}
 use Rattle.lone_cluster.specs.Lone.{Alone, lone}
 use Rattle.mirror.specs.Nodes.{down, at_work}
+use Rattle.cluster_rounds.specs.Broken as cluster
+pub use Rattle.cluster_rounds.specs.Broken.{LeavesBetween}
 use Rattle.cluster_core.specs.declared.world.World.{World}
-use Rattle.cluster_core.specs.Spelled.{AreSpelled}
-use Rattle.cluster_core.specs.Clients.{ShowsAgents}
-use Rattle.cluster_core.specs.Worlds.{IsGood, Shows, TellsFiles}
+use Rattle.cluster_core.specs.Worlds.{parts_of, IsGood, Shows, TellsFiles}
 
--- a disk that told files tells some between those of the history without its last entry and those of the history: any attempts
--- of the last entry's deeds. A disk that told nothing tells nothing
-abbrev pub LeavesBetween : Setup → List Entry → Option Files → Option Files → Type 0
-LeavesBetween setup past None left = left ≡ None
-LeavesBetween setup past (Some held) left =
-    (files : Files) × (left ≡ Some files) × Between service_disk (storage_of setup) past files
+-- an event broke off for want of memory, and left the parts of the world so
+abbrev pub Broken : Setup → State Alone → Option Files → Option Files → World → Type 0
+Broken setup state held left world = cluster.Broken setup state held left (parts_of world)
 
--- the callbacks of items that a client got are, in order, those of the items 1, 2, 3 and so on of subscriptions that are asked for
--- among these calls, each with the id that its call gave it
-pub record IsFedOf (plain : Plain) (past : List Entry) (sent : List (ℕ × Call)) (client : ℕ) (fed : List Callback) : Type 0 where
-  pub marks : List (ℕ × ℕ)
-  pub counted : IsCounted marks
-  pub items : Fits (IsToldItem plain past sent client) marks fed
-
--- An event broke off for want of memory: from this state some of it happened, with lines that nobody sees. The history is legal;
--- each client's calls in it are the first of those that it had sent before the event, and what came to it is of the time in force,
--- which stays. Each client was fed the beginning of the items of subscriptions that it had asked for before the event, each reply
--- that it took is the history's, and the files are between.
-pub record Broken (setup : Setup) (state : State Alone) (held left : Option Files) (world : World) : Type 0 where
-  pub rest : WorldOf
-  pub unseen : List Told
-  pub tells : Tells (plain_of setup) state.world rest unseen
-  pub holds : Holds (plain_of setup) rest
-  pub deals :
-      (client : ℕ)
-      → AllByRecursion (λ (deal : ℕ × Call × Reply). Stands deal (dealt_in (plain_of setup) client rest.core.answered)) (deals_told client unseen)
-  pub asked : (client : ℕ) → EndsIn (sent_by client state.world.net) (calls_in client (committed rest.core))
-  pub fed : (client : ℕ) → IsFedOf (plain_of setup) rest.core.answered (sent_by client state.world.net) client (fed_of (rest.agents client))
-  pub times : AllByRecursion (λ (line : ℕ × Entry). time_of line.1 ≡ state.world.now) (entries_told unseen)
-  pub stays : rest.now ≡ state.world.now
-  pub net : AreSpelled rest.net world.net
-  pub agents : ShowsAgents rest world.agents
-  pub history : world.history.entries ≡ committed rest.core
-  pub now : world.now ≡ rest.now
-  pub files : TellsFiles setup state held → LeavesBetween setup (committed rest.core) held left
-
--- so it is over each good state that the world stood for and of which P is so
-abbrev pub BreaksIf : (State Alone → Type 0) → World → World → Option Files → Option Files → Type 0
-BreaksIf P old new held left =
-    (setup : Setup) (state : State Alone) → IsGood setup state → Shows setup state old → P state → Broken setup state held left new
-
+-- so it is over each good state that the world stood for
 abbrev pub BreaksOn : World → World → Option Files → Option Files → Type 0
 BreaksOn old new held left =
     (setup : Setup) (state : State Alone) → IsGood setup state → Shows setup state old → Broken setup state held left new
-
--- the same of an event that leaves the disk alone
-abbrev pub BreaksAlone : World → World → Type 0
-BreaksAlone old new = (held : Option Files) → BreaksOn old new held held
-
-abbrev pub BreaksAloneIf : (State Alone → Type 0) → World → World → Type 0
-BreaksAloneIf P old new = (held : Option Files) → BreaksIf P old new held held
 
 -- The disk had a fault as an entry was worked: the event came to this whole state with the entry in hand, where it stops, and told
 -- the lines of all that happened up to there; the active server is down now, which the last line tells, and the files are between

@@ -1,34 +1,15 @@
 -- Words of bodies alone: what is told of a message that a server heard, and of its work.
 use Rattle.std.specs.Prelude.{◌≡◌, ℕ, suc, Option, Some, None, List, [], ◌∷◌, ◌++◌, length}
-use Rattle.cluster_facts.specs.Types.{Entry, Message}
-use Rattle.cluster_facts.specs.Service.{Plain, IsPlain}
-use Rattle.cluster_facts.specs.World.{posted}
-use Rattle.cluster_events.specs.Lines.{Told}
-use Rattle.cluster_events.specs.ClientEvents.{post_lines}
+use Rattle.cluster_facts.specs.Types.{Entry}
 use Rattle.cluster_events.specs.declared.lines.Why.{Why}
 use Rattle.cluster_events.specs.declared.lines.Why.TheVariants.{OldRequest, AheadRequest, Busy, DoneReceipt}
-use Rattle.event_text.specs.Texts.{printed, entry_line, ignored_line}
+use Rattle.event_text.specs.Texts.{entry_line, ignored_line}
+use Rattle.cluster_clients.specs.Posted.{PostsAll}
 use Rattle.mirror.specs.declared.heard.Why.{Why as Reason}
 use Rattle.mirror.specs.declared.heard.Why.TheVariants.{Old, Ahead, Busy as BusyWith, Done, NotForRole}
 use Rattle.mirror.specs.declared.heard.Outcome.{Outcome}
 use Rattle.mirror.specs.declared.heard.Outcome.TheVariants.{Ignored}
 use Rattle.mirror.specs.declared.heard.Heard.{Heard}
-use Rattle.cluster_core.specs.Spelled.{AreSpelled}
-
--- messages are posted, from the first on: the net, and the lines
-abbrev pub posted_all : Plain → List Message → List Message → List Message
-posted_all plain [] net = net
-posted_all plain (message ∷ messages) net = posted_all plain messages (posted plain message net)
-
-abbrev pub lines_all : Plain → List Message → List Message → List Told
-lines_all plain [] net = []
-lines_all plain (message ∷ messages) net =
-    lines_all plain messages (posted plain message net) ++ post_lines plain message net
-
-abbrev pub PostsAll : List Message → List (List ℕ) → List (List ℕ) → List (List ℕ) → List (List ℕ) → Type 0
-PostsAll messages old new before after =
-    (plain : Plain) (net : List Message) → IsPlain plain → AreSpelled net old → AreSpelled (posted_all plain messages net) new
-    × (after ≡ before ++ printed (lines_all plain messages net))
 
 -- an entry is committed, if there is one
 abbrev pub Commits : Option Entry → List Entry → List Entry → List (List ℕ) → List (List ℕ) → Type 0

@@ -1,10 +1,11 @@
 -- Words of public clauses: what each line of a script does to the world of the code.
-use Rattle.std.specs.Prelude.{◌≡◌, ℕ, ℤ, ◌≤ℤ◌, Option, IfSome, List, []}
+use Rattle.std.specs.Prelude.{◌≡◌, ℕ, ℤ, ◌≤ℤ◌, Option, IfSome, List, [], ◌++◌}
 use Rattle.disk_model.specs.Disk.{Files}
 use Rattle.script_lines.specs.declared.line.Line.{Line}
 use Rattle.script_lines.specs.declared.line.Line.TheVariants as line
 use Rattle.plain_service.specs.Setups.{Setup}
 use Rattle.service_laws.specs.PlainOf.{plain_of}
+use Rattle.cluster_events.specs.Lines.{Told}
 use Rattle.cluster_events.specs.Outcomes.{Outcome}
 use Rattle.cluster_events.specs.Servers.{State}
 use Rattle.cluster_events.specs.Running.{Shelf, Happens}
@@ -12,10 +13,9 @@ use Rattle.cluster_events.specs.Stopping.{EventStops}
 use Rattle.event_text.specs.Texts.{printed}
 use Rattle.lone_cluster.specs.Lone.{Alone, lone}
 use Rattle.cluster_core.specs.declared.world.World.{World}
-use Rattle.cluster_core.specs.declared.answer.EventAnswer.{EventAnswer}
-use Rattle.cluster_core.specs.declared.answer.EventAnswer.TheVariants.{Memory, DiskFault}
-use Rattle.cluster_core.specs.Broken.{BreaksOn}
-use Rattle.cluster_core.specs.Errors.{FaultsIf}
+use Rattle.cluster_clients.specs.declared.answer.EventAnswer.{EventAnswer}
+use Rattle.cluster_clients.specs.declared.answer.EventAnswer.TheVariants.{Memory, DiskFault}
+use Rattle.cluster_core.specs.Broken.{BreaksOn, Faulted}
 use Rattle.cluster_core.specs.Shelves.{shelf_of}
 use Rattle.cluster_core.specs.Worlds.{Shows, IsGood, TellsFiles, LeavesFiles}
 
@@ -47,13 +47,21 @@ DoesEvent next lines old new held left =
     (setup : Setup) (state : State Alone) → IsGood setup state → Shows setup state old → TellsFiles setup state held
     → EventDone setup state next lines held left new
 
+-- the disk had a fault: over each good state that the world stood for the event stops at the entry that was worked then, and the
+-- lines of what happened up to there were printed
+abbrev pub Faults :
+    (Setup → State Alone → Outcome (State Alone) → Type 0) → World → World → List (List ℕ) → List (List ℕ) → Option Files → Option Files → Type 0
+Faults Stops old new before after held left =
+    (setup : Setup) (state : State Alone) → IsGood setup state → Shows setup state old → (told : List Told)
+    × Faulted setup (Stops setup) state told held left new × (after ≡ before ++ printed told)
+
 -- A line that shows files leaves all as it was where the disk has a fault. Any other line stops at an entry that was to be worked:
 -- that is `work` or `settle`, since no other line works one, and so a fault comes in no other.
 abbrev pub FaultLeaves : Line → World → World → List (List ℕ) → List (List ℕ) → Option Files → Option Files → Type 0
 FaultLeaves line.Files old new before after held left = (new ≡ old) × (after ≡ before) × (left ≡ held)
 FaultLeaves (line.Cat name) old new before after held left = (new ≡ old) × (after ≡ before) × (left ≡ held)
 FaultLeaves next old new before after held left =
-    FaultsIf (λ state. Unit {0}) (λ setup. EventStops (plain_of setup) (lone (plain_of setup)) next) old new before after held left
+    Faults (λ setup. EventStops (plain_of setup) (lone (plain_of setup)) next) old new before after held left
 
 -- what a line left that was not done, by the answer
 abbrev pub EventBroken : EventAnswer → Line → World → World → Option Files → Option Files → Type 0

@@ -15,9 +15,11 @@ use Rattle.cluster_events.specs.Servers.{State}
 use Rattle.cluster_events.specs.Events.{list_servers, refuse}
 use Rattle.cluster_events.specs.Running.{Shelf, list_files, show_file}
 use Rattle.lone_cluster.specs.Lone.{Alone, lone}
-use Rattle.cluster_core.specs.declared.world.World.{World}
 use Rattle.cluster_core.specs.Shelves.{shelf_of}
-use Rattle.cluster_core.specs.Worlds.{Shows, IsGood, TellsFiles, Happened}
+use Rattle.cluster_rounds.specs.declared.cluster.Cluster.{Cluster}
+use Rattle.cluster_rounds.specs.Worlds.{Shows, IsGood, Happened, TellsFiles}
+use Rattle.cluster_core.specs.declared.lone.Lone.{Lone}
+use Rattle.cluster_core.specs.LoneKit.{lone_kit}
 
 -- how a line tells a role: the active server may be armed
 abbrev pub role_shown : Bool → Role → ServerRole
@@ -28,14 +30,14 @@ role_shown armed role.Joining = Joining
 role_shown armed role.Down = Down
 
 -- the servers' roles and the lengths of the lists of messages
-abbrev pub standing_of : World → Standing
+abbrev pub standing_of : Cluster Lone → Standing
 standing_of world = record {
-  role_of_a = role_shown world.armed world.a.role;
-  role_of_b = role_shown world.armed world.b.role;
+  role_of_a = role_shown world.servers.armed world.servers.a.role;
+  role_of_b = role_shown world.servers.armed world.servers.b.role;
   net = length world.net;
-  link = length world.link;
-  back = length world.back;
-  in_hand = number_in_hand world.a;
+  link = length world.servers.link;
+  back = length world.servers.back;
+  in_hand = number_in_hand world.servers.a;
 }
 
 -- the line is refused
@@ -55,7 +57,7 @@ file_shown name setup shelf state = show_file shelf (lone (plain_of setup)) name
 
 -- something was shown of the files that stand after a history. A disk that tells its files shows those of the history; one that
 -- does not may show any
-abbrev pub ShowsOn : (Setup → Shelf → State Alone → Outcome (State Alone)) → World → List (List ℕ) → List (List ℕ) → Option Files → Type 0
+abbrev pub ShowsOn : (Setup → Shelf → State Alone → Outcome (State Alone)) → Cluster Lone → List (List ℕ) → List (List ℕ) → Option Files → Type 0
 ShowsOn event world before after held =
-    (setup : Setup) (state : State Alone) → IsGood setup state → Shows setup state world → TellsFiles setup state held → (shelf : Shelf)
-    × IfSome held (λ _. shelf ≡ shelf_of setup) × Happened setup (event setup shelf state) world before after
+    (setup : Setup) (state : State Alone) → (IsGood lone_kit) setup state → (Shows lone_kit) setup state world → TellsFiles setup state held → (shelf : Shelf)
+    × IfSome held (λ _. shelf ≡ shelf_of setup) × (Happened lone_kit) setup (event setup shelf state) world before after

@@ -12,8 +12,8 @@ use Rattle.mirror.specs.Nodes.{Server, down, at_rest}
 use Rattle.disk_model.specs.declared.answers.DiskAnswer.{DiskAnswer}
 use Rattle.disk_model.specs.declared.answers.DiskAnswer.TheVariants as answers
 use Rattle.cluster_core.specs.declared.world.World.{World}
-use Rattle.cluster_core.specs.declared.answer.EventAnswer.{EventAnswer}
-use Rattle.cluster_core.specs.declared.answer.EventAnswer.TheVariants.{Memory, DiskFault}
+use Rattle.cluster_clients.specs.declared.answer.EventAnswer.{EventAnswer}
+use Rattle.cluster_clients.specs.declared.answer.EventAnswer.TheVariants.{Memory, DiskFault}
 
 -- the attributes that a cluster line gives to the well-known streams
 abbrev pub wells_of : WellOptions → WellOptions → WellOptions → List StreamAttrs

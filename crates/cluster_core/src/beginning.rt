@@ -5,13 +5,14 @@ ghost use Rattle.plain_service.specs.Setups.{Setup};
 ghost use Rattle.script_language.specs.Lines.{Spells};
 ghost use Rattle.service_core.specs.Beginning.{BeginsAs, CanBeginAs};
 ghost use Rattle.cluster_core.specs.Worlds.{empty_world};
-ghost use Rattle.cluster_core.specs.Answers.{RisesAtFault};
+ghost use Rattle.cluster_clients.specs.Answers.{RisesAtFault};
 ghost use Rattle.cluster_core.specs.Beginning.{Begins, HoldsNone, Begun, LeavesBroken};
 ghost use Rattle.cluster_core.specs.Starting.{wells_of, world_of, Starts, StartsWorld, broken_by};
 
-use crate::{EventAnswer, World};
+use crate::World;
 use ais_values::{Seq, StreamKind};
 use calls::History;
+use cluster_clients::EventAnswer;
 use disk_model::{DiskAnswer, SharedDisk};
 use message_net::Net;
 use mirror::{Node, Role};

@@ -2,9 +2,10 @@
 ghost use Rattle.std.specs.Prelude.{ℕ, List, IfOk, IfErr};
 ghost use Rattle.script_language.specs.Lines.{Spells};
 
-use crate::playing::play;
-use crate::{EventAnswer, World};
+use crate::World;
+use crate::parts::play_whole;
 use ais_values::Seq;
+use cluster_clients::EventAnswer;
 use disk_model::{DiskAnswer, SharedDisk};
 use script_lines::Line;
 use std::alloc::Global;
@@ -13,7 +14,7 @@ use std::mem;
 impl World {
     ghost use Rattle.cluster_core.specs.Worlds.{HasState};
     ghost use Rattle.cluster_core.specs.Playing.{IsLoneLine, DoesEvent, EventBroken};
-    ghost use Rattle.cluster_core.specs.Answers.{RisesAtFault};
+    ghost use Rattle.cluster_clients.specs.Answers.{RisesAtFault};
 
     /// Does what a line of a script asks for while no server fails, and answers with the lines that it prints, each with its line
     /// feed. A cluster line, the lines on failures of servers and a time below that in force are no part of it.
@@ -24,10 +25,10 @@ impl World {
     /// one telling that the server is down.
     ///
     /// `Memory` comes where memory ran out: some of the line was done, without its lines. The history is legal; each client's
-    /// calls in it are the first of those that it had sent before, and what came to it is of the time in force, which stays. Each
-    /// client was fed the beginning of its items, each reply that it took is the history's, and the files are between. The same is
-    /// answered where the history has 4,000,000,000 entries, where a client's agent has numbered 4,294,967,294 calls, and where a
-    /// string of the net has more than 4,294,967,294 bytes.
+    /// calls in it are the first of those that it had sent before, and what came to it is of the time in force or of an
+    /// earlier one; that time stays. Each client was fed the beginning of its items, each reply that it took is the
+    /// history's, and the files are between. The same is answered where the history has 4,000,000,000 entries, where a
+    /// client's agent has numbered 4,294,967,294 calls, and where a string of the net has more than 4,294,967,294 bytes.
     pub fn event<D: SharedDisk>(
         &mut self,
         alloc: Global,
@@ -44,7 +45,7 @@ impl World {
         ensures cause { RisesAtFault (D.faults disk.old) (D.faults disk.new) result }
     {
         let mut lines = Vec::new(alloc);
-        match play(alloc, self, &mut lines, line, disk) {
+        match play_whole(alloc, self, &mut lines, line, disk) {
             Ok(()) => Ok(Seq::from_vec(lines)),
             Err(DiskAnswer::Memory) => {
                 mem::drop(lines);

@@ -3,15 +3,17 @@ ghost use Rattle.std.specs.Prelude.{◌≡◌, ◌≤◌, ◌<◌, ◌++◌, len
 ghost use Rattle.std.specs.List.{AllByRecursion};
 ghost use Rattle.wire.specs.MessageSpelling.{MessageInRange};
 ghost use Rattle.cluster_core.specs.Heard.{Commits, reason_of, outcome_lines, IsToldHeard};
-ghost use Rattle.cluster_core.specs.Worlds.{HasState, DoesIf, heard_by, StandsIn};
-ghost use Rattle.cluster_core.specs.Broken.{BreaksAloneIf};
+ghost use Rattle.cluster_rounds.specs.Worlds.{HasState, DoesIf, heard_by, StandsIn};
+ghost use Rattle.cluster_rounds.specs.Broken.{BreaksAloneIf};
+ghost use Rattle.cluster_core.specs.LoneKit.{lone_kit};
 ghost use Rattle.cluster_core.specs.PartlyDone.{IsPartlyTold};
 
-use crate::World;
-use crate::posting::post_all;
+use crate::lone::Lone;
 use ais_values::Seq;
 use calls::{Entry, History};
+use cluster_clients::post_all;
 use cluster_events::Why;
+use cluster_rounds::Cluster;
 use event_text::{put_entry, put_ignored};
 use message_net::Net;
 use mirror::{Heard, Outcome, Why as Reason};
@@ -140,22 +142,22 @@ fn tell_heard(
 /// it answers as if memory ran out.
 pub(crate) fn hear(
     alloc: Global,
-    world: &mut World,
+    world: &mut Cluster<Lone>,
     lines: &mut Vec<Seq<u8>>,
     place: u64,
     message: &Message,
 ) -> Result<(), AllocError>
-    requires state { HasState world.old }
+    requires state { HasState lone_kit world.old }
     requires range { MessageInRange message.now }
-    ensures ok { OnOk result (DoesIf (StandsIn message.now) (heard_by place message.now) world.old
-        world.new lines.old.items lines.new.items) }
-    ensures err { OnErr result (BreaksAloneIf (StandsIn message.now) world.old world.new) }
+    ensures ok { OnOk result (DoesIf lone_kit (StandsIn message.now)
+        (heard_by lone_kit place message.now) world.old world.new lines.old.items lines.new.items) }
+    ensures err { OnErr result (BreaksAloneIf lone_kit (StandsIn message.now) world.old world.new) }
 {
     if world.history.len() >= ENTRIES {
         return Err(AllocError);
     }
     world.history.reserve()?;
-    let heard = world.a.receive(alloc, message, world.now)?;
+    let heard = world.servers.a.receive(alloc, message, world.now)?;
     tell_heard(
         alloc,
         &mut world.net,

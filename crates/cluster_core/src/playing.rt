@@ -3,81 +3,37 @@ ghost use Rattle.std.specs.Prelude.{◌≡◌, OnOk, OnErr, IfErr};
 ghost use Rattle.ais_values.specs.Causes.{RoseExactlyOn};
 ghost use Rattle.disk_model.specs.declared.answers.DiskAnswer.{DiskAnswer};
 ghost use Rattle.script_lines.specs.declared.line.Line.TheVariants.{Deliver, Push, Work};
-ghost use Rattle.cluster_core.specs.Worlds.{HasState, Does, pushed};
+ghost use Rattle.cluster_rounds.specs.Worlds.{HasState, Does, pushed};
+ghost use Rattle.cluster_rounds.specs.Broken.{BreaksAlone};
+ghost use Rattle.cluster_core.specs.LoneKit.{lone_kit};
 ghost use Rattle.cluster_core.specs.Playing.{IsLoneLine};
-ghost use Rattle.cluster_core.specs.Steps.{IsCaller, IsInRange, asked_by, dispatched_by, deliver_at, PlaysAlone, Plays, PlayBroken, EndsAs};
-ghost use Rattle.cluster_core.specs.Broken.{BreaksAlone};
+ghost use Rattle.cluster_core.specs.Steps.{IsInRange, deliver_at, PlaysAlone, Plays, PlayBroken, EndsAs};
 
-use crate::World;
-use crate::agents::dispatch;
-use crate::ask::ask;
-use crate::delivering::deliver;
+use crate::lone::Lone;
 use crate::pushing::push;
-use crate::resending::resend;
-use crate::settling::settle;
 use crate::showing::{refused, show_file, show_files, show_servers};
-use crate::working::drain;
+use crate::working::work;
 use ais_values::Seq;
-use calls::Ask;
 use client_agent::How;
+use cluster_rounds::{Cluster, deliver, dispatch, resend, settle};
 use disk_model::{DiskAnswer, SharedDisk};
 use script_lines::Line;
 use std::alloc::{AllocError, Global};
 use std::mem;
 
-/// A client asks for a call.
-fn ask_in(
-    alloc: Global,
-    world: &mut World,
-    lines: &mut Vec<Seq<u8>>,
-    client: u16,
-    asked: &Ask,
-) -> Result<(), AllocError>
-    requires state { HasState world.old }
-    requires caller { IsCaller client }
-    ensures ok { OnOk result (Does (asked_by client asked.now) world.old world.new lines.old.items
-        lines.new.items) }
-    ensures err { OnErr result (BreaksAlone world.old world.new) }
-{
-    ask(
-        alloc,
-        &mut world.net,
-        &mut world.agents,
-        lines,
-        world.callbacks,
-        client,
-        asked,
-    )
-}
-
-/// Callbacks of a client are handed out.
-fn dispatch_in(
-    alloc: Global,
-    world: &mut World,
-    lines: &mut Vec<Seq<u8>>,
-    client: u16,
-    how: How,
-) -> Result<(), AllocError>
-    ensures ok { OnOk result (Does (dispatched_by how client) world.old world.new lines.old.items
-        lines.new.items) }
-    ensures err { OnErr result (BreaksAlone world.old world.new) }
-{
-    dispatch(alloc, &mut world.agents, lines, client, how)
-}
-
 /// The message of a line's number is delivered. The line is refused where the net has none of that number.
 fn deliver_line(
     alloc: Global,
-    world: &mut World,
+    world: &mut Cluster<Lone>,
     lines: &mut Vec<Seq<u8>>,
     line: &Line,
     place: u64,
 ) -> Result<(), AllocError>
-    requires state { HasState world.old }
+    requires state { HasState lone_kit world.old }
     requires line { line.now ≡ Deliver place }
-    ensures ok { OnOk result (Does (deliver_at place) world.old world.new lines.old.items
+    ensures ok { OnOk result (Does lone_kit (deliver_at place) world.old world.new lines.old.items
         lines.new.items) }
-    ensures err { OnErr result (BreaksAlone world.old world.new) }
+    ensures err { OnErr result (BreaksAlone lone_kit world.old world.new) }
 {
     match deliver(alloc, world, lines, place) {
         Ok(done) => {
@@ -93,16 +49,17 @@ fn deliver_line(
 /// All items without receipt are posted. The line is refused while an entry is in hand.
 fn push_line(
     alloc: Global,
-    world: &mut World,
+    world: &mut Cluster<Lone>,
     lines: &mut Vec<Seq<u8>>,
     line: &Line,
 ) -> Result<(), AllocError>
-    requires state { HasState world.old }
+    requires state { HasState lone_kit world.old }
     requires line { line.now ≡ Push }
-    ensures ok { OnOk result (Does pushed world.old world.new lines.old.items lines.new.items) }
-    ensures err { OnErr result (BreaksAlone world.old world.new) }
+    ensures ok { OnOk result (Does lone_kit (pushed lone_kit) world.old world.new lines.old.items
+        lines.new.items) }
+    ensures err { OnErr result (BreaksAlone lone_kit world.old world.new) }
 {
-    if world.a.ready() {
+    if world.servers.a.ready() {
         return refused(alloc, world, lines, line);
     }
     match push(alloc, world, lines) {
@@ -117,33 +74,33 @@ fn push_line(
 /// What a line does that leaves the disk alone. Other lines are no part of it, and answer as if memory ran out.
 fn play_alone(
     alloc: Global,
-    world: &mut World,
+    world: &mut Cluster<Lone>,
     lines: &mut Vec<Seq<u8>>,
     line: &Line,
 ) -> Result<(), AllocError>
-    requires state { HasState world.old }
+    requires state { HasState lone_kit world.old }
     requires range { IsInRange line.now }
     requires lone { IsLoneLine world.old.now line.now }
     ensures ok { OnOk result (PlaysAlone line.now world.old world.new lines.old.items
         lines.new.items) }
-    ensures err { OnErr result (BreaksAlone world.old world.new) }
+    ensures err { OnErr result (BreaksAlone lone_kit world.old world.new) }
 {
     match line {
         Line::Time { now } => {
             world.now = *now;
             Ok(())
         }
-        Line::Log { client, ask } => ask_in(alloc, world, lines, *client, ask),
-        Line::Ntf { client, ask } => ask_in(alloc, world, lines, *client, ask),
+        Line::Log { client, ask } => cluster_rounds::ask(alloc, world, lines, *client, ask),
+        Line::Ntf { client, ask } => cluster_rounds::ask(alloc, world, lines, *client, ask),
         Line::Deliver { place } => deliver_line(alloc, world, lines, line, *place),
         Line::Resend { client } => resend(alloc, world, lines, *client),
         Line::Mirror => refused(alloc, world, lines, line),
         Line::Ack => refused(alloc, world, lines, line),
         Line::Push => push_line(alloc, world, lines, line),
-        Line::DispatchOne { client } => dispatch_in(alloc, world, lines, *client, How::One),
+        Line::DispatchOne { client } => dispatch(alloc, world, lines, *client, How::One),
         Line::DispatchAll { client, workers } => {
             let how = How::All { workers: *workers };
-            dispatch_in(alloc, world, lines, *client, how)
+            dispatch(alloc, world, lines, *client, how)
         }
         Line::Servers => show_servers(alloc, world, lines),
         _ => Err(AllocError),
@@ -163,12 +120,12 @@ fn as_answer(done: Result<(), AllocError>) -> Result<(), DiskAnswer>
 /// The deeds of the entry in hand are done, and its reply is posted. The line is refused where none is in hand.
 fn work_line<D: SharedDisk>(
     alloc: Global,
-    world: &mut World,
+    world: &mut Cluster<Lone>,
     lines: &mut Vec<Seq<u8>>,
     line: &Line,
     disk: &mut D,
 ) -> Result<(), DiskAnswer>
-    requires state { HasState world.old }
+    requires state { HasState lone_kit world.old }
     requires line { line.now ≡ Work }
     ensures ok { OnOk result (Plays line.now world.old world.new lines.old.items lines.new.items
         (D.files disk.old) (D.files disk.new)) }
@@ -176,8 +133,8 @@ fn work_line<D: SharedDisk>(
         lines.old.items lines.new.items (D.files disk.old) (D.files disk.new)) }
     ensures cause { RoseExactlyOn (D.faults disk.old) (D.faults disk.new) result DiskAnswer.Failed }
 {
-    if world.a.ready() {
-        return drain(alloc, world, lines, disk);
+    if world.servers.a.ready() {
+        return work(alloc, world, lines, disk);
     }
     as_answer(refused(alloc, world, lines, line))
 }
@@ -185,12 +142,12 @@ fn work_line<D: SharedDisk>(
 /// What a line does.
 pub(crate) fn play<D: SharedDisk>(
     alloc: Global,
-    world: &mut World,
+    world: &mut Cluster<Lone>,
     lines: &mut Vec<Seq<u8>>,
     line: &Line,
     disk: &mut D,
 ) -> Result<(), DiskAnswer>
-    requires state { HasState world.old }
+    requires state { HasState lone_kit world.old }
     requires range { IsInRange line.now }
     requires lone { IsLoneLine world.old.now line.now }
     ensures ok { OnOk result (Plays line.now world.old world.new lines.old.items lines.new.items

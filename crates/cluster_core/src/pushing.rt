@@ -1,11 +1,13 @@
 //! Items that are pushed to clients.
-ghost use Rattle.std.specs.Prelude.{◌≡◌, List, None, IfOk, OnErr};
-ghost use Rattle.cluster_core.specs.Worlds.{HasState, Pushes};
-ghost use Rattle.cluster_core.specs.Broken.{BreaksAlone};
+ghost use Rattle.std.specs.Prelude.{IfOk, OnErr};
+ghost use Rattle.cluster_rounds.specs.Worlds.{HasStateOf, IsIdle, Pushes};
+ghost use Rattle.cluster_rounds.specs.Broken.{BreaksAloneIf};
+ghost use Rattle.cluster_core.specs.LoneKit.{lone_kit};
 
-use crate::World;
-use crate::posting::post_all;
+use crate::lone::Lone;
 use ais_values::Seq;
+use cluster_clients::post_all;
+use cluster_rounds::Cluster;
 use std::alloc::{AllocError, Global};
 use std::mem;
 use wire::Message;
@@ -13,16 +15,15 @@ use wire::Message;
 /// Posts all items without receipt, by client, key and number, and answers with them. Nothing may be in hand.
 pub(crate) fn push(
     alloc: Global,
-    world: &mut World,
+    world: &mut Cluster<Lone>,
     lines: &mut Vec<Seq<u8>>,
 ) -> Result<Seq<Message>, AllocError>
-    requires state { HasState world.old }
-    requires idle { world.old.a.owed ≡ None }
-    ensures ok { IfOk result (λ items. Pushes items world.old world.new lines.old.items
+    requires { HasStateOf lone_kit IsIdle world.old }
+    ensures ok { IfOk result (λ items. Pushes lone_kit items world.old world.new lines.old.items
         lines.new.items) }
-    ensures err { OnErr result (BreaksAlone world.old world.new) }
+    ensures err { OnErr result (BreaksAloneIf lone_kit IsIdle world.old world.new) }
 {
-    let items = world.a.push(alloc)?;
+    let items = world.servers.a.push(alloc)?;
     match post_all(alloc, &mut world.net, lines, items.as_slice()) {
         Ok(()) => Ok(items),
         Err(error) => {

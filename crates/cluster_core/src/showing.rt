@@ -1,19 +1,19 @@
 //! What is shown of servers and files, and refusals.
-ghost use Rattle.std.specs.Prelude.{◌≡◌, ◌≤◌, length, IfOk, IfSome, OnOk, IsErrOf};
+ghost use Rattle.std.specs.Prelude.{◌≡◌, OnOk, IsErrOf};
 ghost use Rattle.ais_values.specs.Causes.{RoseExactlyOn};
-ghost use Rattle.disk_model.specs.Disk.{bytes_at};
 ghost use Rattle.disk_model.specs.declared.answers.DiskAnswer.{DiskAnswer};
 ghost use Rattle.script_lines.specs.declared.line.Line.TheVariants.{Cat};
-ghost use Rattle.cluster_core.specs.Shelves.{bytes_of};
-ghost use Rattle.cluster_core.specs.Worlds.{Does};
+ghost use Rattle.cluster_rounds.specs.Worlds.{Does};
+ghost use Rattle.cluster_core.specs.LoneKit.{lone_kit};
 ghost use Rattle.cluster_core.specs.Reading.{TellsRead};
 ghost use Rattle.cluster_core.specs.Showing.{role_shown, standing_of, refused, servers_listed, files_listed, file_shown, ShowsOn};
 
-use crate::World;
-use crate::files::list_files;
+use crate::lone::Lone;
 use ais_values::{Seq, Text};
+use cluster_clients::{list_files, read_file};
 use cluster_events::{ServerRole, Standing};
-use disk_model::{DiskAnswer, DiskFault, SharedDisk};
+use cluster_rounds::Cluster;
+use disk_model::{DiskAnswer, SharedDisk};
 use event_text::{put_refused, put_server, put_shown};
 use mirror::Role;
 use script_lines::{Line, Server};
@@ -38,28 +38,28 @@ fn role_shown(armed: bool, role: Role) -> ServerRole
 }
 
 /// The servers' roles and the lengths of the lists of messages.
-fn standing_of(world: &World) -> Standing
+fn standing_of(world: &Cluster<Lone>) -> Standing
     ensures { result ≡ standing_of world.entry.now }
 {
     Standing {
-        role_of_a: role_shown(world.armed, world.a.role()),
-        role_of_b: role_shown(world.armed, world.b.role()),
+        role_of_a: role_shown(world.servers.armed, world.servers.a.role()),
+        role_of_b: role_shown(world.servers.armed, world.servers.b.role()),
         net: world.net.len(),
-        link: world.link.as_slice().len() as u64,
-        back: world.back.as_slice().len() as u64,
-        in_hand: world.a.in_hand(),
+        link: world.servers.link.as_slice().len() as u64,
+        back: world.servers.back.as_slice().len() as u64,
+        in_hand: world.servers.a.in_hand(),
     }
 }
 
 /// Adds the line of a refused event. Where memory runs out the lines stay.
 pub(crate) fn refused(
     alloc: Global,
-    world: &World,
+    world: &Cluster<Lone>,
     lines: &mut Vec<Seq<u8>>,
     line: &Line,
 ) -> Result<(), AllocError>
-    ensures { OnOk result (Does (refused line.now) world.entry.now world.entry.now lines.old.items
-        lines.new.items) }
+    ensures { OnOk result (Does lone_kit (refused line.now) world.entry.now world.entry.now
+        lines.old.items lines.new.items) }
 {
     let standing = standing_of(world);
     put_refused(alloc, lines, line, &standing)
@@ -68,11 +68,11 @@ pub(crate) fn refused(
 /// Adds the lines of both servers with their roles.
 pub(crate) fn show_servers(
     alloc: Global,
-    world: &World,
+    world: &Cluster<Lone>,
     lines: &mut Vec<Seq<u8>>,
 ) -> Result<(), AllocError>
-    ensures { OnOk result (Does servers_listed world.entry.now world.entry.now lines.old.items
-        lines.new.items) }
+    ensures { OnOk result (Does lone_kit servers_listed world.entry.now world.entry.now
+        lines.old.items lines.new.items) }
 {
     let standing = standing_of(world);
     put_server(alloc, lines, Server::A, standing.role_of_a)?;
@@ -82,7 +82,7 @@ pub(crate) fn show_servers(
 /// Adds the lines of all files with their lengths. `Failed` comes exactly where the disk's count of faults rose.
 pub(crate) fn show_files<D: SharedDisk>(
     alloc: Global,
-    world: &World,
+    world: &Cluster<Lone>,
     lines: &mut Vec<Seq<u8>>,
     disk: &mut D,
 ) -> Result<(), DiskAnswer>
@@ -102,64 +102,10 @@ pub(crate) fn show_files<D: SharedDisk>(
     }
 }
 
-/// The first bytes of a file, so many of them; fewer where the disk gives fewer. Where none is asked for the disk is not read.
-/// `Failed` comes exactly where the disk's count of faults rose.
-fn read_front<D: SharedDisk>(
-    alloc: Global,
-    disk: &mut D,
-    name: &[u8],
-    size: u64,
-) -> Result<Seq<u8>, DiskAnswer>
-    ensures told { IfOk result (λ bytes. IfSome (D.files disk.old) (λ files.
-        bytes ≡ bytes_at files name.now 0 size)) }
-    ensures bound { IfOk result (λ bytes. length bytes ≤ size) }
-    ensures unread { size ≡ 0 → disk.new ≡ disk.old }
-    ensures same { D.files disk.new ≡ D.files disk.old }
-    ensures cause { RoseExactlyOn (D.faults disk.old) (D.faults disk.new) result DiskAnswer.Failed }
-{
-    if size == 0 {
-        return Ok(Seq::new(alloc));
-    }
-    let mut bytes = match vec![in alloc; 0; size as usize] {
-        Ok(bytes) => bytes,
-        Err(_) => return Err(DiskAnswer::Memory),
-    };
-    match disk.read(name, 0, bytes.as_mut_slice()) {
-        Ok(count) => {
-            bytes.truncate(count);
-            Ok(Seq::from_vec(bytes))
-        }
-        Err(DiskFault::Failed) => Err(DiskAnswer::Failed),
-    }
-}
-
-/// The bytes of a file; `None` where there is no file of that name. `Failed` comes exactly where the disk's count of faults
-/// rose.
-fn read_file<D: SharedDisk>(
-    alloc: Global,
-    disk: &mut D,
-    name: &[u8],
-) -> Result<Option<Seq<u8>>, DiskAnswer>
-    ensures told { IfOk result (λ bytes. IfSome (D.files disk.old) (λ files.
-        bytes ≡ bytes_of files name.now)) }
-    ensures same { D.files disk.new ≡ D.files disk.old }
-    ensures cause { RoseExactlyOn (D.faults disk.old) (D.faults disk.new) result DiskAnswer.Failed }
-{
-    let size = match disk.len(name) {
-        Ok(Some(size)) => size,
-        Ok(None) => return Ok(None),
-        Err(DiskFault::Failed) => return Err(DiskAnswer::Failed),
-    };
-    match read_front(alloc, disk, name, size) {
-        Ok(bytes) => Ok(Some(bytes)),
-        Err(answer) => Err(answer),
-    }
-}
-
 /// Adds the lines of what was read of a file. Where nothing was, the line that asked for it is refused.
 fn tell_read(
     alloc: Global,
-    world: &World,
+    world: &Cluster<Lone>,
     lines: &mut Vec<Seq<u8>>,
     line: &Line,
     read: Option<Seq<u8>>,
@@ -177,7 +123,7 @@ fn tell_read(
 /// exactly where the disk's count of faults rose.
 pub(crate) fn show_file<D: SharedDisk>(
     alloc: Global,
-    world: &World,
+    world: &Cluster<Lone>,
     lines: &mut Vec<Seq<u8>>,
     disk: &mut D,
     line: &Line,

@@ -1,19 +1,18 @@
 //! The deeds of the entry in hand.
-ghost use Rattle.std.specs.Prelude.{OnOk, OnErr, IfErr, IsSome};
+ghost use Rattle.std.specs.Prelude.{true, OnOk, OnErr, IfOk, IfErr, IsSome};
 ghost use Rattle.std.specs.List.{AllByRecursion};
-ghost use Rattle.ais_values.specs.Causes.{RoseExactlyOn};
-ghost use Rattle.disk_model.specs.declared.answers.DiskAnswer.{DiskAnswer};
 ghost use Rattle.wire.specs.MessageSpelling.{MessageInRange};
-ghost use Rattle.cluster_core.specs.Heard.{PostsAll};
-ghost use Rattle.cluster_core.specs.PartlyDone.{PostsSome};
-ghost use Rattle.cluster_core.specs.Errors.{BreaksOff};
-ghost use Rattle.cluster_core.specs.Rounds.{StopsInDrain};
-ghost use Rattle.cluster_core.specs.Worlds.{HasState, DoesOn, drained};
+ghost use Rattle.cluster_clients.specs.Posted.{PostsAll, PostsSome};
+ghost use Rattle.cluster_rounds.specs.Worlds.{HasState, any_state};
+ghost use Rattle.cluster_rounds.specs.Rounds.{EndsStep};
+ghost use Rattle.cluster_rounds.specs.Came.{seen, Advances, ComesOff};
+ghost use Rattle.cluster_core.specs.LoneKit.{lone_kit};
 
-use crate::World;
-use crate::posting::post_all;
+use crate::lone::Lone;
 use ais_values::Seq;
+use cluster_clients::post_all;
 use cluster_events::ServerRole;
+use cluster_rounds::Cluster;
 use disk_model::{DiskAnswer, SharedDisk};
 use event_text::put_server;
 use message_net::Net;
@@ -43,26 +42,27 @@ fn tell_worked(
 /// down; where memory runs out within them they can be done again.
 ///
 /// The line that tells of a fault is put first and taken back where there was none, so that no fault is lost for want of memory.
-fn work<D: SharedDisk>(
+pub(crate) fn work<D: SharedDisk>(
     alloc: Global,
-    world: &mut World,
+    world: &mut Cluster<Lone>,
     lines: &mut Vec<Seq<u8>>,
     disk: &mut D,
 ) -> Result<(), DiskAnswer>
-    requires state { HasState world.old }
-    requires ready { IsSome world.old.a.owed }
-    ensures ok { OnOk result (DoesOn drained world.old world.new lines.old.items lines.new.items
-        (D.files disk.old) (D.files disk.new)) }
-    ensures err { IfErr result (λ answer. BreaksOff StopsInDrain answer world.old world.new
-        lines.old.items lines.new.items (D.files disk.old) (D.files disk.new)) }
-    ensures cause { RoseExactlyOn (D.faults disk.old) (D.faults disk.new) result DiskAnswer.Failed }
+    requires state { HasState lone_kit world.old }
+    requires ready { IsSome world.old.servers.a.owed }
+    ensures ok { OnOk result (Advances lone_kit true world.old world.new lines.old.items
+        lines.new.items (seen (D.files disk.old) (D.faults disk.old)) (seen (D.files disk.new)
+        (D.faults disk.new))) }
+    ensures err { IfErr result (λ answer. ComesOff lone_kit any_state (EndsStep lone_kit) answer
+        world.old world.new lines.old.items lines.new.items (seen (D.files disk.old) (D.faults
+        disk.old)) (seen (D.files disk.new) (D.faults disk.new))) }
 {
     let count = lines.as_slice().len();
     match put_server(alloc, lines, Server::A, ServerRole::Down) {
         Ok(()) => {}
         Err(_) => return Err(DiskAnswer::Memory),
     }
-    match world.a.work(alloc, disk) {
+    match world.servers.a.work(alloc, disk) {
         Ok(heard) => {
             lines.truncate(count);
             match tell_worked(alloc, &mut world.net, lines, heard) {
@@ -75,22 +75,26 @@ fn work<D: SharedDisk>(
     }
 }
 
-/// The same, if there is an entry in hand.
-pub(crate) fn drain<D: SharedDisk>(
+/// The same, if there is an entry in hand. Answers whether there is one.
+pub(crate) fn advance<D: SharedDisk>(
     alloc: Global,
-    world: &mut World,
+    world: &mut Cluster<Lone>,
     lines: &mut Vec<Seq<u8>>,
     disk: &mut D,
-) -> Result<(), DiskAnswer>
-    requires { HasState world.old }
-    ensures ok { OnOk result (DoesOn drained world.old world.new lines.old.items lines.new.items
-        (D.files disk.old) (D.files disk.new)) }
-    ensures err { IfErr result (λ answer. BreaksOff StopsInDrain answer world.old world.new
-        lines.old.items lines.new.items (D.files disk.old) (D.files disk.new)) }
-    ensures cause { RoseExactlyOn (D.faults disk.old) (D.faults disk.new) result DiskAnswer.Failed }
+) -> Result<bool, DiskAnswer>
+    requires { HasState lone_kit world.old }
+    ensures ok { IfOk result (λ went. Advances lone_kit went world.old world.new lines.old.items
+        lines.new.items (seen (D.files disk.old) (D.faults disk.old)) (seen (D.files disk.new)
+        (D.faults disk.new))) }
+    ensures err { IfErr result (λ answer. ComesOff lone_kit any_state (EndsStep lone_kit) answer
+        world.old world.new lines.old.items lines.new.items (seen (D.files disk.old) (D.faults
+        disk.old)) (seen (D.files disk.new) (D.faults disk.new))) }
 {
-    if world.a.ready() {
-        return work(alloc, world, lines, disk);
+    if world.servers.a.ready() {
+        return match work(alloc, world, lines, disk) {
+            Ok(()) => Ok(true),
+            Err(answer) => Err(answer),
+        };
     }
-    Ok(())
+    Ok(false)
 }

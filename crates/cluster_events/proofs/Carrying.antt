@@ -352,7 +352,7 @@ module _ {P : Type 0} (plain : Plain) (is_plain : IsPlain plain) (servers : Serv
   take_answer_by-goes client number (Some reply) world is sound =
       take_reply-goes (number_of plain (Answer client number reply) world.net) client number reply world (answers_to-posted client number reply world.net (reply_at-stands number (answers_to client world.net) reply is)) sound
 
-  take_answer-goes : (message : Message) (world : World) → IsSound plain world → WorldGoes plain R world (take_answer plain message world)
+  pub take_answer-goes : (message : Message) (world : World) → IsSound plain world → WorldGoes plain R world (take_answer plain message world)
   take_answer-goes (Request client number call) world sound = take_answer_by-goes client number (reply_at number (answers_to client world.net)) world refl sound
   take_answer-goes _ world sound = world-same world sound
 

@@ -13,3 +13,4 @@ pub mod OnDisk
 pub mod Runs
 pub mod Broken
 pub mod Looping
+pub mod Devices

@@ -2,7 +2,7 @@
 use Rattle.std.proofs.Common.{◌≡◌, List, [], ◌∷◌, ◌++◌, ap, sym, ◌∙◌, append_assoc, append-nil}
 use Rattle.cluster_events.specs.Outcomes.{Outcome, and_then, for_each}
 
-and_then-nothing : {S : Type 0} (outcome : Outcome S) → outcome ≡ record { state = outcome.state; told = outcome.told ++ [] }
+pub and_then-nothing : {S : Type 0} (outcome : Outcome S) → outcome ≡ record { state = outcome.state; told = outcome.told ++ [] }
 and_then-nothing outcome = λ i. record { state = outcome.state; told = sym (append-nil outcome.told) i }
 
 pub and_then-assoc : {S : Type 0} (first : Outcome S) (second third : S → Outcome S) → and_then first (λ state. and_then (second state) third) ≡ and_then (and_then first second) third

@@ -19,10 +19,10 @@ use Rattle.cluster_events.specs.Outcomes.{Outcome}
 use Rattle.cluster_events.specs.ClientEvents.{handed_lines, hand_out}
 use Rattle.cluster_events.specs.Servers.{State, Servers}
 use Rattle.cluster_events.specs.Saying.{gathered, post_in, entry_in, reply_in, deal_in, callback_in, write_in, deals_told, callbacks_told, writes_told, Grows, TellsReplies, writes_in, Says}
-use Rattle.cluster_events.specs.Serving.{IsSteady, IsServing, IsCarried}
+use Rattle.cluster_events.specs.Serving.{IsSteady, IsServing, IsCarried, AreStepped}
 use Rattle.cluster_events.specs.Running.{Shelf, Happens}
 use Rattle.cluster_events.specs.Promises.{AtEnd}
-use Rattle.cluster_events.proofs.Walking.{IsShow, HandsOut, IsByKind, AreStepped, line-walks}
+use Rattle.cluster_events.proofs.Walking.{IsShow, HandsOut, IsByKind, line-walks}
 use Rattle.cluster_events.proofs.Items.{taken-begins}
 use Rattle.cluster_events.proofs.Dealing.{dealt-answered, deals-answered}
 use Rattle.cluster_events.proofs.Telling.{Grows-same, TellsReplies-none, Says-send}
@@ -67,7 +67,7 @@ gathered-without read none (Ignored place why ∷ told) =
     gathered-without read none told ∙ ap (λ lines. lines ++ gathered read told) (sym (none place why))
 gathered-without read none (line ∷ told) = ap (λ rest. read line ++ rest) (gathered-without read none told)
 
-Says-printed : (plain : Plain) (old new : World) (told : List Told) → Says plain old new told → Says plain old new (without is_ignored told)
+pub Says-printed : (plain : Plain) (old new : World) (told : List Told) → Says plain old new told → Says plain old new (without is_ignored told)
 Says-printed plain old new told says = record {
   posts = subst (λ lines. Grows old.net new.net lines) (sym (gathered-without post_in (λ place why. refl) told)) says.posts;
   entries = subst (λ lines. Grows (committed old.core) (committed new.core) lines) (sym (gathered-without entry_in (λ place why. refl) told)) says.entries;

@@ -20,7 +20,7 @@ use Rattle.cluster_events.specs.Outcomes.{Outcome}
 use Rattle.cluster_events.specs.ClientEvents.{ask_by, ask, hand_out, dispatch_all_by, dispatch_all, dispatch_one_by, dispatch_one, set_time}
 use Rattle.cluster_events.specs.Servers.{State, Servers, in_world, drain}
 use Rattle.cluster_events.specs.Events.{deliver_by, resend, step_or_refuse, push_by, list_servers, refuse}
-use Rattle.cluster_events.specs.Serving.{IsSteady, IsServing, IsCarried}
+use Rattle.cluster_events.specs.Serving.{IsSteady, IsServing, IsCarried, IsStepped, AreStepped}
 use Rattle.cluster_events.specs.Running.{Shelf, listed, shown, show_by, Happens}
 use Rattle.cluster_events.proofs.Sound.{ask-sound, dispatch_all-sound, dispatch_one-sound, set_time-sound}
 use Rattle.cluster_events.proofs.Carrying.{posted-unknown, delivered-goes, resend-goes, post_all-goes, held-made, rounds-carry}
@@ -69,15 +69,6 @@ pub record IsByKind (plain : Plain) (R : ByKind) : Type 0 where
   pub shows : (world : World) (line : Told) → IsShow line → R Others world world (line ∷ [])
   -- lines on messages without effect may be left out
   pub printed : (old new : World) (told : List Told) → R Others old new told → R Others old new (without is_ignored told)
-
--- a step of the servers, where there is one, keeps the facts and a relation
-pub record IsStepped {P : Type 0} (plain : Plain) (Good : State P → Type 0) (R : World → World → List Told → Type 0) (step : State P → Option (Outcome (State P))) : Type 0 where
-  pub steps : (state : State P) (outcome : Outcome (State P)) → step state ≡ Some outcome → IsSteady plain Good state → IsSteady plain Good outcome.state × R state.world outcome.state.world outcome.told
-
-pub record AreStepped {P : Type 0} (plain : Plain) (servers : Servers P) (Good : State P → Type 0) (R : World → World → List Told → Type 0) : Type 0 where
-  pub mirror : IsStepped plain Good R servers.mirror
-  pub ack : IsStepped plain Good R servers.ack
-  pub work : IsStepped plain Good R servers.work
 
 -- a step that is never made
 pub never-steps : {P : Type 0} (plain : Plain) (Good : State P → Type 0) (R : World → World → List Told → Type 0) → IsStepped plain Good R (λ (state : State P). None)

@@ -5,6 +5,8 @@ pub mod ClientEvents
 pub mod Events
 pub mod Settling
 pub mod Stopping
+pub mod Devices
+pub mod Ending
 pub mod Saying
 pub mod Serving
 pub mod Measure

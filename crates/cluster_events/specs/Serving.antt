@@ -1,5 +1,5 @@
 -- Words of public clauses: what is asked of servers, and of a relation of worlds and lines, so that a whole round keeps them.
-use Rattle.std.specs.Prelude.{◌≡◌, ℕ, suc, true, false, nat_le, Some, List, [], ◌∷◌, ◌++◌, length}
+use Rattle.std.specs.Prelude.{◌≡◌, ℕ, suc, true, false, nat_le, Option, Some, List, [], ◌∷◌, ◌++◌, length}
 use Rattle.cluster_facts.specs.Types.{Call, Reply, Item, Entry, Message, Answer, Delivery, Receipt}
 use Rattle.cluster_facts.specs.Lists.{Stands, EndsIn}
 use Rattle.cluster_facts.specs.Messages.{message_of}
@@ -9,6 +9,7 @@ use Rattle.cluster_facts.specs.History.{Hand, Empty, accepted, accepted_by, MayF
 use Rattle.cluster_facts.specs.World.{World, with_agent}
 use Rattle.cluster_facts.specs.Facts.{IsSound, IsOfRun}
 use Rattle.cluster_events.specs.Lines.{Told, Posted, Replied, Ignored, Why}
+use Rattle.cluster_events.specs.Outcomes.{Outcome}
 use Rattle.cluster_events.specs.Servers.{State, Servers, drain}
 use Rattle.cluster_events.specs.Settling.{is_loud}
 
@@ -76,3 +77,14 @@ pub record IsCarried {P : Type 0} (plain : Plain) (servers : Servers P) (Good : 
       → MayFollow plain state.world.core.answered entry → time_of entry ≡ state.world.now → Stands (message_of entry) state.world.net
       → R state.world (servers.accept entry state).state.world (servers.accept entry state).told
   pub drain : (state : State P) → IsSteady plain Good state → R state.world (drain servers state).state.world (drain servers state).told
+
+-- a step of the servers, where there is one, keeps the facts and a relation
+pub record IsStepped {P : Type 0} (plain : Plain) (Good : State P → Type 0) (R : World → World → List Told → Type 0)
+    (step : State P → Option (Outcome (State P))) : Type 0 where
+  pub steps : (state : State P) (outcome : Outcome (State P)) → step state ≡ Some outcome → IsSteady plain Good state
+      → IsSteady plain Good outcome.state × R state.world outcome.state.world outcome.told
+
+pub record AreStepped {P : Type 0} (plain : Plain) (servers : Servers P) (Good : State P → Type 0) (R : World → World → List Told → Type 0) : Type 0 where
+  pub mirror : IsStepped plain Good R servers.mirror
+  pub ack : IsStepped plain Good R servers.ack
+  pub work : IsStepped plain Good R servers.work

@@ -13,7 +13,7 @@ use Rattle.cluster_events.specs.Lines.{Told, Posted, Committed, is_progress}
 use Rattle.cluster_events.specs.Servers.{State, drain}
 use Rattle.cluster_events.specs.Settling.{is_loud}
 use Rattle.cluster_events.specs.Saying.{Grows, Says}
-use Rattle.cluster_events.specs.Serving.{Drains, IsServing, IsCarried}
+use Rattle.cluster_events.specs.Serving.{Drains, IsServing, IsCarried, AreStepped}
 use Rattle.cluster_events.proofs.Telling.{Grows-same, Grows-one, TellsReplies-none, Says-carried}
 use Rattle.lone_cluster.specs.Lone.{Alone, accept_alone, net_answering, answer_of, lone, IsLone, IsGoodAlone}
 use Rattle.std.proofs.Common.{arith}
@@ -26,7 +26,7 @@ use Rattle.cluster_events.proofs.Measuring.{unheard-accepted, may-waits, Spends-
 use Rattle.script_lines.specs.declared.line.Line.{Line}
 use Rattle.cluster_facts.specs.History.{time_of}
 use Rattle.cluster_events.specs.Running.{Shelf, Happens}
-use Rattle.cluster_events.proofs.Walking.{ByKind, Others, kind_of, IsByKind, AreStepped, never-steps, line-walks, IsTold, told-carried}
+use Rattle.cluster_events.proofs.Walking.{ByKind, Others, kind_of, IsByKind, never-steps, line-walks, IsTold, told-carried}
 use Rattle.cluster_events.proofs.Promised.{happens-kept}
 use Rattle.lone_cluster.specs.Lone.{work_by}
 

@@ -3,11 +3,13 @@ use Rattle.std.proofs.lemmas.Result.{on_ok_weaker, on_err_weaker}
 use Rattle.calls.specs.declared.entry.Entry.{Entry}
 use Rattle.cluster_core.specs.Heard.{IsToldHeard}
 use Rattle.cluster_core.specs.PartlyDone.{IsPartlyTold}
-use Rattle.cluster_core.specs.Worlds.{StandsIn}
-use Rattle.cluster_core.proofs.DispatchSteps.{on-err}
+use Rattle.cluster_rounds.specs.Worlds.{StandsIn}
+use Rattle.cluster_core.specs.LoneKit.{lone_kit}
+use Rattle.cluster_core.specs.LoneLaws.{lone_laws}
+use Rattle.cluster_clients.proofs.DispatchSteps.{on-err}
 use Rattle.cluster_core.proofs.ServerSteps.{message-happens, receive-conditions, has-room, heard-by, heard-range}
 use Rattle.cluster_core.proofs.BrokenServers.{hears-break}
-use Rattle.cluster_core.proofs.BrokenClients.{same-breaks-if}
+use Rattle.cluster_rounds.proofs.BrokenClients.{same-breaks-if}
 use Rattle.cluster_core.proofs.PartlySteps.{reserve-breaks}
 use Rattle.cluster_core.proofs.hearing.hear.Goals as goal
 
@@ -56,12 +58,12 @@ returns-clause-err c =
     c.tell_heard.ensures.err
 
 pub returns-then-len-ge-ENTRIES-clause-err : goal.returns-then-len-ge-ENTRIES-clause-err
-returns-then-len-ge-ENTRIES-clause-err c = same-breaks-if (StandsIn c.args.message.now) c.args.world.now
+returns-then-len-ge-ENTRIES-clause-err c = (same-breaks-if lone_kit lone_laws) (StandsIn c.args.message.now) c.args.world.now
 
 pub returns-in_err-reserve-clause-err : goal.returns-in_err-reserve-clause-err
 returns-in_err-reserve-clause-err c =
     let old = c.args.world.now in
-    on-err c.from_residual.result (reserve-breaks (StandsIn c.args.message.now) old old.a c.reserve.new.self c.in_err-reserve.ensures.entries)
+    on-err c.from_residual.result (reserve-breaks (StandsIn c.args.message.now) old old.servers.a c.reserve.new.self c.in_err-reserve.ensures.entries)
 
 pub returns-in_err-heard-clause-err : goal.returns-in_err-heard-clause-err
 returns-in_err-heard-clause-err c =

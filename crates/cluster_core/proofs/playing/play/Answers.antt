@@ -1,5 +1,6 @@
+use Rattle.cluster_rounds.specs.Came.{seen}
 use Rattle.script_lines.specs.declared.line.Line.TheVariants as line
-use Rattle.cluster_core.proofs.LineBroken.{ends-broken, settle-broken, files-broken, cat-broken}
+use Rattle.cluster_core.proofs.LineBroken.{ends-broken, settle-broken, settle-cause, files-broken, cat-broken}
 use Rattle.cluster_core.proofs.LineSteps.{plays-alone, plays-settle, plays-files, plays-cat, played-as, ends-ok, ends-cause}
 use Rattle.cluster_core.proofs.playing.play.Goals as goal
 use Rattle.std.proofs.lemmas.Result.{on_ok_weaker}
@@ -22,9 +23,13 @@ returns-in-Settle-clause-ok g c =
     let new = c.settle.new.world in
     let before = c.args.lines.now.items in
     let after = c.settle.new.lines.items in
-    let held = g.D.SharedDisk.files c.args.disk.now in
-    let left = g.D.SharedDisk.files c.settle.new.disk in
-    on_ok_weaker c.settle.result (λ does. played-as line.Settle c.args.line.now old new before after held left c.in-Settle.is (plays-settle old new before after held left does)) c.settle.ensures.ok
+    let held = (seen (g.D.SharedDisk.files c.args.disk.now) (g.D.SharedDisk.faults c.args.disk.now)) in
+    let left = (seen (g.D.SharedDisk.files c.settle.new.disk) (g.D.SharedDisk.faults c.settle.new.disk)) in
+    on_ok_weaker c.settle.result (λ does. played-as line.Settle c.args.line.now old new before after held.files left.files c.in-Settle.is (plays-settle old new before after held left does)) c.settle.ensures.ok
+
+pub returns-in-Settle-clause-cause : goal.returns-in-Settle-clause-cause
+returns-in-Settle-clause-cause g c =
+    settle-cause c.settle.result c.args.world.now c.settle.new.world c.args.lines.now.items c.settle.new.lines.items (seen (g.D.SharedDisk.files c.args.disk.now) (g.D.SharedDisk.faults c.args.disk.now)) (seen (g.D.SharedDisk.files c.settle.new.disk) (g.D.SharedDisk.faults c.settle.new.disk)) c.requires.state c.settle.ensures.ok c.settle.ensures.err
 
 pub returns-in-Files-clause-ok : goal.returns-in-Files-clause-ok
 returns-in-Files-clause-ok g c =
@@ -61,7 +66,7 @@ returns-in-Work-clause-broken g c = c.work_line.ensures.broken
 
 pub returns-in-Settle-clause-broken : goal.returns-in-Settle-clause-broken
 returns-in-Settle-clause-broken g c =
-    settle-broken c.settle.result c.args.line.now c.args.world.now c.settle.new.world c.args.lines.now.items c.settle.new.lines.items (g.D.SharedDisk.files c.args.disk.now) (g.D.SharedDisk.files c.settle.new.disk) c.in-Settle.is c.settle.ensures.err
+    settle-broken c.settle.result c.args.line.now c.args.world.now c.settle.new.world c.args.lines.now.items c.settle.new.lines.items (seen (g.D.SharedDisk.files c.args.disk.now) (g.D.SharedDisk.faults c.args.disk.now)) (seen (g.D.SharedDisk.files c.settle.new.disk) (g.D.SharedDisk.faults c.settle.new.disk)) c.in-Settle.is c.settle.ensures.err
 
 pub returns-in-Files-clause-broken : goal.returns-in-Files-clause-broken
 returns-in-Files-clause-broken g c =

@@ -1,21 +1,23 @@
 use Rattle.std.proofs.Common.{ℤ, sym, subst}
 use Rattle.std.proofs.lemmas.Result.{on_ok_weaker}
 use Rattle.script_lines.specs.declared.line.Line.TheVariants as line
-use Rattle.cluster_core.specs.Worlds.{Does}
+use Rattle.cluster_rounds.specs.Worlds.{Does}
 use Rattle.cluster_core.specs.Showing.{refused}
 use Rattle.cluster_core.specs.Playing.{IsLoneLine}
 use Rattle.cluster_core.specs.Steps.{IsInRange, PlaysAlone}
-use Rattle.cluster_core.proofs.DispatchSteps.{on-err}
+use Rattle.cluster_clients.proofs.DispatchSteps.{on-err}
 use Rattle.cluster_core.proofs.ServerSteps.{moment-same}
 use Rattle.cluster_core.proofs.LineSteps.{plays-as, plays-time, plays-log, plays-ntf, plays-deliver, plays-resend, plays-mirror, plays-ack, plays-push, plays-one, plays-all, plays-servers}
 use Rattle.cluster_core.proofs.playing.play_alone.Goals as goal
-use Rattle.cluster_core.proofs.BrokenClients.{same-breaks}
+use Rattle.cluster_rounds.proofs.BrokenClients.{same-breaks}
+use Rattle.cluster_core.specs.LoneKit.{lone_kit}
+use Rattle.cluster_core.specs.LoneLaws.{lone_laws}
 
-pub ask_in-requires : goal.ask_in-requires
-ask_in-requires c = record { state = c.requires.state; caller = subst IsInRange c.in-Log.is c.requires.range }
+pub ask-requires : goal.ask-requires
+ask-requires c = record { state = c.requires.state; caller = subst IsInRange c.in-Log.is c.requires.range }
 
-pub ask_in-requires-in-Ntf : goal.ask_in-requires-in-Ntf
-ask_in-requires-in-Ntf c = record { state = c.requires.state; caller = subst IsInRange c.in-Ntf.is c.requires.range }
+pub ask-requires-in-Ntf : goal.ask-requires-in-Ntf
+ask-requires-in-Ntf c = record { state = c.requires.state; caller = subst IsInRange c.in-Ntf.is c.requires.range }
 
 pub deliver_line-requires : goal.deliver_line-requires
 deliver_line-requires c = record { state = c.requires.state; line = c.in-Deliver.is }
@@ -39,18 +41,18 @@ returns-in-Time-clause-ok c =
 pub returns-in-Log-clause-ok : goal.returns-in-Log-clause-ok
 returns-in-Log-clause-ok c =
     let old = c.args.world.now in
-    let new = c.ask_in.new.world in
+    let new = c.ask.new.world in
     let before = c.args.lines.now.items in
-    let after = c.ask_in.new.lines.items in
-    on_ok_weaker c.ask_in.result (λ does. plays-as (line.Log c.in-Log.client c.in-Log.ask) c.args.line.now old new before after c.in-Log.is (plays-log c.in-Log.client c.in-Log.ask old new before after does)) c.ask_in.ensures.ok
+    let after = c.ask.new.lines.items in
+    on_ok_weaker c.ask.result (λ does. plays-as (line.Log c.in-Log.client c.in-Log.ask) c.args.line.now old new before after c.in-Log.is (plays-log c.in-Log.client c.in-Log.ask old new before after does)) c.ask.ensures.ok
 
 pub returns-in-Ntf-clause-ok : goal.returns-in-Ntf-clause-ok
 returns-in-Ntf-clause-ok c =
     let old = c.args.world.now in
-    let new = c.ask_in-in-Ntf.new.world in
+    let new = c.ask-in-Ntf.new.world in
     let before = c.args.lines.now.items in
-    let after = c.ask_in-in-Ntf.new.lines.items in
-    on_ok_weaker c.ask_in-in-Ntf.result (λ does. plays-as (line.Ntf c.in-Ntf.client c.in-Ntf.ask) c.args.line.now old new before after c.in-Ntf.is (plays-ntf c.in-Ntf.client c.in-Ntf.ask old new before after does)) c.ask_in-in-Ntf.ensures.ok
+    let after = c.ask-in-Ntf.new.lines.items in
+    on_ok_weaker c.ask-in-Ntf.result (λ does. plays-as (line.Ntf c.in-Ntf.client c.in-Ntf.ask) c.args.line.now old new before after c.in-Ntf.is (plays-ntf c.in-Ntf.client c.in-Ntf.ask old new before after does)) c.ask-in-Ntf.ensures.ok
 
 pub returns-in-Deliver-clause-ok : goal.returns-in-Deliver-clause-ok
 returns-in-Deliver-clause-ok c =
@@ -79,18 +81,18 @@ returns-in-Push-clause-ok c =
 pub returns-in-DispatchOne-clause-ok : goal.returns-in-DispatchOne-clause-ok
 returns-in-DispatchOne-clause-ok c =
     let old = c.args.world.now in
-    let new = c.dispatch_in.new.world in
+    let new = c.dispatch.new.world in
     let before = c.args.lines.now.items in
-    let after = c.dispatch_in.new.lines.items in
-    on_ok_weaker c.dispatch_in.result (λ does. plays-as (line.DispatchOne c.in-DispatchOne.client) c.args.line.now old new before after c.in-DispatchOne.is (plays-one c.in-DispatchOne.client old new before after does)) c.dispatch_in.ensures.ok
+    let after = c.dispatch.new.lines.items in
+    on_ok_weaker c.dispatch.result (λ does. plays-as (line.DispatchOne c.in-DispatchOne.client) c.args.line.now old new before after c.in-DispatchOne.is (plays-one c.in-DispatchOne.client old new before after does)) c.dispatch.ensures.ok
 
 pub returns-in-DispatchAll-clause-ok : goal.returns-in-DispatchAll-clause-ok
 returns-in-DispatchAll-clause-ok c =
     let old = c.args.world.now in
-    let new = c.dispatch_in-in-DispatchAll.new.world in
+    let new = c.dispatch-in-DispatchAll.new.world in
     let before = c.args.lines.now.items in
-    let after = c.dispatch_in-in-DispatchAll.new.lines.items in
-    on_ok_weaker c.dispatch_in-in-DispatchAll.result (λ does. plays-as (line.DispatchAll c.in-DispatchAll.client c.in-DispatchAll.workers) c.args.line.now old new before after c.in-DispatchAll.is (plays-all c.in-DispatchAll.client c.in-DispatchAll.workers old new before after does)) c.dispatch_in-in-DispatchAll.ensures.ok
+    let after = c.dispatch-in-DispatchAll.new.lines.items in
+    on_ok_weaker c.dispatch-in-DispatchAll.result (λ does. plays-as (line.DispatchAll c.in-DispatchAll.client c.in-DispatchAll.workers) c.args.line.now old new before after c.in-DispatchAll.is (plays-all c.in-DispatchAll.client c.in-DispatchAll.workers old new before after does)) c.dispatch-in-DispatchAll.ensures.ok
 
 pub returns-in-Servers-clause-ok : goal.returns-in-Servers-clause-ok
 returns-in-Servers-clause-ok c =
@@ -106,7 +108,7 @@ returns-in-Mirror-clause-ok c =
     let new = c.args.world.now in
     let before = c.args.lines.now.items in
     let after = c.refused.new.lines.items in
-    on_ok_weaker c.refused.result (λ does. plays-as (line.Mirror) c.args.line.now old new before after c.in-Mirror.is (plays-mirror old new before after (subst (λ next. Does (refused next) old old before after) c.in-Mirror.is does))) c.refused.ensures
+    on_ok_weaker c.refused.result (λ does. plays-as (line.Mirror) c.args.line.now old new before after c.in-Mirror.is (plays-mirror old new before after (subst (λ next. (Does lone_kit) (refused next) old old before after) c.in-Mirror.is does))) c.refused.ensures
 
 pub returns-in-Ack-clause-ok : goal.returns-in-Ack-clause-ok
 returns-in-Ack-clause-ok c =
@@ -114,13 +116,13 @@ returns-in-Ack-clause-ok c =
     let new = c.args.world.now in
     let before = c.args.lines.now.items in
     let after = c.refused-in-Ack.new.lines.items in
-    on_ok_weaker c.refused-in-Ack.result (λ does. plays-as (line.Ack) c.args.line.now old new before after c.in-Ack.is (plays-ack old new before after (subst (λ next. Does (refused next) old old before after) c.in-Ack.is does))) c.refused-in-Ack.ensures
+    on_ok_weaker c.refused-in-Ack.result (λ does. plays-as (line.Ack) c.args.line.now old new before after c.in-Ack.is (plays-ack old new before after (subst (λ next. (Does lone_kit) (refused next) old old before after) c.in-Ack.is does))) c.refused-in-Ack.ensures
 
 pub returns-in-Log-clause-err : goal.returns-in-Log-clause-err
-returns-in-Log-clause-err c = c.ask_in.ensures.err
+returns-in-Log-clause-err c = c.ask.ensures.err
 
 pub returns-in-Ntf-clause-err : goal.returns-in-Ntf-clause-err
-returns-in-Ntf-clause-err c = c.ask_in-in-Ntf.ensures.err
+returns-in-Ntf-clause-err c = c.ask-in-Ntf.ensures.err
 
 pub returns-in-Deliver-clause-err : goal.returns-in-Deliver-clause-err
 returns-in-Deliver-clause-err c = c.deliver_line.ensures.err
@@ -132,19 +134,19 @@ pub returns-in-Push-clause-err : goal.returns-in-Push-clause-err
 returns-in-Push-clause-err c = c.push_line.ensures.err
 
 pub returns-in-DispatchOne-clause-err : goal.returns-in-DispatchOne-clause-err
-returns-in-DispatchOne-clause-err c = c.dispatch_in.ensures.err
+returns-in-DispatchOne-clause-err c = c.dispatch.ensures.err
 
 pub returns-in-DispatchAll-clause-err : goal.returns-in-DispatchAll-clause-err
-returns-in-DispatchAll-clause-err c = c.dispatch_in-in-DispatchAll.ensures.err
+returns-in-DispatchAll-clause-err c = c.dispatch-in-DispatchAll.ensures.err
 
 pub returns-in-Mirror-clause-err : goal.returns-in-Mirror-clause-err
-returns-in-Mirror-clause-err c = on-err c.refused.result (same-breaks c.args.world.now)
+returns-in-Mirror-clause-err c = on-err c.refused.result ((same-breaks lone_kit lone_laws) c.args.world.now)
 
 pub returns-in-Ack-clause-err : goal.returns-in-Ack-clause-err
-returns-in-Ack-clause-err c = on-err c.refused-in-Ack.result (same-breaks c.args.world.now)
+returns-in-Ack-clause-err c = on-err c.refused-in-Ack.result ((same-breaks lone_kit lone_laws) c.args.world.now)
 
 pub returns-in-Servers-clause-err : goal.returns-in-Servers-clause-err
-returns-in-Servers-clause-err c = on-err c.show_servers.result (same-breaks c.args.world.now)
+returns-in-Servers-clause-err c = on-err c.show_servers.result ((same-breaks lone_kit lone_laws) c.args.world.now)
 
 pub returns-in_default-clause-err : goal.returns-in_default-clause-err
-returns-in_default-clause-err c = same-breaks c.args.world.now
+returns-in_default-clause-err c = (same-breaks lone_kit lone_laws) c.args.world.now

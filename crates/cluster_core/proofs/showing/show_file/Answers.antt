@@ -1,6 +1,6 @@
 use Rattle.std.proofs.Common.{◌≡◌, subst}
 use Rattle.std.specs.Prelude.{IfSome}
-use Rattle.cluster_core.specs.Shelves.{bytes_of}
+use Rattle.cluster_clients.specs.Files.{bytes_of}
 use Rattle.cluster_core.proofs.ShowSteps.{file-shown}
 use Rattle.cluster_core.proofs.showing.show_file.Goals as goal
 

@@ -1,0 +1,242 @@
+-- The reply to a call is found in the net by how its spelling begins.
+use Rattle.std.proofs.Common.{◌≡◌, ℕ, zero, suc, ◌-◌, ◌<◌, ◌≤◌, Bool, true, false, ◌==◌, if◌then◌else◌, Option, Some, None, List, [], ◌∷◌, ◌++◌, length, take, nat_eq, refl, ap, sym, ◌∙◌, subst, arith, append_assoc, length-append}
+use Rattle.std.specs.List.{starts_with}
+use Rattle.std.specs.Str.{bytes_eq}
+use Rattle.std.specs.Cmp.Lexicographic.{bytes_decides}
+use Rattle.std.proofs.Math.Seq.{take-append_seam}
+use Rattle.std.proofs.lemmas.Bool.{false_from_ne_true}
+use Rattle.wire_code.specs.Spelling.{number_text, IsNumber, IsClient, IsCount}
+use Rattle.wire_code.specs.Reading.{number_at}
+use Rattle.wire_code.proofs.Codes.{ok_is}
+use Rattle.wire_code.proofs.NumberCodes.{number_code, length-number_text}
+use Rattle.wire.specs.CallSpelling.{reply_text}
+use Rattle.wire.specs.MessageSpelling.{message_text}
+use Rattle.wire.specs.Messages.{Spells}
+use Rattle.wire.specs.MessageReading.{message_at}
+use Rattle.wire.proofs.MessageCodes.{message_code}
+use Rattle.message_net.specs.Nets.{bytes_at}
+use Rattle.cluster_facts.specs.Types.{Reply, Message, Request, Answer, Delivery, Receipt}
+use Rattle.wire.specs.declared.message.Message.TheVariants.{Mirror, MirrorAck, Snapshot, JoinAck}
+use Rattle.cluster_facts.specs.Messages.{answers_to}
+use Rattle.cluster_facts.proofs.Words.{by_test}
+use Rattle.cluster_events.specs.Events.{reply_at}
+use Rattle.cluster_clients.specs.Spelled.{AreSpelled}
+use Rattle.cluster_clients.specs.Replies.{reply_front, first_with, FindsReply}
+
+-- The search goes from the newest place down: so many of the oldest strings are left.
+
+abbrev pub oldest : ℕ → List (List ℕ) → List (List ℕ)
+oldest count [] = []
+oldest count (bytes ∷ net) = if count == suc (length net) then bytes ∷ net else oldest count net
+
+pub oldest-all : (net : List (List ℕ)) → oldest (length net) net ≡ net
+oldest-all [] = refl
+oldest-all (bytes ∷ net) =
+    let P : Bool → Type 0 = λ b. (if b then bytes ∷ net else oldest (suc (length net)) net) ≡ bytes ∷ net in
+    by_test P (suc (length net)) (suc (length net)) (λ same. refl) (λ different. absurd (different refl))
+
+pub oldest-none : (net : List (List ℕ)) → oldest 0 net ≡ []
+oldest-none [] = refl
+oldest-none (bytes ∷ net) =
+    let P : Bool → Type 0 = λ b. (if b then bytes ∷ net else oldest 0 net) ≡ [] in
+    by_test P 0 (suc (length net)) (λ same. absurd (omega arith)) (λ different. oldest-none net)
+
+bytes_at-bound : (place : ℕ) (net : List (List ℕ)) (bytes : List ℕ) → bytes_at place net ≡ Some bytes → place ≤ length net
+bytes_at-bound place [] bytes found = cc
+bytes_at-bound place (known ∷ net) bytes found =
+    let P : Bool → Type 0 = λ b. (if b then Some known else bytes_at place net) ≡ Some bytes → place ≤ suc (length net) in
+    by_test P place (suc (length net)) (λ same here. omega arith) (λ different there. let deeper = bytes_at-bound place net bytes there in omega arith) found
+
+pub bytes_at-within : (place : ℕ) (net : List (List ℕ)) → suc place ≤ length net → (bytes : List ℕ) × (bytes_at (suc place) net ≡ Some bytes)
+bytes_at-within place [] within = absurd (omega arith)
+bytes_at-within place (known ∷ net) within =
+    let P : Bool → Type 0 = λ b. (bytes : List ℕ) × ((if b then Some known else bytes_at (suc place) net) ≡ Some bytes) in
+    by_test P (suc place) (suc (length net)) (λ same. (known, refl)) (λ different. bytes_at-within place net (omega arith))
+
+older : (place : ℕ) (bytes : List ℕ) (net : List (List ℕ)) → place ≤ length net → oldest place (bytes ∷ net) ≡ oldest place net
+older place bytes net within =
+    let P : Bool → Type 0 = λ b. (if b then bytes ∷ net else oldest place net) ≡ oldest place net in
+    by_test P place (suc (length net)) (λ same. absurd (omega arith)) (λ different. refl)
+
+pub oldest-next : (place : ℕ) (net : List (List ℕ)) (bytes : List ℕ) → bytes_at (suc place) net ≡ Some bytes → oldest (suc place) net ≡ bytes ∷ oldest place net
+oldest-next place [] bytes found = cc
+oldest-next place (known ∷ net) bytes found =
+    let P : Bool → Type 0 = λ b. (if b then Some known else bytes_at (suc place) net) ≡ Some bytes → (if b then known ∷ net else oldest (suc place) net) ≡ bytes ∷ oldest place (known ∷ net) in
+    by_test P (suc place) (suc (length net))
+    (λ same here.
+    let is : known ≡ bytes = cc in
+    let all : place ≡ length net = omega arith in
+    let rest : oldest place (known ∷ net) ≡ net = older place known net (omega arith) ∙ ap (λ n. oldest n net) all ∙ oldest-all net in
+    ap (λ b. b ∷ net) is ∙ ap (λ n. bytes ∷ n) (sym rest))
+    (λ different there.
+    let bound = bytes_at-bound (suc place) net bytes there in
+    oldest-next place net bytes there ∙ ap (λ n. bytes ∷ n) (sym (older place known net (omega arith))))
+    found
+
+-- the string at the greatest place left is the one or not
+pub first-next : (front : List ℕ) (place : ℕ) (net : List (List ℕ)) (bytes : List ℕ) → bytes_at (suc place) net ≡ Some bytes → first_with front (oldest (suc place) net) ≡ (if starts_with nat_eq bytes front then Some bytes else first_with front (oldest place net))
+first-next front place net bytes found = ap (first_with front) (oldest-next place net bytes found)
+
+pub first-here : (front : List ℕ) (place : ℕ) (net : List (List ℕ)) (bytes : List ℕ) → 0 < place → bytes_at place net ≡ Some bytes → starts_with nat_eq bytes front ≡ true → first_with front (oldest place net) ≡ Some bytes
+first-here front zero net bytes some found begins = absurd (omega arith)
+first-here front (suc place) net bytes some found begins =
+    first-next front place net bytes found ∙ ap (λ b. if b then Some bytes else first_with front (oldest place net)) begins
+
+pub first-passed : (front : List ℕ) (place : ℕ) (net : List (List ℕ)) (bytes : List ℕ) → 0 < place → bytes_at place net ≡ Some bytes → starts_with nat_eq bytes front ≡ false → first_with front (oldest place net) ≡ first_with front (oldest (place - 1) net)
+first-passed front zero net bytes some found begins = absurd (omega arith)
+first-passed front (suc place) net bytes some found begins =
+    let less : place ≡ suc place - 1 = omega arith in
+    first-next front place net bytes found ∙ ap (λ b. if b then Some bytes else first_with front (oldest place net)) begins ∙ ap (λ n. first_with front (oldest n net)) less
+
+pub first-there : (place : ℕ) (net : List (List ℕ)) → 0 < place → place ≤ length net → bytes_at place net ≡ None → ⊥
+first-there zero net some within none = absurd (omega arith)
+first-there (suc place) net some within none = let there = bytes_at-within place net within in let is = there.1 in cc
+
+-- Fronts of replies.
+
+number-same : (width one other : ℕ) (first second : List ℕ) → IsNumber width one → IsNumber width other → number_text width one ++ first ≡ number_text width other ++ second → (one ≡ other) × (first ≡ second)
+number-same width one other first second fits also same =
+    let read = sym ((number_code width).back one first fits) ∙ ap (number_at width) same ∙ (number_code width).back other second also in
+    let pairs : (one, first) ≡ (other, second) = ok_is (one, first) (other, second) read in
+    (ap (λ (p : ℕ × List ℕ). p.0) pairs, ap (λ (p : ℕ × List ℕ). p.1) pairs)
+
+client-number : (client : ℕ) → IsClient client → IsNumber 2 client
+client-number client is = let most = is.most in omega arith
+
+count-number : (number : ℕ) → IsCount number → IsNumber 4 number
+count-number number is = let most = is.most in omega arith
+
+front-same : (client number receiver other : ℕ) → IsClient client → IsCount number → IsClient receiver → IsCount other → reply_front client number ≡ reply_front receiver other → (client ≡ receiver) × (number ≡ other)
+front-same client number receiver other one two three four same =
+    let tails : number_text 2 client ++ number_text 4 number ≡ number_text 2 receiver ++ number_text 4 other = cc in
+    let clients = number-same 2 client receiver (number_text 4 number) (number_text 4 other) (client-number client one) (client-number receiver three) tails in
+    let padded : number_text 4 number ++ [] ≡ number_text 4 other ++ [] = ap (λ l. l ++ []) clients.1 in
+    let numbers = number-same 4 number other [] [] (count-number number two) (count-number other four) padded in
+    (clients.0, numbers.0)
+
+front-length : (client number : ℕ) → length (reply_front client number) ≡ 7
+front-length client number =
+    let one = length-number_text 2 client in
+    let two = length-number_text 4 number in
+    let both = length-append (number_text 2 client) (number_text 4 number) in
+    omega arith
+
+-- the spelling of a reply has its front
+pub front-taken : (receiver other : ℕ) (reply : Reply) → take 7 (message_text (Answer receiver other reply)) ≡ reply_front receiver other
+unfolding message_text
+front-taken receiver other reply =
+    let rest = reply_text reply in
+    let text : message_text (Answer receiver other reply) ≡ reply_front receiver other ++ rest =
+    ap (λ t. 2 ∷ t) (sym (append_assoc (number_text 2 receiver) (number_text 4 other) rest))
+    in
+    ap (take 7) text ∙ ap (λ n. take n (reply_front receiver other ++ rest)) (sym (front-length receiver other)) ∙ take-append_seam (reply_front receiver other) rest
+
+starts-by : (client number receiver other : ℕ) (reply : Reply) → starts_with nat_eq (message_text (Answer receiver other reply)) (reply_front client number) ≡ bytes_eq (reply_front client number) (reply_front receiver other)
+starts-by client number receiver other reply =
+    ap (λ n. bytes_eq (reply_front client number) (take n (message_text (Answer receiver other reply)))) (front-length client number)
+    ∙ ap (bytes_eq (reply_front client number)) (front-taken receiver other reply)
+
+-- what was found, beside what the messages give
+abbrev pub IsReplyAs : ℕ → ℕ → Option Reply → Option (List ℕ) → Type 0
+IsReplyAs client number value None = value ≡ None
+IsReplyAs client number value (Some bytes) =
+    (reply : Reply) × Spells (Answer client number reply) bytes × (value ≡ Some reply)
+
+abbrev pub IsReplyTo : ℕ → ℕ → List Message → Option (List ℕ) → Type 0
+IsReplyTo client number messages found = IsReplyAs client number (reply_at number (answers_to client messages)) found
+
+reply-here : (client number receiver other : ℕ) (reply : Reply) (messages : List Message) (bytes : List ℕ) (found : Option (List ℕ)) → IsClient client → IsCount number → Spells (Answer receiver other reply) bytes → IsReplyTo client number messages found → IsReplyTo client number (Answer receiver other reply ∷ messages) (if starts_with nat_eq bytes (reply_front client number) then Some bytes else found)
+reply-here client number receiver other reply messages bytes found is_client is_count spells rest =
+    let front = reply_front client number in
+    let own = reply_front receiver other in
+    let answers = answers_to client messages in
+    let begins : starts_with nat_eq bytes front ≡ bytes_eq front own = ap (λ b. starts_with nat_eq b front) spells.is ∙ starts-by client number receiver other reply in
+    let apart : ((front ≡ own) → ⊥) → starts_with nat_eq bytes front ≡ false = λ never. begins ∙ false_from_ne_true (bytes_eq front own) (λ is. never ((bytes_decides front own).0 is)) in
+    let F : Option Reply → Bool → Type 0 = λ value c. IsReplyAs client number value (if c then Some bytes else found) in
+    let P : Bool → Type 0 = λ a. F (reply_at number (if a then (other, reply) ∷ answers else answers)) (starts_with nat_eq bytes front) in
+    let Q : Bool → Type 0 = λ b. F (if b then Some reply else reply_at number answers) (starts_with nat_eq bytes front) in
+    let same-fronts : front ≡ own → (client ≡ receiver) × (number ≡ other) = front-same client number receiver other is_client is_count spells.fits.0 spells.fits.1 in
+    by_test P receiver client
+    (λ clients. by_test Q other number
+    (λ numbers.
+    let equal : front ≡ own = λ i. reply_front (sym clients i) (sym numbers i) in
+    let on : starts_with nat_eq bytes front ≡ true = begins ∙ (bytes_decides front own).1 equal in
+    let S : ℕ → ℕ → Type 0 = λ c n. Spells (Answer c n reply) bytes in
+    let spelled : S client number = subst (λ n. S client n) numbers (subst (λ c. S c other) clients spells) in
+    let done : F (Some reply) true = (reply, spelled, refl) in
+    subst (F (Some reply)) (sym on) done)
+    (λ different. subst (F (reply_at number answers)) (sym (apart (λ e. different (sym (same-fronts e).1)))) rest))
+    (λ different. subst (F (reply_at number answers)) (sym (apart (λ e. different (sym (same-fronts e).0)))) rest)
+
+-- other messages begin with another byte
+request-not : (client number receiver other : ℕ) (call : Rattle.cluster_facts.specs.Types.Call) → starts_with nat_eq (message_text (Request receiver other call)) (reply_front client number) ≡ false
+unfolding message_text
+request-not client number receiver other call = refl
+
+item-not : (client number receiver other : ℕ) (item : Rattle.cluster_facts.specs.Types.Item) → starts_with nat_eq (message_text (Delivery receiver other item)) (reply_front client number) ≡ false
+unfolding message_text
+item-not client number receiver other item = refl
+
+receipt-not : (client number receiver other through : ℕ) → starts_with nat_eq (message_text (Receipt receiver other through)) (reply_front client number) ≡ false
+unfolding message_text
+receipt-not client number receiver other through = refl
+
+mirror-not : (client number place : ℕ) (entry : Rattle.cluster_facts.specs.Types.Entry) → starts_with nat_eq (message_text (Mirror place entry)) (reply_front client number) ≡ false
+unfolding message_text
+mirror-not client number place entry = refl
+
+ack-not : (client number place : ℕ) → starts_with nat_eq (message_text (MirrorAck place)) (reply_front client number) ≡ false
+unfolding message_text
+ack-not client number place = refl
+
+snapshot-not : (client number : ℕ) (saved : Rattle.calls.specs.declared.saved.Saved.Saved) → starts_with nat_eq (message_text (Snapshot saved)) (reply_front client number) ≡ false
+unfolding message_text
+snapshot-not client number saved = refl
+
+join-not : (client number place : ℕ) → starts_with nat_eq (message_text (JoinAck place)) (reply_front client number) ≡ false
+unfolding message_text
+join-not client number place = refl
+
+beside : (client number : ℕ) (message : Message) (messages : List Message) (bytes : List ℕ) (found : Option (List ℕ)) → Spells message bytes → starts_with nat_eq (message_text message) (reply_front client number) ≡ false → IsReplyTo client number messages found → IsReplyTo client number messages (if starts_with nat_eq bytes (reply_front client number) then Some bytes else found)
+beside client number message messages bytes found spells not rest =
+    let F : Bool → Type 0 = λ c. IsReplyTo client number messages (if c then Some bytes else found) in
+    subst F (sym (ap (λ b. starts_with nat_eq b (reply_front client number)) spells.is ∙ not)) rest
+
+pub reply-found : (client number : ℕ) (messages : List Message) (net : List (List ℕ)) → IsClient client → IsCount number → AreSpelled messages net → IsReplyTo client number messages (first_with (reply_front client number) net)
+reply-found client number [] [] is_client is_count spelled = refl
+reply-found client number [] (bytes ∷ net) is_client is_count spelled = elim spelled [ ]
+reply-found client number (message ∷ messages) [] is_client is_count spelled = elim spelled [ ]
+reply-found client number (Answer receiver other reply ∷ messages) (bytes ∷ net) is_client is_count spelled =
+    reply-here client number receiver other reply messages bytes (first_with (reply_front client number) net) is_client is_count spelled.0 (reply-found client number messages net is_client is_count spelled.1)
+reply-found client number (Request receiver other call ∷ messages) (bytes ∷ net) is_client is_count spelled =
+    beside client number (Request receiver other call) messages bytes (first_with (reply_front client number) net) spelled.0 (request-not client number receiver other call) (reply-found client number messages net is_client is_count spelled.1)
+reply-found client number (Delivery receiver other item ∷ messages) (bytes ∷ net) is_client is_count spelled =
+    beside client number (Delivery receiver other item) messages bytes (first_with (reply_front client number) net) spelled.0 (item-not client number receiver other item) (reply-found client number messages net is_client is_count spelled.1)
+reply-found client number (Receipt receiver other through ∷ messages) (bytes ∷ net) is_client is_count spelled =
+    beside client number (Receipt receiver other through) messages bytes (first_with (reply_front client number) net) spelled.0 (receipt-not client number receiver other through) (reply-found client number messages net is_client is_count spelled.1)
+reply-found client number (Mirror place entry ∷ messages) (bytes ∷ net) is_client is_count spelled =
+    beside client number (Mirror place entry) messages bytes (first_with (reply_front client number) net) spelled.0 (mirror-not client number place entry) (reply-found client number messages net is_client is_count spelled.1)
+reply-found client number (MirrorAck place ∷ messages) (bytes ∷ net) is_client is_count spelled =
+    beside client number (MirrorAck place) messages bytes (first_with (reply_front client number) net) spelled.0 (ack-not client number place) (reply-found client number messages net is_client is_count spelled.1)
+reply-found client number (Snapshot saved ∷ messages) (bytes ∷ net) is_client is_count spelled =
+    beside client number (Snapshot saved) messages bytes (first_with (reply_front client number) net) spelled.0 (snapshot-not client number saved) (reply-found client number messages net is_client is_count spelled.1)
+reply-found client number (JoinAck place ∷ messages) (bytes ∷ net) is_client is_count spelled =
+    beside client number (JoinAck place) messages bytes (first_with (reply_front client number) net) spelled.0 (join-not client number place) (reply-found client number messages net is_client is_count spelled.1)
+
+-- What is found in the net.
+
+same-spelled : (one other : Message) (bytes : List ℕ) → Spells one bytes → Spells other bytes → one ≡ other
+same-spelled one other bytes spells also =
+    let texts : message_text one ++ [] ≡ message_text other ++ [] = ap (λ t. t ++ []) (sym spells.is ∙ also.is) in
+    let read = sym (message_code.back one [] spells.fits) ∙ ap message_at texts ∙ message_code.back other [] also.fits in
+    let pairs : ◌≡◌ {A = Message × List ℕ} (one, []) (other, []) = ok_is (one, []) (other, []) read in
+    ap (λ (p : Message × List ℕ). p.0) pairs
+
+pub finds-none : (client number : ℕ) (net : List (List ℕ)) → IsClient client → IsCount number → first_with (reply_front client number) net ≡ None → FindsReply client number net None
+finds-none client number net is_client is_count none messages spelled =
+    subst (IsReplyTo client number messages) none (reply-found client number messages net is_client is_count spelled)
+
+pub finds-some : (client number : ℕ) (net : List (List ℕ)) (bytes : List ℕ) (message : Message) → IsClient client → IsCount number → first_with (reply_front client number) net ≡ Some bytes → Spells message bytes → FindsReply client number net (Some message)
+finds-some client number net bytes message is_client is_count some spells messages spelled =
+    let found = subst (IsReplyTo client number messages) some (reply-found client number messages net is_client is_count spelled) in
+    (found.0, same-spelled message (Answer client number found.0) bytes spells found.1, found.2)

@@ -1,0 +1,9 @@
+use Rattle.std.proofs.Common.{◌≡◌}
+use Rattle.cluster_clients.specs.Listing.{Listing}
+use Rattle.cluster_clients.proofs.files.list_files.Given as goal
+
+abbrev pub invariant-loop-name : goal.invariant-loop-name
+invariant-loop-name g l = record {
+  listed : Listing l.name-items l.name-index (g.D.SharedDisk.files l.fn.disk) (g.D.SharedDisk.files l.disk) l.lines.items;
+  stands : g.D.SharedDisk.faults l.disk ≡ g.D.SharedDisk.faults l.fn.disk;
+}

@@ -1,0 +1,11 @@
+pub mod Spelled
+pub mod Posted
+pub mod Clients
+pub mod Files
+pub mod Listing
+pub mod Taken
+pub mod Taking
+pub mod Replies
+pub mod Asked
+pub mod PartlyDone
+pub mod Answers

@@ -1,0 +1,102 @@
+//! The clients' agents: look-up, and callbacks handed out.
+ghost use Rattle.std.specs.Prelude.{◌≡◌, ◌<◌, ◌++◌, ℕ, length, map, slice_get, Some, IfOk, OnOk, OnErr};
+ghost use Rattle.std.specs.List.{flat_map};
+ghost use Rattle.cluster_facts.specs.Agents.{Agent as AgentOf, resent};
+ghost use Rattle.client_agent.specs.Seen.{Seen, seen_of};
+ghost use Rattle.client_agent.specs.declared.answers.Numbered.{Numbered};
+ghost use Rattle.event_text.specs.Texts.{callback_lines};
+ghost use Rattle.cluster_clients.specs.Clients.{place_of, IsDispatchedAt, Dispatches};
+ghost use Rattle.cluster_clients.specs.PartlyDone.{MayDispatch};
+
+use ais_values::{Seq, Status};
+use client_agent::{Agent, Dispatched, How, Numbered};
+use event_text::{put_callback, put_declined, put_dispatched};
+use std::alloc::{AllocError, Global};
+use std::mem;
+use wire::Message;
+
+/// The place of a client's agent.
+pub fn place_of(agents: &[Agent], client: u16) -> Option<usize>
+    ensures { result ≡ place_of client agents.now }
+{
+    agents.iter().position(|agent| agent.client() == client)
+}
+
+/// The clients that were ever called, by rising number.
+pub fn clients_of(alloc: Global, agents: &[Agent]) -> Result<Vec<u16>, AllocError>
+    ensures { IfOk result (λ clients. clients.items ≡ map (λ (one : Seen). one.client) agents.now) }
+{
+    let mut clients = Vec::new(alloc);
+    for agent in agents {
+        clients.push(agent.client())?;
+    }
+    Ok(clients)
+}
+
+/// The messages that the agent at a place sends again.
+pub fn sent_again(alloc: Global, agents: &[Agent], at: usize) -> Result<Seq<Message>, AllocError>
+    requires { at < length agents.now }
+    ensures { IfOk result (λ messages. (client places : ℕ) (agent : AgentOf) →
+        slice_get agents.now at ≡ Some (seen_of client places agent) →
+        messages ≡ resent client agent) }
+{
+    agents[at].resend(alloc)
+}
+
+/// The agent at a place hands out callbacks. Where memory runs out the agents stay.
+fn dispatch_at(
+    alloc: Global,
+    agents: &mut Seq<Agent>,
+    place: usize,
+    how: How,
+) -> Result<Dispatched, AllocError>
+    requires { place < length agents.old }
+    ensures ok { IfOk result (λ dispatched. IsDispatchedAt how place agents.old dispatched
+        agents.new) }
+    ensures err { OnErr result (agents.new ≡ agents.old) }
+{
+    let mut list = mem::replace(agents, Seq::new(alloc)).into_vec();
+    let answer = list[place].dispatch(alloc, how);
+    *agents = Seq::from_vec(list);
+    answer
+}
+
+/// Adds the lines of callbacks that are handed out, in their order.
+fn put_callbacks(
+    alloc: Global,
+    lines: &mut Vec<Seq<u8>>,
+    client: u16,
+    callbacks: &[Numbered],
+) -> Result<(), AllocError>
+    ensures { OnOk result (lines.new.items ≡ lines.old.items ++ flat_map
+        (λ (one : Numbered). callback_lines client one.number one.callback) callbacks.now) }
+{
+    for one in callbacks {
+        put_callback(alloc, lines, client, one.number, &one.callback)?;
+    }
+    Ok(())
+}
+
+/// Hands out callbacks of a client, and adds the lines. Where memory runs out they may be handed out without lines.
+pub fn dispatch(
+    alloc: Global,
+    agents: &mut Seq<Agent>,
+    lines: &mut Vec<Seq<u8>>,
+    client: u16,
+    how: How,
+) -> Result<(), AllocError>
+    ensures ok { OnOk result (Dispatches how client agents.old agents.new lines.old.items
+        lines.new.items) }
+    ensures err { OnErr result (MayDispatch how client agents.old agents.new) }
+{
+    match place_of(agents.as_slice(), client) {
+        None => put_declined(alloc, lines, client, Status::BadHandle),
+        Some(place) => match dispatch_at(alloc, agents, place, how)? {
+            Dispatched::Refused { status } => put_declined(alloc, lines, client, status),
+            Dispatched::Given { taken } => {
+                put_callbacks(alloc, lines, client, taken.as_slice())?;
+                put_dispatched(alloc, lines, client, taken.as_slice().len() as u64)
+            }
+        },
+    }
+}

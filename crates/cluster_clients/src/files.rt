@@ -1,0 +1,110 @@
+//! What is shown of the files of a disk.
+ghost use Rattle.std.specs.Prelude.{◌≡◌, ◌≤◌, length, IfOk, IfSome, OnOk};
+ghost use Rattle.ais_values.specs.Causes.{RoseExactlyOn};
+ghost use Rattle.disk_model.specs.Disk.{bytes_at};
+ghost use Rattle.disk_model.specs.declared.answers.DiskAnswer.{DiskAnswer};
+ghost use Rattle.cluster_clients.specs.Files.{ListsFiles, bytes_of};
+ghost use Rattle.cluster_clients.specs.Listing.{AddsLine};
+
+use ais_values::Seq;
+use disk_model::{DiskAnswer, DiskFault, SharedDisk};
+use event_text::put_file;
+use std::alloc::Global;
+
+/// Adds the line of a name's file, if the file has a length.
+fn put_file_of<D: SharedDisk>(
+    alloc: Global,
+    disk: &mut D,
+    lines: &mut Vec<Seq<u8>>,
+    name: &[u8],
+) -> Result<(), DiskAnswer>
+    ensures added { OnOk result (AddsLine (D.files disk.old) name.now lines.old.items
+        lines.new.items) }
+    ensures same { D.files disk.new ≡ D.files disk.old }
+    ensures cause { RoseExactlyOn (D.faults disk.old) (D.faults disk.new) result DiskAnswer.Failed }
+{
+    match disk.len(name) {
+        Ok(Some(len)) => match put_file(alloc, lines, name, len) {
+            Ok(()) => Ok(()),
+            Err(_) => Err(DiskAnswer::Memory),
+        },
+        Ok(None) => Ok(()),
+        Err(DiskFault::Failed) => Err(DiskAnswer::Failed),
+    }
+}
+
+/// The lines of the files, in byte order of their names. A name without a length is left out.
+///
+/// The disk is only read. `Failed` comes exactly where its count of faults rose.
+pub fn list_files<D: SharedDisk>(alloc: Global, disk: &mut D) -> Result<Vec<Seq<u8>>, DiskAnswer>
+    ensures listed { IfOk result (λ lines. ListsFiles (D.files disk.old) lines.items) }
+    ensures same { D.files disk.new ≡ D.files disk.old }
+    ensures cause { RoseExactlyOn (D.faults disk.old) (D.faults disk.new) result DiskAnswer.Failed }
+{
+    let names = match disk.names(alloc) {
+        Ok(names) => names,
+        Err(answer) => return Err(answer),
+    };
+    let mut lines = Vec::new(alloc);
+    for name in names.as_slice() {
+        match put_file_of(alloc, disk, &mut lines, name.as_slice()) {
+            Ok(()) => {}
+            Err(answer) => return Err(answer),
+        }
+    }
+    Ok(lines)
+}
+
+/// The first bytes of a file, so many of them; fewer where the disk gives fewer. Where none is asked for the disk is not read.
+/// `Failed` comes exactly where the disk's count of faults rose.
+fn read_front<D: SharedDisk>(
+    alloc: Global,
+    disk: &mut D,
+    name: &[u8],
+    size: u64,
+) -> Result<Seq<u8>, DiskAnswer>
+    ensures told { IfOk result (λ bytes. IfSome (D.files disk.old) (λ files.
+        bytes ≡ bytes_at files name.now 0 size)) }
+    ensures bound { IfOk result (λ bytes. length bytes ≤ size) }
+    ensures unread { size ≡ 0 → disk.new ≡ disk.old }
+    ensures same { D.files disk.new ≡ D.files disk.old }
+    ensures cause { RoseExactlyOn (D.faults disk.old) (D.faults disk.new) result DiskAnswer.Failed }
+{
+    if size == 0 {
+        return Ok(Seq::new(alloc));
+    }
+    let mut bytes = match vec![in alloc; 0; size as usize] {
+        Ok(bytes) => bytes,
+        Err(_) => return Err(DiskAnswer::Memory),
+    };
+    match disk.read(name, 0, bytes.as_mut_slice()) {
+        Ok(count) => {
+            bytes.truncate(count);
+            Ok(Seq::from_vec(bytes))
+        }
+        Err(DiskFault::Failed) => Err(DiskAnswer::Failed),
+    }
+}
+
+/// The bytes of a file; `None` where there is no file of that name. `Failed` comes exactly where the disk's count of faults
+/// rose.
+pub fn read_file<D: SharedDisk>(
+    alloc: Global,
+    disk: &mut D,
+    name: &[u8],
+) -> Result<Option<Seq<u8>>, DiskAnswer>
+    ensures told { IfOk result (λ bytes. IfSome (D.files disk.old) (λ files.
+        bytes ≡ bytes_of files name.now)) }
+    ensures same { D.files disk.new ≡ D.files disk.old }
+    ensures cause { RoseExactlyOn (D.faults disk.old) (D.faults disk.new) result DiskAnswer.Failed }
+{
+    let size = match disk.len(name) {
+        Ok(Some(size)) => size,
+        Ok(None) => return Ok(None),
+        Err(DiskFault::Failed) => return Err(DiskAnswer::Failed),
+    };
+    match read_front(alloc, disk, name, size) {
+        Ok(bytes) => Ok(Some(bytes)),
+        Err(answer) => Err(answer),
+    }
+}

@@ -1,0 +1,68 @@
+//! Messages that enter the net.
+ghost use Rattle.std.specs.Prelude.{◌≡◌, IfOk, OnOk, OnErr};
+ghost use Rattle.std.specs.List.{AllByRecursion};
+ghost use Rattle.wire.specs.MessageSpelling.{MessageInRange};
+ghost use Rattle.cluster_clients.specs.Spelled.{Posts, PostsOrNot, IsNumberIn};
+ghost use Rattle.cluster_clients.specs.Posted.{PostsAll};
+ghost use Rattle.cluster_clients.specs.Posted.{PostsSome};
+
+use ais_values::Seq;
+use event_text::put_post;
+use message_net::Net;
+use std::alloc::{AllocError, Global};
+use wire::{Message, encode, law_of_spellings};
+
+/// Posts a message, and adds its line where the net did not have it. Where memory runs out the net may have the message.
+pub fn post(
+    alloc: Global,
+    net: &mut Net,
+    lines: &mut Vec<Seq<u8>>,
+    message: &Message,
+) -> Result<(), AllocError>
+    requires { MessageInRange message.now }
+    ensures ok { OnOk result (Posts message.now net.old net.new lines.old.items lines.new.items) }
+    ensures err { OnErr result (PostsOrNot message.now net.old net.new) }
+{
+    law_of_spellings();
+    let bytes = encode(alloc, message)?;
+    let posted = net.post(alloc, bytes.as_slice())?;
+    if !posted.new {
+        return Ok(());
+    }
+    put_post(alloc, lines, posted.place, message)?;
+    Ok(())
+}
+
+/// Posts messages, from the first on. Where memory runs out some were posted, from the first on.
+pub fn post_all(
+    alloc: Global,
+    net: &mut Net,
+    lines: &mut Vec<Seq<u8>>,
+    messages: &[Message],
+) -> Result<(), AllocError>
+    requires { AllByRecursion MessageInRange messages.now }
+    ensures ok { OnOk result (PostsAll messages.now net.old net.new lines.old.items
+        lines.new.items) }
+    ensures err { OnErr result (PostsSome messages.now net.old net.new) }
+{
+    for message in messages {
+        match post(alloc, net, lines, message) {
+            Ok(()) => {}
+            Err(error) => return Err(error),
+        }
+    }
+    Ok(())
+}
+
+/// The number of a message of the net, and 0 of one that does not stand there.
+pub fn number_in(alloc: Global, net: &Net, message: &Message) -> Result<u64, AllocError>
+    requires { MessageInRange message.now }
+    ensures { IfOk result (λ place. IsNumberIn message.now net.now place) }
+{
+    law_of_spellings();
+    let bytes = encode(alloc, message)?;
+    match net.place_of(bytes.as_slice()) {
+        Some(place) => Ok(place),
+        None => Ok(0),
+    }
+}

@@ -1,0 +1,67 @@
+-- Words of public clauses: where an event ends by a fault of the disk in the work of an entry, over any servers: what is left, and
+-- what was told.
+use Rattle.std.specs.Prelude.{◌≡◌, ℕ, ◌<◌, true, ◌⊎◌, None, List, ◌++◌}
+use Rattle.cluster_facts.specs.Types.{Message}
+use Rattle.cluster_facts.specs.Service.{Plain}
+use Rattle.cluster_facts.specs.Agents.{resent}
+use Rattle.cluster_facts.specs.World.{number_of}
+use Rattle.cluster_events.specs.Lines.{Told}
+use Rattle.cluster_events.specs.Outcomes.{Outcome}
+use Rattle.cluster_events.specs.Servers.{State, Servers, advances, drain}
+use Rattle.cluster_events.specs.Events.{hear}
+use Rattle.cluster_events.specs.Settling.{turn, client_turns, Rounds}
+use Rattle.cluster_events.specs.Stopping.{behind, EachStops}
+
+-- where an event ends from a state
+abbrev pub EndAt : Type 0 → Type 1
+EndAt P = State P → Outcome (State P) → Type 0
+
+-- what follows an outcome ends
+pub record EndsBehind {P : Type 0} (first : Outcome (State P)) (Ends : EndAt P) (end : Outcome (State P)) : Type 0 where
+  pub last : Outcome (State P)
+  pub ends : Ends first.state last
+  pub is : end ≡ behind first last
+
+-- a step of servers ends: nothing is to be mirrored or confirmed, and they end as they work
+pub record StepEnds {P : Type 0} (servers : Servers P) (AtWork : EndAt P) (state : State P) (end : Outcome (State P)) : Type 0 where
+  pub mirror : servers.mirror state ≡ None
+  pub ack : servers.ack state ≡ None
+  pub works : AtWork state end
+
+-- a drain ends in one of its steps
+pub record DrainEnds {P : Type 0} (servers : Servers P) (AtWork : EndAt P) (state : State P) (end : Outcome (State P)) : Type 0 where
+  pub steps : ℕ
+  pub within : steps < servers.steps
+  pub ends : EndsBehind (advances servers steps state) (StepEnds servers AtWork) end
+
+-- a turn ends once its message was heard
+abbrev pub TurnEnds : {P : Type 0} → Plain → Servers P → EndAt P → Message → EndAt P
+TurnEnds plain servers AtWork message state end =
+    EndsBehind (hear plain servers (number_of plain message state.world.net) message state) (DrainEnds servers AtWork) end
+
+-- one of these turns ends
+abbrev pub TurnsEnd : {P : Type 0} → Plain → Servers P → EndAt P → List Message → EndAt P
+TurnsEnd plain servers AtWork messages state end = EachStops (turn plain servers) (TurnEnds plain servers AtWork) messages state end
+
+-- one of a client's turns ends
+abbrev pub ClientEnds : {P : Type 0} → Plain → Servers P → EndAt P → ℕ → EndAt P
+ClientEnds plain servers AtWork client state end = TurnsEnd plain servers AtWork (resent client (state.world.agents client)) state end
+
+abbrev pub ClientsEnd : {P : Type 0} → Plain → Servers P → EndAt P → List ℕ → EndAt P
+ClientsEnd plain servers AtWork clients state end =
+    EachStops (client_turns plain servers) (ClientEnds plain servers AtWork) clients state end
+
+-- a round ends in the drain at its start, or in the turns of a client
+abbrev pub RoundEnds : {P : Type 0} → Plain → Servers P → EndAt P → EndAt P
+RoundEnds plain servers AtWork state end =
+    DrainEnds servers AtWork state end
+    ⊎ EndsBehind (drain servers state) (λ drained. ClientsEnd plain servers AtWork drained.world.clients drained) end
+
+-- `settle` ends in a round, after others that were loud
+pub record SettleEnds {P : Type 0} (plain : Plain) (servers : Servers P) (AtWork : EndAt P) (start : State P) (end : Outcome (State P)) : Type 0 where
+  pub between : State P
+  pub lines : List Told
+  pub rounds : Rounds plain servers start between lines true
+  pub last : Outcome (State P)
+  pub ends : RoundEnds plain servers AtWork between last
+  pub is : end ≡ record { state = last.state; told = last.told ++ lines }

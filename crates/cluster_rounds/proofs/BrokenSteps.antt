@@ -1,0 +1,245 @@
+-- Events that break off: what the world of the code is left as.
+use Rattle.std.proofs.Common.{◌≡◌, ℕ, ◌≤ℤ◌, inl, inr, Option, Some, None, List, [], ◌∷◌, ◌++◌, refl, ap, sym, ◌∙◌, subst}
+use Rattle.std.specs.List.{AllByRecursion}
+use Rattle.disk_model.specs.Disk.{Files}
+use Rattle.disk_model.specs.DeviceCalls.{DeviceCall, all_applied, FailsAfter, LacksMemoryAfter}
+use Rattle.stream_layout.specs.Deeds.{calls_of_all}
+use Rattle.plain_service.specs.Setups.{Setup}
+use Rattle.plain_service.specs.Storing.{files_of, deeds_of}
+use Rattle.service_laws.specs.PlainOf.{plain_of}
+use Rattle.service_laws.specs.Disks.{service_disk}
+use Rattle.service_laws.specs.StorageOf.{storage_of}
+use Rattle.service_laws.proofs.StorageLaws.{is_storage}
+use Rattle.cluster_facts.specs.Types.{Call, Reply, Entry}
+use Rattle.cluster_facts.specs.Lists.{Stands, EndsIn}
+use Rattle.cluster_facts.specs.Messages.{sent_by, receipts_of, calls_in}
+use Rattle.cluster_facts.specs.Service.{Plain}
+use Rattle.cluster_facts.specs.Storage.{Attempt, Between, dealt_in}
+use Rattle.cluster_facts.specs.Storage.Attempts.{none as no_attempt, more as one_more}
+use Rattle.cluster_facts.specs.Agents.{fed_of}
+use Rattle.cluster_facts.specs.History.{Core, committed, time_of}
+use Rattle.cluster_facts.specs.World.{World}
+use Rattle.cluster_facts.specs.Facts.{IsSound}
+use Rattle.cluster_events.specs.Lines.{Told}
+use Rattle.cluster_events.specs.Outcomes.{Outcome, quietly}
+use Rattle.cluster_events.specs.Servers.{State}
+use Rattle.cluster_events.specs.Saying.{entries_told, deals_told, Says}
+use Rattle.cluster_events.specs.Breaking.{Tells, IsFed, Holds}
+use Rattle.cluster_events.proofs.Telling.{Says-same}
+use Rattle.cluster_events.proofs.Filed.{stand-between}
+use Rattle.cluster_events.proofs.Broken.{Says-tells, Sound-holds, Tells-both}
+use Rattle.client_agent.specs.Seen.{Seen}
+use Rattle.cluster_rounds.specs.declared.cluster.Cluster.{Cluster}
+use Rattle.cluster_clients.specs.Clients.{ShowsAgents}
+use Rattle.cluster_clients.specs.PartlyDone.{PartlyShows}
+use Rattle.cluster_clients.specs.Spelled.{AreSpelled}
+use Rattle.cluster_clients.proofs.DispatchSteps.{agents-as}
+use Rattle.cluster_rounds.specs.Broken.{Broken, IsFedOf, LeavesBetween}
+use Rattle.cluster_rounds.specs.Kits.{IsKit, Kit}
+use Rattle.cluster_rounds.specs.PartlyDone.{SaysUnasked}
+use Rattle.cluster_rounds.specs.Worlds.{IsGood, LeavesFiles, Shows, TellsFiles}
+use Rattle.cluster_rounds.proofs.FilesSteps.{left-same, left-told}
+use Rattle.cluster_rounds.proofs.TakenSteps.{IsMoved}
+use Rattle.cluster_rounds.proofs.UnaskedSteps.{deals-both, grown-none, times-both, unasked-same}
+
+module _ {Peers Group : Type 0} (kit : Kit Peers Group) (laws : IsKit kit) where
+  -- Files between.
+
+  -- those of a whole state are
+  pub left-between : (setup : Setup) (state : State Peers) (held left : Option Files) → (IsGood kit) setup state → LeavesFiles setup state held left → LeavesBetween setup (committed state.world.core) held left
+  left-between setup state None left good leaves = leaves
+  left-between setup state (Some held) left good leaves = (
+    files_of setup state.world.core.answered,
+    leaves,
+    stand-between (plain_of setup) service_disk (storage_of setup) (is_storage setup good.begins) state.world (files_of setup state.world.core.answered) good.steady.sound good.range refl,
+  )
+
+  pub same-between : (setup : Setup) (state : State Peers) (held : Option Files) → (IsGood kit) setup state → TellsFiles setup state held → LeavesBetween setup (committed state.world.core) held held
+  same-between setup state held good tells = left-between setup state held held good (left-same setup state held tells)
+
+  -- so are those of a history for one with an entry more
+  pub unworked-between : (setup : Setup) (state : State Peers) (entry : Entry) (held : Option Files) → TellsFiles setup state held → LeavesBetween setup (entry ∷ state.world.core.answered) held held
+  unworked-between setup state entry None tells = refl
+  unworked-between setup state entry (Some held) tells =
+      (held, refl, subst (λ (f : Files). Between service_disk (storage_of setup) (entry ∷ state.world.core.answered) f) (sym tells) no_attempt)
+
+  -- an attempt that broke off after some calls
+  attempt-after : (done rest : List DeviceCall) (old new : Files) → Attempt service_disk rest (all_applied done old) new → Attempt service_disk (done ++ rest) old new
+  attempt-after [] rest old new attempt = attempt
+  attempt-after (call ∷ done) rest old new attempt =
+      inr (inr (attempt-after done rest (Rattle.disk_model.specs.DeviceCalls.applied call old) new attempt))
+
+  attempted-between : (setup : Setup) (past : List Entry) (entry : Entry) (old new : Files) → old ≡ files_of setup past → Attempt service_disk (calls_of_all (deeds_of setup past entry)) old new → Between service_disk (storage_of setup) (entry ∷ past) new
+  attempted-between setup past entry old new is attempt =
+      one_more no_attempt (subst (λ (f : Files). Attempt service_disk (calls_of_all (deeds_of setup past entry)) f new) is attempt)
+
+  -- the deeds of an entry broke off for want of memory
+  pub lacking-between : (setup : Setup) (state : State Peers) (entry : Entry) (count : ℕ) (held left : Option Files) → LacksMemoryAfter (calls_of_all (deeds_of setup state.world.core.answered entry)) count held left → TellsFiles setup state held → LeavesBetween setup (entry ∷ state.world.core.answered) held left
+  lacking-between setup state entry count None None lacks tells = refl
+  lacking-between setup state entry count None (Some left) lacks tells = absurd lacks.left
+  lacking-between setup state entry count (Some held) None lacks tells = absurd lacks.left
+  lacking-between setup state entry count (Some held) (Some left) lacks tells =
+      let past = state.world.core.answered in
+      let rest = lacks.broken ∷ lacks.undone in
+      let A : List DeviceCall → Type 0 = λ calls. Attempt service_disk calls held left in
+      (left, refl, attempted-between setup past entry held left tells (subst A (sym lacks.in_order) (attempt-after lacks.done rest held left (inl lacks.left))))
+
+  -- or by a fault of the disk
+  pub failing-between : (setup : Setup) (state : State Peers) (entry : Entry) (count : ℕ) (held left : Option Files) → FailsAfter (calls_of_all (deeds_of setup state.world.core.answered entry)) count held left → TellsFiles setup state held → LeavesBetween setup (entry ∷ state.world.core.answered) held left
+  failing-between setup state entry count None None fails tells = refl
+  failing-between setup state entry count None (Some left) fails tells = absurd fails.left
+  failing-between setup state entry count (Some held) None fails tells = absurd fails.left
+  failing-between setup state entry count (Some held) (Some left) fails tells =
+      let past = state.world.core.answered in
+      let rest = fails.broken ∷ fails.undone in
+      let A : List DeviceCall → Type 0 = λ calls. Attempt service_disk calls held left in
+      (left, refl, attempted-between setup past entry held left tells (subst A (sym fails.in_order) (attempt-after fails.done rest held left (inr (inl fails.left)))))
+
+  -- Events that broke off.
+
+  -- in a sound world each client was fed items of subscriptions that it asked for
+  pub sound-fed : (plain : Plain) (world : World) → IsSound plain world → (client : ℕ) → IsFedOf plain world.core.answered (sent_by client world.net) client (fed_of (world.agents client))
+  sound-fed plain world sound client = record {
+    marks = receipts_of client world.net;
+    counted = (sound.facts.clients client).follows.counted;
+    items = sound.facts.told client;
+  }
+
+  -- so after an event in which nobody asked
+  pub unasked-fed : (plain : Plain) (old new : World) → IsSound plain new → ((client : ℕ) → sent_by client new.net ≡ sent_by client old.net) → (client : ℕ) → IsFedOf plain new.core.answered (sent_by client old.net) client (fed_of (new.agents client))
+  unasked-fed plain old new sound same client =
+      let F : List (ℕ × Call) → Type 0 = λ sent. IsFedOf plain new.core.answered sent client (fed_of (new.agents client)) in
+      subst F (same client) (sound-fed plain new sound client)
+
+  -- some whole events happened, and what was to come did not
+  pub whole-broken : (setup : Setup) (old new : State Peers) (told : List Told) (held left : Option Files) (world : Cluster Group) → IsSound (plain_of setup) new.world → SaysUnasked (plain_of setup) old.world new.world told → AreSpelled new.world.net world.net → ShowsAgents new.world world.agents → world.history.entries ≡ committed new.world.core → world.now ≡ new.world.now → (TellsFiles setup old held → LeavesBetween setup (committed new.world.core) held left) → Broken setup old held left world
+  whole-broken setup old new told held left world sound says net agents history now files = record {
+    rest = new.world;
+    unseen = told;
+    tells = Says-tells (plain_of setup) old.world new.world told says.says;
+    holds = Sound-holds (plain_of setup) new.world sound;
+    deals = says.says.deals;
+    asked = λ client. subst (λ (sent : List (ℕ × Call)). EndsIn sent (calls_in client (committed new.world.core))) (says.asks.sent client) ((Sound-holds (plain_of setup) new.world sound).calls client);
+    fed = unasked-fed (plain_of setup) old.world new.world sound says.asks.sent;
+    times = says.asks.times;
+    stays = says.asks.now;
+    net = net;
+    agents = agents;
+    history = history;
+    now = now;
+    files = files;
+  }
+
+  -- nothing happened yet
+  pub nothing-broken : (setup : Setup) (state : State Peers) (held : Option Files) (world : Cluster Group) → (IsGood kit) setup state → AreSpelled state.world.net world.net → ShowsAgents state.world world.agents → world.history.entries ≡ committed state.world.core → world.now ≡ state.world.now → Broken setup state held held world
+  nothing-broken setup state held world good net agents history now =
+      whole-broken setup state state [] held held world good.steady.sound (unasked-same (plain_of setup) state.world) net agents history now (same-between setup state held good)
+
+  pub shown-broken : (setup : Setup) (state : State Peers) (held : Option Files) (world : Cluster Group) → (IsGood kit) setup state → (Shows kit) setup state world → Broken setup state held held world
+  shown-broken setup state held world good shows = nothing-broken setup state held world good shows.net shows.agents shows.history shows.now
+
+  -- one event happened, and the next broke off
+  pub files-after : (setup : Setup) (state middle : State Peers) (past : List Entry) (held between left : Option Files) → (TellsFiles setup state held → LeavesFiles setup middle held between) → (TellsFiles setup middle between → LeavesBetween setup past between left) → TellsFiles setup state held → LeavesBetween setup past held left
+  files-after setup state middle past None None left first next tells = next tt
+  files-after setup state middle past None (Some between) left first next tells = let leaves = first tells in cc
+  files-after setup state middle past (Some held) None left first next tells = let leaves = first tells in cc
+  files-after setup state middle past (Some held) (Some between) left first next tells =
+      next (left-told setup middle (Some held) (Some between) (first tells))
+
+  pub happened-broken : (setup : Setup) (state middle : State Peers) (told : List Told) (held between left : Option Files) (world : Cluster Group) → SaysUnasked (plain_of setup) state.world middle.world told → (TellsFiles setup state held → LeavesFiles setup middle held between) → Broken setup middle between left world → Broken setup state held left world
+  happened-broken setup state middle told held between left world says files broken = record {
+    rest = broken.rest;
+    unseen = broken.unseen ++ told;
+    tells = Tells-both (plain_of setup) state.world middle.world broken.rest told broken.unseen (Says-tells (plain_of setup) state.world middle.world told says.says) broken.tells;
+    holds = broken.holds;
+    deals = λ client. deals-both (plain_of setup) client middle.world.core.answered broken.rest.core.answered told broken.unseen broken.tells.answers (says.says.deals client) (broken.deals client);
+    asked = λ client. subst (λ (sent : List (ℕ × Call)). EndsIn sent (calls_in client (committed broken.rest.core))) (says.asks.sent client) (broken.asked client);
+    fed = λ client. subst (λ (sent : List (ℕ × Call)). IsFedOf (plain_of setup) broken.rest.core.answered sent client (fed_of (broken.rest.agents client))) (says.asks.sent client) (broken.fed client);
+    times = times-both state.world middle.world told broken.unseen says.asks broken.times;
+    stays = broken.stays ∙ says.asks.now;
+    net = broken.net;
+    agents = broken.agents;
+    history = broken.history;
+    now = broken.now;
+    files = files-after setup state middle (committed broken.rest.core) held between left files broken.files;
+  }
+
+  -- Events of net and agents alone.
+
+  -- what the event is
+  pub record IsOfWorld (setup : Setup) (old : World) (outcome : Outcome World) : Type 0 where
+    pub sound : IsSound (plain_of setup) outcome.state
+    pub says : Says (plain_of setup) old outcome.state outcome.told
+    pub same : IsMoved old outcome.state
+    pub fed : (client : ℕ) → IsFedOf (plain_of setup) outcome.state.core.answered (sent_by client old.net) client (fed_of (outcome.state.agents client))
+
+  -- a world with the net of one and the agents of another
+  abbrev pub mixed : World → World → World → World
+  mixed old of_net of_agents = record old { net = of_net.net; agents = of_agents.agents; clients = of_agents.clients }
+
+  nothing-is : (setup : Setup) (world : World) → IsSound (plain_of setup) world → IsOfWorld setup world (quietly world)
+  nothing-is setup world sound = record {
+    sound = sound;
+    says = Says-same (plain_of setup) world;
+    same = record { core = refl; now = refl; places = refl };
+    fed = sound-fed (plain_of setup) world sound;
+  }
+
+  -- what the lines of such an event tell of history and agents, whatever the net is
+  mixed-tells : (setup : Setup) (old of_net : World) (of_agents : Outcome World) → IsOfWorld setup old of_agents → Tells (plain_of setup) old (mixed old of_net of_agents.state) of_agents.told
+  mixed-tells setup old of_net of_agents is =
+      let rest = mixed old of_net of_agents.state in
+      let T : Core → Type 0 = λ core. Tells (plain_of setup) old (record rest { core = core }) of_agents.told in
+      let says = is.says in
+      subst T is.same.core (record { entries = says.entries; answers = says.answers; replies = says.replies; callbacks = says.callbacks; writes = says.writes })
+
+  mixed-holds : (setup : Setup) (old : World) (of_net of_agents : Outcome World) → IsSound (plain_of setup) old → IsOfWorld setup old of_net → IsOfWorld setup old of_agents → Holds (plain_of setup) (mixed old of_net.state of_agents.state)
+  mixed-holds setup old of_net of_agents sound net_is agents_are =
+      let plain = plain_of setup in
+      let C : ℕ → Core → Type 0 = λ client core. EndsIn (sent_by client of_net.state.net) (calls_in client (committed core)) in
+      let F : ℕ → Core → Type 0 = λ client core. IsFed plain core.answered client (fed_of (of_agents.state.agents client)) in
+      record {
+        legal = (Sound-holds plain old sound).legal;
+        calls = λ client. subst (C client) net_is.same.core ((Sound-holds plain of_net.state net_is.sound).calls client);
+        fed = λ client. subst (F client) agents_are.same.core ((Sound-holds plain of_agents.state agents_are.sound).fed client);
+      }
+
+  event-by : (setup : Setup) (state : State Peers) (of_net of_agents : Outcome World) (old : Cluster Group) (net : List (List ℕ)) (agents : List Seen) (held : Option Files) → (IsGood kit) setup state → (Shows kit) setup state old → IsOfWorld setup state.world of_net → IsOfWorld setup state.world of_agents → AreSpelled of_net.state.net net → ShowsAgents of_agents.state agents → Broken setup state held held (record old { net = net; agents = agents })
+  event-by setup state of_net of_agents old net agents held good shows net_is agents_are spelled seen =
+      let plain = plain_of setup in
+      let world = state.world in
+      let rest = mixed world of_net.state of_agents.state in
+      let D : ℕ → Core → Type 0 = λ client core. AllByRecursion (λ (deal : ℕ × Call × Reply). Stands deal (dealt_in plain client core.answered)) (deals_told client of_agents.told) in
+      let F : ℕ → Core → Type 0 = λ client core. IsFedOf plain core.answered (sent_by client world.net) client (fed_of (of_agents.state.agents client)) in
+      let none : entries_told of_agents.told ≡ [] = grown-none (committed world.core) (entries_told of_agents.told) (sym (ap committed agents_are.same.core) ∙ agents_are.says.entries.grown) in
+      record {
+        rest = rest;
+        unseen = of_agents.told;
+        tells = mixed-tells setup world of_net.state of_agents agents_are;
+        holds = mixed-holds setup world of_net of_agents good.steady.sound net_is agents_are;
+        deals = λ client. subst (D client) agents_are.same.core (agents_are.says.deals client);
+        asked = (Sound-holds plain world good.steady.sound).calls;
+        fed = λ client. subst (F client) agents_are.same.core (agents_are.fed client);
+        times = subst (λ (lines : List (ℕ × Entry)). AllByRecursion (λ (line : ℕ × Entry). time_of line.1 ≤ℤ world.now) lines) (sym none) tt;
+        stays = refl;
+        net = spelled;
+        agents = agents-as of_agents.state rest agents (sym agents_are.same.places) refl refl seen;
+        history = shows.history;
+        now = shows.now;
+        files = same-between setup state held good;
+      }
+
+  pub event-broken : (setup : Setup) (state : State Peers) (outcome : Outcome World) (old : Cluster Group) (net : List (List ℕ)) (agents : List Seen) (held : Option Files) → (IsGood kit) setup state → (Shows kit) setup state old → IsOfWorld setup state.world outcome → PartlyShows state.world outcome.state net agents → Broken setup state held held (record old { net = net; agents = agents })
+  event-broken setup state outcome old net agents held good shows event partly =
+      let before = quietly state.world in
+      let nothing = nothing-is setup state.world good.steady.sound in
+      elim partly.net_is [
+        | inl net_old ↦ elim partly.agents_are [
+          | inl agents_old ↦ event-by setup state before before old net agents held good shows nothing nothing net_old agents_old
+          | inr agents_new ↦ event-by setup state before outcome old net agents held good shows nothing event net_old agents_new
+        ]
+        | inr net_new ↦ elim partly.agents_are [
+          | inl agents_old ↦ event-by setup state outcome before old net agents held good shows event nothing net_new agents_old
+          | inr agents_new ↦ event-by setup state outcome outcome old net agents held good shows event event net_new agents_new
+        ]
+      ]

@@ -1,0 +1,7 @@
+use Rattle.std.proofs.Common.{take}
+use Rattle.cluster_rounds.proofs.resending.hear_all.Given as goal
+use Rattle.cluster_rounds.specs.Delivered.{HearsAll}
+
+abbrev pub invariant-loop-message : goal.invariant-loop-message
+invariant-loop-message g l =
+    (HearsAll g.S.Serving.kit) (take l.message-index l.messages) l.initial.world l.world l.initial.lines.items l.lines.items

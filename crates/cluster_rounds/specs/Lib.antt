@@ -1,0 +1,9 @@
+pub mod PartlyDone
+pub mod Measured
+pub mod Kits
+pub mod Worlds
+pub mod Broken
+pub mod Rounds
+pub mod Came
+pub mod Settling
+pub mod Delivered

@@ -1,0 +1,123 @@
+//! Messages of the net that are delivered.
+ghost use Rattle.std.specs.Prelude.{◌≡◌, true, IfOk, OnOk, OnErr};
+ghost use Rattle.wire.specs.MessageSpelling.{MessageFits};
+ghost use Rattle.cluster_rounds.specs.Worlds.{DoesIf, HasState, StandsIn};
+ghost use Rattle.cluster_rounds.specs.Delivered.{Delivers, delivered_by, is_for_agent, is_for_server};
+ghost use Rattle.cluster_rounds.specs.Broken.{BreaksAlone, BreaksAloneIf};
+ghost use Rattle.cluster_clients.specs.Spelled.{IsFetched};
+
+use crate::{Cluster, Serving};
+use ais_values::Seq;
+use cluster_clients::{fetch, take};
+use std::alloc::{AllocError, Global};
+use std::mem;
+use wire::Message;
+
+/// Whether the message is a reply or an item, which are for an agent.
+fn is_for_agent(message: &Message) -> bool
+    ensures { result ≡ is_for_agent message.now }
+{
+    matches!(message, Message::Reply { .. } | Message::Item { .. })
+}
+
+/// Whether the message is a request or a receipt, which are for the active server.
+fn is_for_server(message: &Message) -> bool
+    ensures { result ≡ is_for_server message.now }
+{
+    matches!(message, Message::Request { .. } | Message::Receipt { .. })
+}
+
+/// Delivers a reply or an item of this number in the net to its agent.
+fn deliver_to_agent<S: Serving>(
+    alloc: Global,
+    world: &mut Cluster<S>,
+    lines: &mut Vec<Seq<u8>>,
+    place: u64,
+    message: &Message,
+) -> Result<(), AllocError>
+    requires fits { MessageFits message.now }
+    requires agent { is_for_agent message.now ≡ true }
+    ensures ok { OnOk result (DoesIf S.kit (StandsIn message.now) (delivered_by S.kit place
+        message.now) world.old world.new lines.old.items lines.new.items) }
+    ensures err { OnErr result (BreaksAloneIf S.kit (StandsIn message.now) world.old world.new) }
+{
+    match take(
+        alloc,
+        &mut world.net,
+        &mut world.agents,
+        lines,
+        Some(place),
+        message,
+    ) {
+        Ok(_) => Ok(()),
+        Err(error) => Err(error),
+    }
+}
+
+/// Delivers a message of this number in the net: a reply or an item to its agent, a request or a receipt to the active server.
+fn deliver_message<S: Serving>(
+    alloc: Global,
+    world: &mut Cluster<S>,
+    lines: &mut Vec<Seq<u8>>,
+    place: u64,
+    message: &Message,
+) -> Result<(), AllocError>
+    requires state { HasState S.kit world.old }
+    requires fits { MessageFits message.now }
+    ensures ok { OnOk result (DoesIf S.kit (StandsIn message.now) (delivered_by S.kit place
+        message.now) world.old world.new lines.old.items lines.new.items) }
+    ensures err { OnErr result (BreaksAloneIf S.kit (StandsIn message.now) world.old world.new) }
+{
+    if is_for_agent(message) {
+        return deliver_to_agent(alloc, world, lines, place, message);
+    }
+    if is_for_server(message) {
+        return S::hear(alloc, world, lines, place, message);
+    }
+    Ok(())
+}
+
+/// The same of a message that was fetched, if there is one.
+fn deliver_found<S: Serving>(
+    alloc: Global,
+    world: &mut Cluster<S>,
+    lines: &mut Vec<Seq<u8>>,
+    place: u64,
+    found: Option<Message>,
+) -> Result<bool, AllocError>
+    requires state { HasState S.kit world.old }
+    requires fetched { IsFetched place world.old.net found }
+    ensures ok { IfOk result (λ done. Delivers S.kit place done world.old world.new lines.old.items
+        lines.new.items) }
+    ensures err { OnErr result (BreaksAlone S.kit world.old world.new) }
+{
+    match found {
+        None => Ok(false),
+        Some(message) => {
+            let done = deliver_message(alloc, world, lines, place, &message);
+            mem::drop(message);
+            match done {
+                Ok(()) => Ok(true),
+                Err(error) => Err(error),
+            }
+        }
+    }
+}
+
+/// Delivers the message of this number in the net, and answers whether there is one.
+pub fn deliver<S: Serving>(
+    alloc: Global,
+    world: &mut Cluster<S>,
+    lines: &mut Vec<Seq<u8>>,
+    place: u64,
+) -> Result<bool, AllocError>
+    requires { HasState S.kit world.old }
+    ensures ok { IfOk result (λ done. Delivers S.kit place done world.old world.new lines.old.items
+        lines.new.items) }
+    ensures err { OnErr result (BreaksAlone S.kit world.old world.new) }
+{
+    match fetch(alloc, &world.net, place) {
+        Ok(found) => deliver_found(alloc, world, lines, place, found),
+        Err(error) => Err(error),
+    }
+}

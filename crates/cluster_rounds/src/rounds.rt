@@ -1,0 +1,346 @@
+//! A round of `settle`: the servers drain, each message that a client sends again is heard and its reply taken, and all items are
+//! pushed and taken. Lines on messages without effect are left out.
+ghost use Rattle.std.specs.Prelude.{◌≡◌, ◌++◌, if◌then◌else◌, IfOk, IfErr, OnOk, OnErr};
+ghost use Rattle.wire_code.specs.Spelling.{IsClient, IsCount};
+ghost use Rattle.cluster_rounds.specs.Worlds.{HasState, HasStateOf, IsIdle, StandsIn, any_state};
+ghost use Rattle.cluster_rounds.specs.Broken.{BreaksAloneIf};
+ghost use Rattle.cluster_rounds.specs.Rounds.{Plays, IsIdleWithAll, IsIdleWithItems, heard_so, answer_taken, reply_taken, message_taken, items_taken, round_pushed, turn_by, turns_by, client_by, clients_by, each_by, round_by, EndsTurn, EndsTurns, EndsClient, EndsClients, EndsEach, EndsRound};
+ghost use Rattle.cluster_rounds.specs.Came.{seen, Comes, ComesOff};
+
+use crate::answers::either;
+use crate::draining::drain;
+use crate::{Cluster, Serving};
+use ais_values::Seq;
+use cluster_clients::{clients_of, place_of, reply_to, sent_again};
+use disk_model::{DiskAnswer, SharedDisk};
+use std::alloc::{AllocError, Global};
+use std::mem;
+use wire::Message;
+
+/// Puts lines behind others where they are to be kept.
+fn keep_lines(
+    lines: &mut Vec<Seq<u8>>,
+    mut more: Vec<Seq<u8>>,
+    keep: bool,
+) -> Result<(), AllocError>
+    ensures { OnOk result (lines.new.items ≡ (if keep then lines.old.items ++ more.items
+        else lines.old.items)) }
+{
+    if keep {
+        lines.append(&mut more)?;
+    }
+    Ok(())
+}
+
+/// The active server hears a message. Answers whether an entry was committed, which lengthens the history; where neither the
+/// history nor the net is longer, the message had no effect, and no line is added.
+fn hear_so<S: Serving>(
+    alloc: Global,
+    world: &mut Cluster<S>,
+    lines: &mut Vec<Seq<u8>>,
+    message: &Message,
+) -> Result<bool, AllocError>
+    requires { HasStateOf S.kit (StandsIn message.now) world.old }
+    ensures ok { IfOk result (λ loud. Plays S.kit (StandsIn message.now) (heard_so S.kit
+        message.now) world.old world.new lines.old.items lines.new.items loud) }
+    ensures err { OnErr result (BreaksAloneIf S.kit (StandsIn message.now) world.old world.new) }
+{
+    let entries = world.history.len();
+    let messages = world.net.len();
+    let mut told = Vec::new(alloc);
+    match S::hear(alloc, world, &mut told, 0, message) {
+        Ok(()) => {}
+        Err(error) => return Err(error),
+    }
+    let committed = world.history.len() > entries;
+    let posted = world.net.len() > messages;
+    match keep_lines(lines, told, either(committed, posted)) {
+        Ok(()) => Ok(committed),
+        Err(error) => Err(error),
+    }
+}
+
+/// The agent of a reply or an item takes or misses it. Answers whether it took it.
+fn take<S: Serving>(
+    alloc: Global,
+    world: &mut Cluster<S>,
+    lines: &mut Vec<Seq<u8>>,
+    message: &Message,
+) -> Result<bool, AllocError>
+    requires { HasStateOf S.kit (StandsIn message.now) world.old }
+    ensures ok { IfOk result (λ loud. Plays S.kit (StandsIn message.now) (message_taken S.kit
+        message.now) world.old world.new lines.old.items lines.new.items loud) }
+    ensures err { OnErr result (BreaksAloneIf S.kit (StandsIn message.now) world.old world.new) }
+{
+    cluster_clients::take(
+        alloc,
+        &mut world.net,
+        &mut world.agents,
+        lines,
+        None,
+        message,
+    )
+}
+
+/// The same, of a message that is let go.
+fn take_owned<S: Serving>(
+    alloc: Global,
+    world: &mut Cluster<S>,
+    lines: &mut Vec<Seq<u8>>,
+    message: Message,
+) -> Result<bool, AllocError>
+    requires { HasStateOf S.kit (StandsIn message) world.old }
+    ensures ok { IfOk result (λ loud. Plays S.kit (StandsIn message) (message_taken S.kit message)
+        world.old world.new lines.old.items lines.new.items loud) }
+    ensures err { OnErr result (BreaksAloneIf S.kit (StandsIn message) world.old world.new) }
+{
+    let taken = take(alloc, world, lines, &message);
+    mem::drop(message);
+    taken
+}
+
+/// The reply to a client's call is delivered, if the net has one. Answers whether the client took it.
+fn take_reply<S: Serving>(
+    alloc: Global,
+    world: &mut Cluster<S>,
+    lines: &mut Vec<Seq<u8>>,
+    client: u16,
+    seq: u32,
+) -> Result<bool, AllocError>
+    requires state { HasState S.kit world.old }
+    requires client { IsClient client }
+    requires count { IsCount seq }
+    ensures ok { IfOk result (λ loud. Plays S.kit any_state (reply_taken S.kit client seq) world.old
+        world.new lines.old.items lines.new.items loud) }
+    ensures err { OnErr result (BreaksAloneIf S.kit any_state world.old world.new) }
+{
+    match reply_to(alloc, &world.net, client, seq) {
+        Ok(None) => Ok(false),
+        Ok(Some(reply)) => take_owned(alloc, world, lines, reply),
+        Err(error) => Err(error),
+    }
+}
+
+/// The reply to a request is delivered, if the net has one. Answers whether the client took it.
+fn take_answer<S: Serving>(
+    alloc: Global,
+    world: &mut Cluster<S>,
+    lines: &mut Vec<Seq<u8>>,
+    message: &Message,
+) -> Result<bool, AllocError>
+    requires { HasStateOf S.kit (StandsIn message.now) world.old }
+    ensures ok { IfOk result (λ loud. Plays S.kit any_state (answer_taken S.kit message.now)
+        world.old world.new lines.old.items lines.new.items loud) }
+    ensures err { OnErr result (BreaksAloneIf S.kit any_state world.old world.new) }
+{
+    match message {
+        Message::Request { client, seq, .. } => take_reply(alloc, world, lines, *client, *seq),
+        _ => Ok(false),
+    }
+}
+
+/// A message is heard, the servers drain, and the reply to it is delivered. Answers whether something went on.
+fn turn<S: Serving, D: SharedDisk>(
+    alloc: Global,
+    world: &mut Cluster<S>,
+    lines: &mut Vec<Seq<u8>>,
+    disk: &mut D,
+    message: &Message,
+) -> Result<bool, DiskAnswer>
+    requires { HasStateOf S.kit (StandsIn message.now) world.old }
+    ensures ok { IfOk result (λ loud. Comes S.kit (StandsIn message.now) (turn_by S.kit message.now)
+        world.old world.new lines.old.items lines.new.items loud (seen (D.files disk.old) (D.faults
+        disk.old)) (seen (D.files disk.new) (D.faults disk.new))) }
+    ensures err { IfErr result (λ answer. ComesOff S.kit (StandsIn message.now) (EndsTurn S.kit
+        message.now) answer world.old world.new lines.old.items lines.new.items (seen (D.files
+        disk.old) (D.faults disk.old)) (seen (D.files disk.new) (D.faults disk.new))) }
+{
+    let heard = match hear_so(alloc, world, lines, message) {
+        Ok(heard) => heard,
+        Err(_) => return Err(DiskAnswer::Memory),
+    };
+    let drained = match drain(alloc, world, lines, disk) {
+        Ok(drained) => drained,
+        Err(answer) => return Err(answer),
+    };
+    match take_answer(alloc, world, lines, message) {
+        Ok(taken) => Ok(either(either(heard, drained), taken)),
+        Err(_) => Err(DiskAnswer::Memory),
+    }
+}
+
+/// A turn for each of these messages, in order. Answers whether something went on.
+fn turn_all<S: Serving, D: SharedDisk>(
+    alloc: Global,
+    world: &mut Cluster<S>,
+    lines: &mut Vec<Seq<u8>>,
+    disk: &mut D,
+    messages: &[Message],
+) -> Result<bool, DiskAnswer>
+    requires { HasStateOf S.kit (IsIdleWithAll messages.now) world.old }
+    ensures ok { IfOk result (λ loud. Comes S.kit (IsIdleWithAll messages.now) (turns_by S.kit
+        messages.now) world.old world.new lines.old.items lines.new.items loud (seen (D.files
+        disk.old) (D.faults disk.old)) (seen (D.files disk.new) (D.faults disk.new))) }
+    ensures err { IfErr result (λ answer. ComesOff S.kit (IsIdleWithAll messages.now) (EndsTurns
+        S.kit messages.now) answer world.old world.new lines.old.items lines.new.items (seen
+        (D.files disk.old) (D.faults disk.old)) (seen (D.files disk.new) (D.faults disk.new))) }
+{
+    let mut loud = false;
+    for message in messages {
+        match turn(alloc, world, lines, disk, message) {
+            Ok(more) => loud = either(loud, more),
+            Err(answer) => return Err(answer),
+        }
+    }
+    Ok(loud)
+}
+
+/// A turn for each message that a client sends again. Answers whether something went on.
+fn turn_client<S: Serving, D: SharedDisk>(
+    alloc: Global,
+    world: &mut Cluster<S>,
+    lines: &mut Vec<Seq<u8>>,
+    disk: &mut D,
+    client: u16,
+) -> Result<bool, DiskAnswer>
+    requires { HasStateOf S.kit IsIdle world.old }
+    ensures ok { IfOk result (λ loud. Comes S.kit IsIdle (client_by S.kit client) world.old
+        world.new lines.old.items lines.new.items loud (seen (D.files disk.old) (D.faults disk.old))
+        (seen (D.files disk.new) (D.faults disk.new))) }
+    ensures err { IfErr result (λ answer. ComesOff S.kit IsIdle (EndsClient S.kit client) answer
+        world.old world.new lines.old.items lines.new.items (seen (D.files disk.old) (D.faults
+        disk.old)) (seen (D.files disk.new) (D.faults disk.new))) }
+{
+    let at = match place_of(world.agents.as_slice(), client) {
+        Some(at) => at,
+        None => return Ok(false),
+    };
+    match sent_again(alloc, world.agents.as_slice(), at) {
+        Ok(messages) => {
+            let turned = turn_all(alloc, world, lines, disk, messages.as_slice());
+            mem::drop(messages);
+            turned
+        }
+        Err(_) => Err(DiskAnswer::Memory),
+    }
+}
+
+/// Turns for each of these clients, in order. Answers whether something went on.
+fn turn_clients<S: Serving, D: SharedDisk>(
+    alloc: Global,
+    world: &mut Cluster<S>,
+    lines: &mut Vec<Seq<u8>>,
+    disk: &mut D,
+    clients: &[u16],
+) -> Result<bool, DiskAnswer>
+    requires { HasStateOf S.kit IsIdle world.old }
+    ensures ok { IfOk result (λ loud. Comes S.kit IsIdle (clients_by S.kit clients.now) world.old
+        world.new lines.old.items lines.new.items loud (seen (D.files disk.old) (D.faults disk.old))
+        (seen (D.files disk.new) (D.faults disk.new))) }
+    ensures err { IfErr result (λ answer. ComesOff S.kit IsIdle (EndsClients S.kit clients.now)
+        answer world.old world.new lines.old.items lines.new.items (seen (D.files disk.old)
+        (D.faults disk.old)) (seen (D.files disk.new) (D.faults disk.new))) }
+{
+    let mut loud = false;
+    for client in clients {
+        match turn_client(alloc, world, lines, disk, *client) {
+            Ok(more) => loud = either(loud, more),
+            Err(answer) => return Err(answer),
+        }
+    }
+    Ok(loud)
+}
+
+/// Turns for all clients, by rising number. Answers whether something went on.
+fn turn_each<S: Serving, D: SharedDisk>(
+    alloc: Global,
+    world: &mut Cluster<S>,
+    lines: &mut Vec<Seq<u8>>,
+    disk: &mut D,
+) -> Result<bool, DiskAnswer>
+    requires { HasStateOf S.kit IsIdle world.old }
+    ensures ok { IfOk result (λ loud. Comes S.kit IsIdle (each_by S.kit) world.old world.new
+        lines.old.items lines.new.items loud (seen (D.files disk.old) (D.faults disk.old))
+        (seen (D.files disk.new) (D.faults disk.new))) }
+    ensures err { IfErr result (λ answer. ComesOff S.kit IsIdle (EndsEach S.kit) answer world.old
+        world.new lines.old.items lines.new.items (seen (D.files disk.old) (D.faults disk.old))
+        (seen (D.files disk.new) (D.faults disk.new))) }
+{
+    match clients_of(alloc, world.agents.as_slice()) {
+        Ok(clients) => turn_clients(alloc, world, lines, disk, clients.as_slice()),
+        Err(_) => Err(DiskAnswer::Memory),
+    }
+}
+
+/// These items are delivered, in order. Answers whether a client took one.
+fn take_items<S: Serving>(
+    alloc: Global,
+    world: &mut Cluster<S>,
+    lines: &mut Vec<Seq<u8>>,
+    items: &[Message],
+) -> Result<bool, AllocError>
+    requires { HasStateOf S.kit (IsIdleWithItems items.now) world.old }
+    ensures ok { IfOk result (λ loud. Plays S.kit (IsIdleWithItems items.now) (items_taken S.kit
+        items.now) world.old world.new lines.old.items lines.new.items loud) }
+    ensures err { OnErr result (BreaksAloneIf S.kit (IsIdleWithItems items.now) world.old
+        world.new) }
+{
+    let mut loud = false;
+    for item in items {
+        match take(alloc, world, lines, item) {
+            Ok(more) => loud = either(loud, more),
+            Err(error) => return Err(error),
+        }
+    }
+    Ok(loud)
+}
+
+/// All items without receipt are posted and delivered. Answers whether a client took one.
+fn push_round<S: Serving>(
+    alloc: Global,
+    world: &mut Cluster<S>,
+    lines: &mut Vec<Seq<u8>>,
+) -> Result<bool, AllocError>
+    requires { HasStateOf S.kit IsIdle world.old }
+    ensures ok { IfOk result (λ loud. Plays S.kit IsIdle (round_pushed S.kit) world.old world.new
+        lines.old.items lines.new.items loud) }
+    ensures err { OnErr result (BreaksAloneIf S.kit IsIdle world.old world.new) }
+{
+    match S::push(alloc, world, lines) {
+        Ok(items) => {
+            let taken = take_items(alloc, world, lines, items.as_slice());
+            mem::drop(items);
+            taken
+        }
+        Err(error) => Err(error),
+    }
+}
+
+/// A round. Answers whether it was loud: an entry was committed, or a client took a reply or an item.
+pub(crate) fn round<S: Serving, D: SharedDisk>(
+    alloc: Global,
+    world: &mut Cluster<S>,
+    lines: &mut Vec<Seq<u8>>,
+    disk: &mut D,
+) -> Result<bool, DiskAnswer>
+    requires { HasState S.kit world.old }
+    ensures ok { IfOk result (λ loud. Comes S.kit any_state (round_by S.kit) world.old world.new
+        lines.old.items lines.new.items loud (seen (D.files disk.old) (D.faults disk.old))
+        (seen (D.files disk.new) (D.faults disk.new))) }
+    ensures err { IfErr result (λ answer. ComesOff S.kit any_state (EndsRound S.kit) answer
+        world.old world.new lines.old.items lines.new.items (seen (D.files disk.old) (D.faults
+        disk.old)) (seen (D.files disk.new) (D.faults disk.new))) }
+{
+    let drained = match drain(alloc, world, lines, disk) {
+        Ok(drained) => drained,
+        Err(answer) => return Err(answer),
+    };
+    let turned = match turn_each(alloc, world, lines, disk) {
+        Ok(turned) => turned,
+        Err(answer) => return Err(answer),
+    };
+    match push_round(alloc, world, lines) {
+        Ok(taken) => Ok(either(either(drained, turned), taken)),
+        Err(_) => Err(DiskAnswer::Memory),
+    }
+}

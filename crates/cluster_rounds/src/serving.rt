@@ -1,0 +1,74 @@
+//! What the cluster's code asks of servers.
+ghost use Rattle.std.specs.Prelude.{◌≡◌, IfOk, IfErr, OnOk, OnErr};
+ghost use Rattle.disk_model.specs.declared.answers.DiskAnswer.{DiskAnswer};
+ghost use Rattle.wire.specs.MessageSpelling.{MessageInRange};
+ghost use Rattle.cluster_rounds.specs.Kits.{Kit, IsKit};
+ghost use Rattle.cluster_rounds.specs.Worlds.{HasState, HasStateOf, IsIdle, StandsIn, DoesIf, heard_by, Pushes, any_state};
+ghost use Rattle.cluster_rounds.specs.Broken.{BreaksAloneIf};
+ghost use Rattle.cluster_rounds.specs.Rounds.{EndsStep};
+ghost use Rattle.cluster_rounds.specs.Came.{seen, Advances, ComesOff};
+
+use crate::Cluster;
+use ais_values::Seq;
+use disk_model::{DiskAnswer, SharedDisk};
+use std::alloc::{AllocError, Global};
+use wire::Message;
+
+/// Servers that a cluster may have.
+pub trait Serving {
+    /// What they keep beside the world of the definitions.
+    ghost Peers: { Type 0 };
+
+    /// What is told of them.
+    ghost kit: { Kit Peers Self };
+
+    /// Delivers a request or a receipt of this place in the net to the active server.
+    fn hear(
+        alloc: Global,
+        world: &mut Cluster<Self>,
+        lines: &mut Vec<Seq<u8>>,
+        place: u64,
+        message: &Message,
+    ) -> Result<(), AllocError>
+        requires state { HasState kit world.old }
+        requires range { MessageInRange message.now }
+        ensures ok { OnOk result (DoesIf kit (StandsIn message.now) (heard_by kit place message.now)
+            world.old world.new lines.old.items lines.new.items) }
+        ensures err { OnErr result (BreaksAloneIf kit (StandsIn message.now) world.old world.new) };
+
+    /// Posts all items without receipt, by client, key and number, and answers with them. Nothing may be in hand.
+    fn push(
+        alloc: Global,
+        world: &mut Cluster<Self>,
+        lines: &mut Vec<Seq<u8>>,
+    ) -> Result<Seq<Message>, AllocError>
+        requires { HasStateOf kit IsIdle world.old }
+        ensures ok { IfOk result (λ items. Pushes kit items world.old world.new lines.old.items
+            lines.new.items) }
+        ensures err { OnErr result (BreaksAloneIf kit IsIdle world.old world.new) };
+
+    /// With so many steps a drain is done.
+    fn steps() -> u64
+        ensures { result ≡ kit.steps };
+
+    /// Makes one step of a drain: a message between servers is delivered, or the entry in hand is worked. Answers whether there was
+    /// one to make.
+    ///
+    /// `Failed` comes where the disk had a fault that no server survives; its count of faults rose then.
+    fn advance<D: SharedDisk>(
+        alloc: Global,
+        world: &mut Cluster<Self>,
+        lines: &mut Vec<Seq<u8>>,
+        disk: &mut D,
+    ) -> Result<bool, DiskAnswer>
+        requires { HasState kit world.old }
+        ensures ok { IfOk result (λ went. Advances kit went world.old world.new lines.old.items
+            lines.new.items (seen (D.files disk.old) (D.faults disk.old))
+            (seen (D.files disk.new) (D.faults disk.new))) }
+        ensures err { IfErr result (λ answer. ComesOff kit any_state (EndsStep kit) answer world.old
+            world.new lines.old.items lines.new.items (seen (D.files disk.old) (D.faults disk.old))
+            (seen (D.files disk.new) (D.faults disk.new))) };
+
+    /// What is asked of them holds.
+    ghost laws: { IsKit kit };
+}
