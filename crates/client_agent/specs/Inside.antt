@@ -1,15 +1,15 @@
 -- Words of bodies alone: how an agent keeps its calls, subscriptions and callbacks, the newest in front.
-use Rattle.std.specs.Prelude.{ℕ, suc, ◌<◌, ◌≤◌, ◌==◌, ⊤, if◌then◌else◌, Option, Some, None, List, [], ◌∷◌, map}
-use Rattle.std.specs.VecDeque.{deque_capacity}
+use Rattle.std.specs.Prelude.{◌≡◌, ℕ, suc, ◌<◌, ◌≤◌, ◌==◌, ⊤, if◌then◌else◌, Option, Some, None, List, [], ◌∷◌, length, map, take, drop, reverse}
 use Rattle.calls.specs.declared.call.Call.{Call}
 use Rattle.calls.specs.declared.reply.Callback.{Callback}
 use Rattle.cluster_facts.specs.Types.{Ask, Start, Other, Status, VersionRefused, BadHandle}
-use Rattle.cluster_facts.specs.Agents.{Living, Agent, can_serve, service_of, has_handle, all_but_oldest}
+use Rattle.callback_dispatch.specs.Seen.{QueueSeen, FeederSeen, TakerSeen, numbered}
+use Rattle.cluster_facts.specs.Agents.{Living, Agent, can_serve, service_of, has_handle}
 use Rattle.client_agent.specs.declared.kept.Kept.{Kept}
 use Rattle.client_agent.specs.declared.living.Subscription.{Subscription}
+use Rattle.client_agent.specs.declared.waiting.WaitingCallbacks.TheInside.{Inside as WaitingInside}
 use Rattle.client_agent.specs.declared.agent.Agent.TheInside.{Inside}
-use Rattle.client_agent.specs.declared.answers.How.{How}
-use Rattle.client_agent.specs.declared.answers.How.TheVariants.{One, All}
+use Rattle.client_agent.specs.Waiting.{Waiting}
 use Rattle.client_agent.specs.Seen.{Seen}
 
 abbrev pub call_kept : Kept → ℕ × Call
@@ -40,20 +40,19 @@ AreBelow bound (subscription ∷ living) = (subscription.key < bound) × AreBelo
 abbrev pub seen_inside : Inside → Seen
 seen_inside inside = record {
   client = inside.client;
-  places = inside.places;
+  places = inside.callbacks.places;
   next = inside.next;
   log_handle = inside.log_handle;
   ntf_handle = inside.ntf_handle;
   kept = calls_kept inside.kept.items;
   living = all_living inside.living.items;
-  queue = inside.queue.items;
-  given = inside.given;
+  queue = inside.callbacks.queue;
+  given = inside.callbacks.given;
 }
 
--- each subscription was made by a call of its own that was sent, and the queue has room for all its places
-pub record IsKept (inside : Inside) : Type 0 where
-  pub keys : AreBelow inside.next (all_living inside.living.items)
-  pub room : inside.places ≤ deque_capacity inside.queue
+-- each subscription was made by a call of its own that was sent
+abbrev pub AreOfCalls : Inside → Type 0
+AreOfCalls inside = AreBelow inside.next (all_living inside.living.items)
 
 -- the agent of which this is seen, and from which these callbacks were handed out
 abbrev pub agent_of : Seen → List Callback → Agent
@@ -72,7 +71,28 @@ abbrev pub lack : Ask → Agent → Option Status
 lack (Start service version) agent = if can_serve service version then None else Some VersionRefused
 lack (Other call) agent = if has_handle (service_of call) agent then None else Some BadHandle
 
--- what is left in the queue
-abbrev pub left_over : How → List Callback → List Callback
-left_over One queue = all_but_oldest queue
-left_over (All workers) queue = []
+-- The callbacks of a client are what the feeder of its queue fed. Those wait that the taker has not taken.
+
+abbrev pub waiting_inside : WaitingInside → Waiting
+waiting_inside inside = record {
+  places = inside.places;
+  queue = reverse (drop inside.given inside.feeder.list);
+  given = inside.given;
+}
+
+-- the only taker of the queue, which took the first so many of what was fed
+pub record IsOnlyTaker (queue : QueueSeen) (feeder : FeederSeen) (given : ℕ) (taker : TakerSeen) : Type 0 where
+  pub here : taker.queue ≡ queue.name
+  pub whole : taker.share ≡ 8
+  pub took : taker.list ≡ numbered 1 (take given feeder.list)
+
+abbrev pub HasOnlyTaker : QueueSeen → FeederSeen → ℕ → Option TakerSeen → Type 0
+HasOnlyTaker queue feeder given None = ⊥
+HasOnlyTaker queue feeder given (Some taker) = IsOnlyTaker queue feeder given taker
+
+pub record AreEnds (inside : WaitingInside) : Type 0 where
+  pub here : inside.feeder.queue ≡ inside.queue.name
+  pub size : inside.places ≡ inside.queue.capacity
+  pub count : inside.fed ≡ length inside.feeder.list
+  pub within : inside.given ≤ length inside.feeder.list
+  pub taker : HasOnlyTaker inside.queue inside.feeder inside.given inside.taker

@@ -1,3 +1,4 @@
 pub mod Inside
 pub mod Seen
 pub mod Steps
+pub mod Waiting

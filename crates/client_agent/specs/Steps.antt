@@ -1,5 +1,6 @@
 -- Words of public clauses: what each call of an agent answers, and what is seen of the agent after it.
-use Rattle.std.specs.Prelude.{◌≡◌, ℕ, suc, ◌+◌, Bool, true, false, nat_lt, nat_le, Option, Some, None, List, [], ◌∷◌, length, reverse}
+use Rattle.std.specs.Prelude.{◌≡◌, ℕ, suc, ◌+◌, ◌≤◌, ⊤, Bool, true, false, nat_lt, nat_le, Option, Some, None, List, [], ◌∷◌, length, reverse}
+use Rattle.callback_dispatch.specs.declared.numbered.Numbered.{Numbered}
 use Rattle.cluster_facts.specs.Types.{Ask, Call, Reply, Item, Callback, Message, Request, Answer, Delivery, Receipt}
 use Rattle.cluster_facts.specs.Agents.{Living, Agent, call_of, refusal, dispatch_refusal, after_call, kept_call, callbacks_of, lacks_place, after_reply}
 use Rattle.cluster_facts.specs.Agents.{find_living, after_item, oldest, after_dispatch_all, after_dispatch_one}
@@ -10,7 +11,6 @@ use Rattle.client_agent.specs.declared.answers.Taken.{Taken}
 use Rattle.client_agent.specs.declared.answers.Taken.TheVariants.{Answered, Item as TakenItem, Missed}
 use Rattle.client_agent.specs.declared.answers.How.{How}
 use Rattle.client_agent.specs.declared.answers.How.TheVariants.{One, All}
-use Rattle.client_agent.specs.declared.answers.Numbered.{Numbered}
 use Rattle.client_agent.specs.declared.answers.Dispatched.{Dispatched}
 use Rattle.client_agent.specs.declared.answers.Dispatched.TheVariants.{Refused as RefusedDispatch, Given}
 use Rattle.client_agent.specs.Seen.{Seen, seen_of}
@@ -70,6 +70,11 @@ IsTaken client places (Delivery receiver key item) agent taken seen =
 IsTaken client places _ agent taken seen = ⊥
 
 -- Callbacks are handed out, under their numbers.
+
+-- all of them are handed out by 1 to 8 workers
+abbrev pub HasWorkers : How → Type 0
+HasWorkers One = ⊤
+HasWorkers (All workers) = (1 ≤ workers) × (workers ≤ 8)
 
 -- callbacks that follow so many others, each with its number, the newest first
 abbrev pub numbered : ℕ → List Callback → List Numbered

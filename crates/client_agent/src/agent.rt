@@ -4,22 +4,26 @@ ghost use Rattle.std.specs.Option.{option_to_list};
 ghost use Rattle.calls.specs.declared.reply.Callback.{Callback};
 ghost use Rattle.cluster_facts.specs.Agents.{Agent as ClientAgent, fresh, can_serve, service_of, has_handle, refusal, kept_call, find_living, callbacks_of, resent};
 ghost use Rattle.client_agent.specs.Seen.{seen_of};
-ghost use Rattle.client_agent.specs.Steps.{IsSent, IsFor, IsReply, IsItem, IsTaken, IsDispatched};
+ghost use Rattle.client_agent.specs.Steps.{IsSent, IsFor, IsReply, IsItem, IsTaken, HasWorkers, IsDispatched};
 ghost use Rattle.client_agent.specs.Inside.{calls_kept, agent_of, lack};
 
-use crate::callbacks::{callback_of_item, callback_of_reply, hand_out, lacks_place, put_callback};
+use crate::callbacks::{callback_of_item, callback_of_reply};
 use crate::kept::{
     Kept, add_requests, call_of, find_call, forget_call, is_shut, log_after, ntf_after, service_of,
 };
 use crate::living::{
     Subscription, add_receipts, find_subscription, note_call, note_item, note_reply,
 };
+use crate::waiting::WaitingCallbacks;
 use crate::{Dispatched, How, MissedWhy, Sent, Taken};
 use ais_values::{Duplicate, Seq, Status, Version, Which, negotiate};
+use callback_dispatch::Gate;
 use calls::{Ask, Call, Callback, Reply};
 use std::alloc::{AllocError, Global};
 use std::collections::VecDeque;
 use std::marker::Model;
+use std::sync::Wait;
+use std::thread::Threads;
 use sub_queue::Item;
 use wire::Message;
 
@@ -27,18 +31,17 @@ use wire::Message;
 /// taken, the subscriptions that live, and the callbacks that it has taken and not handed out.
 ///
 /// It keeps no more than that: at most the 32 calls before the next, one entry for each living subscription, and
-/// as many callbacks as its queue has places. Of the callbacks that were handed out it keeps the count.
+/// as many callbacks as its queue has places. Of the callbacks that were handed out it keeps the count. The queue may be
+/// emptied by many threads; the agent has both of its ends.
 #[derive(Drop)]
 pub struct Agent {
     client: u16,
-    places: u32,
     next: u32,
     log_handle: bool,
     ntf_handle: bool,
     kept: VecDeque<Kept>,
     living: VecDeque<Subscription>,
-    queue: VecDeque<Callback>,
-    given: u64,
+    callbacks: WaitingCallbacks,
 }
 
 impl Model for Agent {
@@ -46,11 +49,11 @@ impl Model for Agent {
 
     ghost Value = { Seen };
 
-    ghost use Rattle.client_agent.specs.Inside.{seen_inside, IsKept};
+    ghost use Rattle.client_agent.specs.Inside.{seen_inside, AreOfCalls};
 
     ghost view = { seen_inside };
 
-    ghost invariant = { IsKept };
+    ghost invariant = { AreOfCalls };
 }
 
 /// Whether the service serves a client that asks for this version.
@@ -72,21 +75,19 @@ fn callback_of_call(kept: &VecDeque<Kept>, number: u32, reply: &Reply) -> Option
 }
 
 impl Agent {
-    /// The agent of a client that has asked for nothing, with a queue of so many callbacks. It takes the memory of
-    /// the queue.
-    pub fn new(alloc: Global, client: u16, callbacks: u32) -> Result<Agent, AllocError>
+    /// The agent of a client that has asked for nothing, with a queue of so many callbacks, at least one. It takes the
+    /// memory of the queue, and answers want of memory too where the queue would have no place.
+    pub fn new<R>(rt: &R, alloc: Global, client: u16, callbacks: u32) -> Result<Agent, AllocError>
         ensures { IfOk result (λ agent. agent ≡ seen_of client callbacks fresh) }
     {
         Ok(Agent {
             client,
-            places: callbacks,
             next: 1,
             log_handle: false,
             ntf_handle: false,
             kept: VecDeque::new(alloc),
             living: VecDeque::new(alloc),
-            queue: VecDeque::with_capacity(alloc, callbacks as usize)?,
-            given: 0,
+            callbacks: WaitingCallbacks::new(rt, alloc, callbacks)?,
         })
     }
 
@@ -143,8 +144,14 @@ impl Agent {
     /// a callback and the queue is full. An item is missed as `Gone` where its subscription does not live, as
     /// `Taken` or `Ahead` where its number is below or above the subscription's next, and as `Left` where the
     /// queue is full. On a miss, and where memory runs out, nothing changes. A reply that is taken ends the wait
-    /// for it, and the subscription whose call it refuses; an item that is taken gives a receipt to post.
-    pub fn receive(&mut self, alloc: Global, message: &Message) -> Result<Taken, AllocError>
+    /// for it, and the subscription whose call it refuses; an item that is taken gives a receipt to post. Want of memory
+    /// is answered too where 2^62 callbacks were taken before.
+    pub fn receive<R: Wait>(
+        &mut self,
+        rt: &R,
+        alloc: Global,
+        message: &Message,
+    ) -> Result<Taken, AllocError>
         requires { IsFor self.old.client message.now }
         ensures ok { IfOk result (λ taken. (client places : ℕ) (agent : ClientAgent) →
             self.old ≡ seen_of client places agent →
@@ -153,11 +160,11 @@ impl Agent {
     {
         match message {
             Message::Reply { seq, reply, .. } => {
-                let taken = self.take_reply(alloc, *seq, reply)?;
+                let taken = self.take_reply(rt, alloc, *seq, reply)?;
                 Ok(taken)
             }
             Message::Item { key, item, .. } => {
-                let taken = self.take_item(alloc, *key, item)?;
+                let taken = self.take_item(rt, alloc, *key, item)?;
                 Ok(taken)
             }
             _ => unreachable!(),
@@ -176,11 +183,18 @@ impl Agent {
         Ok(Seq::from_vec(messages))
     }
 
-    /// Hands out callbacks, each under its number: the oldest, or all of them.
+    /// Hands out callbacks, each under its number: the oldest, or all of them, by so many workers, of which each passes
+    /// the gate before its first take. What is handed out is the same for every number of workers.
     ///
-    /// It is refused as BAD_HANDLE exactly where the client has no handle. Where memory runs out nothing changes;
-    /// the same is answered where the count of callbacks handed out would pass the greatest `u64`.
-    pub fn dispatch(&mut self, alloc: Global, how: How) -> Result<Dispatched, AllocError>
+    /// It is refused as BAD_HANDLE exactly where the client has no handle. Where memory runs out nothing changes.
+    pub fn dispatch<R: Threads + Wait + Sync, G: Gate>(
+        &mut self,
+        rt: &R,
+        alloc: Global,
+        how: How,
+        gate: &G,
+    ) -> Result<Dispatched, AllocError>
+        requires workers { HasWorkers how }
         ensures ok { IfOk result (λ dispatched. (client places : ℕ) (agent : ClientAgent) →
             self.old ≡ seen_of client places agent →
             IsDispatched client places how agent dispatched self.new) }
@@ -190,11 +204,7 @@ impl Agent {
             let status = Status::BadHandle;
             return Ok(Dispatched::Refused { status });
         }
-        if self.queue.len() as u64 > u64::MAX - self.given {
-            return Err(AllocError);
-        }
-        let taken = hand_out(alloc, how, &mut self.queue, self.given)?;
-        self.given += taken.as_slice().len() as u64;
+        let taken = self.callbacks.hand_out(rt, alloc, how, gate)?;
         Ok(Dispatched::Given { taken })
     }
 
@@ -247,7 +257,13 @@ impl Agent {
     }
 
     /// Takes the reply to the call of this number.
-    fn take_reply(&mut self, alloc: Global, number: u32, reply: &Reply) -> Result<Taken, AllocError>
+    fn take_reply<R: Wait>(
+        &mut self,
+        rt: &R,
+        alloc: Global,
+        number: u32,
+        reply: &Reply,
+    ) -> Result<Taken, AllocError>
         ensures ok { IfOk result (λ taken. (handed : List Callback) →
             self.old.given ≡ length handed →
             IsReply self.old.client self.old.places number reply.now (agent_of self.old handed)
@@ -259,12 +275,12 @@ impl Agent {
                 why: MissedWhy::Answered,
             }),
             Some(callback) => {
-                if lacks_place(&self.queue, self.places, &callback) {
+                if self.callbacks.lacks_place(&callback) {
                     let why = MissedWhy::Left;
                     return Ok(Taken::Missed { why });
                 }
                 let copy = reply.copy(alloc)?;
-                put_callback(&mut self.queue, callback);
+                self.callbacks.put_some(rt, alloc, callback)?;
                 forget_call(&mut self.kept, number);
                 note_reply(&mut self.living, number, reply);
                 Ok(Taken::Answered {
@@ -276,7 +292,13 @@ impl Agent {
     }
 
     /// Takes an item of the subscription of this key.
-    fn take_item(&mut self, alloc: Global, key: u32, item: &Item) -> Result<Taken, AllocError>
+    fn take_item<R: Wait>(
+        &mut self,
+        rt: &R,
+        alloc: Global,
+        key: u32,
+        item: &Item,
+    ) -> Result<Taken, AllocError>
         ensures ok { IfOk result (λ taken. (handed : List Callback) →
             self.old.given ≡ length handed →
             IsItem self.old.client self.old.places key item.now (agent_of self.old handed)
@@ -297,12 +319,12 @@ impl Agent {
             let why = MissedWhy::Ahead;
             return Ok(Taken::Missed { why });
         }
-        if self.queue.len() >= self.places as usize {
+        if self.callbacks.is_full() {
             let why = MissedWhy::Left;
             return Ok(Taken::Missed { why });
         }
         let callback = callback_of_item(alloc, found.id, &item.content)?;
-        self.queue.push_front_reserved(callback);
+        self.callbacks.put(rt, alloc, callback)?;
         note_item(&mut self.living, key, item.number);
         let receipt = Message::Receipt {
             client: self.client,

@@ -1,6 +1,7 @@
 //! What an agent answers.
 use ais_values::{Duplicate, Seq, Status};
-use calls::{Callback, Reply};
+use callback_dispatch::Numbered;
+use calls::Reply;
 use std::alloc::{AllocError, Global};
 use wire::Message;
 
@@ -44,15 +45,8 @@ pub enum Taken {
 pub enum How {
     /// The oldest.
     One,
-    /// All of them. One thread hands them out, whatever the number of workers is.
+    /// All of them, by 1 to 8 workers in threads of their own.
     All { workers: u32 },
-}
-
-/// A callback that is handed out, under its number. The callbacks of a client are numbered 1, 2, 3 and so on.
-#[derive(PartialEq, Drop)]
-pub struct Numbered {
-    pub number: u64,
-    pub callback: Callback,
 }
 
 /// What a dispatch came to.
@@ -99,15 +93,6 @@ impl Duplicate for Taken {
 impl Duplicate for How {
     fn copy(&self, _alloc: Global) -> Result<Self, AllocError> {
         Ok(*self)
-    }
-}
-
-impl Duplicate for Numbered {
-    fn copy(&self, alloc: Global) -> Result<Self, AllocError> {
-        Ok(Numbered {
-            number: self.number,
-            callback: self.callback.copy(alloc)?,
-        })
     }
 }
 

@@ -7,6 +7,7 @@ mod answers;
 mod callbacks;
 mod kept;
 mod living;
+mod waiting;
 
 pub use agent::Agent;
-pub use answers::{Dispatched, How, MissedWhy, Numbered, Sent, Taken};
+pub use answers::{Dispatched, How, MissedWhy, Sent, Taken};

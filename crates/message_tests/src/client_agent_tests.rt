@@ -1,12 +1,20 @@
 //! What no clause says: that calls are sent, messages taken and callbacks handed out while there is memory. Each helper
 //! lets its large values go, so that the tests hold none.
+ghost use Rattle.std.specs.Prelude.{◌≤◌};
+ghost use Rattle.client_agent.specs.Steps.{HasWorkers};
+
 use ais_values::{ClassId, Name, Seq, Status, Text, Version, Which};
+use callback_dispatch::{Gate, Numbered, OpenGate};
 use calls::{Ask, Call, Callback, Reply};
 use client_agent::*;
 use ntf_filters::FilterSet;
 use record_print::Header;
 use std::alloc::Global;
 use std::process::Abort;
+use std::sync::Wait;
+use std::sync::atomic::AtomicU32;
+use std::sync::atomic::Ordering::SeqCst;
+use std::thread::Threads;
 use stream_config::StreamName;
 use sub_queue::{Content, Item, Lost};
 use wire::Message;
@@ -114,14 +122,20 @@ fn number_taken(taken: &Taken) -> u32 {
 }
 
 /// What a reply comes to.
-fn replied(rt: &impl Abort, alloc: Global, agent: &mut Agent, seq: u32, reply: Reply) -> u32 {
+fn replied<R: Abort + Wait>(
+    rt: &R,
+    alloc: Global,
+    agent: &mut Agent,
+    seq: u32,
+    reply: Reply,
+) -> u32 {
     assert!(rt; agent.client() == 7);
     let message = Message::Reply {
         client: 7,
         seq,
         reply,
     };
-    let taken = agent.receive(alloc, &message).expect(rt, "memory");
+    let taken = agent.receive(rt, alloc, &message).expect(rt, "memory");
     drop(message);
     let number = number_taken(&taken);
     drop(taken);
@@ -129,7 +143,13 @@ fn replied(rt: &impl Abort, alloc: Global, agent: &mut Agent, seq: u32, reply: R
 }
 
 /// What an item comes to.
-fn delivered(rt: &impl Abort, alloc: Global, agent: &mut Agent, key: u32, number: u32) -> u32 {
+fn delivered<R: Abort + Wait>(
+    rt: &R,
+    alloc: Global,
+    agent: &mut Agent,
+    key: u32,
+    number: u32,
+) -> u32 {
     assert!(rt; agent.client() == 7);
     let mut lost = Seq::new(alloc);
     let one = Lost {
@@ -143,7 +163,7 @@ fn delivered(rt: &impl Abort, alloc: Global, agent: &mut Agent, key: u32, number
         key,
         item: Item { number, content },
     };
-    let taken = agent.receive(alloc, &message).expect(rt, "memory");
+    let taken = agent.receive(rt, alloc, &message).expect(rt, "memory");
     drop(message);
     let number = number_taken(&taken);
     drop(taken);
@@ -164,12 +184,32 @@ fn digits_of(dispatched: &Dispatched) -> u64 {
     }
 }
 
-/// What a dispatch hands out.
-fn handed(rt: &impl Abort, alloc: Global, agent: &mut Agent, how: How) -> u64 {
-    let dispatched = agent.dispatch(alloc, how).expect(rt, "memory");
+/// What a dispatch hands out whose workers pass this gate.
+fn handed_through<R: Abort + Threads + Wait + Sync, G: Gate>(
+    rt: &R,
+    alloc: Global,
+    agent: &mut Agent,
+    how: How,
+    gate: &G,
+) -> u64
+    requires { HasWorkers how }
+{
+    let dispatched = agent.dispatch(rt, alloc, how, gate).expect(rt, "memory");
     let digits = digits_of(&dispatched);
     drop(dispatched);
     digits
+}
+
+/// What a dispatch hands out.
+fn handed<R: Abort + Threads + Wait + Sync>(
+    rt: &R,
+    alloc: Global,
+    agent: &mut Agent,
+    how: How,
+) -> u64
+    requires { HasWorkers how }
+{
+    handed_through(rt, alloc, agent, how, &OpenGate)
 }
 
 /// How many messages are sent again.
@@ -184,7 +224,7 @@ fn count_resent(rt: &impl Abort, alloc: Global, agent: &Agent) -> usize {
 fn numbers_calls_and_refuses_by_itself(rt: HostRuntime) {
     let alloc = rt.alloc();
     let service = Which::Log;
-    let mut agent = Agent::new(alloc, 7, 8).expect(&rt, "memory");
+    let mut agent = Agent::new(&rt, alloc, 7, 8).expect(&rt, "memory");
     for (asked, want) in [
         (Asked::Write { invocation: 1 }, 1009),
         (Asked::Start { service, major: 3 }, 1003),
@@ -203,7 +243,7 @@ fn numbers_calls_and_refuses_by_itself(rt: HostRuntime) {
 fn has_32_calls_without_a_reply(rt: HostRuntime) {
     let alloc = rt.alloc();
     let service = Which::Log;
-    let mut agent = Agent::new(alloc, 7, 8).expect(&rt, "memory");
+    let mut agent = Agent::new(&rt, alloc, 7, 8).expect(&rt, "memory");
     let start = Asked::Start { service, major: 2 };
     assert!(rt; sent(&rt, alloc, &mut agent, start) == 1);
     let write = Asked::Write { invocation: 1 };
@@ -219,7 +259,7 @@ fn has_32_calls_without_a_reply(rt: HostRuntime) {
 
 /// The agent of a client with one subscription, its first call, and a queue of two.
 fn subscribed(rt: &impl Abort, alloc: Global) -> Agent {
-    let mut agent = Agent::new(alloc, 7, 2).expect(rt, "memory");
+    let mut agent = Agent::new(rt, alloc, 7, 2).expect(rt, "memory");
     let start = Asked::Start {
         service: Which::Ntf,
         major: 1,
@@ -230,7 +270,7 @@ fn subscribed(rt: &impl Abort, alloc: Global) -> Agent {
 }
 
 /// Items of the subscription and of another one come, some of them ahead, again or where the queue is full.
-fn takes_items(rt: &impl Abort, alloc: Global, agent: &mut Agent) {
+fn takes_items<R: Abort + Wait>(rt: &R, alloc: Global, agent: &mut Agent) {
     for (key, number, want) in [
         (2, 2, 1004),
         (2, 1, 101),
@@ -266,7 +306,7 @@ fn hands_out_all_or_nothing(rt: HostRuntime) {
     assert!(rt; handed(&rt, alloc, &mut agent, all) == 12);
     assert!(rt; handed(&rt, alloc, &mut agent, all) == 0);
     drop(agent);
-    let mut other = Agent::new(alloc, 8, 2).expect(&rt, "memory");
+    let mut other = Agent::new(&rt, alloc, 8, 2).expect(&rt, "memory");
     assert!(rt; handed(&rt, alloc, &mut other, How::One) == 99);
     drop(other);
 }
@@ -297,7 +337,7 @@ fn tells_of_both(dispatched: &Dispatched) -> bool {
 
 /// The agent of a client that has written three records, under the invocations 2, 3 and 4, and a queue of two.
 fn written(rt: &impl Abort, alloc: Global) -> Agent {
-    let mut agent = Agent::new(alloc, 7, 2).expect(rt, "memory");
+    let mut agent = Agent::new(rt, alloc, 7, 2).expect(rt, "memory");
     let start = Asked::Start {
         service: Which::Log,
         major: 2,
@@ -321,10 +361,45 @@ fn calls_back_for_writes_in_order(rt: HostRuntime) {
     assert!(rt; replied(&rt, alloc, &mut agent, 2, Reply::Done) == 2);
     assert!(rt; replied(&rt, alloc, &mut agent, 4, Reply::Done) == 1002);
     let given = agent
-        .dispatch(alloc, How::All { workers: 1 })
+        .dispatch(&rt, alloc, How::All { workers: 1 }, &OpenGate)
         .expect(&rt, "memory");
     assert!(rt; tells_of_both(&given));
     drop(given);
     assert!(rt; replied(&rt, alloc, &mut agent, 4, Reply::Done) == 4);
     drop(agent);
+}
+
+/// Counts the workers that pass.
+#[derive(Drop)]
+struct Passed {
+    workers: AtomicU32,
+}
+
+impl Gate for Passed {
+    fn hold(&self, _worker: u32) {
+        self.workers.fetch_add(1, SeqCst);
+    }
+}
+
+/// Two callbacks are handed out by so many workers, each of which passes the gate.
+fn hands_out_by<R: Abort + Threads + Wait + Sync>(rt: &R, alloc: Global, workers: u32)
+    requires { (1 ≤ workers) × (workers ≤ 8) }
+{
+    let mut agent = subscribed(rt, alloc);
+    assert!(rt; delivered(rt, alloc, &mut agent, 2, 1) == 101);
+    assert!(rt; delivered(rt, alloc, &mut agent, 2, 2) == 102);
+    let gate = Passed {
+        workers: AtomicU32::new(0),
+    };
+    let all = How::All { workers };
+    assert!(rt; handed_through(rt, alloc, &mut agent, all, &gate) == 12);
+    assert_eq!(rt; gate.workers.load(SeqCst), workers);
+    drop(agent);
+}
+
+#[test]
+fn hands_out_the_same_by_any_number_of_workers(rt: HostRuntime) {
+    for workers in 1..9 {
+        hands_out_by(&rt, rt.alloc(), workers);
+    }
 }

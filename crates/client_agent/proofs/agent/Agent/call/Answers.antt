@@ -11,7 +11,4 @@ invariant_of-self-2 c =
     let call = c.in_ok-call.call in
     let Below : List Living → Type 0 = AreBelow (inside.next + 1) in
     let after = c.note_call.ensures ∙ ap (λ (living : List Subscription). living_after inside.next call (all_living living)) c.in_ok-reserve-2.ensures.items in
-    record {
-      keys = subst Below (sym after) (AreBelow-call inside.next call (all_living inside.living.items) c.self.invariant.keys);
-      room = c.self.invariant.room;
-    }
+    subst Below (sym after) (AreBelow-call inside.next call (all_living inside.living.items) c.self.invariant)
