@@ -15,6 +15,7 @@ mod run;
 mod scanning;
 mod writing;
 
+use callback_dispatch::OpenGate;
 use cluster_core::World;
 pub use command::{Command, RecordQuery, command_of};
 use disk_model::DirDisk;
@@ -44,17 +45,23 @@ fn main(rt: HostRuntime) -> ExitCode {
         Ok(words) => words,
         Err(_) => return ExitCode::from(Status8::Memory.code()),
     };
+    // The disk has a runtime of its own.
+    let Ok(files) = rt.clone() else {
+        return ExitCode::from(Status8::Memory.code());
+    };
     let alloc = rt.alloc();
     let mut source = StdSource::new(rt.stdin());
     let mut out = StdSink::new(rt.stdout());
-    let mut disk = DirDisk::new(rt);
+    let mut disk = DirDisk::new(files);
     let mut world = World::empty(alloc);
     let status = run(
+        &rt,
         alloc,
         words.as_slice(),
         &mut source,
         &mut out,
         &mut disk,
+        &OpenGate,
         &mut world,
     );
     drop(world);

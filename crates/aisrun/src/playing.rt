@@ -17,19 +17,24 @@ ghost use Rattle.aisrun.specs.Steps.{CanFollow, Ended, EventsEnd, FindsNames, Ha
 use crate::ending::{Status8, root_holds};
 use crate::writing::{unwritten, write_broken, write_lines, write_text};
 use ais_values::{Duplicate, Text};
+use callback_dispatch::Gate;
 use cluster_clients::EventAnswer;
 use cluster_core::World;
 use disk_model::{DiskAnswer, SharedDisk};
 use io_edge::Sink;
 use script_lines::Line;
 use std::alloc::Global;
+use std::sync::Wait;
+use std::thread::Threads;
 
 // Plays a line: its event, and the writing of its lines. `Err` has the status that the run ends with.
-fn play_line<K: Sink, D: SharedDisk>(
+fn play_line<R: Threads + Wait + Sync, K: Sink, D: SharedDisk, G: Gate>(
+    rt: &R,
     alloc: Global,
     line: &Line,
     out: &mut K,
     disk: &mut D,
+    gate: &G,
     world: &mut World,
 ) -> Result<(), Status8>
     requires spelled { (raw : List ℕ) × Spells line.now raw }
@@ -42,7 +47,7 @@ fn play_line<K: Sink, D: SharedDisk>(
         (LineLacks setup state (D.files disk.old) (D.files disk.new) world.new)
         (edge K.written K.faults out.old out.new) result }
 {
-    match world.event(alloc, line, disk) {
+    match world.event(rt, alloc, line, disk, gate) {
         Ok(lines) => match write_lines(out, lines.as_slice()) {
             Ok(()) => Ok(()),
             Err(answer) => Err(unwritten(answer)),
@@ -53,11 +58,13 @@ fn play_line<K: Sink, D: SharedDisk>(
 }
 
 // Plays the lines behind the opening.
-fn play_events<K: Sink, D: SharedDisk>(
+fn play_events<R: Threads + Wait + Sync, K: Sink, D: SharedDisk, G: Gate>(
+    rt: &R,
     alloc: Global,
     events: &[Line],
     out: &mut K,
     disk: &mut D,
+    gate: &G,
     world: &mut World,
 ) -> Status8
     requires begun { HasBegun (D.files disk.old) world.old }
@@ -71,7 +78,7 @@ fn play_events<K: Sink, D: SharedDisk>(
         (edge K.written K.faults out.old out.new) result }
 {
     for line in events {
-        match play_line(alloc, line, out, disk, world) {
+        match play_line(rt, alloc, line, out, disk, gate, world) {
             Ok(()) => {}
             Err(status) => return status,
         }
@@ -80,12 +87,14 @@ fn play_events<K: Sink, D: SharedDisk>(
 }
 
 // Begins the cluster, and plays the lines behind its line.
-fn open<K: Sink, D: SharedDisk>(
+fn open<R: Threads + Wait + Sync, K: Sink, D: SharedDisk, G: Gate>(
+    rt: &R,
     alloc: Global,
     opening: &Line,
     events: &[Line],
     out: &mut K,
     disk: &mut D,
+    gate: &G,
     world: &mut World,
 ) -> Status8
     requires script { CanPlay opening.now events.now }
@@ -94,8 +103,8 @@ fn open<K: Sink, D: SharedDisk>(
     ensures { PlayedOn (opening.now ∷ events.now) (stage (edge K.written K.faults out.old out.new)
         (edge D.files D.faults disk.old disk.new) world.old world.new) result }
 {
-    match world.begin(alloc, opening, disk) {
-        Ok(()) => play_events(alloc, events, out, disk, world),
+    match world.begin(rt, alloc, opening, disk) {
+        Ok(()) => play_events(rt, alloc, events, out, disk, gate, world),
         Err(EventAnswer::Memory) => Status8::Memory,
         Err(EventAnswer::DiskFault { printed }) => write_broken(out, printed.as_slice()),
     }
@@ -138,11 +147,13 @@ fn write_held<K: Sink>(alloc: Global, out: &mut K, name: &[u8]) -> Status8
 /// `RootNotEmpty` comes where the disk holds a file; its least name is written, and disk and world stay.
 /// `DiskFault` comes only where the disk's count of faults rose. By any status but this one the count stands, but where the
 /// sink failed or lacked memory as the line of a disk fault was written.
-pub fn play<K: Sink, D: SharedDisk>(
+pub fn play<R: Threads + Wait + Sync, K: Sink, D: SharedDisk, G: Gate>(
+    rt: &R,
     alloc: Global,
     lines: &[Line],
     out: &mut K,
     disk: &mut D,
+    gate: &G,
     world: &mut World,
 ) -> Status8
     requires script { IsPlayable lines.now }
@@ -153,7 +164,7 @@ pub fn play<K: Sink, D: SharedDisk>(
     match first_name(alloc, disk) {
         Ok(None) => match lines.split_first() {
             None => Status8::Memory,
-            Some((opening, events)) => open(alloc, opening, events, out, disk, world),
+            Some((opening, events)) => open(rt, alloc, opening, events, out, disk, gate, world),
         },
         Ok(Some(name)) => write_held(alloc, out, name.as_slice()),
         Err(DiskAnswer::Memory) => Status8::Memory,

@@ -24,17 +24,22 @@ use crate::playing::play;
 use crate::reading::{Script, read_script};
 use crate::scanning::scan;
 use crate::writing::{write_end, write_text};
+use callback_dispatch::Gate;
 use cluster_core::World;
 use disk_model::SharedDisk;
 use io_edge::{Sink, Source, read_all};
 use std::alloc::Global;
+use std::sync::Wait;
+use std::thread::Threads;
 
 // Plays the script that these bytes are.
-fn run_bytes<K: Sink, D: SharedDisk>(
+fn run_bytes<R: Threads + Wait + Sync, K: Sink, D: SharedDisk, G: Gate>(
+    rt: &R,
     alloc: Global,
     bytes: &[u8],
     out: &mut K,
     disk: &mut D,
+    gate: &G,
     world: &mut World,
 ) -> Status8
     requires short { length bytes.now ≤ 16777216 }
@@ -45,18 +50,20 @@ fn run_bytes<K: Sink, D: SharedDisk>(
         (BytesLack bytes.now scene) scene.sink result }
 {
     match read_script(alloc, bytes) {
-        Ok(Script::Lines(lines)) => play(alloc, lines.as_slice(), out, disk, world),
+        Ok(Script::Lines(lines)) => play(rt, alloc, lines.as_slice(), out, disk, gate, world),
         Ok(Script::Refused(end)) => write_text(out, end.status, end.text.as_slice()),
         Err(_) => Status8::Memory,
     }
 }
 
 // Reads a script to its end and plays it.
-fn run_script<S: Source, K: Sink, D: SharedDisk>(
+fn run_script<R: Threads + Wait + Sync, S: Source, K: Sink, D: SharedDisk, G: Gate>(
+    rt: &R,
     alloc: Global,
     source: &mut S,
     out: &mut K,
     disk: &mut D,
+    gate: &G,
     world: &mut World,
 ) -> Status8
     requires { world.old ≡ empty_world }
@@ -67,19 +74,21 @@ fn run_script<S: Source, K: Sink, D: SharedDisk>(
         (InputLacks source scene) scene.sink result }
 {
     match read_all(alloc, source, INPUT_LIMIT) {
-        Ok(bytes) => run_bytes(alloc, bytes.as_slice(), out, disk, world),
+        Ok(bytes) => run_bytes(rt, alloc, bytes.as_slice(), out, disk, gate, world),
         Err(answer) => write_unread(out, answer),
     }
 }
 
 // The command that the words are is done.
-fn run_command<S: Source, K: Sink, D: SharedDisk>(
+fn run_command<R: Threads + Wait + Sync, S: Source, K: Sink, D: SharedDisk, G: Gate>(
+    rt: &R,
     alloc: Global,
     command: Command,
     words: &[String],
     source: &mut S,
     out: &mut K,
     disk: &mut D,
+    gate: &G,
     world: &mut World,
 ) -> Status8
     requires asked { Some command ≡ command_of (word_bytes words.now) }
@@ -91,7 +100,7 @@ fn run_command<S: Source, K: Sink, D: SharedDisk>(
         (WordsLack run) run.stage.sink result }
 {
     match command {
-        Command::Run => run_script(alloc, source, out, disk, world),
+        Command::Run => run_script(rt, alloc, source, out, disk, gate, world),
         Command::Check => run_check(alloc, source, out),
         Command::Expr { kind } => write_end(out, check_text(alloc, kind, text_of(words))),
         Command::Gen { count, seed } => generate(alloc, count, seed, out),
@@ -102,12 +111,14 @@ fn run_command<S: Source, K: Sink, D: SharedDisk>(
 }
 
 // The words are read, and what they ask for is done.
-fn run_words<S: Source, K: Sink, D: SharedDisk>(
+fn run_words<R: Threads + Wait + Sync, S: Source, K: Sink, D: SharedDisk, G: Gate>(
+    rt: &R,
     alloc: Global,
     words: &[String],
     source: &mut S,
     out: &mut K,
     disk: &mut D,
+    gate: &G,
     world: &mut World,
 ) -> Status8
     requires { world.old ≡ empty_world }
@@ -118,7 +129,7 @@ fn run_words<S: Source, K: Sink, D: SharedDisk>(
         (WordsLack run) run.stage.sink result }
 {
     match command_of(alloc, words) {
-        Ok(Some(command)) => run_command(alloc, command, words, source, out, disk, world),
+        Ok(Some(command)) => run_command(rt, alloc, command, words, source, out, disk, gate, world),
         Ok(None) => write_end(out, usage(alloc)),
         Err(_) => Status8::Memory,
     }
@@ -127,14 +138,14 @@ fn run_words<S: Source, K: Sink, D: SharedDisk>(
 /// Does what the words ask for, over a source, a sink, a disk and an empty world, and tells the status that the run ends with.
 ///
 /// The words `run` read the source to its end as a script and play it over the disk: its first line begins a cluster, and
-/// the others are its events, whose lines are written as each event ends. The words `check` read it to its end and tell
-/// whether it is a script. The words `expr KIND TEXT` tell whether the text is a format expression, and the words
-/// `gen COUNT SEED` write the script of a large run, of so many turns from a seed on; the source stays unread.
-/// The words `scan KIND TEXT SIZE` read the source to its end as records of the size and print of each the texts of the tokens of
-/// the expression, `find KIND TEXT SIZE TOKEN WORD` of those in which the token of this number has the word as its text. Before
-/// the source is read a text is refused that is no expression (`ScriptRefused`), or of whose tokens the texts cannot be told apart
-/// in records of the size (`Inseparable`). SIZE is 0, for records that end with their first line feed, or 32 to 16,384; TOKEN is
-/// 1 to 1,024.
+/// the others are its events, whose lines are written as each event ends; the workers of a dispatch pass the gate. The
+/// words `check` read it to its end and tell whether it is a script. The words `expr KIND TEXT` tell whether the text is a
+/// format expression, and the words `gen COUNT SEED` write the script of a large run, of so many turns from a seed on; the
+/// source stays unread. The words `scan KIND TEXT SIZE` read the source to its end as records of the size and print of each
+/// the texts of the tokens of the expression, `find KIND TEXT SIZE TOKEN WORD` of those in which the token of this number
+/// has the word as its text. Before the source is read a text is refused that is no expression (`ScriptRefused`), or of
+/// whose tokens the texts cannot be told apart in records of the size (`Inseparable`). SIZE is 0, for records that end with
+/// their first line feed, or 32 to 16,384; TOKEN is 1 to 1,024.
 ///
 /// The clause `ends` says of each status what was read, what is written and what stands. Every count of faults stands but
 /// as the status says: `WriteFault` comes exactly where the sink's rose, whatever was to come; the source's rises by
@@ -156,12 +167,14 @@ fn run_words<S: Source, K: Sink, D: SharedDisk>(
 /// callbacks and posts up to the fault, the entry is committed and has no reply, and what was answered as stored before it
 /// stands, unless the entry gives its place away; where the fault came in a line that shows files, all stands as at the end
 /// of the line before. Where memory ran out in an event, what clients were fed up to there tells the same of the sends.
-pub fn run<S: Source, K: Sink, D: SharedDisk>(
+pub fn run<R: Threads + Wait + Sync, S: Source, K: Sink, D: SharedDisk, G: Gate>(
+    rt: &R,
     alloc: Global,
     words: &[String],
     source: &mut S,
     out: &mut K,
     disk: &mut D,
+    gate: &G,
     world: &mut World,
 ) -> Status8
     requires { world.old ≡ empty_world }
@@ -211,5 +224,5 @@ pub fn run<S: Source, K: Sink, D: SharedDisk>(
         → ¬ HasRisen (S.faults source.old, S.faults source.new)
         → ¬ HasRisen (K.faults out.old, K.faults out.new) → IsDoneOrMemory result }
 {
-    run_words(alloc, words, source, out, disk, world)
+    run_words(rt, alloc, words, source, out, disk, gate, world)
 }

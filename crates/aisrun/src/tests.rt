@@ -4,6 +4,7 @@ mod short_disk;
 
 use crate::{Status8, run};
 use ais_values::Duplicate;
+use callback_dispatch::OpenGate;
 use cluster_core::World;
 use disk_model::{MemDisk, SharedDisk};
 use io_edge::{MemSink, MemSource, Sink, SinkAnswer};
@@ -11,6 +12,8 @@ use rows::PLAYED;
 use short_disk::ShortDisk;
 use std::alloc::Global;
 use std::process::Abort;
+use std::sync::Wait;
+use std::thread::Threads;
 
 const CLUSTER: &str = "cluster start=1704067200000000000 queue=2 callbacks=8\n";
 
@@ -198,8 +201,8 @@ fn parted(rt: &impl Abort, alloc: Global, words: &str) -> Vec<String> {
 }
 
 /// The words are run over an empty world.
-fn play<D: SharedDisk>(
-    rt: &impl Abort,
+fn play<R: Abort + Threads + Wait + Sync, D: SharedDisk>(
+    rt: &R,
     alloc: Global,
     source: &mut MemSource,
     out: &mut Narrow,
@@ -208,15 +211,24 @@ fn play<D: SharedDisk>(
 ) -> u8 {
     let list = parted(rt, alloc, words);
     let mut world = World::empty(alloc);
-    let status = run(alloc, list.as_slice(), source, out, disk, &mut world);
+    let status = run(
+        rt,
+        alloc,
+        list.as_slice(),
+        source,
+        out,
+        disk,
+        &OpenGate,
+        &mut world,
+    );
     drop(world);
     drop(list);
     status.code()
 }
 
 /// The words are run over the stage, and end with this status and this text.
-fn ends(
-    rt: &impl Abort,
+fn ends<R: Abort + Threads + Wait + Sync>(
+    rt: &R,
     alloc: Global,
     stage: &mut Stage,
     words: &str,
@@ -241,7 +253,7 @@ fn behind_cluster(rt: &impl Abort, alloc: Global, rest: &str) -> Vec<u8> {
 }
 
 /// The script of a row prints the row's text.
-fn row_plays(rt: &impl Abort, alloc: Global, row: &str) {
+fn row_plays<R: Abort + Threads + Wait + Sync>(rt: &R, alloc: Global, row: &str) {
     let (script, text) = row.split_once('^').expect(rt, "a script and a text");
     let input = script.as_bytes().to_vec(alloc).expect(rt, "memory");
     let mut stage = prepared(rt, alloc, input, NONE);
@@ -257,7 +269,7 @@ fn scripts_are_played(rt: HostRuntime) {
 }
 
 /// The words, over the input of a row, end as it says.
-fn row_ends(rt: &impl Abort, alloc: Global, row: &str) {
+fn row_ends<R: Abort + Threads + Wait + Sync>(rt: &R, alloc: Global, row: &str) {
     let (words, row) = row.split_once('|').expect(rt, "words");
     let (rest, row) = row.split_once('|').expect(rt, "an input");
     let (status, text) = row.split_once('|').expect(rt, "a status and a text");
@@ -276,7 +288,7 @@ fn scripts_and_expressions_are_judged(rt: HostRuntime) {
 }
 
 /// The words, over the input of a row, end as it says.
-fn scan_ends(rt: &impl Abort, alloc: Global, row: &str) {
+fn scan_ends<R: Abort + Threads + Wait + Sync>(rt: &R, alloc: Global, row: &str) {
     let (words, row) = row.split_once('|').expect(rt, "words");
     let (input, row) = row.split_once('|').expect(rt, "an input");
     let (status, text) = row.split_once('|').expect(rt, "a status and a text");
@@ -296,7 +308,7 @@ fn records_are_told(rt: HostRuntime) {
 }
 
 /// The words are refused, and nothing is read.
-fn refused(rt: &impl Abort, alloc: Global, words: &str) {
+fn refused<R: Abort + Threads + Wait + Sync>(rt: &R, alloc: Global, words: &str) {
     let input = behind_cluster(rt, alloc, "");
     let mut stage = prepared(rt, alloc, input, NONE);
     ends(rt, alloc, &mut stage, words, 2, USAGE.as_bytes());
@@ -322,7 +334,7 @@ fn failing_by(digits: &[u8]) -> Failing {
 }
 
 /// The run with the failing calls of a row ends as it says.
-fn reason_ends(rt: &impl Abort, alloc: Global, row: &str) {
+fn reason_ends<R: Abort + Threads + Wait + Sync>(rt: &R, alloc: Global, row: &str) {
     let (digits, row) = row.split_once('|').expect(rt, "digits");
     let (words, text) = row.split_once('|').expect(rt, "words and a text");
     let digits = digits.as_bytes();
@@ -353,7 +365,13 @@ const BEFORE: &str =
     "post 1 req 1 1\npost 2 req 1 2\npost 3 req 1 3\nacc 1 call 1 1 1704067200000000000\npost 4 rep 1 1\nreply 1 1 ok\nacc 2 call 1 2 1704067200000000000\npost 5 rep 1 2\nreply 1 2 ok\nacc 3 call 1 3 1704067200000000000\nserver a down\n";
 
 /// With this failing call the lines print this text, and then the disk's fault.
-fn breaks(rt: &impl Abort, alloc: Global, rest: &str, failing: Failing, shown: &str) {
+fn breaks<R: Abort + Threads + Wait + Sync>(
+    rt: &R,
+    alloc: Global,
+    rest: &str,
+    failing: Failing,
+    shown: &str,
+) {
     let input = behind_cluster(rt, alloc, rest);
     let mut stage = prepared(rt, alloc, input, failing);
     let text = format!(in alloc; "{shown}disk fault\n").expect(rt, "memory");
@@ -389,7 +407,13 @@ fn each_look_at_the_disk_fails_in_turn(rt: HostRuntime) {
 }
 
 /// Where the reading call of this number fails, the line prints this all the same: it does not make that call.
-fn makes_fewer(rt: &impl Abort, alloc: Global, line: &str, look: u64, shown: &str) {
+fn makes_fewer<R: Abort + Threads + Wait + Sync>(
+    rt: &R,
+    alloc: Global,
+    line: &str,
+    look: u64,
+    shown: &str,
+) {
     let input = behind_cluster(rt, alloc, line);
     let mut stage = prepared(rt, alloc, input, Failing { look, ..NONE });
     ends(rt, alloc, &mut stage, "run", 0, shown.as_bytes());

@@ -15,7 +15,7 @@ use Rattle.cluster_facts.proofs.Words.{by_test}
 use Rattle.cluster_events.specs.ClientEvents.{handed_lines, dispatch_all_by, dispatch_one_by}
 use Rattle.client_agent.specs.declared.answers.How.{How}
 use Rattle.client_agent.specs.declared.answers.How.TheVariants.{One, All}
-use Rattle.client_agent.specs.declared.answers.Numbered.{Numbered}
+use Rattle.callback_dispatch.specs.declared.numbered.Numbered.{Numbered}
 use Rattle.client_agent.specs.declared.answers.Dispatched.TheVariants.{Refused, Given}
 use Rattle.client_agent.specs.Seen.{Seen, seen_of}
 use Rattle.client_agent.specs.Steps.{numbered, handed_out, after_dispatch}

@@ -3,16 +3,20 @@ ghost use Rattle.std.specs.Prelude.{◌≡◌, ◌<◌, ◌++◌, ℕ, length, m
 ghost use Rattle.std.specs.List.{flat_map};
 ghost use Rattle.cluster_facts.specs.Agents.{Agent as AgentOf, resent};
 ghost use Rattle.client_agent.specs.Seen.{Seen, seen_of};
-ghost use Rattle.client_agent.specs.declared.answers.Numbered.{Numbered};
+ghost use Rattle.client_agent.specs.Steps.{HasWorkers};
+ghost use Rattle.callback_dispatch.specs.declared.numbered.Numbered.{Numbered};
 ghost use Rattle.event_text.specs.Texts.{callback_lines};
 ghost use Rattle.cluster_clients.specs.Clients.{place_of, IsDispatchedAt, Dispatches};
 ghost use Rattle.cluster_clients.specs.PartlyDone.{MayDispatch};
 
 use ais_values::{Seq, Status};
-use client_agent::{Agent, Dispatched, How, Numbered};
+use callback_dispatch::{Gate, Numbered};
+use client_agent::{Agent, Dispatched, How};
 use event_text::{put_callback, put_declined, put_dispatched};
 use std::alloc::{AllocError, Global};
 use std::mem;
+use std::sync::Wait;
+use std::thread::Threads;
 use wire::Message;
 
 /// The place of a client's agent.
@@ -43,20 +47,23 @@ pub fn sent_again(alloc: Global, agents: &[Agent], at: usize) -> Result<Seq<Mess
     agents[at].resend(alloc)
 }
 
-/// The agent at a place hands out callbacks. Where memory runs out the agents stay.
-fn dispatch_at(
+/// The agent at a place hands out callbacks, by workers that pass the gate. Where memory runs out the agents stay.
+fn dispatch_at<R: Threads + Wait + Sync, G: Gate>(
+    rt: &R,
     alloc: Global,
     agents: &mut Seq<Agent>,
     place: usize,
     how: How,
+    gate: &G,
 ) -> Result<Dispatched, AllocError>
-    requires { place < length agents.old }
+    requires within { place < length agents.old }
+    requires workers { HasWorkers how }
     ensures ok { IfOk result (λ dispatched. IsDispatchedAt how place agents.old dispatched
         agents.new) }
     ensures err { OnErr result (agents.new ≡ agents.old) }
 {
     let mut list = mem::replace(agents, Seq::new(alloc)).into_vec();
-    let answer = list[place].dispatch(alloc, how);
+    let answer = list[place].dispatch(rt, alloc, how, gate);
     *agents = Seq::from_vec(list);
     answer
 }
@@ -77,21 +84,25 @@ fn put_callbacks(
     Ok(())
 }
 
-/// Hands out callbacks of a client, and adds the lines. Where memory runs out they may be handed out without lines.
-pub fn dispatch(
+/// Hands out callbacks of a client, and adds the lines. Workers pass the gate, and the lines are the same for every number of
+/// them. Where memory runs out callbacks may be handed out without lines.
+pub fn dispatch<R: Threads + Wait + Sync, G: Gate>(
+    rt: &R,
     alloc: Global,
     agents: &mut Seq<Agent>,
     lines: &mut Vec<Seq<u8>>,
     client: u16,
     how: How,
+    gate: &G,
 ) -> Result<(), AllocError>
+    requires { HasWorkers how }
     ensures ok { OnOk result (Dispatches how client agents.old agents.new lines.old.items
         lines.new.items) }
     ensures err { OnErr result (MayDispatch how client agents.old agents.new) }
 {
     match place_of(agents.as_slice(), client) {
         None => put_declined(alloc, lines, client, Status::BadHandle),
-        Some(place) => match dispatch_at(alloc, agents, place, how)? {
+        Some(place) => match dispatch_at(rt, alloc, agents, place, how, gate)? {
             Dispatched::Refused { status } => put_declined(alloc, lines, client, status),
             Dispatched::Given { taken } => {
                 put_callbacks(alloc, lines, client, taken.as_slice())?;

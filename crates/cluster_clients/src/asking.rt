@@ -137,7 +137,8 @@ fn enlist(alloc: Global, agents: &mut Seq<Agent>, agent: Agent) -> Result<(), Al
 }
 
 /// A new agent, and what became of its first call.
-fn first_call(
+fn first_call<R>(
+    rt: &R,
     alloc: Global,
     callbacks: u32,
     client: u16,
@@ -145,7 +146,7 @@ fn first_call(
 ) -> Result<(Agent, Sent), AllocError>
     ensures { IfOk result (λ made. IsSent client callbacks asked.now fresh made.1 made.0) }
 {
-    let mut agent = Agent::new(alloc, client, callbacks)?;
+    let mut agent = Agent::new(rt, alloc, client, callbacks)?;
     match agent.call(alloc, asked) {
         Ok(sent) => Ok((agent, sent)),
         Err(error) => {
@@ -196,7 +197,8 @@ fn place_first(
 }
 
 /// A client that has no agent yet asks for a call.
-fn ask_first(
+fn ask_first<R>(
+    rt: &R,
     alloc: Global,
     net: &mut Net,
     agents: &mut Seq<Agent>,
@@ -213,7 +215,7 @@ fn ask_first(
     ensures err { OnErr result (AsksPartly callbacks client asked.now net.old net.new agents.old
         agents.new) }
 {
-    match first_call(alloc, callbacks, client, asked) {
+    match first_call(rt, alloc, callbacks, client, asked) {
         Ok((agent, sent)) => place_first(alloc, net, agents, lines, client, agent, sent),
         Err(error) => Err(error),
     }
@@ -222,7 +224,8 @@ fn ask_first(
 /// A client asks for a call: its request is posted, or its agent refuses it by itself. Where memory runs out the agent may have
 /// sent the call though its request was not posted. The same
 /// is answered where the agent numbered 4,294,967,294 calls.
-pub fn ask(
+pub fn ask<R>(
+    rt: &R,
     alloc: Global,
     net: &mut Net,
     agents: &mut Seq<Agent>,
@@ -246,6 +249,6 @@ pub fn ask(
             }
             ask_at(alloc, net, agents, lines, callbacks, client, asked, at)
         }
-        None => ask_first(alloc, net, agents, lines, callbacks, client, asked),
+        None => ask_first(rt, alloc, net, agents, lines, callbacks, client, asked),
     }
 }

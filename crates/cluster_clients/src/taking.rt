@@ -18,6 +18,7 @@ use event_text::{put_ignored, put_reply};
 use message_net::Net;
 use std::alloc::{AllocError, Global};
 use std::mem;
+use std::sync::Wait;
 use wire::Message;
 
 /// The client that a reply or an item is for.
@@ -55,7 +56,8 @@ fn why_of(why: MissedWhy) -> Why
 }
 
 /// The agent at a place takes a message. Where memory runs out the agents stay.
-fn receive_at(
+fn receive_at<R: Wait>(
+    rt: &R,
     alloc: Global,
     agents: &mut Seq<Agent>,
     at: usize,
@@ -68,7 +70,7 @@ fn receive_at(
     ensures err { OnErr result (agents.new ≡ agents.old) }
 {
     let mut list = mem::replace(agents, Seq::new(alloc)).into_vec();
-    let answer = list[at].receive(alloc, message);
+    let answer = list[at].receive(rt, alloc, message);
     *agents = Seq::from_vec(list);
     answer
 }
@@ -154,7 +156,8 @@ fn tell_taken(
 }
 
 /// The agent at its client's place takes a message.
-fn take_at(
+fn take_at<R: Wait>(
+    rt: &R,
     alloc: Global,
     net: &mut Net,
     agents: &mut Seq<Agent>,
@@ -172,7 +175,7 @@ fn take_at(
     ensures err { OnErr result (TakesPartly (number_told place) message.now net.old net.new
         agents.old agents.new) }
 {
-    match receive_at(alloc, agents, at, message) {
+    match receive_at(rt, alloc, agents, at, message) {
         Ok(taken) => tell_taken(alloc, net, lines, place, client, taken),
         Err(error) => Err(error),
     }
@@ -183,7 +186,8 @@ fn take_at(
 ///
 /// With the number of the message in the net a line tells of one without effect; without it, as in `settle`, nothing is told of
 /// those. Where memory runs out the agent may have taken it without its lines, and without its receipt.
-pub fn take(
+pub fn take<R: Wait>(
+    rt: &R,
     alloc: Global,
     net: &mut Net,
     agents: &mut Seq<Agent>,
@@ -206,6 +210,6 @@ pub fn take(
             Ok(()) => Ok(false),
             Err(error) => Err(error),
         },
-        Some(at) => take_at(alloc, net, agents, lines, place, message, client, at),
+        Some(at) => take_at(rt, alloc, net, agents, lines, place, message, client, at),
     }
 }

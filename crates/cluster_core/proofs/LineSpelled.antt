@@ -1,5 +1,5 @@
--- What a line that can stand in a script gives: its clients and its time are in range, and a cluster line's start, queue and streams
--- are such that a cluster can open.
+-- What a line that can stand in a script gives: its clients, its time and its workers are in range, and a cluster line's start,
+-- queue and streams are such that a cluster can open.
 use Rattle.std.proofs.Common.{ℕ, List, [], ◌∷◌, inl, inr, sym, subst}
 use Rattle.std.specs.Prelude.{codes}
 use Rattle.sub_queue.specs.Queue.{IsCapacity}
@@ -82,7 +82,7 @@ cat-gives = part _ _ (λ name own range. known _ (tt, tt))
 dispatch-gives : Gives IsDispatch
 unfolding IsDispatch
 dispatch-gives =
-    part _ _ (λ client own range. one_of (dispatch_forms client) (known (line.DispatchOne client) (tt, tt), (part _ _ (λ workers text is. known (line.DispatchAll client workers) (tt, tt)), tt)))
+    part _ _ (λ client own range. one_of (dispatch_forms client) (known (line.DispatchOne client) (tt, tt), (part _ _ (λ workers text count. known (line.DispatchAll client workers) ((count.0, count.1), tt)), tt)))
 
 -- the setting's own time and lengths are in range
 abbrev Opens : Line → Type 0

@@ -11,6 +11,8 @@ use Rattle.cluster_events.specs.Outcomes.{Outcome}
 use Rattle.cluster_events.specs.Servers.{State}
 use Rattle.cluster_events.specs.Events.{deliver, work_next}
 use Rattle.cluster_events.specs.Running.{Shelf, Happens}
+use Rattle.client_agent.specs.declared.answers.How.TheVariants.{All}
+use Rattle.client_agent.specs.Steps.{HasWorkers}
 use Rattle.lone_cluster.specs.Lone.{Alone, lone}
 use Rattle.cluster_core.specs.Playing.{FaultLeaves}
 use Rattle.cluster_core.specs.Shelves.{shelf_of}
@@ -22,11 +24,12 @@ use Rattle.cluster_core.specs.declared.lone.Lone.{Lone}
 use Rattle.cluster_core.specs.LoneKit.{lone_kit}
 use Rattle.cluster_core.specs.Worlds.{whole_of}
 
--- the client of a line is 1 to 4,096, and its time a moment
+-- the client of a line is 1 to 4,096, its time a moment, and its workers are 1 to 8
 abbrev pub IsInRange : Line → Type 0
 IsInRange (line.Time now) = IsMoment now
 IsInRange (line.Log client asked) = IsCaller client
 IsInRange (line.Ntf client asked) = IsCaller client
+IsInRange (line.DispatchAll client workers) = HasWorkers (All workers)
 IsInRange _ = Unit {0}
 
 abbrev pub deliver_at : ℕ → Setup → State Alone → Outcome (State Alone)

@@ -121,9 +121,11 @@ impl World {
     ///
     /// On an error the world stays empty. `Memory` comes only for want of memory; some device calls of the start may be done.
     /// `DiskFault` comes exactly where the disk's count of faults rose: a device call failed, those before it were done, and
-    /// nothing is printed. On `Ok` and on `Memory` the count stands.
-    pub fn begin<D: SharedDisk>(
+    /// nothing is printed. On `Ok` and on `Memory` the count stands. No thread starts: the queues of callbacks are made with the
+    /// clients' first calls.
+    pub fn begin<R, D: SharedDisk>(
         &mut self,
+        _rt: &R,
         alloc: Global,
         line: &Line,
         disk: &mut D,

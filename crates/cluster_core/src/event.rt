@@ -5,11 +5,14 @@ ghost use Rattle.script_language.specs.Lines.{Spells};
 use crate::World;
 use crate::parts::play_whole;
 use ais_values::Seq;
+use callback_dispatch::Gate;
 use cluster_clients::EventAnswer;
 use disk_model::{DiskAnswer, SharedDisk};
 use script_lines::Line;
 use std::alloc::Global;
 use std::mem;
+use std::sync::Wait;
+use std::thread::Threads;
 
 impl World {
     ghost use Rattle.cluster_core.specs.Worlds.{HasState};
@@ -17,7 +20,9 @@ impl World {
     ghost use Rattle.cluster_clients.specs.Answers.{RisesAtFault};
 
     /// Does what a line of a script asks for while no server fails, and answers with the lines that it prints, each with its line
-    /// feed. A cluster line, the lines on failures of servers and a time below that in force are no part of it.
+    /// feed. A cluster line, the lines on failures of servers and a time below that in force are no part of it. A dispatch of all is
+    /// by as many workers as the line says, each of which passes the gate before it takes anything; what is printed does not rest
+    /// on their number.
     ///
     /// `DiskFault` comes exactly where the disk's count of faults rose in the call: on `Ok` and on `Memory` the count stands. A
     /// line that shows files leaves all as it was then, and has no lines. Otherwise the line is `work` or `settle`: it came to an
@@ -29,11 +34,13 @@ impl World {
     /// earlier one; that time stays. Each client was fed the beginning of its items, each reply that it took is the
     /// history's, and the files are between. The same is answered where the history has 4,000,000,000 entries, where a
     /// client's agent has numbered 4,294,967,294 calls, and where a string of the net has more than 4,294,967,294 bytes.
-    pub fn event<D: SharedDisk>(
+    pub fn event<R: Threads + Wait + Sync, D: SharedDisk, G: Gate>(
         &mut self,
+        rt: &R,
         alloc: Global,
         line: &Line,
         disk: &mut D,
+        gate: &G,
     ) -> Result<Seq<Seq<u8>>, EventAnswer>
         requires spelled { (raw : List ℕ) × Spells line.now raw }
         requires lone { IsLoneLine self.old.now line.now }
@@ -45,7 +52,7 @@ impl World {
         ensures cause { RisesAtFault (D.faults disk.old) (D.faults disk.new) result }
     {
         let mut lines = Vec::new(alloc);
-        match play_whole(alloc, self, &mut lines, line, disk) {
+        match play_whole(rt, alloc, self, &mut lines, line, disk, gate) {
             Ok(()) => Ok(Seq::from_vec(lines)),
             Err(DiskAnswer::Memory) => {
                 mem::drop(lines);

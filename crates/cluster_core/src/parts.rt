@@ -10,6 +10,7 @@ use crate::World;
 use crate::lone::Lone;
 use crate::playing::play;
 use ais_values::Seq;
+use callback_dispatch::Gate;
 use calls::History;
 use cluster_rounds::Cluster;
 use disk_model::{DiskAnswer, SharedDisk};
@@ -18,6 +19,8 @@ use mirror::Node;
 use script_lines::Line;
 use std::alloc::Global;
 use std::mem;
+use std::sync::Wait;
+use std::thread::Threads;
 
 /// Takes the parts out of a world.
 fn take_parts(alloc: Global, world: &mut World) -> Cluster<Lone>
@@ -74,12 +77,14 @@ fn put_parts(parts: Cluster<Lone>) -> World
 }
 
 /// What a line does to a world, by its parts.
-pub(crate) fn play_whole<D: SharedDisk>(
+pub(crate) fn play_whole<R: Threads + Wait + Sync, D: SharedDisk, G: Gate>(
+    rt: &R,
     alloc: Global,
     world: &mut World,
     lines: &mut Vec<Seq<u8>>,
     line: &Line,
     disk: &mut D,
+    gate: &G,
 ) -> Result<(), DiskAnswer>
     requires state { HasState world.old }
     requires range { IsInRange line.now }
@@ -92,7 +97,7 @@ pub(crate) fn play_whole<D: SharedDisk>(
     ensures cause { RoseExactlyOn (D.faults disk.old) (D.faults disk.new) result DiskAnswer.Failed }
 {
     let mut parts = take_parts(alloc, world);
-    let played = play(alloc, &mut parts, lines, line, disk);
+    let played = play(rt, alloc, &mut parts, lines, line, disk, gate);
     mem::drop(mem::replace(world, put_parts(parts)));
     played
 }

@@ -14,15 +14,19 @@ use crate::pushing::push;
 use crate::showing::{refused, show_file, show_files, show_servers};
 use crate::working::work;
 use ais_values::Seq;
+use callback_dispatch::Gate;
 use client_agent::How;
 use cluster_rounds::{Cluster, deliver, dispatch, resend, settle};
 use disk_model::{DiskAnswer, SharedDisk};
 use script_lines::Line;
 use std::alloc::{AllocError, Global};
 use std::mem;
+use std::sync::Wait;
+use std::thread::Threads;
 
 /// The message of a line's number is delivered. The line is refused where the net has none of that number.
-fn deliver_line(
+fn deliver_line<R: Wait>(
+    rt: &R,
     alloc: Global,
     world: &mut Cluster<Lone>,
     lines: &mut Vec<Seq<u8>>,
@@ -35,7 +39,7 @@ fn deliver_line(
         lines.new.items) }
     ensures err { OnErr result (BreaksAlone lone_kit world.old world.new) }
 {
-    match deliver(alloc, world, lines, place) {
+    match deliver(rt, alloc, world, lines, place) {
         Ok(done) => {
             if done {
                 return Ok(());
@@ -72,11 +76,13 @@ fn push_line(
 }
 
 /// What a line does that leaves the disk alone. Other lines are no part of it, and answer as if memory ran out.
-fn play_alone(
+fn play_alone<R: Threads + Wait + Sync, G: Gate>(
+    rt: &R,
     alloc: Global,
     world: &mut Cluster<Lone>,
     lines: &mut Vec<Seq<u8>>,
     line: &Line,
+    gate: &G,
 ) -> Result<(), AllocError>
     requires state { HasState lone_kit world.old }
     requires range { IsInRange line.now }
@@ -90,17 +96,17 @@ fn play_alone(
             world.now = *now;
             Ok(())
         }
-        Line::Log { client, ask } => cluster_rounds::ask(alloc, world, lines, *client, ask),
-        Line::Ntf { client, ask } => cluster_rounds::ask(alloc, world, lines, *client, ask),
-        Line::Deliver { place } => deliver_line(alloc, world, lines, line, *place),
+        Line::Log { client, ask } => cluster_rounds::ask(rt, alloc, world, lines, *client, ask),
+        Line::Ntf { client, ask } => cluster_rounds::ask(rt, alloc, world, lines, *client, ask),
+        Line::Deliver { place } => deliver_line(rt, alloc, world, lines, line, *place),
         Line::Resend { client } => resend(alloc, world, lines, *client),
         Line::Mirror => refused(alloc, world, lines, line),
         Line::Ack => refused(alloc, world, lines, line),
         Line::Push => push_line(alloc, world, lines, line),
-        Line::DispatchOne { client } => dispatch(alloc, world, lines, *client, How::One),
+        Line::DispatchOne { client } => dispatch(rt, alloc, world, lines, *client, How::One, gate),
         Line::DispatchAll { client, workers } => {
             let how = How::All { workers: *workers };
-            dispatch(alloc, world, lines, *client, how)
+            dispatch(rt, alloc, world, lines, *client, how, gate)
         }
         Line::Servers => show_servers(alloc, world, lines),
         _ => Err(AllocError),
@@ -140,12 +146,14 @@ fn work_line<D: SharedDisk>(
 }
 
 /// What a line does.
-pub(crate) fn play<D: SharedDisk>(
+pub(crate) fn play<R: Threads + Wait + Sync, D: SharedDisk, G: Gate>(
+    rt: &R,
     alloc: Global,
     world: &mut Cluster<Lone>,
     lines: &mut Vec<Seq<u8>>,
     line: &Line,
     disk: &mut D,
+    gate: &G,
 ) -> Result<(), DiskAnswer>
     requires state { HasState lone_kit world.old }
     requires range { IsInRange line.now }
@@ -158,9 +166,9 @@ pub(crate) fn play<D: SharedDisk>(
 {
     match line {
         Line::Work => work_line(alloc, world, lines, line, disk),
-        Line::Settle => settle(alloc, world, lines, disk),
+        Line::Settle => settle(rt, alloc, world, lines, disk),
         Line::Files => show_files(alloc, world, lines, disk),
         Line::Cat { name } => show_file(alloc, world, lines, disk, line, name),
-        _ => as_answer(play_alone(alloc, world, lines, line)),
+        _ => as_answer(play_alone(rt, alloc, world, lines, line, gate)),
     }
 }

@@ -1,17 +1,22 @@
 //! What clients ask of their agents.
 ghost use Rattle.std.specs.Prelude.{OnOk, OnErr};
+ghost use Rattle.client_agent.specs.Steps.{HasWorkers};
 ghost use Rattle.cluster_rounds.specs.Worlds.{HasState, Does};
 ghost use Rattle.cluster_rounds.specs.Broken.{BreaksAlone};
 ghost use Rattle.cluster_rounds.specs.Delivered.{IsCaller, asked_by, dispatched_by};
 
 use crate::{Cluster, Serving};
 use ais_values::Seq;
+use callback_dispatch::Gate;
 use calls::Ask;
 use client_agent::How;
 use std::alloc::{AllocError, Global};
+use std::sync::Wait;
+use std::thread::Threads;
 
 /// A client asks for a call.
-pub fn ask<S: Serving>(
+pub fn ask<R, S: Serving>(
+    rt: &R,
     alloc: Global,
     world: &mut Cluster<S>,
     lines: &mut Vec<Seq<u8>>,
@@ -25,6 +30,7 @@ pub fn ask<S: Serving>(
     ensures err { OnErr result (BreaksAlone S.kit world.old world.new) }
 {
     cluster_clients::ask(
+        rt,
         alloc,
         &mut world.net,
         &mut world.agents,
@@ -35,17 +41,20 @@ pub fn ask<S: Serving>(
     )
 }
 
-/// Callbacks of a client are handed out.
-pub fn dispatch<S: Serving>(
+/// Callbacks of a client are handed out, by workers that pass the gate.
+pub fn dispatch<R: Threads + Wait + Sync, S: Serving, G: Gate>(
+    rt: &R,
     alloc: Global,
     world: &mut Cluster<S>,
     lines: &mut Vec<Seq<u8>>,
     client: u16,
     how: How,
+    gate: &G,
 ) -> Result<(), AllocError>
+    requires workers { HasWorkers how }
     ensures ok { OnOk result (Does S.kit (dispatched_by S.kit how client) world.old world.new
         lines.old.items lines.new.items) }
     ensures err { OnErr result (BreaksAlone S.kit world.old world.new) }
 {
-    cluster_clients::dispatch(alloc, &mut world.agents, lines, client, how)
+    cluster_clients::dispatch(rt, alloc, &mut world.agents, lines, client, how, gate)
 }

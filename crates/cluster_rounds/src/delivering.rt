@@ -11,6 +11,7 @@ use ais_values::Seq;
 use cluster_clients::{fetch, take};
 use std::alloc::{AllocError, Global};
 use std::mem;
+use std::sync::Wait;
 use wire::Message;
 
 /// Whether the message is a reply or an item, which are for an agent.
@@ -28,7 +29,8 @@ fn is_for_server(message: &Message) -> bool
 }
 
 /// Delivers a reply or an item of this number in the net to its agent.
-fn deliver_to_agent<S: Serving>(
+fn deliver_to_agent<R: Wait, S: Serving>(
+    rt: &R,
     alloc: Global,
     world: &mut Cluster<S>,
     lines: &mut Vec<Seq<u8>>,
@@ -42,6 +44,7 @@ fn deliver_to_agent<S: Serving>(
     ensures err { OnErr result (BreaksAloneIf S.kit (StandsIn message.now) world.old world.new) }
 {
     match take(
+        rt,
         alloc,
         &mut world.net,
         &mut world.agents,
@@ -55,7 +58,8 @@ fn deliver_to_agent<S: Serving>(
 }
 
 /// Delivers a message of this number in the net: a reply or an item to its agent, a request or a receipt to the active server.
-fn deliver_message<S: Serving>(
+fn deliver_message<R: Wait, S: Serving>(
+    rt: &R,
     alloc: Global,
     world: &mut Cluster<S>,
     lines: &mut Vec<Seq<u8>>,
@@ -69,7 +73,7 @@ fn deliver_message<S: Serving>(
     ensures err { OnErr result (BreaksAloneIf S.kit (StandsIn message.now) world.old world.new) }
 {
     if is_for_agent(message) {
-        return deliver_to_agent(alloc, world, lines, place, message);
+        return deliver_to_agent(rt, alloc, world, lines, place, message);
     }
     if is_for_server(message) {
         return S::hear(alloc, world, lines, place, message);
@@ -78,7 +82,8 @@ fn deliver_message<S: Serving>(
 }
 
 /// The same of a message that was fetched, if there is one.
-fn deliver_found<S: Serving>(
+fn deliver_found<R: Wait, S: Serving>(
+    rt: &R,
     alloc: Global,
     world: &mut Cluster<S>,
     lines: &mut Vec<Seq<u8>>,
@@ -94,7 +99,7 @@ fn deliver_found<S: Serving>(
     match found {
         None => Ok(false),
         Some(message) => {
-            let done = deliver_message(alloc, world, lines, place, &message);
+            let done = deliver_message(rt, alloc, world, lines, place, &message);
             mem::drop(message);
             match done {
                 Ok(()) => Ok(true),
@@ -105,7 +110,8 @@ fn deliver_found<S: Serving>(
 }
 
 /// Delivers the message of this number in the net, and answers whether there is one.
-pub fn deliver<S: Serving>(
+pub fn deliver<R: Wait, S: Serving>(
+    rt: &R,
     alloc: Global,
     world: &mut Cluster<S>,
     lines: &mut Vec<Seq<u8>>,
@@ -117,7 +123,7 @@ pub fn deliver<S: Serving>(
     ensures err { OnErr result (BreaksAlone S.kit world.old world.new) }
 {
     match fetch(alloc, &world.net, place) {
-        Ok(found) => deliver_found(alloc, world, lines, place, found),
+        Ok(found) => deliver_found(rt, alloc, world, lines, place, found),
         Err(error) => Err(error),
     }
 }

@@ -15,6 +15,7 @@ use cluster_clients::{clients_of, place_of, reply_to, sent_again};
 use disk_model::{DiskAnswer, SharedDisk};
 use std::alloc::{AllocError, Global};
 use std::mem;
+use std::sync::Wait;
 use wire::Message;
 
 /// Puts lines behind others where they are to be kept.
@@ -61,7 +62,8 @@ fn hear_so<S: Serving>(
 }
 
 /// The agent of a reply or an item takes or misses it. Answers whether it took it.
-fn take<S: Serving>(
+fn take<R: Wait, S: Serving>(
+    rt: &R,
     alloc: Global,
     world: &mut Cluster<S>,
     lines: &mut Vec<Seq<u8>>,
@@ -73,6 +75,7 @@ fn take<S: Serving>(
     ensures err { OnErr result (BreaksAloneIf S.kit (StandsIn message.now) world.old world.new) }
 {
     cluster_clients::take(
+        rt,
         alloc,
         &mut world.net,
         &mut world.agents,
@@ -83,7 +86,8 @@ fn take<S: Serving>(
 }
 
 /// The same, of a message that is let go.
-fn take_owned<S: Serving>(
+fn take_owned<R: Wait, S: Serving>(
+    rt: &R,
     alloc: Global,
     world: &mut Cluster<S>,
     lines: &mut Vec<Seq<u8>>,
@@ -94,13 +98,14 @@ fn take_owned<S: Serving>(
         world.old world.new lines.old.items lines.new.items loud) }
     ensures err { OnErr result (BreaksAloneIf S.kit (StandsIn message) world.old world.new) }
 {
-    let taken = take(alloc, world, lines, &message);
+    let taken = take(rt, alloc, world, lines, &message);
     mem::drop(message);
     taken
 }
 
 /// The reply to a client's call is delivered, if the net has one. Answers whether the client took it.
-fn take_reply<S: Serving>(
+fn take_reply<R: Wait, S: Serving>(
+    rt: &R,
     alloc: Global,
     world: &mut Cluster<S>,
     lines: &mut Vec<Seq<u8>>,
@@ -116,13 +121,14 @@ fn take_reply<S: Serving>(
 {
     match reply_to(alloc, &world.net, client, seq) {
         Ok(None) => Ok(false),
-        Ok(Some(reply)) => take_owned(alloc, world, lines, reply),
+        Ok(Some(reply)) => take_owned(rt, alloc, world, lines, reply),
         Err(error) => Err(error),
     }
 }
 
 /// The reply to a request is delivered, if the net has one. Answers whether the client took it.
-fn take_answer<S: Serving>(
+fn take_answer<R: Wait, S: Serving>(
+    rt: &R,
     alloc: Global,
     world: &mut Cluster<S>,
     lines: &mut Vec<Seq<u8>>,
@@ -134,13 +140,14 @@ fn take_answer<S: Serving>(
     ensures err { OnErr result (BreaksAloneIf S.kit any_state world.old world.new) }
 {
     match message {
-        Message::Request { client, seq, .. } => take_reply(alloc, world, lines, *client, *seq),
+        Message::Request { client, seq, .. } => take_reply(rt, alloc, world, lines, *client, *seq),
         _ => Ok(false),
     }
 }
 
 /// A message is heard, the servers drain, and the reply to it is delivered. Answers whether something went on.
-fn turn<S: Serving, D: SharedDisk>(
+fn turn<R: Wait, S: Serving, D: SharedDisk>(
+    rt: &R,
     alloc: Global,
     world: &mut Cluster<S>,
     lines: &mut Vec<Seq<u8>>,
@@ -163,14 +170,15 @@ fn turn<S: Serving, D: SharedDisk>(
         Ok(drained) => drained,
         Err(answer) => return Err(answer),
     };
-    match take_answer(alloc, world, lines, message) {
+    match take_answer(rt, alloc, world, lines, message) {
         Ok(taken) => Ok(either(either(heard, drained), taken)),
         Err(_) => Err(DiskAnswer::Memory),
     }
 }
 
 /// A turn for each of these messages, in order. Answers whether something went on.
-fn turn_all<S: Serving, D: SharedDisk>(
+fn turn_all<R: Wait, S: Serving, D: SharedDisk>(
+    rt: &R,
     alloc: Global,
     world: &mut Cluster<S>,
     lines: &mut Vec<Seq<u8>>,
@@ -187,7 +195,7 @@ fn turn_all<S: Serving, D: SharedDisk>(
 {
     let mut loud = false;
     for message in messages {
-        match turn(alloc, world, lines, disk, message) {
+        match turn(rt, alloc, world, lines, disk, message) {
             Ok(more) => loud = either(loud, more),
             Err(answer) => return Err(answer),
         }
@@ -196,7 +204,8 @@ fn turn_all<S: Serving, D: SharedDisk>(
 }
 
 /// A turn for each message that a client sends again. Answers whether something went on.
-fn turn_client<S: Serving, D: SharedDisk>(
+fn turn_client<R: Wait, S: Serving, D: SharedDisk>(
+    rt: &R,
     alloc: Global,
     world: &mut Cluster<S>,
     lines: &mut Vec<Seq<u8>>,
@@ -217,7 +226,7 @@ fn turn_client<S: Serving, D: SharedDisk>(
     };
     match sent_again(alloc, world.agents.as_slice(), at) {
         Ok(messages) => {
-            let turned = turn_all(alloc, world, lines, disk, messages.as_slice());
+            let turned = turn_all(rt, alloc, world, lines, disk, messages.as_slice());
             mem::drop(messages);
             turned
         }
@@ -226,7 +235,8 @@ fn turn_client<S: Serving, D: SharedDisk>(
 }
 
 /// Turns for each of these clients, in order. Answers whether something went on.
-fn turn_clients<S: Serving, D: SharedDisk>(
+fn turn_clients<R: Wait, S: Serving, D: SharedDisk>(
+    rt: &R,
     alloc: Global,
     world: &mut Cluster<S>,
     lines: &mut Vec<Seq<u8>>,
@@ -243,7 +253,7 @@ fn turn_clients<S: Serving, D: SharedDisk>(
 {
     let mut loud = false;
     for client in clients {
-        match turn_client(alloc, world, lines, disk, *client) {
+        match turn_client(rt, alloc, world, lines, disk, *client) {
             Ok(more) => loud = either(loud, more),
             Err(answer) => return Err(answer),
         }
@@ -252,7 +262,8 @@ fn turn_clients<S: Serving, D: SharedDisk>(
 }
 
 /// Turns for all clients, by rising number. Answers whether something went on.
-fn turn_each<S: Serving, D: SharedDisk>(
+fn turn_each<R: Wait, S: Serving, D: SharedDisk>(
+    rt: &R,
     alloc: Global,
     world: &mut Cluster<S>,
     lines: &mut Vec<Seq<u8>>,
@@ -267,13 +278,14 @@ fn turn_each<S: Serving, D: SharedDisk>(
         (seen (D.files disk.new) (D.faults disk.new))) }
 {
     match clients_of(alloc, world.agents.as_slice()) {
-        Ok(clients) => turn_clients(alloc, world, lines, disk, clients.as_slice()),
+        Ok(clients) => turn_clients(rt, alloc, world, lines, disk, clients.as_slice()),
         Err(_) => Err(DiskAnswer::Memory),
     }
 }
 
 /// These items are delivered, in order. Answers whether a client took one.
-fn take_items<S: Serving>(
+fn take_items<R: Wait, S: Serving>(
+    rt: &R,
     alloc: Global,
     world: &mut Cluster<S>,
     lines: &mut Vec<Seq<u8>>,
@@ -287,7 +299,7 @@ fn take_items<S: Serving>(
 {
     let mut loud = false;
     for item in items {
-        match take(alloc, world, lines, item) {
+        match take(rt, alloc, world, lines, item) {
             Ok(more) => loud = either(loud, more),
             Err(error) => return Err(error),
         }
@@ -296,7 +308,8 @@ fn take_items<S: Serving>(
 }
 
 /// All items without receipt are posted and delivered. Answers whether a client took one.
-fn push_round<S: Serving>(
+fn push_round<R: Wait, S: Serving>(
+    rt: &R,
     alloc: Global,
     world: &mut Cluster<S>,
     lines: &mut Vec<Seq<u8>>,
@@ -308,7 +321,7 @@ fn push_round<S: Serving>(
 {
     match S::push(alloc, world, lines) {
         Ok(items) => {
-            let taken = take_items(alloc, world, lines, items.as_slice());
+            let taken = take_items(rt, alloc, world, lines, items.as_slice());
             mem::drop(items);
             taken
         }
@@ -317,7 +330,8 @@ fn push_round<S: Serving>(
 }
 
 /// A round. Answers whether it was loud: an entry was committed, or a client took a reply or an item.
-pub(crate) fn round<S: Serving, D: SharedDisk>(
+pub(crate) fn round<R: Wait, S: Serving, D: SharedDisk>(
+    rt: &R,
     alloc: Global,
     world: &mut Cluster<S>,
     lines: &mut Vec<Seq<u8>>,
@@ -335,11 +349,11 @@ pub(crate) fn round<S: Serving, D: SharedDisk>(
         Ok(drained) => drained,
         Err(answer) => return Err(answer),
     };
-    let turned = match turn_each(alloc, world, lines, disk) {
+    let turned = match turn_each(rt, alloc, world, lines, disk) {
         Ok(turned) => turned,
         Err(answer) => return Err(answer),
     };
-    match push_round(alloc, world, lines) {
+    match push_round(rt, alloc, world, lines) {
         Ok(taken) => Ok(either(either(drained, turned), taken)),
         Err(_) => Err(DiskAnswer::Memory),
     }

@@ -10,12 +10,14 @@ use crate::{Cluster, Serving};
 use ais_values::Seq;
 use disk_model::{DiskAnswer, SharedDisk};
 use std::alloc::Global;
+use std::sync::Wait;
 
 /// Plays rounds up to the first that is not loud, and adds the lines of all of them, but for those on messages without effect.
 ///
 /// `Failed` comes where the disk had a fault that no server survives: its count of faults rose, and the lines are those of all that
 /// was done until then. `Memory` comes where memory ran out; some of it was done.
-pub fn settle<S: Serving, D: SharedDisk>(
+pub fn settle<R: Wait, S: Serving, D: SharedDisk>(
+    rt: &R,
     alloc: Global,
     world: &mut Cluster<S>,
     lines: &mut Vec<Seq<u8>>,
@@ -31,7 +33,7 @@ pub fn settle<S: Serving, D: SharedDisk>(
 {
     let mut loud = true;
     while loud {
-        match round(alloc, world, lines, disk) {
+        match round(rt, alloc, world, lines, disk) {
             Ok(more) => loud = more,
             Err(answer) => return Err(answer),
         }

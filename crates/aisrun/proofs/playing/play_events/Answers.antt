@@ -63,17 +63,17 @@ returns g c setup places held begun =
     behind-last g.K.Sink.written g.K.Sink.faults c.args.out.now c.loop-line.out setup places held (files c.loop-line.disk) disk (StoodUpTo (edge files faults c.args.disk.now c.loop-line.disk)) c.loop-line.world c.args.events.now (drop c.loop-line.line-index c.args.events.now) (drop_of_length-le c.args.events.now (omega arith)) c.loop-line.invariant.sink c.loop-line.invariant.disk (c.loop-line.invariant.behind setup places held begun)
 
 pub play_line-requires-clause-state : goal.play_line-requires-clause-state
-play_line-requires-clause-state g c =
+play_line-requires-clause-state g c κs within =
     let begun = c.requires.begun in
     let first = c.loop-line.invariant.behind begun.0 begun.1 begun.2 begun.3 in
     going-state begun.0 begun.1 begun.2 (g.D.SharedDisk.files c.loop-line.disk) c.loop-line.world first.done first.text first.going
 
 pub play_line-requires-clause-spelled : goal.play_line-requires-clause-spelled
-play_line-requires-clause-spelled g c =
+play_line-requires-clause-spelled g c κs within =
     let at = from-place c.args.events.now c.loop-line.line-index c.line-item.result c.loop-line-test.true c.line-item.is in
     (subst (λ (rest : List Line). CanFollow c.loop-line.world.now rest) at c.loop-line.invariant.follows).0
 
 pub play_line-requires-clause-lone : goal.play_line-requires-clause-lone
-play_line-requires-clause-lone g c =
+play_line-requires-clause-lone g c κs within =
     let at = from-place c.args.events.now c.loop-line.line-index c.line-item.result c.loop-line-test.true c.line-item.is in
     (subst (λ (rest : List Line). CanFollow c.loop-line.world.now rest) at c.loop-line.invariant.follows).1

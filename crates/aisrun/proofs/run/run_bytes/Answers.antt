@@ -13,7 +13,7 @@ use Rattle.aisrun.proofs.WritingSteps.{ended-as}
 use Rattle.aisrun.proofs.run.run_bytes.Goals as goal
 
 pub play-requires-clause-script : goal.play-requires-clause-script
-play-requires-clause-script g c =
+play-requires-clause-script g c κs within =
     let read = rw c.in-Ok-Lines.field-0-is at c.in-Ok-Lines.ensures in
     subst IsPlayable (sym c.as_slice.ensures) (can-play c.in-Ok-Lines.lines c.args.bytes.now read.0 read.1)
 

@@ -8,7 +8,7 @@ use Rattle.aisrun.proofs.WritingSteps.{ended-read}
 use Rattle.aisrun.proofs.run.run_script.Goals as goal
 
 pub run_bytes-requires-clause-short : goal.run_bytes-requires-clause-short
-run_bytes-requires-clause-short g c = omega (arith, ap length c.as_slice.ensures.value, c.in-Ok.ensures.bytes.bound)
+run_bytes-requires-clause-short g c κs within = omega (arith, ap length c.as_slice.ensures.value, c.in-Ok.ensures.bytes.bound)
 
 pub returns-in-Ok : goal.returns-in-Ok
 unfolding input_limit

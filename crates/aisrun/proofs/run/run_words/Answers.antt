@@ -9,7 +9,7 @@ use Rattle.aisrun.proofs.EndingSteps.{end-written, lacked, lacks-early, usage-ru
 use Rattle.aisrun.proofs.run.run_words.Goals as goal
 
 pub run_command-requires-clause-asked : goal.run_command-requires-clause-asked
-run_command-requires-clause-asked g c = rw c.in-Ok-Some.field-0-is at c.in-Ok-Some.ensures
+run_command-requires-clause-asked g c κs within = rw c.in-Ok-Some.field-0-is at c.in-Ok-Some.ensures
 
 pub returns-in-Ok-None : goal.returns-in-Ok-None
 returns-in-Ok-None g c =

@@ -7,12 +7,12 @@ use Rattle.cluster_clients.proofs.DispatchSteps.{on-err, may-same, may-refused, 
 use Rattle.cluster_clients.proofs.agents.dispatch.Goals as goal
 
 pub returns-in-None-clause-ok : goal.returns-in-None-clause-ok
-returns-in-None-clause-ok c =
+returns-in-None-clause-ok g c =
     let none : place_of c.args.client c.args.agents.now ≡ None = ap (place_of c.args.client) (sym c.as_slice.ensures) ∙ sym c.in-None.ensures in
     on_ok_weaker c.put_declined.result (λ added. dispatch-absent c.args.how c.args.client c.args.agents.now c.args.agents.now c.args.lines.now.items c.put_declined.new.lines.items none refl added) c.put_declined.ensures.ok
 
 pub returns-in-Refused-clause-ok : goal.returns-in-Refused-clause-ok
-returns-in-Refused-clause-ok c =
+returns-in-Refused-clause-ok g c =
     let old = c.args.agents.now in
     let new = c.dispatch_at.new.agents in
     let found : place_of c.args.client old ≡ Some c.in-Some.place = ap (place_of c.args.client) (sym c.as_slice.ensures) ∙ sym c.in-Some.ensures in
@@ -20,7 +20,7 @@ returns-in-Refused-clause-ok c =
     on_ok_weaker c.put_declined-in-Refused.result (λ added. dispatch-refused c.args.how c.args.client c.in-Some.place old new c.args.lines.now.items c.put_declined-in-Refused.new.lines.items c.in-Refused.status found at added) c.put_declined-in-Refused.ensures.ok
 
 pub returns-in_ok-put_callbacks-in-Given-clause-ok : goal.returns-in_ok-put_callbacks-in-Given-clause-ok
-returns-in_ok-put_callbacks-in-Given-clause-ok c =
+returns-in_ok-put_callbacks-in-Given-clause-ok g c =
     let old = c.args.agents.now in
     let new = c.dispatch_at.new.agents in
     let before = c.args.lines.now.items in
@@ -33,11 +33,11 @@ returns-in_ok-put_callbacks-in-Given-clause-ok c =
     on_ok_weaker c.put_dispatched.result (λ added. dispatch-given c.args.how c.args.client c.in-Some.place old new before between after taken found at first (added ∙ ap (λ t. between ++ dispatched_line c.args.client (length t) ∷ []) c.as_slice-in-Given-2.ensures)) c.put_dispatched.ensures.ok
 
 pub returns-in-None-clause-err : goal.returns-in-None-clause-err
-returns-in-None-clause-err c =
+returns-in-None-clause-err g c =
     on-err c.put_declined.result (may-same c.args.how c.args.client c.args.agents.now c.args.agents.now refl)
 
 pub returns-in-Refused-clause-err : goal.returns-in-Refused-clause-err
-returns-in-Refused-clause-err c =
+returns-in-Refused-clause-err g c =
     let old = c.args.agents.now in
     let new = c.dispatch_at.new.agents in
     let found : place_of c.args.client old ≡ Some c.in-Some.place = ap (place_of c.args.client) (sym c.as_slice.ensures) ∙ sym c.in-Some.ensures in
@@ -45,7 +45,7 @@ returns-in-Refused-clause-err c =
     on-err c.put_declined-in-Refused.result (may-refused c.args.how c.args.client c.in-Some.place old new c.in-Refused.status found at)
 
 pub returns-in_ok-put_callbacks-in-Given-clause-err : goal.returns-in_ok-put_callbacks-in-Given-clause-err
-returns-in_ok-put_callbacks-in-Given-clause-err c =
+returns-in_ok-put_callbacks-in-Given-clause-err g c =
     let old = c.args.agents.now in
     let new = c.dispatch_at.new.agents in
     let found : place_of c.args.client old ≡ Some c.in-Some.place = ap (place_of c.args.client) (sym c.as_slice.ensures) ∙ sym c.in-Some.ensures in
@@ -53,7 +53,7 @@ returns-in_ok-put_callbacks-in-Given-clause-err c =
     on-err c.put_dispatched.result (may-given c.args.how c.args.client c.in-Some.place old new c.in-Given.taken found at)
 
 pub returns-in_err-put_callbacks-in-Given-clause-err : goal.returns-in_err-put_callbacks-in-Given-clause-err
-returns-in_err-put_callbacks-in-Given-clause-err c =
+returns-in_err-put_callbacks-in-Given-clause-err g c =
     let old = c.args.agents.now in
     let new = c.dispatch_at.new.agents in
     let found : place_of c.args.client old ≡ Some c.in-Some.place = ap (place_of c.args.client) (sym c.as_slice.ensures) ∙ sym c.in-Some.ensures in

@@ -1,6 +1,6 @@
 use Rattle.std.proofs.Common.{◌≡◌, ◌++◌, take}
 use Rattle.std.specs.List.{flat_map}
-use Rattle.client_agent.specs.declared.answers.Numbered.{Numbered}
+use Rattle.callback_dispatch.specs.declared.numbered.Numbered.{Numbered}
 use Rattle.event_text.specs.Texts.{callback_lines}
 use Rattle.cluster_clients.proofs.agents.put_callbacks.Given as goal
 

@@ -6,11 +6,11 @@ use Rattle.cluster_clients.proofs.TakingSteps.{takes-nothing, takes-absent, noth
 use Rattle.cluster_clients.proofs.taking.take.Goals as goal
 
 pub returns-in-None-clause-ok : goal.returns-in-None-clause-ok
-returns-in-None-clause-ok c =
+returns-in-None-clause-ok g c =
     takes-nothing c.args.place c.args.message.now c.args.net.now c.args.agents.now c.args.lines.now.items (sym c.in-None.ensures)
 
 pub returns-in-Ok-clause-ok : goal.returns-in-Ok-clause-ok
-returns-in-Ok-clause-ok c =
+returns-in-Ok-clause-ok g c =
     let old = c.args.agents.now in
     let client = c.in-Some.client in
     let before = c.args.lines.now.items in
@@ -19,5 +19,5 @@ returns-in-Ok-clause-ok c =
     takes-absent c.args.place client c.args.message.now c.args.net.now old before c.put_missed.new.lines.items receiver none (c.in-Ok.ensures ∙ ap (λ why. before ++ missed_lines c.args.place why) c.missed_by_none.ensures)
 
 pub returns-in-Err-clause-err : goal.returns-in-Err-clause-err
-returns-in-Err-clause-err c =
+returns-in-Err-clause-err g c =
     nothing-taken (number_told c.args.place) c.args.message.now c.args.net.now c.args.agents.now

@@ -9,11 +9,11 @@ use Rattle.cluster_core.proofs.EventSteps.{whole-plays, whole-broken}
 use Rattle.cluster_core.proofs.parts.play_whole.Goals as goal
 
 pub play-played-requires-clause-state : goal.play-played-requires-clause-state
-play-played-requires-clause-state g c =
+play-played-requires-clause-state g c κs within =
     subst (λ (parts : Cluster Lone). (HasState lone_kit) parts) (sym c.take_parts-parts.ensures) c.requires.state
 
 pub play-played-requires-clause-lone : goal.play-played-requires-clause-lone
-play-played-requires-clause-lone g c =
+play-played-requires-clause-lone g c κs within =
     subst (λ (parts : Cluster Lone). IsLoneLine parts.now c.args.line.now) (sym c.take_parts-parts.ensures) c.requires.lone
 
 pub returns-clause-ok : goal.returns-clause-ok

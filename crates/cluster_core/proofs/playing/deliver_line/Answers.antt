@@ -8,17 +8,17 @@ use Rattle.cluster_core.proofs.LineSteps.{delivers-refused-after}
 use Rattle.cluster_core.proofs.playing.deliver_line.Goals as goal
 
 pub returns-then-done-clause-ok : goal.returns-then-done-clause-ok
-returns-then-done-clause-ok c =
+returns-then-done-clause-ok g c =
     let D : Bool → Type 0 = λ done. (Delivers lone_kit) c.args.place done c.args.world.now c.deliver.new.world c.args.lines.now.items c.deliver.new.lines.items in
     subst D c.if-done.true c.in-Ok.ensures.ok
 
 pub returns-else-done-clause-ok : goal.returns-else-done-clause-ok
-returns-else-done-clause-ok c =
+returns-else-done-clause-ok g c =
     let D : Bool → Type 0 = λ done. (Delivers lone_kit) c.args.place done c.args.world.now c.deliver.new.world c.args.lines.now.items c.deliver.new.lines.items in
     on_ok_weaker c.refused.result (λ refuses. delivers-refused-after c.args.place c.args.line.now c.args.world.now c.deliver.new.world c.args.lines.now.items c.deliver.new.lines.items c.refused.new.lines.items c.requires.line (subst D c.if-done.false c.in-Ok.ensures.ok) refuses) c.refused.ensures
 
 pub returns-else-done-clause-err : goal.returns-else-done-clause-err
-returns-else-done-clause-err c =
+returns-else-done-clause-err g c =
     let D : Bool → Type 0 = λ done. (Delivers lone_kit) c.args.place done c.args.world.now c.deliver.new.world c.args.lines.now.items c.deliver.new.lines.items in
     let none = subst D c.if-done.false c.in-Ok.ensures.ok in
     on-err c.refused.result (alone-as c.args.world.now c.deliver.new.world none.0)

@@ -11,8 +11,14 @@ work_line-requires g c = record { state = c.requires.state; line = c.in-Work.is 
 pub show_file-requires : goal.show_file-requires
 show_file-requires g c = c.in-Cat.is
 
-pub play_alone-requires : goal.play_alone-requires
-play_alone-requires g c = record { state = c.requires.state; range = c.requires.range; lone = c.requires.lone }
+pub play_alone-requires-clause-state : goal.play_alone-requires-clause-state
+play_alone-requires-clause-state g c κs within = c.requires.state
+
+pub play_alone-requires-clause-range : goal.play_alone-requires-clause-range
+play_alone-requires-clause-range g c κs within = c.requires.range
+
+pub play_alone-requires-clause-lone : goal.play_alone-requires-clause-lone
+play_alone-requires-clause-lone g c κs within = c.requires.lone
 
 pub returns-in-Work-clause-ok : goal.returns-in-Work-clause-ok
 returns-in-Work-clause-ok g c = c.work_line.ensures.ok

@@ -14,22 +14,25 @@ use Rattle.cluster_core.specs.LoneKit.{lone_kit}
 use Rattle.cluster_core.specs.LoneLaws.{lone_laws}
 
 pub ask-requires : goal.ask-requires
-ask-requires c = record { state = c.requires.state; caller = subst IsInRange c.in-Log.is c.requires.range }
+ask-requires g c = record { state = c.requires.state; caller = subst IsInRange c.in-Log.is c.requires.range }
 
 pub ask-requires-in-Ntf : goal.ask-requires-in-Ntf
-ask-requires-in-Ntf c = record { state = c.requires.state; caller = subst IsInRange c.in-Ntf.is c.requires.range }
+ask-requires-in-Ntf g c = record { state = c.requires.state; caller = subst IsInRange c.in-Ntf.is c.requires.range }
 
 pub deliver_line-requires : goal.deliver_line-requires
-deliver_line-requires c = record { state = c.requires.state; line = c.in-Deliver.is }
+deliver_line-requires g c = record { state = c.requires.state; line = c.in-Deliver.is }
 
 pub push_line-requires : goal.push_line-requires
-push_line-requires c = record { state = c.requires.state; line = c.in-Push.is }
+push_line-requires g c = record { state = c.requires.state; line = c.in-Push.is }
 
 pub resend-requires : goal.resend-requires
-resend-requires c = c.requires.state
+resend-requires g c = c.requires.state
+
+pub dispatch-requires-in-DispatchAll-clause-workers : goal.dispatch-requires-in-DispatchAll-clause-workers
+dispatch-requires-in-DispatchAll-clause-workers g c κs within = subst IsInRange c.in-DispatchAll.is c.requires.range
 
 pub returns-in-Time-clause-ok : goal.returns-in-Time-clause-ok
-returns-in-Time-clause-ok c =
+returns-in-Time-clause-ok g c =
     let now = c.in-Time.now in
     let old = c.args.world.now in
     let lines = c.args.lines.now.items in
@@ -39,7 +42,7 @@ returns-in-Time-clause-ok c =
     subst P (sym (moment-same now moment)) (plays-as (line.Time now) c.args.line.now old (record old { now = now }) lines lines c.in-Time.is (plays-time now old lines moment later))
 
 pub returns-in-Log-clause-ok : goal.returns-in-Log-clause-ok
-returns-in-Log-clause-ok c =
+returns-in-Log-clause-ok g c =
     let old = c.args.world.now in
     let new = c.ask.new.world in
     let before = c.args.lines.now.items in
@@ -47,7 +50,7 @@ returns-in-Log-clause-ok c =
     on_ok_weaker c.ask.result (λ does. plays-as (line.Log c.in-Log.client c.in-Log.ask) c.args.line.now old new before after c.in-Log.is (plays-log c.in-Log.client c.in-Log.ask old new before after does)) c.ask.ensures.ok
 
 pub returns-in-Ntf-clause-ok : goal.returns-in-Ntf-clause-ok
-returns-in-Ntf-clause-ok c =
+returns-in-Ntf-clause-ok g c =
     let old = c.args.world.now in
     let new = c.ask-in-Ntf.new.world in
     let before = c.args.lines.now.items in
@@ -55,7 +58,7 @@ returns-in-Ntf-clause-ok c =
     on_ok_weaker c.ask-in-Ntf.result (λ does. plays-as (line.Ntf c.in-Ntf.client c.in-Ntf.ask) c.args.line.now old new before after c.in-Ntf.is (plays-ntf c.in-Ntf.client c.in-Ntf.ask old new before after does)) c.ask-in-Ntf.ensures.ok
 
 pub returns-in-Deliver-clause-ok : goal.returns-in-Deliver-clause-ok
-returns-in-Deliver-clause-ok c =
+returns-in-Deliver-clause-ok g c =
     let old = c.args.world.now in
     let new = c.deliver_line.new.world in
     let before = c.args.lines.now.items in
@@ -63,7 +66,7 @@ returns-in-Deliver-clause-ok c =
     on_ok_weaker c.deliver_line.result (λ does. plays-as (line.Deliver c.in-Deliver.place) c.args.line.now old new before after c.in-Deliver.is (plays-deliver c.in-Deliver.place old new before after does)) c.deliver_line.ensures.ok
 
 pub returns-in-Resend-clause-ok : goal.returns-in-Resend-clause-ok
-returns-in-Resend-clause-ok c =
+returns-in-Resend-clause-ok g c =
     let old = c.args.world.now in
     let new = c.resend.new.world in
     let before = c.args.lines.now.items in
@@ -71,7 +74,7 @@ returns-in-Resend-clause-ok c =
     on_ok_weaker c.resend.result (λ does. plays-as (line.Resend c.in-Resend.client) c.args.line.now old new before after c.in-Resend.is (plays-resend c.in-Resend.client old new before after does)) c.resend.ensures.ok
 
 pub returns-in-Push-clause-ok : goal.returns-in-Push-clause-ok
-returns-in-Push-clause-ok c =
+returns-in-Push-clause-ok g c =
     let old = c.args.world.now in
     let new = c.push_line.new.world in
     let before = c.args.lines.now.items in
@@ -79,7 +82,7 @@ returns-in-Push-clause-ok c =
     on_ok_weaker c.push_line.result (λ does. plays-as (line.Push) c.args.line.now old new before after c.in-Push.is (plays-push old new before after does)) c.push_line.ensures.ok
 
 pub returns-in-DispatchOne-clause-ok : goal.returns-in-DispatchOne-clause-ok
-returns-in-DispatchOne-clause-ok c =
+returns-in-DispatchOne-clause-ok g c =
     let old = c.args.world.now in
     let new = c.dispatch.new.world in
     let before = c.args.lines.now.items in
@@ -87,7 +90,7 @@ returns-in-DispatchOne-clause-ok c =
     on_ok_weaker c.dispatch.result (λ does. plays-as (line.DispatchOne c.in-DispatchOne.client) c.args.line.now old new before after c.in-DispatchOne.is (plays-one c.in-DispatchOne.client old new before after does)) c.dispatch.ensures.ok
 
 pub returns-in-DispatchAll-clause-ok : goal.returns-in-DispatchAll-clause-ok
-returns-in-DispatchAll-clause-ok c =
+returns-in-DispatchAll-clause-ok g c =
     let old = c.args.world.now in
     let new = c.dispatch-in-DispatchAll.new.world in
     let before = c.args.lines.now.items in
@@ -95,7 +98,7 @@ returns-in-DispatchAll-clause-ok c =
     on_ok_weaker c.dispatch-in-DispatchAll.result (λ does. plays-as (line.DispatchAll c.in-DispatchAll.client c.in-DispatchAll.workers) c.args.line.now old new before after c.in-DispatchAll.is (plays-all c.in-DispatchAll.client c.in-DispatchAll.workers old new before after does)) c.dispatch-in-DispatchAll.ensures.ok
 
 pub returns-in-Servers-clause-ok : goal.returns-in-Servers-clause-ok
-returns-in-Servers-clause-ok c =
+returns-in-Servers-clause-ok g c =
     let old = c.args.world.now in
     let new = c.args.world.now in
     let before = c.args.lines.now.items in
@@ -103,7 +106,7 @@ returns-in-Servers-clause-ok c =
     on_ok_weaker c.show_servers.result (λ does. plays-as (line.Servers) c.args.line.now old new before after c.in-Servers.is (plays-servers old new before after does)) c.show_servers.ensures
 
 pub returns-in-Mirror-clause-ok : goal.returns-in-Mirror-clause-ok
-returns-in-Mirror-clause-ok c =
+returns-in-Mirror-clause-ok g c =
     let old = c.args.world.now in
     let new = c.args.world.now in
     let before = c.args.lines.now.items in
@@ -111,7 +114,7 @@ returns-in-Mirror-clause-ok c =
     on_ok_weaker c.refused.result (λ does. plays-as (line.Mirror) c.args.line.now old new before after c.in-Mirror.is (plays-mirror old new before after (subst (λ next. (Does lone_kit) (refused next) old old before after) c.in-Mirror.is does))) c.refused.ensures
 
 pub returns-in-Ack-clause-ok : goal.returns-in-Ack-clause-ok
-returns-in-Ack-clause-ok c =
+returns-in-Ack-clause-ok g c =
     let old = c.args.world.now in
     let new = c.args.world.now in
     let before = c.args.lines.now.items in
@@ -119,34 +122,34 @@ returns-in-Ack-clause-ok c =
     on_ok_weaker c.refused-in-Ack.result (λ does. plays-as (line.Ack) c.args.line.now old new before after c.in-Ack.is (plays-ack old new before after (subst (λ next. (Does lone_kit) (refused next) old old before after) c.in-Ack.is does))) c.refused-in-Ack.ensures
 
 pub returns-in-Log-clause-err : goal.returns-in-Log-clause-err
-returns-in-Log-clause-err c = c.ask.ensures.err
+returns-in-Log-clause-err g c = c.ask.ensures.err
 
 pub returns-in-Ntf-clause-err : goal.returns-in-Ntf-clause-err
-returns-in-Ntf-clause-err c = c.ask-in-Ntf.ensures.err
+returns-in-Ntf-clause-err g c = c.ask-in-Ntf.ensures.err
 
 pub returns-in-Deliver-clause-err : goal.returns-in-Deliver-clause-err
-returns-in-Deliver-clause-err c = c.deliver_line.ensures.err
+returns-in-Deliver-clause-err g c = c.deliver_line.ensures.err
 
 pub returns-in-Resend-clause-err : goal.returns-in-Resend-clause-err
-returns-in-Resend-clause-err c = c.resend.ensures.err
+returns-in-Resend-clause-err g c = c.resend.ensures.err
 
 pub returns-in-Push-clause-err : goal.returns-in-Push-clause-err
-returns-in-Push-clause-err c = c.push_line.ensures.err
+returns-in-Push-clause-err g c = c.push_line.ensures.err
 
 pub returns-in-DispatchOne-clause-err : goal.returns-in-DispatchOne-clause-err
-returns-in-DispatchOne-clause-err c = c.dispatch.ensures.err
+returns-in-DispatchOne-clause-err g c = c.dispatch.ensures.err
 
 pub returns-in-DispatchAll-clause-err : goal.returns-in-DispatchAll-clause-err
-returns-in-DispatchAll-clause-err c = c.dispatch-in-DispatchAll.ensures.err
+returns-in-DispatchAll-clause-err g c = c.dispatch-in-DispatchAll.ensures.err
 
 pub returns-in-Mirror-clause-err : goal.returns-in-Mirror-clause-err
-returns-in-Mirror-clause-err c = on-err c.refused.result ((same-breaks lone_kit lone_laws) c.args.world.now)
+returns-in-Mirror-clause-err g c = on-err c.refused.result ((same-breaks lone_kit lone_laws) c.args.world.now)
 
 pub returns-in-Ack-clause-err : goal.returns-in-Ack-clause-err
-returns-in-Ack-clause-err c = on-err c.refused-in-Ack.result ((same-breaks lone_kit lone_laws) c.args.world.now)
+returns-in-Ack-clause-err g c = on-err c.refused-in-Ack.result ((same-breaks lone_kit lone_laws) c.args.world.now)
 
 pub returns-in-Servers-clause-err : goal.returns-in-Servers-clause-err
-returns-in-Servers-clause-err c = on-err c.show_servers.result ((same-breaks lone_kit lone_laws) c.args.world.now)
+returns-in-Servers-clause-err g c = on-err c.show_servers.result ((same-breaks lone_kit lone_laws) c.args.world.now)
 
 pub returns-in_default-clause-err : goal.returns-in_default-clause-err
-returns-in_default-clause-err c = (same-breaks lone_kit lone_laws) c.args.world.now
+returns-in_default-clause-err g c = (same-breaks lone_kit lone_laws) c.args.world.now

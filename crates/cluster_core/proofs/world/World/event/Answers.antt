@@ -7,7 +7,7 @@ use Rattle.cluster_core.proofs.LineSpelled.{spelled-fits}
 use Rattle.cluster_core.proofs.world.World.event.Goals as goal
 
 pub play_whole-requires-clause-range : goal.play_whole-requires-clause-range
-play_whole-requires-clause-range g c = (spelled-fits c.args.line.now c.requires.spelled.0 c.requires.spelled.1).0
+play_whole-requires-clause-range g c κs within = (spelled-fits c.args.line.now c.requires.spelled.0 c.requires.spelled.1).0
 
 -- the lines of an event that the disk broke off are those that it put
 pub returns-in-Err-Failed-clause-broken : goal.returns-in-Err-Failed-clause-broken
