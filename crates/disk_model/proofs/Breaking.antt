@@ -6,8 +6,11 @@ use Rattle.std.proofs.lemmas.Option.{same_Some}
 use Rattle.disk_model.specs.Disk.{Files}
 use Rattle.disk_model.specs.Failures.{WhereTold}
 use Rattle.disk_model.specs.declared.answers.DiskAnswer.{DiskAnswer}
-use Rattle.disk_model.specs.declared.answers.DiskAnswer.TheVariants.{Memory, Failed}
-use Rattle.disk_model.specs.DeviceCalls.{DeviceCall, applied, all_applied, LeftBy, LeftAlone, BreaksOff, FailsAfter, LacksMemoryAfter, Breaks, Performs}
+use Rattle.disk_model.specs.declared.answers.DiskAnswer.TheVariants.{Memory, Failed, Stopped}
+use Rattle.disk_model.specs.declared.tally.Tally.{Tally}
+use Rattle.disk_model.specs.Counts.{Counts, CountsDone}
+use Rattle.disk_model.specs.DeviceCalls.{DeviceCall, applied, all_applied, LeftBy, StoppedBy, LeftAlone, LeftOn, BreaksOff, Breaks, Performs}
+use Rattle.disk_model.proofs.Counting.{counts-both, counts-behind, counts-one, counts-broken}
 
 -- calls after others are done on the files that those leave
 pub all_applied-append : (front back : List DeviceCall) (files : Files) → all_applied (front ++ back) files ≡ all_applied back (all_applied front files)
@@ -47,19 +50,33 @@ breaks_off_within Left front calls back count old middle new is b = record {
 }
 
 -- calls that break off, with more behind them and others before them that were done
-pub breaks_within : (front calls back : List DeviceCall) (e : DiskAnswer) (old middle new : Option Files)
-    → middle ≡ option_map (all_applied front) old → Breaks e calls middle new → Breaks e (front ++ (calls ++ back)) old new
-breaks_within front calls back Memory old middle new is (count, p) = (length front + count, breaks_off_within LeftAlone front calls back count old middle new is p)
-breaks_within front calls back Failed old middle new is (count, p) = (length front + count, breaks_off_within LeftBy front calls back count old middle new is p)
+pub breaks_within : (front calls back : List DeviceCall) (e : DiskAnswer) (old middle new : Option Files) (before between after : Tally)
+    → middle ≡ option_map (all_applied front) old → CountsDone (length front) before between → Breaks e calls middle new between after
+    → Breaks e (front ++ (calls ++ back)) old new before after
+breaks_within front calls back e old middle new before between after is counted b = (
+  length front + b.0,
+  breaks_off_within (LeftOn e) front calls back b.0 old middle new is b.1,
+  counts-behind e (length front) b.0 before between after counted b.2,
+)
+
+-- files after some calls, and then after others
+pub done_behind : (front calls : List DeviceCall) (old middle new : Option Files) → middle ≡ option_map (all_applied front) old
+    → new ≡ option_map (all_applied calls) middle → new ≡ option_map (all_applied (front ++ calls)) old
+done_behind front calls None middle new is done = done ∙ ap (option_map (all_applied calls)) is
+done_behind front calls (Some old) middle new is done =
+    done ∙ ap (option_map (all_applied calls)) is ∙ ap Some (sym (all_applied-append front calls old))
 
 -- after calls that are done, others are made
-pub performs_after : {T : Type 0} (front calls : List DeviceCall) (r : Result T DiskAnswer) (old middle new : Option Files)
-    → middle ≡ option_map (all_applied front) old → Performs calls r middle new → Performs (front ++ calls) r old new
-performs_after front calls (Ok v) None middle new is p = p ∙ ap (option_map (all_applied calls)) is
-performs_after front calls (Ok v) (Some old) middle new is p =
-    p ∙ ap (option_map (all_applied calls)) is ∙ ap Some (sym (all_applied-append front calls old))
-performs_after front calls (Err e) old middle new is p =
-    subst (λ c. Breaks e c old new) (ap (λ c. front ++ c) (append-nil calls)) (breaks_within front calls [] e old middle new is p)
+pub performs_after : {T : Type 0} (front calls : List DeviceCall) (r : Result T DiskAnswer) (old middle new : Option Files) (before between after : Tally)
+    → middle ≡ option_map (all_applied front) old → CountsDone (length front) before between → Performs calls r middle new between after
+    → Performs (front ++ calls) r old new before after
+performs_after front calls (Ok v) old middle new before between after is counted p = (
+  done_behind front calls old middle new is p.0,
+  subst (λ n. CountsDone n before after) (sym (length-append front calls)) (counts-both (length front) (length calls) before between after counted p.1),
+)
+performs_after front calls (Err e) old middle new before between after is counted p =
+    subst (λ c. Breaks e c old new before after) (ap (λ c. front ++ c) (append-nil calls))
+    (breaks_within front calls [] e old middle new before between after is counted p)
 
 -- nothing done is nothing changed
 pub none_applied : (files : Option Files) → files ≡ option_map (all_applied []) files
@@ -78,26 +95,21 @@ unchanged (Some old) None is = cc
 unchanged (Some old) (Some new) is = same_Some new old is
 
 -- one call that is not done, by what its disk ensures of it
-pub breaks_one : {T : Type 0} (call : DeviceCall) (e : DiskAnswer) (old new : Option Files)
-    → (IsErrOf {T = T} (Err e) Memory → new ≡ old) → (IsErrOf {T = T} (Err e) Failed → WhereTold (LeftBy call) old new) → Breaks e (call ∷ []) old new
-breaks_one call Memory old new memory failed = (0, alone LeftAlone call old new (unchanged old new (memory refl)))
-breaks_one call Failed old new memory failed = (0, alone LeftBy call old new (failed refl))
+pub breaks_one : {T : Type 0} (call : DeviceCall) (e : DiskAnswer) (old new : Option Files) (before after : Tally)
+    → (IsErrOf {T = T} (Err e) Memory → new ≡ old) → (IsErrOf {T = T} (Err e) Failed → WhereTold (LeftBy call) old new)
+    → (IsErrOf {T = T} (Err e) Stopped → WhereTold (StoppedBy call) old new) → Counts {T = T} (Err e) before after → Breaks e (call ∷ []) old new before after
+breaks_one {T} call Memory old new before after memory failed stopped counts =
+    (0, alone LeftAlone call old new (unchanged old new (memory refl)), counts-broken T Memory before after counts)
+breaks_one {T} call Failed old new before after memory failed stopped counts =
+    (0, alone LeftBy call old new (failed refl), counts-broken T Failed before after counts)
+breaks_one {T} call Stopped old new before after memory failed stopped counts =
+    (0, alone StoppedBy call old new (stopped refl), counts-broken T Stopped before after counts)
 
 -- one call by what its disk ensures of it
-pub performs_one : {T : Type 0} (call : DeviceCall) (r : Result T DiskAnswer) (old new : Option Files)
+pub performs_one : {T : Type 0} (call : DeviceCall) (r : Result T DiskAnswer) (old new : Option Files) (before after : Tally)
     → OnOk r (new ≡ option_map (applied call) old) → (IsErrOf r Memory → new ≡ old) → (IsErrOf r Failed → WhereTold (LeftBy call) old new)
-    → Performs (call ∷ []) r old new
-performs_one call (Ok v) None new done memory failed = done
-performs_one call (Ok v) (Some old) new done memory failed = done
-performs_one call (Err e) old new done memory failed = breaks_one call e old new memory failed
-
--- what is told of calls that break off, one answer at a time
-pub breaks_memory : {T : Type 0} (e : DiskAnswer) (calls : List DeviceCall) (old new : Option Files)
-    → Breaks e calls old new → IsErrOf {T = T} (Err e) Memory → (count : ℕ) × LacksMemoryAfter calls count old new
-breaks_memory Memory calls old new b is = b
-breaks_memory Failed calls old new b is = cc
-
-pub breaks_failed : {T : Type 0} (e : DiskAnswer) (calls : List DeviceCall) (old new : Option Files)
-    → Breaks e calls old new → IsErrOf {T = T} (Err e) Failed → (count : ℕ) × FailsAfter calls count old new
-breaks_failed Memory calls old new b is = cc
-breaks_failed Failed calls old new b is = b
+    → (IsErrOf r Stopped → WhereTold (StoppedBy call) old new) → Counts r before after → Performs (call ∷ []) r old new before after
+performs_one call (Ok v) None new before after done memory failed stopped counts = (done, counts-one v before after counts)
+performs_one call (Ok v) (Some old) new before after done memory failed stopped counts = (done, counts-one v before after counts)
+performs_one call (Err e) old new before after done memory failed stopped counts =
+    breaks_one call e old new before after memory failed stopped counts

@@ -1,5 +1,7 @@
 pub mod Breaking
 pub mod Changes
+pub mod Counting
+pub mod Crashing
 pub mod Maps
 pub mod Overwriting
 pub mod Places

@@ -7,7 +7,7 @@ use Rattle.std.specs.Option.{option_map_or}
 use Rattle.std.specs.FinMap as map
 use Rattle.std.proofs.lemmas.Bool.Decides.{nat_tests}
 use Rattle.disk_model.specs.Disk.{File, Files, overwritten, adjusted}
-use Rattle.disk_model.specs.Failures.{Torn, is_within, FileLeftByWrite, FileLeftBySync, LeavesFile, LeftByWrite, LeftBySync}
+use Rattle.disk_model.specs.Failures.{Torn, is_within, loose_ranges, FileLeftByWrite, FileLeftBySync, LeavesFile, LeftByWrite, LeftBySync}
 use Rattle.disk_model.specs.Memory.{torn_bytes, half_grown, torn_end, file_torn_by_write, file_torn_by_sync, range_torn, ranges_torn}
 use Rattle.disk_model.proofs.Overwriting.{length-torn_bytes, overwritten_past, append_none}
 
@@ -60,9 +60,9 @@ torn_overwritten d s b at within shorter =
           (elim (outside at (length b) place false free).0 as (λ _. (place < at) ⊎ (at + length s ≤ place)) [ inl x ↦ inl x | inr y ↦ inr (omega arith) ]);
     }
 
--- bytes that stay are torn in no way that a write may not leave
-torn_same : (ranges : List (ℕ × ℕ)) (d : List ℕ) → Torn ranges (length d) (length d) d d
-torn_same ranges d = record { no_shorter = omega arith; no_longer = omega arith; kept = λ place before free. refl }
+-- bytes that stay are torn in no way that a call may not leave
+pub torn_same : (ranges : List (ℕ × ℕ)) (one : ℕ) (d : List ℕ) → Torn ranges one (length d) d d
+torn_same ranges one d = record { no_shorter = omega arith; no_longer = omega arith; kept = λ place before free. refl }
 
 -- a torn write ends no later than the write
 torn_end_within : (len at size : ℕ) → at ≤ len → torn_end len (at + size) - at ≤ size
@@ -84,7 +84,7 @@ left_by_torn_write torn at bytes file =
                 let within = leb-true at (length file.bytes) e in
                 let short = torn_end_within (length file.bytes) at (length bytes) within in
                 torn_overwritten file.bytes (torn_bytes torn n) bytes at within (omega (arith, length-torn_bytes torn n))
-            | false ↦ λ e. torn_same _ file.bytes
+            | false ↦ λ e. torn_same _ (length file.bytes) file.bytes
           ] refl;
       loose = refl;
       settled = refl;
@@ -132,21 +132,22 @@ ranges_torn_outside torn (range ∷ ranges) bytes place within free =
     ranges_torn_outside torn ranges (range_torn torn range bytes) place (omega arith) parts.1
     ∙ range_torn_outside torn range bytes place within parts.0
 
-pub left_by_torn_sync : (torn : List ℕ) (file : File) → FileLeftBySync file (file_torn_by_sync torn file)
-left_by_torn_sync torn file =
+-- the bytes that a torn sync leaves
+pub torn_by_sync : (torn : List ℕ) (file : File) → Torn (loose_ranges file) file.settled (length file.bytes) file.bytes (file_torn_by_sync torn file).bytes
+torn_by_sync torn file =
     let size = length-ranges_torn torn file.loose file.bytes in
     let kept = length-take (half_grown file.settled (length file.bytes)) (ranges_torn torn file.loose file.bytes) in
     record {
-      torn = record {
-        no_shorter = omega arith;
-        no_longer = omega arith;
-        kept = λ place before free.
-            get_or-take (half_grown file.settled (length file.bytes)) (ranges_torn torn file.loose file.bytes) place 0 (omega arith)
-            ∙ ranges_torn_outside torn file.loose file.bytes place (omega arith) free;
-      };
-      loose = refl;
-      settled = refl;
+      no_shorter = omega arith;
+      no_longer = omega arith;
+      kept = λ place before free.
+          let rest = (outside (length file.bytes) (file.settled - length file.bytes) place (is_within file.loose place) free).1 in
+          get_or-take (half_grown file.settled (length file.bytes)) (ranges_torn torn file.loose file.bytes) place 0 (omega arith)
+          ∙ ranges_torn_outside torn file.loose file.bytes place (omega arith) rest;
     }
+
+pub left_by_torn_sync : (torn : List ℕ) (file : File) → FileLeftBySync file (file_torn_by_sync torn file)
+left_by_torn_sync torn file = record { torn = torn_by_sync torn file; loose = refl; settled = refl }
 
 -- what a broken sync does step by step is a torn sync
 pub torn_sync_is : (torn : List ℕ) (file : File) (kept : ℕ) (now : List ℕ) → kept ≡ half_grown file.settled (length file.bytes)
@@ -201,7 +202,7 @@ torn_write_is torn at bytes file inside kept grown now loose within inside-is ke
     λ i. record { bytes = bytes-are i; loose = loose-are i; settled = file.settled }
 
 -- a file changed to what a relation leaves of it, with the other files as they were, is what that relation leaves of the files
-leaves_file : (Left : File → File → Type 0) (change : File → File) (name : List ℕ) (old new : Files)
+pub leaves_file : (Left : File → File → Type 0) (change : File → File) (name : List ℕ) (old new : Files)
     → ((file : File) → Left file (change file)) → new ≡ adjusted change old name → LeavesFile Left name old new
 leaves_file Left change name old new leaves is =
     elim (map.get old name) as (λ f. new ≡ option_map_or (λ file. map.insert old name (change file)) f old

@@ -40,6 +40,10 @@ file_written at bytes file = record {
   settled = file.settled;
 }
 
+-- a file after a cut that is done: it has at most so many bytes
+abbrev pub file_cut : ℕ → File → File
+file_cut len file = record { bytes = take len file.bytes; loose = file.loose; settled = file.settled }
+
 -- a file after a sync that is done: nothing is loose
 abbrev pub file_synced : File → File
 file_synced file = record { bytes = file.bytes; loose = []; settled = length file.bytes }
@@ -55,6 +59,10 @@ created files name = map.insert files name empty_file
 -- the bytes stand at that place of the file; nothing changes where it is absent or the place is past its end
 abbrev pub written_at : Files → List ℕ → ℕ → List ℕ → Files
 written_at files name at bytes = adjusted (file_written at bytes) files name
+
+-- the file has at most so many bytes; nothing changes where it is absent
+abbrev pub shortened : Files → List ℕ → ℕ → Files
+shortened files name len = adjusted (file_cut len) files name
 
 -- nothing of the file is loose; nothing changes where it is absent
 abbrev pub synced : Files → List ℕ → Files

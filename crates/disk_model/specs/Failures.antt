@@ -1,8 +1,8 @@
--- Words of public clauses: what a changing call that failed may have left.
-use Rattle.std.specs.Prelude.{◌≡◌, ℕ, ◌+◌, ◌<◌, ◌≤◌, min, max, Bool, false, ◌&&◌, ◌||◌, ◌⊎◌, nat_le, nat_lt, ⊤}
+-- Words of public clauses: what a changing call that failed may have left, and what a crash of the disk.
+use Rattle.std.specs.Prelude.{◌≡◌, ℕ, ◌+◌, ◌-◌, ◌<◌, ◌≤◌, min, max, Bool, false, ◌&&◌, ◌||◌, ◌⊎◌, nat_le, nat_lt, ⊤}
 use Rattle.std.specs.Prelude.{List, [], ◌∷◌, length, slice_index, Option, Some, None, MatchOption}
 use Rattle.std.specs.FinMap as map
-use Rattle.disk_model.specs.Disk.{File, Files, file_written, created, renamed, removed}
+use Rattle.disk_model.specs.Disk.{File, Files, file_written, file_cut, created, renamed, removed}
 
 -- whether a place lies in one of these ranges (place, length)
 abbrev pub is_within : List (ℕ × ℕ) → ℕ → Bool
@@ -22,12 +22,39 @@ pub record FileLeftByWrite (at : ℕ) (bytes : List ℕ) (old new : File) : Type
   pub loose : new.loose ≡ (file_written at bytes old).loose
   pub settled : new.settled ≡ old.settled
 
+-- a file after a cut that failed: it lost no more than the cut takes away
+pub record FileLeftByCut (len : ℕ) (old new : File) : Type 0 where
+  pub torn : Torn [] (length old.bytes) (length (file_cut len old).bytes) old.bytes new.bytes
+  pub loose : new.loose ≡ old.loose
+  pub settled : new.settled ≡ old.settled
+
+-- the ranges of a file that are not durable: those that were written, and what was cut off
+abbrev pub loose_ranges : File → List (ℕ × ℕ)
+loose_ranges file = (length file.bytes, file.settled - length file.bytes) ∷ file.loose
+
 -- a file after a sync that failed: its loose ranges hold any bytes and stay loose,
 -- and the length is any between the one when nothing was loose and the present one
 pub record FileLeftBySync (old new : File) : Type 0 where
-  pub torn : Torn old.loose old.settled (length old.bytes) old.bytes new.bytes
+  pub torn : Torn (loose_ranges old) old.settled (length old.bytes) old.bytes new.bytes
   pub loose : new.loose ≡ old.loose
   pub settled : new.settled ≡ old.settled
+
+-- a file after a crash of the disk: its loose ranges hold any bytes, the length is any between the one when nothing was loose
+-- and the present one, and nothing is loose
+pub record FileCrashed (old new : File) : Type 0 where
+  pub torn : Torn (loose_ranges old) old.settled (length old.bytes) old.bytes new.bytes
+  pub loose : new.loose ≡ []
+  pub settled : new.settled ≡ length new.bytes
+
+-- after a crash the same names stand, each with its file as a crash leaves it
+abbrev pub Crashed : Files → Files → Type 0
+Crashed old new =
+    (name : List ℕ)
+    → MatchOption (map.get old name) (map.get new name ≡ None) (λ file. (left : File) × FileCrashed file left × (map.get new name ≡ Some left))
+
+-- what the running call left by a relation, and then a crash
+abbrev pub ThenCrashed : (Files → Files → Type 0) → Files → Files → Type 0
+ThenCrashed Left old new = (running : Files) × Left old running × Crashed running new
 
 -- the file of that name is left by a relation, and the others stay; where it does not stand, nothing changes
 abbrev pub LeavesFile : (File → File → Type 0) → List ℕ → Files → Files → Type 0
@@ -43,6 +70,9 @@ LeftByCreate name old new = WhollyOrNot (created old name) old new
 
 abbrev pub LeftByWrite : List ℕ → ℕ → List ℕ → Files → Files → Type 0
 LeftByWrite name at bytes = LeavesFile (FileLeftByWrite at bytes) name
+
+abbrev pub LeftByCut : List ℕ → ℕ → Files → Files → Type 0
+LeftByCut name len = LeavesFile (FileLeftByCut len) name
 
 abbrev pub LeftBySync : List ℕ → Files → Files → Type 0
 LeftBySync name = LeavesFile FileLeftBySync name

@@ -1,3 +1,4 @@
+pub mod Counts
 pub mod DeviceCalls
 pub mod Disk
 pub mod Failures

@@ -1,14 +1,16 @@
--- Words of public clauses on a disk in memory: when its calls fail, and what a failed call leaves of a file.
+-- Words of public clauses on a disk in memory: when its calls fail and when it stops, and what is left of its files then.
 use Rattle.std.specs.Prelude.{◌≡◌, ℕ, zero, suc, ◌+◌, ◌-◌, ◌/◌, ◌%◌, min, Bool, true, false, ◌==◌, nat_le, if◌then◌else◌}
-use Rattle.std.specs.Prelude.{List, [], ◌∷◌, ◌++◌, length, take, slice_index, Result, Ok, Err}
-use Rattle.std.specs.FinMap as map
+use Rattle.std.specs.Prelude.{List, [], ◌∷◌, ◌++◌, length, map, take, slice_index, Result, Ok, Err}
+use Rattle.std.specs.FinMap as files_by
 use Rattle.std.specs.List.{list_any}
 use Rattle.ais_values.specs.Causes.{one_more}
 use Rattle.disk_model.specs.declared.answers.DiskFault.{DiskFault}
 use Rattle.disk_model.specs.declared.answers.DiskFault.TheVariants as fault
 use Rattle.disk_model.specs.declared.answers.DiskAnswer.{DiskAnswer}
-use Rattle.disk_model.specs.declared.answers.DiskAnswer.TheVariants.{Memory, Failed}
-use Rattle.disk_model.specs.Disk.{File, Files, no_files, settled_file, overwritten, file_written}
+use Rattle.disk_model.specs.declared.answers.DiskAnswer.TheVariants.{Memory, Failed, Stopped}
+use Rattle.disk_model.specs.declared.tally.Tally.{Tally}
+use Rattle.disk_model.specs.Counts.{no_calls, read_more, asked, passed, stopped, reaches}
+use Rattle.disk_model.specs.Disk.{File, Files, no_files, settled_file, overwritten, file_written, file_synced}
 
 -- the byte at a place of a torn range, from the range's start: from the list in turn, 0 where it is empty
 abbrev pub torn_byte : List ℕ → ℕ → ℕ
@@ -55,13 +57,22 @@ file_torn_by_sync torn file = record {
   settled = file.settled;
 }
 
--- a disk in memory: its files, how many changing and reading calls were made and how many faults were told,
--- the numbers of the changing and reading calls that fail, and the bytes of torn ranges
+-- a file after a crash: as after a torn sync, and nothing is loose
+abbrev pub file_crashed : List ℕ → File → File
+file_crashed torn file = file_synced (file_torn_by_sync torn file)
+
+-- all files after a crash
+abbrev pub files_crashed : List ℕ → Files → Files
+files_crashed torn files =
+    files_by.from_sorted (map (λ (entry : List ℕ × File). (entry.0, file_crashed torn entry.1)) (files_by.entries files))
+
+-- a disk in memory: its files, what it counts of its calls, how many faults and stops were told, the numbers of the changing and
+-- reading calls that fail, and the bytes of torn ranges
 pub record MemState : Type 0 where
   pub files : Files
-  pub changes : ℕ
-  pub reads : ℕ
+  pub tally : Tally
   pub faults : ℕ
+  pub stops : ℕ
   pub failing : List ℕ
   pub failing_reads : List ℕ
   pub torn : List ℕ
@@ -70,9 +81,9 @@ pub record MemState : Type 0 where
 abbrev pub fresh_disk : (failing failing_reads torn : List ℕ) → MemState
 fresh_disk failing failing_reads torn = record {
   files = no_files;
-  changes = 0;
-  reads = 0;
+  tally = no_calls;
   faults = 0;
+  stops = 0;
   failing = failing;
   failing_reads = failing_reads;
   torn = torn;
@@ -80,30 +91,44 @@ fresh_disk failing failing_reads torn = record {
 
 -- a disk with this file, of which nothing is loose, whatever had the name
 abbrev pub with_settled : MemState → (name bytes : List ℕ) → MemState
-with_settled disk name bytes = record disk { files = map.insert disk.files name (settled_file bytes) }
+with_settled disk name bytes = record disk { files = files_by.insert disk.files name (settled_file bytes) }
 
 -- whether the next changing call, or reading call, is one that fails
 abbrev pub fails_next : MemState → Bool
-fails_next disk = list_any (λ n. n == one_more disk.changes) disk.failing
+fails_next disk = list_any (λ n. n == one_more disk.tally.changing) disk.failing
 
 abbrev pub read_fails_next : MemState → Bool
-read_fails_next disk = list_any (λ n. n == one_more disk.reads) disk.failing_reads
+read_fails_next disk = list_any (λ n. n == one_more disk.tally.reading) disk.failing_reads
 
--- a changing call: it fails exactly where its number is listed, and then leaves the files as told
-abbrev pub Changes : {T : Type 0} → Result T DiskAnswer → (Files → Files) → (Files → Files) → MemState → MemState → Type 0
-Changes (Ok value) done left old new =
-    (fails_next old ≡ false) × (new ≡ record old { files = done old.files; changes = one_more old.changes })
-Changes (Err Memory) done left old new = new ≡ old
-Changes (Err Failed) done left old new =
-    (fails_next old ≡ true) × (new ≡ record old { files = left old.files; changes = one_more old.changes; faults = one_more old.faults })
+-- the disk crashed
+abbrev pub crashed : MemState → MemState
+crashed disk = record disk { files = files_crashed disk.torn disk.files }
+
+-- a changing call: the disk stops in it exactly where the armed count is reached, having done what it does in part; else the call
+-- fails exactly where its number is listed, and then leaves the files as told
+abbrev pub Changes : {T : Type 0} → Result T DiskAnswer → (done part left : Files → Files) → MemState → MemState → Type 0
+Changes (Ok value) done part left old new =
+    (reaches 1 old.tally.armed ≡ false) × (fails_next old ≡ false)
+    × (new ≡ record old { files = done old.files; tally = passed 1 old.tally })
+Changes (Err Memory) done part left old new = new ≡ record old { tally = asked old.tally }
+Changes (Err Failed) done part left old new =
+    (reaches 1 old.tally.armed ≡ false) × (fails_next old ≡ true)
+    × (new ≡ record old { files = left old.files; tally = passed 1 old.tally; faults = one_more old.faults })
+Changes (Err Stopped) done part left old new =
+    (reaches 1 old.tally.armed ≡ true)
+    × (new
+    ≡ record old { files = files_crashed old.torn (part old.files); tally = stopped 1 old.tally; stops = one_more old.stops })
 
 -- a reading call: it fails exactly where its number is listed
 abbrev pub Reads : {T : Type 0} → Result T DiskAnswer → MemState → MemState → Type 0
-Reads (Ok value) old new = (read_fails_next old ≡ false) × (new ≡ record old { reads = one_more old.reads })
-Reads (Err Memory) old new = new ≡ old
-Reads (Err Failed) old new = (read_fails_next old ≡ true) × (new ≡ record old { reads = one_more old.reads; faults = one_more old.faults })
+Reads (Ok value) old new = (read_fails_next old ≡ false) × (new ≡ record old { tally = read_more 1 old.tally })
+Reads (Err Memory) old new = new ≡ record old { tally = read_more 1 old.tally }
+Reads (Err Failed) old new =
+    (read_fails_next old ≡ true) × (new ≡ record old { tally = read_more 1 old.tally; faults = one_more old.faults })
+Reads (Err Stopped) old new = ⊥
 
 -- a reading call that takes no memory
 abbrev pub ReadsAt : {T : Type 0} → Result T DiskFault → MemState → MemState → Type 0
-ReadsAt (Ok value) old new = (read_fails_next old ≡ false) × (new ≡ record old { reads = one_more old.reads })
-ReadsAt (Err fault.Failed) old new = (read_fails_next old ≡ true) × (new ≡ record old { reads = one_more old.reads; faults = one_more old.faults })
+ReadsAt (Ok value) old new = (read_fails_next old ≡ false) × (new ≡ record old { tally = read_more 1 old.tally })
+ReadsAt (Err fault.Failed) old new =
+    (read_fails_next old ≡ true) × (new ≡ record old { tally = read_more 1 old.tally; faults = one_more old.faults })

@@ -22,6 +22,9 @@ pub enum DiskAnswer {
     /// The disk told a fault.
     #[error("disk fault")]
     Failed,
+    /// The disk stopped: the armed count was reached.
+    #[error("disk stopped")]
+    Stopped,
 }
 
 impl From<AllocError> for DiskAnswer {

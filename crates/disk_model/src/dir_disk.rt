@@ -1,10 +1,12 @@
 //! The disk of the real program: files below a folder of the system.
-ghost use Rattle.std.specs.Prelude.{◌≡◌, ◌≤◌, Option, None, ℕ, length, IfOk, IsErrOf};
-ghost use Rattle.ais_values.specs.Causes.{RoseExactlyOn, Rose};
+ghost use Rattle.std.specs.Prelude.{◌≡◌, ◌≤◌, Option, None, ℕ, length, true, false, IfOk, IsErrOf};
+ghost use Rattle.ais_values.specs.Causes.{one_more, RoseExactlyOn};
+ghost use Rattle.disk_model.specs.Counts.{Counts, Counters, no_calls, read_more, reaches};
 ghost use Rattle.disk_model.specs.declared.answers.DiskAnswer.{DiskAnswer};
 ghost use Rattle.disk_model.specs.declared.answers.DiskFault.{DiskFault};
 
 use crate::folders::{self, PATH_BYTES, path_of};
+use crate::tally::Tally;
 use crate::walk::all_names;
 use crate::{DiskAnswer, DiskFault, SharedDisk};
 use ais_values::{Seq, Text};
@@ -25,40 +27,72 @@ use std::rt::Files;
 /// cannot sync a folder, the change of the name is as durable as the system makes it by itself. What a
 /// device does behind the system's back is not known.
 ///
-/// Contracts see how many faults were told.
+/// Where it was armed to stop in a `write_at`, it writes half of the bytes, rounded down, if it can, and stops; in
+/// another call it does nothing and stops. A crash leaves the files as they are.
+///
+/// Contracts see what it counts.
 #[derive(Drop)]
 pub struct DirDisk<R: Drop> {
     rt: R,
+    tally: Tally,
     faults: u64,
+    stops: u64,
 }
 
 impl<R: Drop> Model for DirDisk<R> {
-    ghost use Rattle.std.specs.Prelude.{ℕ};
+    ghost use Rattle.disk_model.specs.Counts.{Counters};
 
-    ghost Value = { ℕ };
+    ghost Value = { Counters };
 
-    ghost view = { λ disk. disk.faults };
+    ghost view = { λ disk. record { faults = disk.faults; stops = disk.stops; tally = disk.tally } };
 }
 
 impl<R: Drop> DirDisk<R> {
-    /// The disk of this runtime's file system.
+    /// The disk of this runtime's file system, not armed.
     pub fn new(rt: R) -> DirDisk<R>
-        ensures { result ≡ 0 }
+        ensures { result ≡ record { faults = 0; stops = 0; tally = no_calls } }
     {
-        DirDisk { rt, faults: 0 }
+        DirDisk {
+            rt,
+            tally: Tally::new(),
+            faults: 0,
+            stops: 0,
+        }
+    }
+
+    fn count_read(&mut self)
+        ensures { self.new ≡ record self.old { tally = read_more 1 self.old.tally } }
+    {
+        self.tally.read();
     }
 
     fn count_fault(&mut self)
-        ensures later { self.old ≤ self.new }
-        ensures rose { Rose self.old self.new }
+        ensures later { self.old.faults ≤ self.new.faults }
+        ensures counted { self.new ≡ record self.old { faults = one_more self.old.faults } }
     {
         self.faults = self.faults.saturating_add(1);
     }
 
+    // The answer of a changing call at which the disk stops.
+    fn stop(&mut self) -> Result<(), DiskAnswer>
+        requires { reaches 1 self.old.tally.armed ≡ true }
+        ensures cause { RoseExactlyOn self.old.faults self.new.faults result DiskAnswer.Failed }
+        ensures stop { RoseExactlyOn self.old.stops self.new.stops result DiskAnswer.Stopped }
+        ensures counted { Counts result self.old.tally self.new.tally }
+    {
+        self.tally.stop();
+        self.stops = self.stops.saturating_add(1);
+        Err(DiskAnswer::Stopped)
+    }
+
     // The answer to what the system said of a changing call.
     fn told(&mut self, said: io::Result<()>) -> Result<(), DiskAnswer>
-        ensures { RoseExactlyOn self.old self.new result DiskAnswer.Failed }
+        requires { reaches 1 self.old.tally.armed ≡ false }
+        ensures cause { RoseExactlyOn self.old.faults self.new.faults result DiskAnswer.Failed }
+        ensures stop { RoseExactlyOn self.old.stops self.new.stops result DiskAnswer.Stopped }
+        ensures counted { Counts result self.old.tally self.new.tally }
     {
+        self.tally.pass();
         match said {
             Ok(()) => Ok(()),
             Err(_) => {
@@ -72,13 +106,18 @@ impl<R: Drop> DirDisk<R> {
 impl<R: Files + AllocGlobal + Clone + Drop> SharedDisk for DirDisk<R> {
     ghost files = { λ _. None };
 
-    ghost faults = { λ disk. disk };
+    ghost faults = { λ disk. disk.faults };
+
+    ghost stops = { λ disk. disk.stops };
+
+    ghost tally = { λ disk. disk.tally };
 
     fn names(&mut self, alloc: Global) -> Result<Seq<Text>, DiskAnswer> {
+        self.count_read();
         match all_names(&self.rt, alloc) {
             Ok(names) => Ok(names),
             Err(DiskAnswer::Memory) => Err(DiskAnswer::Memory),
-            Err(DiskAnswer::Failed) => {
+            Err(_) => {
                 self.count_fault();
                 Err(DiskAnswer::Failed)
             }
@@ -86,6 +125,7 @@ impl<R: Files + AllocGlobal + Clone + Drop> SharedDisk for DirDisk<R> {
     }
 
     fn len(&mut self, name: &[u8]) -> Result<Option<u64>, DiskFault> {
+        self.count_read();
         let mut buffer = [0; PATH_BYTES];
         let found = match path_of(name, &mut buffer) {
             Some(path) => folders::look(&self.rt, path),
@@ -102,6 +142,7 @@ impl<R: Files + AllocGlobal + Clone + Drop> SharedDisk for DirDisk<R> {
     }
 
     fn read(&mut self, name: &[u8], at: u64, buf: &mut [u8]) -> Result<usize, DiskFault> {
+        self.count_read();
         let mut buffer = [0; PATH_BYTES];
         let count = match path_of(name, &mut buffer) {
             Some(path) => folders::read(&self.rt, path, at, buf),
@@ -117,6 +158,9 @@ impl<R: Files + AllocGlobal + Clone + Drop> SharedDisk for DirDisk<R> {
     }
 
     fn create(&mut self, name: &[u8]) -> Result<(), DiskAnswer> {
+        if self.tally.stops_next() {
+            return self.stop();
+        }
         let mut buffer = [0; PATH_BYTES];
         let said = match path_of(name, &mut buffer) {
             Some(path) => folders::create(&self.rt, path),
@@ -127,14 +171,36 @@ impl<R: Files + AllocGlobal + Clone + Drop> SharedDisk for DirDisk<R> {
 
     fn write_at(&mut self, name: &[u8], at: u64, bytes: &[u8]) -> Result<(), DiskAnswer> {
         let mut buffer = [0; PATH_BYTES];
-        let said = match path_of(name, &mut buffer) {
+        let path = path_of(name, &mut buffer);
+        if self.tally.stops_next() {
+            if let Some(path) = path {
+                let _ = folders::write_at(&self.rt, path, at, &bytes[..bytes.len() / 2]);
+            }
+            return self.stop();
+        }
+        let said = match path {
             Some(path) => folders::write_at(&self.rt, path, at, bytes),
             None => Err(io::Error::from(io::ErrorKind::InvalidFilename)),
         };
         self.told(said)
     }
 
+    fn cut(&mut self, name: &[u8], len: u64) -> Result<(), DiskAnswer> {
+        if self.tally.stops_next() {
+            return self.stop();
+        }
+        let mut buffer = [0; PATH_BYTES];
+        let said = match path_of(name, &mut buffer) {
+            Some(path) => folders::cut(&self.rt, path, len),
+            None => Err(io::Error::from(io::ErrorKind::InvalidFilename)),
+        };
+        self.told(said)
+    }
+
     fn sync(&mut self, name: &[u8]) -> Result<(), DiskAnswer> {
+        if self.tally.stops_next() {
+            return self.stop();
+        }
         let mut buffer = [0; PATH_BYTES];
         let said = match path_of(name, &mut buffer) {
             Some(path) => folders::sync(&self.rt, path),
@@ -144,6 +210,9 @@ impl<R: Files + AllocGlobal + Clone + Drop> SharedDisk for DirDisk<R> {
     }
 
     fn rename(&mut self, from: &[u8], to: &[u8]) -> Result<(), DiskAnswer> {
+        if self.tally.stops_next() {
+            return self.stop();
+        }
         let mut before = [0; PATH_BYTES];
         let mut after = [0; PATH_BYTES];
         let said = match (path_of(from, &mut before), path_of(to, &mut after)) {
@@ -154,11 +223,24 @@ impl<R: Files + AllocGlobal + Clone + Drop> SharedDisk for DirDisk<R> {
     }
 
     fn remove(&mut self, name: &[u8]) -> Result<(), DiskAnswer> {
+        if self.tally.stops_next() {
+            return self.stop();
+        }
         let mut buffer = [0; PATH_BYTES];
         let said = match path_of(name, &mut buffer) {
             Some(path) => folders::remove(&self.rt, path),
             None => Err(io::Error::from(io::ErrorKind::InvalidFilename)),
         };
         self.told(said)
+    }
+
+    fn crash(&mut self) {}
+
+    fn arm(&mut self, left: u64) {
+        self.tally.arm(left);
+    }
+
+    fn disarm(&mut self) {
+        self.tally.disarm();
     }
 }

@@ -5,8 +5,8 @@ ghost use Rattle.std.specs.Ordering.{nat_cmp};
 ghost use Rattle.std.specs.Cmp.Lexicographic.{slice_cmp};
 ghost use Rattle.std.specs.FinMap.Entries.{is_sorted, put, find};
 ghost use Rattle.ais_values.specs.Texts.{IsText};
-ghost use Rattle.disk_model.specs.Disk.{File, file_written, file_synced};
-ghost use Rattle.disk_model.specs.Memory.{file_torn_by_write, file_torn_by_sync};
+ghost use Rattle.disk_model.specs.Disk.{File, file_written, file_cut, file_synced};
+ghost use Rattle.disk_model.specs.Memory.{file_torn_by_write, file_torn_by_sync, file_crashed};
 ghost use Rattle.disk_model.specs.Shelf.{place_of, without, KeyStandsAt, KeyLacksAt, adjusted_in};
 
 use crate::stored_file::StoredFile;
@@ -141,6 +141,18 @@ pub fn tear_write_in(
     }
 }
 
+/// Keeps at most so many bytes of a file.
+pub fn cut_in(entries: &mut Vec<(Text, StoredFile)>, name: &[u8], len: u64)
+    requires { IsTrue (is_sorted (slice_cmp nat_cmp) entries.old.items) }
+    ensures { entries.new.items ≡ adjusted_in (slice_cmp nat_cmp) (file_cut len) name.now
+        entries.old.items }
+{
+    if let Ok(place) = find_in(entries.as_slice(), name) {
+        let entry = &mut entries[place];
+        entry.1.cut(len);
+    }
+}
+
 /// Makes nothing of a file loose.
 pub fn sync_in(entries: &mut Vec<(Text, StoredFile)>, name: &[u8])
     requires { IsTrue (is_sorted (slice_cmp nat_cmp) entries.old.items) }
@@ -162,6 +174,17 @@ pub fn tear_sync_in(entries: &mut Vec<(Text, StoredFile)>, name: &[u8], torn: &[
     if let Ok(place) = find_in(entries.as_slice(), name) {
         let entry = &mut entries[place];
         entry.1.tear_sync(torn);
+    }
+}
+
+/// What a crash leaves of all files.
+pub fn crash_in(entries: &mut Vec<(Text, StoredFile)>, torn: &[u8])
+    ensures { entries.new.items ≡ map (λ entry. (entry.0, file_crashed torn.now entry.1))
+        entries.old.items }
+{
+    for place in 0..entries.len() {
+        let entry = &mut entries[place];
+        entry.1.crash(torn);
     }
 }
 

@@ -129,6 +129,18 @@ pub fn write_at<R: Files>(rt: &R, path: &str, at: u64, bytes: &[u8]) -> io::Resu
     file.write_all(bytes)
 }
 
+/// Keeps at most so many bytes of a file. An absent file is none to cut.
+pub fn cut<R: Files>(rt: &R, path: &str, len: u64) -> io::Result<()> {
+    let Some(found) = look(rt, path)? else {
+        return Ok(());
+    };
+    if len >= found.len() {
+        return Ok(());
+    }
+    let file = OpenOptions::new().write(true).open(rt, path)?;
+    file.set_len(len)
+}
+
 /// Makes a file's bytes durable. An absent file is none to sync.
 pub fn sync<R: Files>(rt: &R, path: &str) -> io::Result<()> {
     if look(rt, path)?.is_none() {

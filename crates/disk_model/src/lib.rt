@@ -10,9 +10,11 @@ mod mem_disk;
 mod shared_disk;
 mod shelf;
 mod stored_file;
+mod tally;
 mod walk;
 
 pub use answers::{DiskAnswer, DiskFault};
 pub use dir_disk::DirDisk;
 pub use mem_disk::MemDisk;
 pub use shared_disk::SharedDisk;
+pub use tally::Tally;

@@ -3,11 +3,12 @@ ghost use Rattle.std.specs.Prelude.{◌≡◌, IsSome, IsOk, IfOk, OnOk, OnErr};
 ghost use Rattle.std.specs.Option.{option_copied};
 ghost use Rattle.std.specs.FinMap as map;
 ghost use Rattle.ais_values.specs.Texts.{IsText};
-ghost use Rattle.disk_model.specs.Disk.{no_files, file_written, file_synced, adjusted, renamed};
-ghost use Rattle.disk_model.specs.Memory.{file_torn_by_write, file_torn_by_sync};
+ghost use Rattle.disk_model.specs.Disk.{no_files, file_written, file_cut, file_synced, adjusted, renamed};
+ghost use Rattle.disk_model.specs.Memory.{file_torn_by_write, file_torn_by_sync, files_crashed};
 
 use crate::entries::{
-    get_in, names_in, put_in, sync_in, take_out, tear_sync_in, tear_write_in, write_in,
+    crash_in, cut_in, get_in, names_in, put_in, sync_in, take_out, tear_sync_in, tear_write_in,
+    write_in,
 };
 use crate::stored_file::StoredFile;
 use ais_values::{Seq, Text};
@@ -126,6 +127,13 @@ impl Shelf {
         tear_write_in(&mut self.entries, name, at, bytes, torn)
     }
 
+    /// Keeps at most so many bytes of a file.
+    pub fn cut(&mut self, name: &[u8], len: u64)
+        ensures { self.new ≡ adjusted (file_cut len) self.old name.now }
+    {
+        cut_in(&mut self.entries, name, len);
+    }
+
     /// Makes nothing of a file loose.
     pub fn sync(&mut self, name: &[u8])
         ensures { self.new ≡ adjusted file_synced self.old name.now }
@@ -138,5 +146,12 @@ impl Shelf {
         ensures { self.new ≡ adjusted (file_torn_by_sync torn.now) self.old name.now }
     {
         tear_sync_in(&mut self.entries, name, torn);
+    }
+
+    /// What a crash leaves of all files.
+    pub fn crash(&mut self, torn: &[u8])
+        ensures { self.new ≡ files_crashed torn.now self.old }
+    {
+        crash_in(&mut self.entries, torn);
     }
 }

@@ -1,7 +1,7 @@
 //! A file in memory, with what of it is loose.
 ghost use Rattle.std.specs.Prelude.{◌≡◌, ◌-◌, ◌≤◌, ℕ, length, take, drop, min, OnOk, OnErr};
-ghost use Rattle.disk_model.specs.Disk.{File, empty_file, settled_file, file_written, file_synced, Gives};
-ghost use Rattle.disk_model.specs.Memory.{half_grown, file_torn_by_write, file_torn_by_sync};
+ghost use Rattle.disk_model.specs.Disk.{File, empty_file, settled_file, file_written, file_cut, file_synced, Gives};
+ghost use Rattle.disk_model.specs.Memory.{half_grown, file_torn_by_write, file_torn_by_sync, file_crashed};
 
 use crate::bytes::{grow, overwrite, overwrite_torn, read_from, tear_ranges};
 use std::alloc::{AllocError, Global};
@@ -103,6 +103,13 @@ impl StoredFile {
         Ok(())
     }
 
+    /// Keeps at most so many bytes.
+    pub fn cut(&mut self, len: u64)
+        ensures { self.new ≡ file_cut len self.old }
+    {
+        self.bytes.truncate(len as usize);
+    }
+
     /// Makes nothing of the file loose.
     pub fn sync(&mut self)
         ensures { self.new ≡ file_synced self.old }
@@ -143,5 +150,13 @@ impl StoredFile {
         let len = self.bytes.len() as u64;
         let kept = half_kept(self.settled, len);
         self.bytes.truncate(kept as usize);
+    }
+
+    /// A crash: the loose ranges are torn, half of the growth since nothing was loose is kept, and nothing is loose.
+    pub fn crash(&mut self, torn: &[u8])
+        ensures { self.new ≡ file_crashed torn.now self.old }
+    {
+        self.tear_sync(torn);
+        self.sync();
     }
 }
