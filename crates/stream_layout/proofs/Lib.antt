@@ -10,5 +10,6 @@ pub mod RepeatLaws
 pub mod RepeatOn
 pub mod Rounds
 pub mod Rows
+pub mod Settled
 pub mod StoredBytes
 pub mod WriteAgain

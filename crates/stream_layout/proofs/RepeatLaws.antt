@@ -1,5 +1,5 @@
 -- What the calls of each event make of any files, and that no call of theirs changes it, done or broken off.
-use Rattle.std.proofs.Common.{◌≡◌, ◌≢◌, ℕ, Bool, true, false, cond, List, [], ◌∷◌, Option, Some, None, option_map, refl, sym, ap, ◌∙◌, inl, inr}
+use Rattle.std.proofs.Common.{◌≡◌, ◌≢◌, ℕ, Bool, true, false, cond, List, [], ◌∷◌, Option, Some, None, option_map, refl, sym, ap, ◌∙◌, inl, inr, arith}
 use Rattle.std.specs.Option.{MatchOption}
 use Rattle.std.specs.Str.{bytes_eq}
 use Rattle.std.specs.FinMap.{get, insert, get-insert}
@@ -11,8 +11,9 @@ use Rattle.disk_model.specs.Failures.{FileLeftByWrite, FileLeftBySync, LeavesFil
 use Rattle.disk_model.proofs.Changes.{get-adjusted}
 use Rattle.disk_model.proofs.Renaming.{renamed_absent}
 use Rattle.stream_layout.proofs.FileLaws.{same_is, itself, apart, found-created, found-removed, found-renamed, found-made, found-refilled}
-use Rattle.stream_layout.specs.Repeating.{Attempted}
-use Rattle.stream_layout.proofs.Attempts.{KeepsDone, KeepsBroken, repeats}
+use Rattle.stream_layout.specs.Repeating.{AllSettled, Attempted}
+use Rattle.stream_layout.proofs.Attempts.{KeepsDone, KeepsBroken, KeepsCrashed, repeats}
+use Rattle.stream_layout.proofs.Settled.{SettledBut, StaysSettled, none_loose, loose_at, settled-but, all-settled, crash-stays, crash-nothing, crash-settles, stays-created, stays-removed, stays-renamed}
 
 -- the new files are the old ones but for one name
 abbrev pub Elsewhere : List ℕ → Files → Files → Type 0
@@ -61,19 +62,32 @@ touches_write name at bytes = record { done = other_adjusted (file_written at by
 pub touches_sync : (name : List ℕ) → Touches name (CallSync name)
 touches_sync name = record { done = other_adjusted file_synced name; broken = left_elsewhere FileLeftBySync name }
 
--- nothing is kept of the files themselves
-abbrev pub Any : Files → Type 0
-Any files = Unit {0}
+-- a call that changes what stands under one name leaves settled what stands under the others
+pub stays-beside : (name : List ℕ) (call : DeviceCall) → Touches name call → StaysSettled (loose_at name) call
+stays-beside name call touches = record {
+  done = λ old settled q file free is. settled q file free (sym (touches.done old q free) ∙ is);
+  broken = λ old new settled left q file free is. settled q file free (sym (touches.broken old new left q free) ∙ is);
+}
 
 -- what the calls make of the files has nothing of what stands under a name
 abbrev pub Ignores : (Files → List ℕ → Option File) → List ℕ → Type 0
 Ignores final name = (old new : Files) → Elsewhere name old new → (q : List ℕ) → final new q ≡ final old q
 
-done_keeps : (final : Files → List ℕ → Option File) (name : List ℕ) (call : DeviceCall) → Ignores final name → Touches name call → KeepsDone Any final call
-done_keeps final name call ignores touches old any = (any, ignores old (applied call old) (touches.done old))
+done_keeps : (loose : List ℕ → Bool) (final : Files → List ℕ → Option File) (name : List ℕ) (call : DeviceCall) → Ignores final name → Touches name call
+    → StaysSettled loose call → KeepsDone (SettledBut loose) final call
+done_keeps loose final name call ignores touches stays old settled = (stays.done old settled, ignores old (applied call old) (touches.done old))
 
-broken_keeps : (final : Files → List ℕ → Option File) (name : List ℕ) (call : DeviceCall) → Ignores final name → Touches name call → KeepsBroken Any final call
-broken_keeps final name call ignores touches old new any left = (any, ignores old new (touches.broken old new left))
+broken_keeps : (loose : List ℕ → Bool) (final : Files → List ℕ → Option File) (name : List ℕ) (call : DeviceCall) → Ignores final name → Touches name call
+    → StaysSettled loose call → KeepsBroken (SettledBut loose) final call
+broken_keeps loose final name call ignores touches stays old new settled left =
+    (stays.broken old new settled left, ignores old new (touches.broken old new left))
+
+-- a crash changes no more than what stands under the one name that is loose
+crash_keeps : (final : Files → List ℕ → Option File) (name : List ℕ) → Ignores final name → KeepsCrashed (SettledBut (loose_at name)) final
+crash_keeps final name ignores old new settled crashed = (
+  settled-but (loose_at name) new (crash-settles old new crashed),
+  ignores old new (crash-stays (loose_at name) old new settled crashed),
+)
 
 -- a stream is made
 
@@ -90,30 +104,36 @@ last_part true c x y z z' same = refl
 last_part false true x y z z' same = refl
 last_part false false x y z z' same = same refl refl
 
-pub made_again : (cfg log text : List ℕ) (attempts : ℕ) (old left : Files)
+pub made_again : (cfg log text : List ℕ) (attempts : ℕ) (old left : Files) → AllSettled old
     → Attempted (CallCreate cfg ∷ CallWrite cfg 0 text ∷ CallSync cfg ∷ CallCreate log ∷ []) attempts old left
     → all_applied (CallCreate cfg ∷ CallWrite cfg 0 text ∷ CallSync cfg ∷ CallCreate log ∷ []) left
     ≡ all_applied (CallCreate cfg ∷ CallWrite cfg 0 text ∷ CallSync cfg ∷ CallCreate log ∷ []) old
-made_again cfg log text attempts old left tried =
+made_again cfg log text attempts old left settled tried =
+    let loose = loose_at cfg in
     let final = made_files cfg log text in
     let no_cfg : Ignores final cfg = λ one other same q. last_part (bytes_eq q log) (bytes_eq q cfg) _ _ _ _ (λ l c. same q c) in
     let no_log : Ignores final log = λ one other same q. last_part (bytes_eq q log) (bytes_eq q cfg) _ _ _ _ (λ l c. same q l) in
-    repeats Any final (CallCreate cfg ∷ CallWrite cfg 0 text ∷ CallSync cfg ∷ CallCreate log ∷ []) (
-      broken_keeps final cfg _ no_cfg (touches_create cfg),
-      (λ _. done_keeps final cfg _ no_cfg (touches_create cfg)),
+    let made = stays-beside cfg (CallCreate cfg) (touches_create cfg) in
+    let filled = stays-beside cfg (CallWrite cfg 0 text) (touches_write cfg 0 text) in
+    let through = stays-beside cfg (CallSync cfg) (touches_sync cfg) in
+    let log_made = stays-created loose log in
+    repeats (SettledBut loose) final (CallCreate cfg ∷ CallWrite cfg 0 text ∷ CallSync cfg ∷ CallCreate log ∷ []) (
+      broken_keeps loose final cfg _ no_cfg (touches_create cfg) made,
+      (λ _. done_keeps loose final cfg _ no_cfg (touches_create cfg) made),
       (
-        broken_keeps final cfg _ no_cfg (touches_write cfg 0 text),
-        (λ _. done_keeps final cfg _ no_cfg (touches_write cfg 0 text)),
+        broken_keeps loose final cfg _ no_cfg (touches_write cfg 0 text) filled,
+        (λ _. done_keeps loose final cfg _ no_cfg (touches_write cfg 0 text) filled),
         (
-          broken_keeps final cfg _ no_cfg (touches_sync cfg),
-          (λ _. done_keeps final cfg _ no_cfg (touches_sync cfg)),
-          (broken_keeps final log _ no_log (touches_create log), (λ _. done_keeps final log _ no_log (touches_create log)), tt),
+          broken_keeps loose final cfg _ no_cfg (touches_sync cfg) through,
+          (λ _. done_keeps loose final cfg _ no_cfg (touches_sync cfg) through),
+          (broken_keeps loose final log _ no_log (touches_create log) log_made, (λ _. done_keeps loose final log _ no_log (touches_create log) log_made), tt),
         ),
       ),
     )
+    (crash_keeps final cfg no_cfg)
     (λ files any q. found-created (synced (written_at (created files cfg) cfg 0 text) cfg) log q
     ∙ ap (cond (bytes_eq q log) (Some (settled_file []))) (found-made files cfg text q))
-    attempts old left tt tried
+    attempts old left (settled-but loose old settled) tried
 
 -- a file gets another name
 
@@ -161,25 +181,35 @@ rename_kept from to files differ q =
     ∙ ap (λ o. cond (bytes_eq q to) (either_of (get files from) (get files to)) (cond (bytes_eq q from) None o)) (shows_renamed from to files q)
     ∙ twice (bytes_eq q to) (bytes_eq q from) (either_of (get files from) (get files to)) None (get files q)
 
-rename_left : (final : Files → List ℕ → Option File) (from to : List ℕ) → ((files : Files) (q : List ℕ) → final (renamed files from to) q ≡ final files q)
-    → KeepsBroken Any final (CallRename from to)
-rename_left final from to kept old new any left = elim left [
-  | inl same ↦ (any, λ q. ap (λ m. final m q) same)
-  | inr done ↦ (any, λ q. ap (λ m. final m q) done ∙ kept old q)
-]
+rename_left : (loose : List ℕ → Bool) (final : Files → List ℕ → Option File) (from to : List ℕ) → loose from ≡ false
+    → ((files : Files) (q : List ℕ) → final (renamed files from to) q ≡ final files q) → KeepsBroken (SettledBut loose) final (CallRename from to)
+rename_left loose final from to free kept old new settled left = (
+  (stays-renamed loose from to free).broken old new settled left,
+  elim left [
+    | inl same ↦ λ q. ap (λ m. final m q) same
+    | inr done ↦ λ q. ap (λ m. final m q) done ∙ kept old q
+  ],
+)
 
-rename_done : (final : Files → List ℕ → Option File) (from to : List ℕ) → ((files : Files) (q : List ℕ) → final (renamed files from to) q ≡ final files q)
-    → KeepsDone Any final (CallRename from to)
-rename_done final from to kept old any = (any, kept old)
+rename_done : (loose : List ℕ → Bool) (final : Files → List ℕ → Option File) (from to : List ℕ) → loose from ≡ false
+    → ((files : Files) (q : List ℕ) → final (renamed files from to) q ≡ final files q) → KeepsDone (SettledBut loose) final (CallRename from to)
+rename_done loose final from to free kept old settled = ((stays-renamed loose from to free).done old settled, kept old)
 
 -- a stream ends
-pub ended_again : (from to : List ℕ) (attempts : ℕ) (old left : Files) → from ≢ to → Attempted (CallRename from to ∷ []) attempts old left
+pub ended_again : (from to : List ℕ) (attempts : ℕ) (old left : Files) → from ≢ to → AllSettled old → Attempted (CallRename from to ∷ []) attempts old left
     → all_applied (CallRename from to ∷ []) left ≡ all_applied (CallRename from to ∷ []) old
-ended_again from to attempts old left differ tried =
+ended_again from to attempts old left differ settled tried =
     let final = renamed_files from to in
     let kept : (files : Files) (q : List ℕ) → final (renamed files from to) q ≡ final files q = λ files. rename_kept from to files differ in
-    repeats Any final (CallRename from to ∷ []) (rename_left final from to kept, (λ _. rename_done final from to kept), tt)
-    (λ files any. shows_renamed from to files) attempts old left tt tried
+    repeats AllSettled final (CallRename from to ∷ []) (
+      (λ before new all left.
+          let k = rename_left none_loose final from to refl kept before new (settled-but none_loose before all) left in
+          (all-settled new k.0, k.1)),
+      (λ more. absurd (omega arith)),
+      tt,
+    )
+    (λ before new all crashed. (crash-settles before new crashed, λ q. ap (λ m. final m q) (crash-nothing before new all crashed)))
+    (λ files any. shows_renamed from to files) attempts old left settled tried
 
 -- the file changes, and one goes if it has to
 
@@ -205,56 +235,62 @@ renamed_elsewhere from to name old new differ same q other =
       | false ↦ λ is. ap (cond (bytes_eq q from) None) (same q other)
     ] refl
 
-pub changed_again : (from to new bytes : List ℕ) (attempts : ℕ) (old left : Files) → from ≢ to → from ≢ new
+pub changed_again : (from to new bytes : List ℕ) (attempts : ℕ) (old left : Files) → from ≢ to → from ≢ new → AllSettled old
     → Attempted (CallRename from to ∷ CallCreate new ∷ CallWrite new 0 bytes ∷ CallSync new ∷ []) attempts old left
     → all_applied (CallRename from to ∷ CallCreate new ∷ CallWrite new 0 bytes ∷ CallSync new ∷ []) left
     ≡ all_applied (CallRename from to ∷ CallCreate new ∷ CallWrite new 0 bytes ∷ CallSync new ∷ []) old
-changed_again from to new bytes attempts old left differ unlike tried =
+changed_again from to new bytes attempts old left differ unlike settled tried =
+    let loose = loose_at new in
+    let free = apart from new unlike in
     let final = changed_files from to new bytes (λ _. false) in
     let kept = rename_behind from to new bytes (λ _. false) differ in
     let no_new : Ignores final new = λ one other same q. first_part (bytes_eq q new) _ _ _ (λ n. renamed_elsewhere from to new one other unlike same q n) in
-    repeats Any final (CallRename from to ∷ CallCreate new ∷ CallWrite new 0 bytes ∷ CallSync new ∷ []) (
-      rename_left final from to kept,
-      (λ _. rename_done final from to kept),
+    repeats (SettledBut loose) final (CallRename from to ∷ CallCreate new ∷ CallWrite new 0 bytes ∷ CallSync new ∷ []) (
+      rename_left loose final from to free kept,
+      (λ _. rename_done loose final from to free kept),
       (
-        broken_keeps final new _ no_new (touches_create new),
-        (λ _. done_keeps final new _ no_new (touches_create new)),
+        broken_keeps loose final new _ no_new (touches_create new) (stays-beside new _ (touches_create new)),
+        (λ _. done_keeps loose final new _ no_new (touches_create new) (stays-beside new _ (touches_create new))),
         (
-          broken_keeps final new _ no_new (touches_write new 0 bytes),
-          (λ _. done_keeps final new _ no_new (touches_write new 0 bytes)),
-          (broken_keeps final new _ no_new (touches_sync new), (λ _. done_keeps final new _ no_new (touches_sync new)), tt),
+          broken_keeps loose final new _ no_new (touches_write new 0 bytes) (stays-beside new _ (touches_write new 0 bytes)),
+          (λ _. done_keeps loose final new _ no_new (touches_write new 0 bytes) (stays-beside new _ (touches_write new 0 bytes))),
+          (broken_keeps loose final new _ no_new (touches_sync new) (stays-beside new _ (touches_sync new)), (λ _. done_keeps loose final new _ no_new (touches_sync new) (stays-beside new _ (touches_sync new))), tt),
         ),
       ),
     )
+    (crash_keeps final new no_new)
     (λ files any q. found-made (renamed files from to) new bytes q ∙ ap (cond (bytes_eq q new) (Some (settled_file bytes))) (shows_renamed from to files q))
-    attempts old left tt tried
+    attempts old left (settled-but loose old settled) tried
 
-pub rotated_again : (from to new gone bytes : List ℕ) (attempts : ℕ) (old left : Files) → from ≢ to → from ≢ new → from ≢ gone → new ≢ gone
+pub rotated_again : (from to new gone bytes : List ℕ) (attempts : ℕ) (old left : Files) → from ≢ to → from ≢ new → from ≢ gone → new ≢ gone → AllSettled old
     → Attempted (CallRename from to ∷ CallCreate new ∷ CallRemove gone ∷ CallWrite new 0 bytes ∷ CallSync new ∷ []) attempts old left
     → all_applied (CallRename from to ∷ CallCreate new ∷ CallRemove gone ∷ CallWrite new 0 bytes ∷ CallSync new ∷ []) left
     ≡ all_applied (CallRename from to ∷ CallCreate new ∷ CallRemove gone ∷ CallWrite new 0 bytes ∷ CallSync new ∷ []) old
-rotated_again from to new gone bytes attempts old left differ unlike stays other tried =
+rotated_again from to new gone bytes attempts old left differ unlike stays other settled tried =
+    let loose = loose_at new in
+    let free = apart from new unlike in
     let final = changed_files from to new bytes (λ q. bytes_eq q gone) in
     let kept = rename_behind from to new bytes (λ q. bytes_eq q gone) differ in
     let no_new : Ignores final new = λ one two same q. first_part (bytes_eq q new) _ _ _ (λ n. ap (cond (bytes_eq q gone) None) (renamed_elsewhere from to new one two unlike same q n)) in
     let no_gone : Ignores final gone = λ one two same q. last_part (bytes_eq q new) (bytes_eq q gone) _ _ _ _ (λ _ g. renamed_elsewhere from to gone one two stays same q g) in
-    repeats Any final (CallRename from to ∷ CallCreate new ∷ CallRemove gone ∷ CallWrite new 0 bytes ∷ CallSync new ∷ []) (
-      rename_left final from to kept,
-      (λ _. rename_done final from to kept),
+    repeats (SettledBut loose) final (CallRename from to ∷ CallCreate new ∷ CallRemove gone ∷ CallWrite new 0 bytes ∷ CallSync new ∷ []) (
+      rename_left loose final from to free kept,
+      (λ _. rename_done loose final from to free kept),
       (
-        broken_keeps final new _ no_new (touches_create new),
-        (λ _. done_keeps final new _ no_new (touches_create new)),
+        broken_keeps loose final new _ no_new (touches_create new) (stays-beside new _ (touches_create new)),
+        (λ _. done_keeps loose final new _ no_new (touches_create new) (stays-beside new _ (touches_create new))),
         (
-          broken_keeps final gone _ no_gone (touches_remove gone),
-          (λ _. done_keeps final gone _ no_gone (touches_remove gone)),
+          broken_keeps loose final gone _ no_gone (touches_remove gone) (stays-removed loose gone),
+          (λ _. done_keeps loose final gone _ no_gone (touches_remove gone) (stays-removed loose gone)),
           (
-            broken_keeps final new _ no_new (touches_write new 0 bytes),
-            (λ _. done_keeps final new _ no_new (touches_write new 0 bytes)),
-            (broken_keeps final new _ no_new (touches_sync new), (λ _. done_keeps final new _ no_new (touches_sync new)), tt),
+            broken_keeps loose final new _ no_new (touches_write new 0 bytes) (stays-beside new _ (touches_write new 0 bytes)),
+            (λ _. done_keeps loose final new _ no_new (touches_write new 0 bytes) (stays-beside new _ (touches_write new 0 bytes))),
+            (broken_keeps loose final new _ no_new (touches_sync new) (stays-beside new _ (touches_sync new)), (λ _. done_keeps loose final new _ no_new (touches_sync new) (stays-beside new _ (touches_sync new))), tt),
           ),
         ),
       ),
     )
+    (crash_keeps final new no_new)
     (λ files any q. found-refilled (renamed files from to) new gone bytes other q
     ∙ ap (λ o. cond (bytes_eq q new) (Some (settled_file bytes)) (cond (bytes_eq q gone) None o)) (shows_renamed from to files q))
-    attempts old left tt tried
+    attempts old left (settled-but loose old settled) tried

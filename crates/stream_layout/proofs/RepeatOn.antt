@@ -23,7 +23,7 @@ use Rattle.stream_layout.specs.LogFiles.{log_entries}
 use Rattle.stream_layout.specs.Deeds.{calls_of_all, current_file, removal, change_of_file, deeds_of}
 use Rattle.stream_layout.specs.Carrying.{IsFitStored, IsFitEvent, AreRecordsOf, Stand}
 use Rattle.stream_layout.specs.Inside.{oldest_closed}
-use Rattle.stream_layout.specs.Repeating.{Attempted, RepeatSafely}
+use Rattle.stream_layout.specs.Repeating.{AllSettled, Attempted, RepeatSafely}
 use Rattle.stream_config.specs.Cfg.{cfg_of}
 use Rattle.stream_layout.proofs.CarryLaws.{begins_at_start}
 use Rattle.stream_layout.proofs.CurrentFile.{has_current, unlike, current_file-append, last_closed-append, last_made, behind_front}
@@ -60,11 +60,11 @@ made_later files stamps is rising =
 
 -- a record goes to the current file
 stored_again : (state : StreamState) (bytes : List ℕ) (records : List (List ℕ)) (files left : Files) (attempts : ℕ) → IsFitStored state bytes None → AreRecordsOf state records
-    → Stand (log_entries state.attrs records state.files) files
+    → Stand (log_entries state.attrs records state.files) files → AllSettled files
     → Attempted (CallWrite (log_name state.attrs (current_file state.files)) (spot_of state.attrs state.taken).at bytes ∷ CallSync (log_name state.attrs (current_file state.files)) ∷ []) attempts files left
     → all_applied (CallWrite (log_name state.attrs (current_file state.files)) (spot_of state.attrs state.taken).at bytes ∷ CallSync (log_name state.attrs (current_file state.files)) ∷ []) left
     ≡ all_applied (CallWrite (log_name state.attrs (current_file state.files)) (spot_of state.attrs state.taken).at bytes ∷ CallSync (log_name state.attrs (current_file state.files)) ∷ []) files
-stored_again state bytes records files left attempts fit are stand tried =
+stored_again state bytes records files left attempts fit are stand settled tried =
     let attrs = state.attrs in
     let count = are.count in
     let found = has_current state.files fit.stream.standing.last_open in
@@ -75,7 +75,7 @@ stored_again state bytes records files left attempts fit are stand tried =
     let held = subst P (sym found.whole)
     (λ stand. stored_stands attrs found.front found.current records bytes files out stays are.sizes fit.size (λ halts. let h = fit.room halts in omega arith) stand) stand in
     let within = subst (λ k. (spot_of attrs k).at ≤ length held.0) count held.2 in
-    written_once_more (spot_of attrs state.taken).at bytes held.0 within (log_name attrs (current_file state.files)) attempts files left held.1 tried
+    written_once_more (spot_of attrs state.taken).at bytes held.0 within (log_name attrs (current_file state.files)) attempts files left held.1 settled tried
 
 -- the calls of a change of file, by what is removed
 abbrev calls_for : StreamAttrs → LogFile → Stamps → ℕ → List ℕ → List Deed → List DeviceCall
@@ -84,7 +84,7 @@ calls_for attrs current stamps at bytes gone =
     ∷ Create (log_name attrs (open_file stamps.created)) ∷ (gone ++ Write (log_name attrs (open_file stamps.created)) at bytes ∷ []))
 
 abbrev DoneAgain : List DeviceCall → ℕ → Files → Files → Type 0
-DoneAgain calls attempts files left = Attempted calls attempts files left → all_applied calls left ≡ all_applied calls files
+DoneAgain calls attempts files left = AllSettled files → Attempted calls attempts files left → all_applied calls left ≡ all_applied calls files
 
 -- the file changes before a record
 stamped_again : (state : StreamState) (bytes : List ℕ) (stamps : Stamps) (files left : Files) (attempts : ℕ) → IsFitStored state bytes (Some stamps)
@@ -119,13 +119,13 @@ stamped_again state bytes stamps files left attempts fit rising =
 
 pub repeat_on : (event : StreamEvent) → IsFitEvent event → RepeatSafely event (deeds_of event)
 unfolding deeds_of
-repeat_on (Made state) fit records files left attempts are stand later tried =
-    made_again (cfg_name state.attrs) (log_name state.attrs (current_file state.files)) (cfg_of state.name state.attrs) attempts files left tried
-repeat_on (Stored before bytes None) fit records files left attempts are stand later tried =
-    stored_again before bytes records files left attempts fit are stand tried
-repeat_on (Stored before bytes (Some stamps)) fit records files left attempts are stand later tried =
-    stamped_again before bytes stamps files left attempts fit later tried
-repeat_on (Ended before closed) fit records files left attempts are stand later tried =
+repeat_on (Made state) fit records files left attempts are stand settled later tried =
+    made_again (cfg_name state.attrs) (log_name state.attrs (current_file state.files)) (cfg_of state.name state.attrs) attempts files left settled tried
+repeat_on (Stored before bytes None) fit records files left attempts are stand settled later tried =
+    stored_again before bytes records files left attempts fit are stand settled tried
+repeat_on (Stored before bytes (Some stamps)) fit records files left attempts are stand settled later tried =
+    stamped_again before bytes stamps files left attempts fit later settled tried
+repeat_on (Ended before closed) fit records files left attempts are stand settled later tried =
     let current = current_file before.files in
     ended_again (log_name before.attrs current) (log_name before.attrs (file_closed closed current)) attempts files left
-    (λ same. closed_apart before.attrs (file_closed closed current) current refl (current_open before.files fit.stream.standing.last_open) (sym same)) tried
+    (λ same. closed_apart before.attrs (file_closed closed current) current refl (current_open before.files fit.stream.standing.last_open) (sym same)) settled tried

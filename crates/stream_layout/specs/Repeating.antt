@@ -1,7 +1,8 @@
 -- Words of public clauses: deeds that are performed again after attempts that broke off.
-use Rattle.std.specs.Prelude.{◌≡◌, ℕ, zero, suc, ⊤, ◌⊎◌, IsTrue, List, [], ◌∷◌, ◌++◌, Some, None}
-use Rattle.disk_model.specs.Disk.{Files}
-use Rattle.disk_model.specs.DeviceCalls.{DeviceCall, all_applied, FailsAfter, LacksMemoryAfter}
+use Rattle.std.specs.Prelude.{◌≡◌, ℕ, zero, suc, ⊤, ◌⊎◌, IsTrue, List, [], ◌∷◌, ◌++◌, length, Some, None}
+use Rattle.std.specs.FinMap.{get}
+use Rattle.disk_model.specs.Disk.{File, Files}
+use Rattle.disk_model.specs.DeviceCalls.{DeviceCall, all_applied, FailsAfter, LacksMemoryAfter, StopsAfter}
 use Rattle.stream_config.specs.declared.event.StreamEvent.{StreamEvent}
 use Rattle.stream_config.specs.declared.event.StreamEvent.TheVariants.{Made, Stored, Ended}
 use Rattle.stream_config.specs.Events.{open_file, last_closed}
@@ -10,10 +11,20 @@ use Rattle.stream_layout.specs.declared.deed.Deed.{Deed}
 use Rattle.stream_layout.specs.Carrying.{state_before, AreRecordsOf, entries_before, Stand}
 use Rattle.stream_layout.specs.Deeds.{calls_of_all}
 
--- of these calls some from the front were done, and the next one failed, or changed nothing for want of memory
+-- nothing of a file is loose
+pub record IsSettled (file : File) : Type 0 where
+  pub loose : file.loose ≡ []
+  pub settled : file.settled ≡ length file.bytes
+
+-- nothing of the files is loose
+abbrev pub AllSettled : Files → Type 0
+AllSettled files = (name : List ℕ) (file : File) → get files name ≡ Some file → IsSettled file
+
+-- of these calls some from the front were done, and the next one failed, or changed nothing for want of memory, or the disk stopped in it
 abbrev pub BrokeOff : List DeviceCall → Files → Files → Type 0
 BrokeOff calls old new =
-    (count : ℕ) × (FailsAfter calls count (Some old) (Some new) ⊎ LacksMemoryAfter calls count (Some old) (Some new))
+    (count : ℕ)
+    × (FailsAfter calls count (Some old) (Some new) ⊎ LacksMemoryAfter calls count (Some old) (Some new) ⊎ StopsAfter calls count (Some old) (Some new))
 
 -- so many attempts at these calls broke off, each on the files that the one before left
 abbrev pub Attempted : List DeviceCall → ℕ → Files → Files → Type 0
@@ -28,9 +39,9 @@ IsLater (Stored before bytes (Some stamps)) =
     IsTrue (rises (stamps_of (last_closed stamps.closed before.files ++ open_file stamps.created ∷ [])))
 IsLater (Ended before closed) = ⊤
 
--- however often they were broken off before, the deeds leave the files that they would have left at once
+-- however often they were broken off before, the deeds leave the files that they would have left at once, where nothing was loose before
 abbrev pub RepeatSafely : StreamEvent → List Deed → Type 0
 RepeatSafely event deeds =
     (records : List (List ℕ)) (files left : Files) (attempts : ℕ) → AreRecordsOf (state_before event) records
-    → Stand (entries_before event records) files → IsLater event → Attempted (calls_of_all deeds) attempts files left
+    → Stand (entries_before event records) files → AllSettled files → IsLater event → Attempted (calls_of_all deeds) attempts files left
     → all_applied (calls_of_all deeds) left ≡ all_applied (calls_of_all deeds) files
