@@ -6,7 +6,7 @@ use Rattle.std.specs.List.{AllByRecursion, cons_option, find}
 use Rattle.std.specs.Str.{bytes_eq}
 use Rattle.std.proofs.lemmas.List.{append-nil}
 use Rattle.std.proofs.lemmas.Bool.{and_parts}
-use Rattle.disk_model.specs.Disk.{Files, settled_file}
+use Rattle.disk_model.specs.Disk.{File, Files, settled_file}
 use Rattle.stream_config.specs.declared.event.Stamps.{Stamps}
 use Rattle.stream_config.specs.declared.event.StreamEvent.{StreamEvent}
 use Rattle.stream_config.specs.declared.event.StreamEvent.TheVariants as event
@@ -17,6 +17,7 @@ use Rattle.stream_config.specs.Stamps.{stamp_after}
 use Rattle.stream_layout.specs.Carrying.{IsFitEvent, entry_at, Stand}
 use Rattle.stream_layout.specs.Deeds.{calls_of_all, deeds_of}
 use Rattle.stream_layout.specs.Names.{cfg_name}
+use Rattle.stream_layout.specs.Repeating.{IsSettled, AllSettled}
 use Rattle.record_print.specs.declared.record.LogRecord.{LogRecord}
 use Rattle.calls.specs.declared.entry.Entry.{Entry}
 use Rattle.calls.specs.declared.entry.Entry.TheVariants.{Called, Receipted}
@@ -55,8 +56,8 @@ use Rattle.service_laws.proofs.EndsAgain.{ends-again, late-ends}
 use Rattle.ais_values.proofs.Basics.{none_from}
 
 nothing-again : (old : Files) → IsRepeatable [] old
-nothing-again old left Attempts.none = refl
-nothing-again old left (Attempts.more {mid = mid} before last) = last ∙ nothing-again old mid before
+nothing-again old settled left Attempts.none = refl
+nothing-again old settled left (Attempts.more {mid = mid} before last) = last ∙ nothing-again old settled mid before
 
 -- the deeds of one event alone
 alone-again : (happening : StreamEvent) (files : Files) → IsRepeatable (calls_of_all (deeds_of happening)) files → IsRepeatable (calls_of_all (deeds_of_all (happening ∷ []))) files
@@ -151,6 +152,19 @@ change-again setup past (Ended client second) legal can =
     ending-again last second (left_streams client kept) (disk_files setup past)
     (each-mapped (HaveStamps last) (without_opener client) kept (kept-stamps setup past legal.1))
     (events-fit setup past (Ended client second) legal can)
+
+-- nothing is loose of the files of a history
+
+option-settled : (found : Option (List ℕ)) (file : File) → option_map settled_file found ≡ Some file → IsSettled file
+option-settled None file is = cc
+option-settled (Some bytes) file is =
+    let same : settled_file bytes ≡ file = cc in subst IsSettled same (record { loose = refl; settled = refl })
+
+pub files-settled : (setup : Setup) (past : List Entry) → AllSettled (files_of setup past)
+unfolding files_of
+files-settled setup past name file is =
+    let log = (past_of setup past).log in
+    option-settled (found_in (chronicle (log_setup setup) log).streams name) file (sym (disk-holds (log_setup setup) log name) ∙ is)
 
 -- entries
 

@@ -9,6 +9,7 @@ use Rattle.std.proofs.lemmas.Slice.Eq.{bytes_eq-Decides}
 use Rattle.disk_model.specs.Disk.{File, Files, settled_file, overwritten, file_written, file_synced, renamed}
 use Rattle.disk_model.specs.DeviceCalls.{DeviceCall, all_applied}
 use Rattle.disk_model.proofs.Changes.{get-adjusted, adjusted_twice}
+use Rattle.stream_layout.specs.Repeating.{AllSettled}
 use Rattle.stream_layout.proofs.FileLaws.{same_is, itself, apart, found-made, found-refilled}
 use Rattle.log_history.specs.Places.{IsAt}
 use Rattle.cluster_facts.specs.Storage.{Attempts}
@@ -50,14 +51,14 @@ module _ (bytes : List ℕ) (spot after : List ℕ × ℕ) (old new : Files) whe
   abbrev pub IsEither : Files → Type 0
   IsEither left = IsAt bytes spot left ⊎ IsAt bytes after left
 
-  -- while these calls are attempted
+  -- while these calls are attempted, from files of which nothing is loose
   abbrev pub IsKeptBy : List DeviceCall → Type 0
-  IsKeptBy calls = (left : Files) → Attempts service_disk calls old left → all_applied calls left ≡ new → IsEither left
+  IsKeptBy calls = AllSettled old → (left : Files) → Attempts service_disk calls old left → all_applied calls left ≡ new → IsEither left
 
   module _ (was : IsAt bytes spot old) (is : IsAt bytes after new) where
     pub kept-untouched : (calls : List DeviceCall) → AllByRecursion (Untouched spot.0) calls → IsKeptBy calls
-    kept-untouched calls alone left tried done =
-        inl (record { file = was.file; found = untouched spot.0 calls alone old left tried ∙ was.found; bytes_are = was.bytes_are })
+    kept-untouched calls alone settled left tried done =
+        inl (record { file = was.file; found = untouched spot.0 calls alone old left settled tried ∙ was.found; bytes_are = was.bytes_are })
 
     pub kept-back : (left : Files) → after.1 ≡ spot.1 → (get left spot.0 ≡ Some is.file) ⊎ (get left after.0 ≡ Some is.file) → IsEither left
     kept-back left offset (inl there) =
@@ -89,19 +90,19 @@ module _ (bytes : List ℕ) (spot after : List ℕ × ℕ) (old new : Files) whe
         ])
 
     pub kept-changed : (from to fresh text : List ℕ) → from ≢ to → from ≢ fresh → to ≢ fresh → spot.0 ≢ to → spot.0 ≢ fresh → Moves from to → IsKeptBy (changing from to fresh text)
-    kept-changed from to fresh text differ unlike new_apart not_to not_new (inr moved) left tried done =
+    kept-changed from to fresh text differ unlike new_apart not_to not_new (inr moved) settled left tried done =
         moved-from (changing from to fresh text) from to left done moved.0 moved.1 moved.2 (λ file there. changed-back from to fresh text left file new_apart there)
-    kept-changed from to fresh text differ unlike new_apart not_to not_new (inl same) left tried done =
+    kept-changed from to fresh text differ unlike new_apart not_to not_new (inl same) settled left tried done =
         by_case (bytes_eq spot.0 from) refl where
           by_case : (b : Bool) → bytes_eq spot.0 from ≡ b → IsEither left
           by_case true named =
               absurd (not-gone (changing from to fresh text) left from done same ((bytes_eq-Decides spot.0 from).0 named) (changed-gone from to fresh text left differ unlike))
           by_case false other =
               let at_new = apart spot.0 fresh not_new in
-              kept-untouched (changing from to fresh text) ((other, apart spot.0 to not_to), (at_new, (at_new, (at_new, tt)))) left tried done
+              kept-untouched (changing from to fresh text) ((other, apart spot.0 to not_to), (at_new, (at_new, (at_new, tt)))) settled left tried done
 
     pub kept-rotated : (from to fresh gone text : List ℕ) → from ≢ to → from ≢ fresh → from ≢ gone → fresh ≢ gone → to ≢ fresh → spot.0 ≢ to → spot.0 ≢ fresh → Moves from to → IsKeptBy (rotating from to fresh gone text)
-    kept-rotated from to fresh gone text differ unlike stays other new_apart not_to not_new (inr moved) left tried done =
+    kept-rotated from to fresh gone text differ unlike stays other new_apart not_to not_new (inr moved) settled left tried done =
         by_case (bytes_eq to gone) refl where
           by_case : (b : Bool) → bytes_eq to gone ≡ b → IsEither left
           by_case true named =
@@ -110,7 +111,7 @@ module _ (bytes : List ℕ) (spot after : List ℕ × ℕ) (old new : Files) whe
               (ap (get new) (moved.1 ∙ to_gone) ∙ sym (ap (λ files. get files gone) done) ∙ removed-gone from to fresh gone text left other) is.found)
           by_case false apart_is =
               moved-from (rotating from to fresh gone text) from to left done moved.0 moved.1 moved.2 (λ file there. rotated-back from to fresh gone text left file other new_apart (differs to gone apart_is) there)
-    kept-rotated from to fresh gone text differ unlike stays other new_apart not_to not_new (inl same) left tried done =
+    kept-rotated from to fresh gone text differ unlike stays other new_apart not_to not_new (inl same) settled left tried done =
         by_case (bytes_eq spot.0 from) refl (bytes_eq spot.0 gone) refl where
           by_case : (b : Bool) → bytes_eq spot.0 from ≡ b → (c : Bool) → bytes_eq spot.0 gone ≡ c → IsEither left
           by_case true named c other_is =
@@ -119,7 +120,7 @@ module _ (bytes : List ℕ) (spot after : List ℕ × ℕ) (old new : Files) whe
               absurd (not-gone (rotating from to fresh gone text) left gone done same ((bytes_eq-Decides spot.0 gone).0 named) (removed-gone from to fresh gone text left other))
           by_case false elsewhere false not_gone =
               let at_new = apart spot.0 fresh not_new in
-              kept-untouched (rotating from to fresh gone text) ((elsewhere, apart spot.0 to not_to), (at_new, (not_gone, (at_new, (at_new, tt))))) left tried done
+              kept-untouched (rotating from to fresh gone text) ((elsewhere, apart spot.0 to not_to), (at_new, (not_gone, (at_new, (at_new, tt))))) settled left tried done
 
     -- a record is written into a file that stands, beside the record if that stands there
 
@@ -142,9 +143,9 @@ module _ (bytes : List ℕ) (spot after : List ℕ × ℕ) (old new : Files) whe
           by_case false past held = held
 
     pub kept-written : (name : List ℕ) (at : ℕ) (text : List ℕ) → after ≡ spot → (spot.0 ≡ name → (spot.1 + length bytes ≤ at) ⊎ (at + length text ≤ spot.1)) → IsKeptBy (writing name at text)
-    kept-written name at text same apart_is left tried done = by_case (bytes_eq spot.0 name) refl where
+    kept-written name at text same apart_is settled left tried done = by_case (bytes_eq spot.0 name) refl where
       by_case : (b : Bool) → bytes_eq spot.0 name ≡ b → IsEither left
-      by_case false other = kept-untouched (writing name at text) (other, (other, tt)) left tried done
+      by_case false other = kept-untouched (writing name at text) (other, (other, tt)) settled left tried done
       by_case true named_is =
           let named = (bytes_eq-Decides spot.0 name).0 named_is in
           inl (in-file name at text left same named (apart_is named) (get left name) refl

@@ -10,8 +10,10 @@ use Rattle.disk_model.proofs.Changes.{get-adjusted, adjusted_twice, written_agai
 use Rattle.disk_model.proofs.Renaming.{renamed_absent}
 use Rattle.disk_model.proofs.Shelving.{names_differ}
 use Rattle.disk_model.proofs.Tearing.{length-overwritten, torn_overwritten}
-use Rattle.stream_layout.proofs.FileLaws.{same_is, itself, apart, found-created, found-renamed, found-made, found-refilled, written_whole}
-use Rattle.stream_layout.proofs.RepeatLaws.{Any, made_again, changed_again, rotated_again, twice}
+use Rattle.stream_layout.proofs.FileLaws.{same_is, itself, apart, found-created, found-removed, found-renamed, found-made, found-refilled, written_whole}
+use Rattle.stream_layout.proofs.RepeatLaws.{made_again, changed_again, rotated_again, twice}
+use Rattle.stream_layout.specs.Repeating.{AllSettled}
+use Rattle.stream_layout.proofs.Settled.{none_loose, settled-but, all-settled, settled-put, settled-removed, settled-renamed}
 use Rattle.stream_layout.proofs.WriteAgain.{written_once_more}
 use Rattle.service_laws.proofs.Attempting.{IsRepeatable, repeatable}
 
@@ -33,19 +35,26 @@ made-shown cfg log text files q =
     found-created (synced (written_at (created files cfg) cfg 0 text) cfg) log q
     ∙ ap (cond (bytes_eq q log) (Some (settled_file []))) (found-made files cfg text q)
 
+made-settled : (cfg log text : List ℕ) (files : Files) → AllSettled files → AllSettled (all_applied (making cfg log text) files)
+made-settled cfg log text files settled =
+    let middle = synced (written_at (created files cfg) cfg 0 text) cfg in
+    all-settled (created middle log)
+    (settled-put none_loose middle (created middle log) log [] (found-created middle log)
+    (settled-put none_loose files middle cfg text (found-made files cfg text) (settled-but none_loose files settled)))
+
 pub made-repeatable : (cfg log text : List ℕ) (old : Files) → IsRepeatable (making cfg log text) old
 made-repeatable cfg log text old =
     let calls = making cfg log text in
-    repeatable calls Any (λ attempts files left any tried. made_again cfg log text attempts files left tried)
-    (λ files any. (
-      tt,
+    repeatable calls AllSettled (λ attempts files left settled tried. made_again cfg log text attempts files left settled tried)
+    (λ files settled. (
+      made-settled cfg log text files settled,
       same-files (all_applied calls (all_applied calls files)) (all_applied calls files)
           (λ q. made-shown cfg log text (all_applied calls files) q
           ∙ ap (λ o. cond (bytes_eq q log) (Some (settled_file [])) (cond (bytes_eq q cfg) (Some (settled_file text)) o)) (made-shown cfg log text files q)
           ∙ twice (bytes_eq q log) (bytes_eq q cfg) (Some (settled_file [])) (Some (settled_file text)) (get files q)
           ∙ sym (made-shown cfg log text files q)),
     ))
-    old tt
+    old (λ settled. settled)
 
 -- a file that got another name is gone under its old one
 
@@ -81,13 +90,14 @@ pub changed-repeatable : (from to new bytes : List ℕ) (old : Files) → from �
 changed-repeatable from to new bytes old differ unlike =
     let calls = changing from to new bytes in
     let refill = λ (files : Files). synced (written_at (created files new) new 0 bytes) new in
-    repeatable calls Any (λ attempts files left any tried. changed_again from to new bytes attempts files left differ unlike tried)
-    (λ files any.
+    repeatable calls AllSettled (λ attempts files left settled tried. changed_again from to new bytes attempts files left differ unlike settled tried)
+    (λ files settled.
     let after = refill (renamed files from to) in
     let gone : get after from ≡ None =
     found-made (renamed files from to) new bytes from
     ∙ ap (λ b. cond b (Some (settled_file bytes)) (get (renamed files from to) from)) (apart from new unlike) ∙ renamed-gone files from to differ in (
-      tt,
+      all-settled after (settled-put none_loose (renamed files from to) after new bytes (found-made (renamed files from to) new bytes)
+          (settled-renamed none_loose from to files refl (settled-but none_loose files settled))),
       ap refill (renamed_absent after from to gone)
           ∙ same-files (refill after) after
           (λ q. found-made after new bytes q
@@ -95,7 +105,7 @@ changed-repeatable from to new bytes old differ unlike =
           ∙ once (bytes_eq q new) (Some (settled_file bytes)) (get (renamed files from to) q)
           ∙ sym (found-made (renamed files from to) new bytes q)),
     ))
-    old tt
+    old (λ settled. settled)
 
 abbrev pub rotating : (from to new gone bytes : List ℕ) → List DeviceCall
 rotating from to new gone bytes = CallRename from to ∷ CallCreate new ∷ CallRemove gone ∷ CallWrite new 0 bytes ∷ CallSync new ∷ []
@@ -105,14 +115,17 @@ rotated-repeatable from to new gone bytes old differ unlike stays other =
     let calls = rotating from to new gone bytes in
     let refill = λ (files : Files). synced (written_at (removed (created files new) gone) new 0 bytes) new in
     let x = Some (settled_file bytes) in
-    repeatable calls Any (λ attempts files left any tried. rotated_again from to new gone bytes attempts files left differ unlike stays other tried)
-    (λ files any.
+    repeatable calls AllSettled (λ attempts files left settled tried. rotated_again from to new gone bytes attempts files left differ unlike stays other settled tried)
+    (λ files settled.
+    let moved = renamed files from to in
     let after = refill (renamed files from to) in
     let none : get after from ≡ None =
     found-refilled (renamed files from to) new gone bytes other from
     ∙ ap (λ b. cond b x (cond (bytes_eq from gone) None (get (renamed files from to) from))) (apart from new unlike)
     ∙ ap (λ b. cond b None (get (renamed files from to) from)) (apart from gone stays) ∙ renamed-gone files from to differ in (
-      tt,
+      all-settled after (settled-put none_loose (removed moved gone) after new bytes
+          (λ q. found-refilled moved new gone bytes other q ∙ ap (cond (bytes_eq q new) x) (sym (found-removed moved gone q)))
+          (settled-removed none_loose gone moved (settled-renamed none_loose from to files refl (settled-but none_loose files settled)))),
       ap refill (renamed_absent after from to none)
           ∙ same-files (refill after) after
           (λ q. found-refilled after new gone bytes other q
@@ -120,7 +133,7 @@ rotated-repeatable from to new gone bytes old differ unlike stays other =
           ∙ twice (bytes_eq q new) (bytes_eq q gone) x None (get (renamed files from to) q)
           ∙ sym (found-refilled (renamed files from to) new gone bytes other q)),
     ))
-    old tt
+    old (λ settled. settled)
 
 -- a record is written into a file that stands
 
@@ -146,19 +159,26 @@ overwritten-twice at bytes old within =
 pub written-repeatable : (name : List ℕ) (at : ℕ) (bytes : List ℕ) (old : Files) → Reaches name at old → IsRepeatable (writing name at bytes) old
 written-repeatable name at bytes old reaches =
     let calls = writing name at bytes in
-    repeatable calls (Reaches name at) (λ attempts files left held tried. written_once_more at bytes held.0 held.2 name attempts files left held.1 tried)
-    (λ files held.
+    repeatable calls (λ files. Reaches name at files × AllSettled files)
+    (λ attempts files left sound tried. written_once_more at bytes sound.0.0 sound.0.2 name attempts files left sound.0.1 sound.1 tried)
+    (λ files sound.
+    let held = sound.0 in
     let now = overwritten held.0 at bytes in
     let long = length-overwritten held.0 bytes at held.2 in
+    let shown = written-shown files name at bytes held.0 held.1 held.2 in
     let stands : get (all_applied calls files) name ≡ Some (settled_file now) =
-    written-shown files name at bytes held.0 held.1 held.2 name ∙ ap (λ b. cond b (Some (settled_file now)) (get files name)) (itself name) in
+    shown name ∙ ap (λ b. cond b (Some (settled_file now)) (get files name)) (itself name) in
     let within : at ≤ length now = omega (arith, long, held.2) in (
-      (now, stands, within),
+      (
+        (now, stands, within),
+        all-settled (all_applied calls files)
+            (settled-put none_loose files (all_applied calls files) name now shown (settled-but none_loose files sound.1)),
+      ),
       same-files (all_applied calls (all_applied calls files)) (all_applied calls files)
           (λ q. written-shown (all_applied calls files) name at bytes now stands within q
-          ∙ ap (λ o. cond (bytes_eq q name) (Some (settled_file (overwritten now at bytes))) o) (written-shown files name at bytes held.0 held.1 held.2 q)
+          ∙ ap (λ o. cond (bytes_eq q name) (Some (settled_file (overwritten now at bytes))) o) (shown q)
           ∙ ap (λ v. cond (bytes_eq q name) (Some (settled_file v)) (cond (bytes_eq q name) (Some (settled_file now)) (get files q))) (overwritten-twice at bytes held.0 held.2)
           ∙ once (bytes_eq q name) (Some (settled_file now)) (get files q)
-          ∙ sym (written-shown files name at bytes held.0 held.1 held.2 q)),
+          ∙ sym (shown q)),
     ))
-    old reaches
+    old (λ settled. (reaches, settled))

@@ -7,6 +7,7 @@ use Rattle.std.specs.Option.{option_to_list}
 use Rattle.std.proofs.lemmas.Bool.{and_parts}
 use Rattle.disk_model.specs.Disk.{Files, renamed}
 use Rattle.disk_model.specs.DeviceCalls.{DeviceCall, all_applied}
+use Rattle.disk_model.specs.Failures.{Crashed, WhollyOrNot}
 use Rattle.disk_model.proofs.Renaming.{renamed_absent}
 use Rattle.stream_config.specs.declared.event.StreamEvent.{StreamEvent}
 use Rattle.stream_config.specs.declared.event.StreamEvent.TheVariants.{Made, Stored, Ended}
@@ -27,7 +28,9 @@ use Rattle.cluster_facts.specs.Storage.{Attempt, Attempts}
 use Rattle.service_laws.specs.Disks.{service_disk}
 use Rattle.service_laws.proofs.Attempting.{IsRepeatable}
 use Rattle.service_laws.proofs.DoneAgain.{renamed-gone, renamed-stays}
+use Rattle.stream_layout.specs.Repeating.{AllSettled}
 use Rattle.stream_layout.proofs.RepeatOn.{current_open}
+use Rattle.stream_layout.proofs.Settled.{none_loose, settled-but, all-settled, crash-at, crash-nothing, settled-renamed}
 
 -- the end of a stream whose current file was made by this stamp or before, and that is closed later
 pub record IsLateEnd (low : ℕ) (before : StreamState) (closed : ℤ) : Type 0 where
@@ -68,7 +71,19 @@ apart-names low one other first closed is late =
 abbrev pub end_calls : List StreamEvent → List DeviceCall
 end_calls events = calls_of_all (deeds_of_all events)
 
--- a name of a current file that is gone does not come back
+-- a name that stands for nothing stands for nothing after a crash
+crash-gone : (old new : Files) (name : List ℕ) → get old name ≡ None → Crashed old new → get new name ≡ None
+crash-gone old new name gone crashed = crash-at old new name (λ file is. cc (gone, is)) crashed ∙ gone
+
+-- a name of a current file that is gone does not come back by a renaming
+left-gone : (low : ℕ) (one : StreamState) (first : ℤ) → IsLateEnd low one first → (before : StreamState) (closed : ℤ) → IsLateEnd low before closed → (old new : Files) → get old (from_name one) ≡ None
+    → WhollyOrNot (renamed old (from_name before) (to_name before closed)) old new → get new (from_name one) ≡ None
+left-gone low one first is before closed late old new gone (inl same) = ap (λ files. get files (from_name one)) same ∙ gone
+left-gone low one first is before closed late old new gone (inr done) =
+    ap (λ files. get files (from_name one)) done
+    ∙ renamed-stays old (from_name before) (to_name before closed) (from_name one) (apart-names low one before first closed is late) gone
+
+-- nor by attempts
 pub stays-gone : (low : ℕ) (one : StreamState) (first : ℤ) → IsLateEnd low one first → (events : List StreamEvent) → AllByRecursion (IsLateEvent low) events → (old new : Files) → get old (from_name one) ≡ None → Attempt service_disk (end_calls events) old new → get new (from_name one) ≡ None
 unfolding deeds_of
 stays-gone low one first is [] late old new gone same = ap (λ files. get files (from_name one)) same ∙ gone
@@ -76,42 +91,67 @@ stays-gone low one first is (Made state ∷ events) late old new gone attempt = 
 stays-gone low one first is (Stored before bytes stamps ∷ events) late old new gone attempt = elim late.0 [ ]
 stays-gone low one first is (Ended before closed ∷ events) late old new gone (inl same) =
     ap (λ files. get files (from_name one)) same ∙ gone
-stays-gone low one first is (Ended before closed ∷ events) late old new gone (inr (inl (inl same))) =
-    ap (λ files. get files (from_name one)) same ∙ gone
-stays-gone low one first is (Ended before closed ∷ events) late old new gone (inr (inl (inr done))) =
-    ap (λ files. get files (from_name one)) done
-    ∙ renamed-stays old (from_name before) (to_name before closed) (from_name one) (apart-names low one before first closed is late.0) gone
+stays-gone low one first is (Ended before closed ∷ events) late old new gone (inr (inl (inl left))) =
+    left-gone low one first is before closed late.0 old new gone left
+stays-gone low one first is (Ended before closed ∷ events) late old new gone (inr (inl (inr stopped))) =
+    crash-gone stopped.0 new (from_name one) (left-gone low one first is before closed late.0 old stopped.0 gone stopped.1) stopped.2
 stays-gone low one first is (Ended before closed ∷ events) late old new gone (inr (inr rest)) =
     stays-gone low one first is events late.1 (renamed old (from_name before) (to_name before closed)) new
     (renamed-stays old (from_name before) (to_name before closed) (from_name one) (apart-names low one before first closed is late.0) gone) rest
 
+-- a first renaming that was not done wholly: nothing is loose, and the ends leave what they would have left
+left-again : (low : ℕ) (before : StreamState) (closed : ℤ) → IsLateEnd low before closed → (events : List StreamEvent) (old new : Files) → AllSettled old → WhollyOrNot (renamed old (from_name before) (to_name before closed)) old new
+    → AllSettled new × (all_applied (end_calls events) (renamed new (from_name before) (to_name before closed)) ≡ all_applied (end_calls events) (renamed old (from_name before) (to_name before closed)))
+left-again low before closed late events old new settled (inl same) =
+    (subst AllSettled (sym same) settled, ap (λ files. all_applied (end_calls events) (renamed files (from_name before) (to_name before closed))) same)
+left-again low before closed late events old new settled (inr done) =
+    let from = from_name before in
+    let to = to_name before closed in
+    let gone = renamed-gone old from to (apart-names low before before closed closed late late) in (
+      subst AllSettled (sym done) (all-settled (renamed old from to) (settled-renamed none_loose from to old refl (settled-but none_loose old settled))),
+      ap (λ files. all_applied (end_calls events) (renamed files from to)) done
+          ∙ ap (all_applied (end_calls events)) (renamed_absent (renamed old from to) from to gone),
+    )
+
 -- after one attempt
-ends-after : (low : ℕ) (events : List StreamEvent) → AllByRecursion (IsLateEvent low) events → (old new : Files) → Attempt service_disk (end_calls events) old new → all_applied (end_calls events) new ≡ all_applied (end_calls events) old
+ends-after : (low : ℕ) (events : List StreamEvent) → AllByRecursion (IsLateEvent low) events → (old new : Files) → AllSettled old → Attempt service_disk (end_calls events) old new
+    → AllSettled new × (all_applied (end_calls events) new ≡ all_applied (end_calls events) old)
 unfolding deeds_of
-ends-after low [] late old new same = same
-ends-after low (Made state ∷ events) late old new attempt = elim late.0 [ ]
-ends-after low (Stored before bytes stamps ∷ events) late old new attempt = elim late.0 [ ]
-ends-after low (Ended before closed ∷ events) late old new (inl same) =
-    ap (all_applied (end_calls (Ended before closed ∷ events))) same
-ends-after low (Ended before closed ∷ events) late old new (inr (inl (inl same))) =
-    ap (all_applied (end_calls (Ended before closed ∷ events))) same
-ends-after low (Ended before closed ∷ events) late old new (inr (inl (inr done))) =
+ends-after low [] late old new settled same = (subst AllSettled (sym same) settled, same)
+ends-after low (Made state ∷ events) late old new settled attempt = elim late.0 [ ]
+ends-after low (Stored before bytes stamps ∷ events) late old new settled attempt = elim late.0 [ ]
+ends-after low (Ended before closed ∷ events) late old new settled (inl same) =
+    (subst AllSettled (sym same) settled, ap (all_applied (end_calls (Ended before closed ∷ events))) same)
+ends-after low (Ended before closed ∷ events) late old new settled (inr (inl (inl left))) =
+    left-again low before closed late.0 events old new settled left
+ends-after low (Ended before closed ∷ events) late old new settled (inr (inl (inr stopped))) =
+    let from = from_name before in
+    let to = to_name before closed in
+    let running = left-again low before closed late.0 events old stopped.0 settled stopped.1 in
+    let same = crash-nothing stopped.0 new running.0 stopped.2 in
+    (subst AllSettled (sym same) running.0, ap (λ files. all_applied (end_calls events) (renamed files from to)) same ∙ running.1)
+ends-after low (Ended before closed ∷ events) late old new settled (inr (inr rest)) =
     let from = from_name before in
     let to = to_name before closed in
     let gone = renamed-gone old from to (apart-names low before before closed closed late.0 late.0) in
-    ap (λ files. all_applied (end_calls events) (renamed files from to)) done
-    ∙ ap (all_applied (end_calls events)) (renamed_absent (renamed old from to) from to gone)
-ends-after low (Ended before closed ∷ events) late old new (inr (inr rest)) =
-    let from = from_name before in
-    let to = to_name before closed in
-    let gone = renamed-gone old from to (apart-names low before before closed closed late.0 late.0) in
-    ap (all_applied (end_calls events)) (renamed_absent new from to (stays-gone low before closed late.0 events late.1 (renamed old from to) new gone rest))
-    ∙ ends-after low events late.1 (renamed old from to) new rest
+    let all = all-settled (renamed old from to) (settled-renamed none_loose from to old refl (settled-but none_loose old settled)) in
+    let behind = ends-after low events late.1 (renamed old from to) new all rest in (
+      behind.0,
+      ap (all_applied (end_calls events)) (renamed_absent new from to (stays-gone low before closed late.0 events late.1 (renamed old from to) new gone rest))
+          ∙ behind.1,
+    )
+
+-- after any attempts
+ends-behind : (low : ℕ) (events : List StreamEvent) → AllByRecursion (IsLateEvent low) events → (old left : Files) → AllSettled old → Attempts service_disk (end_calls events) old left
+    → AllSettled left × (all_applied (end_calls events) left ≡ all_applied (end_calls events) old)
+ends-behind low events late old left settled Attempts.none = (settled, refl)
+ends-behind low events late old left settled (Attempts.more {mid = mid} before last) =
+    let behind = ends-behind low events late old mid settled before in
+    let after = ends-after low events late mid left behind.0 last in
+    (after.0, after.1 ∙ behind.1)
 
 pub ends-again : (low : ℕ) (events : List StreamEvent) → AllByRecursion (IsLateEvent low) events → (old : Files) → IsRepeatable (calls_of_all (deeds_of_all events)) old
-ends-again low events late old left Attempts.none = refl
-ends-again low events late old left (Attempts.more {mid = mid} before last) =
-    ends-after low events late mid left last ∙ ends-again low events late old mid before
+ends-again low events late old settled left tried = (ends-behind low events late old left settled tried).1
 
 -- the streams that end
 

@@ -148,16 +148,16 @@ EndMoves events spot after =
     (after ≡ spot) ⊎ ((before : StreamState) × (closed : ℤ) × Stands (Ended before closed) events × (spot.0 ≡ from_name before) × (after.0 ≡ to_name before closed) × (after.1 ≡ spot.1))
 
 pub kept-ends : (bytes : List ℕ) (spot after : List ℕ × ℕ) (old new : Files) → IsAt bytes spot old → IsAt bytes after new → (low k : ℕ) (events : List StreamEvent) → AllByRecursion (IsLateEvent low) events → RiseAfter k events → ((before : StreamState) (closed : ℤ) → IsLateEnd low before closed → spot.0 ≢ to_name before closed) → EndMoves events spot after → IsKeptBy bytes spot after old new (end_calls events)
-kept-ends bytes spot after old new was is low k events late rise older (inr moved) left tried done =
+kept-ends bytes spot after old new was is low k events late rise older (inr moved) settled left tried done =
     kept-back bytes spot after old new was is left moved.5
     (elim (ends-back low k events moved.0 moved.1 late rise moved.2 left is.file
     (ap (λ files. get files (to_name moved.0 moved.1)) done ∙ ap (get new) (sym moved.4) ∙ is.found)) [
       | inl there ↦ inl (ap (get left) moved.3 ∙ there)
       | inr there ↦ inr (ap (get left) moved.4 ∙ there)
     ])
-kept-ends bytes spot after old new was is low k events late rise older (inl same) left tried done =
+kept-ends bytes spot after old new was is low k events late rise older (inl same) settled left tried done =
     elim (touched low events spot.0 late older) [
-      | inl alone ↦ kept-untouched bytes spot after old new was is (end_calls events) alone left tried done
+      | inl alone ↦ kept-untouched bytes spot after old new was is (end_calls events) alone settled left tried done
       | inr current ↦
           absurd (none-some (get new after.0) is.file
           (ap (get new) (ap (λ (p : List ℕ × ℕ). p.0) same ∙ current.3) ∙ sym (ap (λ files. get files (from_name current.0)) done)

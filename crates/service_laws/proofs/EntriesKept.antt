@@ -57,7 +57,7 @@ use Rattle.plain_service.proofs.Possible.{possible}
 use Rattle.plain_service.proofs.RecordLaws.{record-is, record-at-place, record-stays}
 use Rattle.cluster_facts.specs.Storage.{Attempts}
 use Rattle.service_laws.specs.Disks.{service_disk}
-use Rattle.service_laws.proofs.ChangesAgain.{HaveStamps, entry-again}
+use Rattle.service_laws.proofs.ChangesAgain.{HaveStamps, files-settled, entry-again}
 use Rattle.service_laws.proofs.ChangesKept.{IsKeptBy, kept-made}
 use Rattle.service_laws.proofs.EndsAgain.{IsLateEnd, late-ends}
 use Rattle.service_laws.proofs.EndsKept.{EndMoves, rise-ends, kept-ends}
@@ -257,4 +257,4 @@ entry-kept setup entry past left client number stored spot after history tried o
     entry-by setup entry past history stored spot after (record-is setup past client number stored own) at then
     (record-at-place setup past client number stored spot history.1 own at)
     (record-at-place setup (entry ∷ past) client number stored after history (record-stays setup entry past client number stored history own) then)
-    left tried (entry-again setup entry past history left tried ∙ files-work setup entry past history)
+    (files-settled setup past) left tried (entry-again setup entry past history (files-settled setup past) left tried ∙ files-work setup entry past history)

@@ -134,7 +134,7 @@ calls_for attrs current stamps at bytes gone =
 
 module _ (bytes : List ℕ) (spot after : List ℕ × ℕ) (old new : Files) (was : IsAt bytes spot old) (is : IsAt bytes after new) where
   pub kept-nothing : IsKeptBy bytes spot after old new []
-  kept-nothing left tried done = inr (subst (IsAt bytes after) (sym done) is)
+  kept-nothing settled left tried done = inr (subst (IsAt bytes after) (sym done) is)
 
   pub kept-alone : (happening : StreamEvent) → IsKeptBy bytes spot after old new (calls_of_all (deeds_of happening)) → IsKeptBy bytes spot after old new (calls_of_all (deeds_of_all (happening ∷ [])))
   kept-alone happening kept =

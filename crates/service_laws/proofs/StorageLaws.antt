@@ -22,7 +22,7 @@ use Rattle.service_laws.specs.Disks.{service_disk}
 use Rattle.service_laws.specs.PlainOf.{plain_of}
 use Rattle.service_laws.specs.StorageOf.{storage_of}
 use Rattle.service_laws.proofs.Attempting.{same-applied}
-use Rattle.service_laws.proofs.ChangesAgain.{entry-again}
+use Rattle.service_laws.proofs.ChangesAgain.{files-settled, entry-again}
 use Rattle.service_laws.proofs.EntriesKept.{entry-kept}
 use Rattle.service_laws.proofs.HistoryLaws.{history-of}
 
@@ -80,7 +80,7 @@ is_storage setup begin = record {
   repeats = λ now entry past files legal range between.
       let history = history-of setup begin now (entry ∷ past) legal range in
       same-applied (calls_of_all (deeds_of setup past entry)) files
-      ∙ entry-again setup entry past history files between ∙ files-work setup entry past history;
+      ∙ entry-again setup entry past history (files-settled setup past) files between ∙ files-work setup entry past history;
   stores = λ now past client number call reply legal range stands is.
       stores setup past client number call reply (history-of setup begin now past legal range) stands is;
   stays = λ now past client number stored spot legal range own at.

@@ -8,9 +8,11 @@ use Rattle.disk_model.specs.Disk.{File, Files, settled_file, renamed}
 use Rattle.disk_model.specs.DeviceCalls.{DeviceCall, CallCreate, CallWrite, CallSync, CallRename, CallRemove, applied, all_applied, LeftBy}
 use Rattle.disk_model.proofs.Renaming.{renamed_absent}
 use Rattle.stream_layout.proofs.FileLaws.{itself, apart, found-created, found-removed, found-renamed, found-made, found-refilled}
+use Rattle.stream_layout.specs.Repeating.{IsSettled, AllSettled}
 use Rattle.stream_layout.proofs.RepeatLaws.{touches_write, touches_sync}
+use Rattle.stream_layout.proofs.Settled.{crash-at}
 use Rattle.cluster_facts.specs.Storage.{Attempt, Attempts}
-use Rattle.service_laws.specs.Disks.{service_disk}
+use Rattle.service_laws.specs.Disks.{LeftUndone, service_disk}
 use Rattle.service_laws.proofs.DoneAgain.{changing, rotating}
 
 -- the call leaves alone what stands under the name
@@ -53,18 +55,30 @@ untouched-torn name (CallRemove other) differ old new (inl same) = ap (λ m. get
 untouched-torn name (CallRemove other) differ old new (inr done) =
     ap (λ m. get m name) done ∙ untouched-done name (CallRemove other) differ old
 
-untouched-attempt : (name : List ℕ) (calls : List DeviceCall) → AllByRecursion (Untouched name) calls → (old new : Files) → Attempt service_disk calls old new → get new name ≡ get old name
-untouched-attempt name [] alone old new same = ap (λ m. get m name) same
-untouched-attempt name (call ∷ calls) alone old new (inl same) = ap (λ m. get m name) same
-untouched-attempt name (call ∷ calls) alone old new (inr (inl torn)) = untouched-torn name call alone.0 old new torn
-untouched-attempt name (call ∷ calls) alone old new (inr (inr rest)) =
-    untouched-attempt name calls alone.1 (applied call old) new rest ∙ untouched-done name call alone.0 old
+-- the file of that name, if one stands, is settled
+abbrev IsSettledAt : List ℕ → Files → Type 0
+IsSettledAt name files = (file : File) → get files name ≡ Some file → IsSettled file
 
--- **what stands under a name that the calls leave alone**
-pub untouched : (name : List ℕ) (calls : List DeviceCall) → AllByRecursion (Untouched name) calls → (old left : Files) → Attempts service_disk calls old left → get left name ≡ get old name
-untouched name calls alone old left Attempts.none = refl
-untouched name calls alone old left (Attempts.more {mid = mid} before last) =
-    untouched-attempt name calls alone mid left last ∙ untouched name calls alone old mid before
+untouched-undone : (name : List ℕ) (call : DeviceCall) → Untouched name call → (old new : Files) → IsSettledAt name old → LeftUndone call old new → get new name ≡ get old name
+untouched-undone name call differ old new settled (inl failed) = untouched-torn name call differ old new failed
+untouched-undone name call differ old new settled (inr stopped) =
+    let running = untouched-torn name call differ old stopped.0 stopped.1 in
+    crash-at stopped.0 new name (λ file is. settled file (sym running ∙ is)) stopped.2 ∙ running
+
+untouched-attempt : (name : List ℕ) (calls : List DeviceCall) → AllByRecursion (Untouched name) calls → (old new : Files) → IsSettledAt name old → Attempt service_disk calls old new → get new name ≡ get old name
+untouched-attempt name [] alone old new settled same = ap (λ m. get m name) same
+untouched-attempt name (call ∷ calls) alone old new settled (inl same) = ap (λ m. get m name) same
+untouched-attempt name (call ∷ calls) alone old new settled (inr (inl undone)) = untouched-undone name call alone.0 old new settled undone
+untouched-attempt name (call ∷ calls) alone old new settled (inr (inr rest)) =
+    let one = untouched-done name call alone.0 old in
+    untouched-attempt name calls alone.1 (applied call old) new (λ file is. settled file (sym one ∙ is)) rest ∙ one
+
+-- **what stands, settled, under a name that the calls leave alone**
+pub untouched : (name : List ℕ) (calls : List DeviceCall) → AllByRecursion (Untouched name) calls → (old left : Files) → AllSettled old → Attempts service_disk calls old left → get left name ≡ get old name
+untouched name calls alone old left settled Attempts.none = refl
+untouched name calls alone old left settled (Attempts.more {mid = mid} before last) =
+    let one = untouched name calls alone old mid settled before in
+    untouched-attempt name calls alone mid left (λ file is. settled name file (sym one ∙ is)) last ∙ one
 
 -- the same once all calls are done
 pub untouched-all : (name : List ℕ) (calls : List DeviceCall) → AllByRecursion (Untouched name) calls → (old : Files) → get (all_applied calls old) name ≡ get old name

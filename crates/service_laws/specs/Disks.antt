@@ -1,8 +1,13 @@
--- Words of public clauses: the disk of the service in the cluster's words: what a done call makes of the files, and what a failed one
--- may leave.
+-- Words of public clauses: the disk of the service in the cluster's words: what a done call makes of the files, and what one may leave
+-- that is not done.
+use Rattle.std.specs.Prelude.{◌⊎◌}
 use Rattle.disk_model.specs.Disk.{Files, no_files}
-use Rattle.disk_model.specs.DeviceCalls.{DeviceCall, applied, LeftBy}
+use Rattle.disk_model.specs.DeviceCalls.{DeviceCall, applied, LeftBy, StoppedBy}
 use Rattle.cluster_facts.specs.Storage.{Disk}
+
+-- what a call leaves that failed, or at which the disk stopped
+abbrev pub LeftUndone : DeviceCall → Files → Files → Type 0
+LeftUndone call old new = LeftBy call old new ⊎ StoppedBy call old new
 
 abbrev pub service_disk : Disk
 service_disk = record {
@@ -10,5 +15,5 @@ service_disk = record {
   DeviceCall = DeviceCall;
   no_files = no_files;
   applied = applied;
-  Torn = LeftBy;
+  Torn = LeftUndone;
 }
