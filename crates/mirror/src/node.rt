@@ -1,7 +1,7 @@
 //! A server of the cluster.
-ghost use Rattle.std.specs.Prelude.{◌≡◌, ◌≢◌, ◌↔◌, IsTrue, ℕ, suc, List, [], ◌∷◌, length, is_some, option_map, IsSome, IfOk, OnOk, OnErr, IsErrOf};
+ghost use Rattle.std.specs.Prelude.{◌≡◌, ◌≢◌, ◌↔◌, IsTrue, ℕ, suc, List, [], ◌∷◌, length, is_some, IsSome, IfOk, OnErr, IsErrOf};
 ghost use Rattle.ais_values.specs.Causes.{RoseExactlyOn};
-ghost use Rattle.disk_model.specs.DeviceCalls.{all_applied, FailsAfter, LacksMemoryAfter};
+ghost use Rattle.disk_model.specs.DeviceCalls.{Performs};
 ghost use Rattle.disk_model.specs.declared.answers.DiskAnswer.{DiskAnswer};
 ghost use Rattle.stream_layout.specs.Deeds.{calls_of_all};
 ghost use Rattle.calls.specs.declared.entry.Entry.{Entry as EntryOf};
@@ -155,26 +155,35 @@ impl Node {
         }
     }
 
+    // Goes down; what it had is let go.
+    fn go_down(&mut self)
+        ensures { self.new ≡ down }
+    {
+        let before = replace(self, Node::down());
+        drop(before);
+    }
+
     /// Does the deeds of the entry in hand, in order, and then asks for the reply to be posted, if there is one;
     /// nothing is in hand after it.
     ///
-    /// `Memory`: some of the deeds' calls from the front were made, fewer than all, and the server is as it was, so
-    /// that it can work again. `Failed`, which comes exactly where the disk's count of faults rose: some calls from
-    /// the front were made and the next one failed, and the server is down. On `Ok` and on `Memory` the count stands.
+    /// It makes the deeds' calls in order, up to the first that is not done, and no others. `Memory`: some of them from
+    /// the front are done, fewer than all, and the server is as it was, so that it can work again. `Failed`, which comes
+    /// exactly where the disk's count of faults rose: some calls from the front are done, the next one failed, and the
+    /// server is down. `Stopped`, which comes exactly where its count of stops rose: some calls from the front are done,
+    /// the armed count was reached in the next one, in which the disk crashed, and the server is down.
     pub fn work<D: SharedDisk>(&mut self, alloc: Global, disk: &mut D) -> Result<Heard, DiskAnswer>
         requires { IsSome self.old.owed }
         ensures done { IfOk result (λ heard. (heard ≡ worked (replies_in self.old.owed))
             × (self.new ≡ emptied self.old)) }
-        ensures files { OnOk result (D.files disk.new ≡ option_map
-            (all_applied (calls_of_all (deeds_in self.old.owed))) (D.files disk.old)) }
-        ensures memory { IsErrOf result DiskAnswer.Memory → (self.new ≡ self.old)
-            × (count : ℕ) × LacksMemoryAfter (calls_of_all (deeds_in self.old.owed)) count
-            (D.files disk.old) (D.files disk.new) }
-        ensures failed { IsErrOf result DiskAnswer.Failed → (self.new ≡ down)
-            × (count : ℕ) × FailsAfter (calls_of_all (deeds_in self.old.owed)) count
-            (D.files disk.old) (D.files disk.new) }
+        ensures performs { Performs (calls_of_all (deeds_in self.old.owed)) result
+            (D.files disk.old) (D.files disk.new) (D.tally disk.old) (D.tally disk.new) }
+        ensures memory { IsErrOf result DiskAnswer.Memory → self.new ≡ self.old }
+        ensures failed { IsErrOf result DiskAnswer.Failed → self.new ≡ down }
+        ensures stopped { IsErrOf result DiskAnswer.Stopped → self.new ≡ down }
         ensures cause { RoseExactlyOn (D.faults disk.old) (D.faults disk.new) result
             DiskAnswer.Failed }
+        ensures stop { RoseExactlyOn (D.stops disk.old) (D.stops disk.new) result
+            DiskAnswer.Stopped }
     {
         match do_deeds(disk, &self.owed) {
             Ok(()) => {
@@ -183,9 +192,12 @@ impl Node {
             }
             Err(DiskAnswer::Memory) => Err(DiskAnswer::Memory),
             Err(DiskAnswer::Failed) => {
-                let failed = replace(self, Node::down());
-                drop(failed);
+                self.go_down();
                 Err(DiskAnswer::Failed)
+            }
+            Err(DiskAnswer::Stopped) => {
+                self.go_down();
+                Err(DiskAnswer::Stopped)
             }
         }
     }

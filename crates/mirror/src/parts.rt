@@ -1,7 +1,7 @@
 //! What a node does on its parts: its service and what it owes.
-ghost use Rattle.std.specs.Prelude.{◌≡◌, ◌<◌, ℕ, List, [], Some, None, map, option_map, IsSome, IfOk, OnOk, OnErr, IsErrOf};
+ghost use Rattle.std.specs.Prelude.{◌≡◌, ◌<◌, List, Some, None, map, IsSome, IfOk, OnErr};
 ghost use Rattle.ais_values.specs.Causes.{RoseExactlyOn};
-ghost use Rattle.disk_model.specs.DeviceCalls.{all_applied, FailsAfter, LacksMemoryAfter};
+ghost use Rattle.disk_model.specs.DeviceCalls.{Performs};
 ghost use Rattle.disk_model.specs.declared.answers.DiskAnswer.{DiskAnswer};
 ghost use Rattle.stream_layout.specs.Deeds.{calls_of_all};
 ghost use Rattle.calls.specs.declared.entry.Entry.{Entry as EntryOf};
@@ -56,15 +56,10 @@ pub(crate) fn hear_or_ignore(
 
 /// Does the deeds that are owed, if there are any.
 pub(crate) fn do_deeds<D: SharedDisk>(disk: &mut D, owed: &Option<Owed>) -> Result<(), DiskAnswer>
-    ensures done { OnOk result (D.files disk.new
-        ≡ option_map (all_applied (calls_of_all (deeds_in owed.now))) (D.files disk.old)) }
-    ensures memory { IsErrOf result DiskAnswer.Memory →
-        (count : ℕ) × LacksMemoryAfter (calls_of_all (deeds_in owed.now)) count
-        (D.files disk.old) (D.files disk.new) }
-    ensures failed { IsErrOf result DiskAnswer.Failed →
-        (count : ℕ) × FailsAfter (calls_of_all (deeds_in owed.now)) count
-        (D.files disk.old) (D.files disk.new) }
+    ensures performs { Performs (calls_of_all (deeds_in owed.now)) result (D.files disk.old)
+        (D.files disk.new) (D.tally disk.old) (D.tally disk.new) }
     ensures cause { RoseExactlyOn (D.faults disk.old) (D.faults disk.new) result DiskAnswer.Failed }
+    ensures stop { RoseExactlyOn (D.stops disk.old) (D.stops disk.new) result DiskAnswer.Stopped }
 {
     match owed {
         None => Ok(()),

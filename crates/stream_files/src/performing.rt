@@ -1,7 +1,7 @@
 //! Deeds performed on a disk, call by call.
-ghost use Rattle.std.specs.Prelude.{◌≡◌, ℕ, [], ◌∷◌, option_map, OnOk, IsErrOf};
+ghost use Rattle.std.specs.Prelude.{ℕ, [], ◌∷◌};
 ghost use Rattle.ais_values.specs.Causes.{RoseExactlyOn};
-ghost use Rattle.disk_model.specs.DeviceCalls.{CallCreate, CallWrite, CallSync, CallRename, CallRemove, all_applied, FailsAfter, LacksMemoryAfter, Performs};
+ghost use Rattle.disk_model.specs.DeviceCalls.{CallCreate, CallWrite, CallSync, CallRename, CallRemove, Performs};
 ghost use Rattle.disk_model.specs.declared.answers.DiskAnswer.{DiskAnswer};
 ghost use Rattle.stream_layout.specs.Deeds.{calls_of, calls_of_all};
 
@@ -9,23 +9,20 @@ use ais_values::{Seq, Text};
 use disk_model::{DiskAnswer, SharedDisk};
 use stream_layout::Deed;
 
-/// Makes the device calls of the deeds in order, up to the first that is not done.
+/// Makes the device calls of the deeds in order, up to the first that is not done, and no others.
 ///
-/// `Ok`: the files are those after all calls. `Failed`, which comes exactly where the disk's count of
-/// faults rose: they are those after some calls from the front and a failure of the next one. `Memory`:
-/// they are those after some calls from the front, fewer than all. On `Ok` and `Memory` the count stands,
-/// so no call had failed. What is said speaks of the files that the disk tells; how
-/// many calls it was asked for is no part of it.
+/// `Ok`: the files are those after all calls, which did not reach the armed count; it fell by their number.
+/// `Failed`, which comes exactly where the disk's count of faults rose: the files are those after some calls
+/// from the front and a failure of the next one, and the armed count fell by these and that one. `Stopped`,
+/// which comes exactly where the disk's count of stops rose: the call in which the armed count was reached is
+/// one of these; those before it are done, and the disk crashed in it. `Memory`: the files are those after some
+/// calls from the front, fewer than all, and the armed count fell by these. Of changing calls the disk counts
+/// those done and, where one was not, that one; of reading calls none.
 pub fn perform<D: SharedDisk>(disk: &mut D, deeds: &Seq<Deed>) -> Result<(), DiskAnswer>
-    ensures done { OnOk result (D.files disk.new
-        ≡ option_map (all_applied (calls_of_all deeds.now)) (D.files disk.old)) }
-    ensures memory { IsErrOf result DiskAnswer.Memory →
-        (count : ℕ) × LacksMemoryAfter (calls_of_all deeds.now) count (D.files disk.old)
-        (D.files disk.new) }
-    ensures failed { IsErrOf result DiskAnswer.Failed →
-        (count : ℕ) × FailsAfter (calls_of_all deeds.now) count (D.files disk.old)
-        (D.files disk.new) }
+    ensures performs { Performs (calls_of_all deeds.now) result (D.files disk.old)
+        (D.files disk.new) (D.tally disk.old) (D.tally disk.new) }
     ensures cause { RoseExactlyOn (D.faults disk.old) (D.faults disk.new) result DiskAnswer.Failed }
+    ensures stop { RoseExactlyOn (D.stops disk.old) (D.stops disk.new) result DiskAnswer.Stopped }
 {
     for deed in deeds.as_slice() {
         match perform_one(disk, deed) {
@@ -37,8 +34,10 @@ pub fn perform<D: SharedDisk>(disk: &mut D, deeds: &Seq<Deed>) -> Result<(), Dis
 }
 
 fn perform_one<D: SharedDisk>(disk: &mut D, deed: &Deed) -> Result<(), DiskAnswer>
-    ensures performs { Performs (calls_of deed.now) result (D.files disk.old) (D.files disk.new) }
+    ensures performs { Performs (calls_of deed.now) result (D.files disk.old)
+        (D.files disk.new) (D.tally disk.old) (D.tally disk.new) }
     ensures cause { RoseExactlyOn (D.faults disk.old) (D.faults disk.new) result DiskAnswer.Failed }
+    ensures stop { RoseExactlyOn (D.stops disk.old) (D.stops disk.new) result DiskAnswer.Stopped }
 {
     match deed {
         Deed::Put { name, bytes } => put(disk, name, bytes),
@@ -51,9 +50,10 @@ fn perform_one<D: SharedDisk>(disk: &mut D, deed: &Deed) -> Result<(), DiskAnswe
 
 fn put<D: SharedDisk>(disk: &mut D, name: &Text, bytes: &Text) -> Result<(), DiskAnswer>
     ensures performs { Performs (CallCreate name.now ∷ CallWrite name.now 0 bytes.now
-        ∷ CallSync name.now ∷ [])
-        result (D.files disk.old) (D.files disk.new) }
+        ∷ CallSync name.now ∷ []) result (D.files disk.old) (D.files disk.new)
+        (D.tally disk.old) (D.tally disk.new) }
     ensures cause { RoseExactlyOn (D.faults disk.old) (D.faults disk.new) result DiskAnswer.Failed }
+    ensures stop { RoseExactlyOn (D.stops disk.old) (D.stops disk.new) result DiskAnswer.Stopped }
 {
     match disk.create(name.as_slice()) {
         Ok(()) => write_and_sync(disk, name, 0, bytes),
@@ -62,9 +62,10 @@ fn put<D: SharedDisk>(disk: &mut D, name: &Text, bytes: &Text) -> Result<(), Dis
 }
 
 fn create<D: SharedDisk>(disk: &mut D, name: &Text) -> Result<(), DiskAnswer>
-    ensures performs { Performs (CallCreate name.now
-        ∷ []) result (D.files disk.old) (D.files disk.new) }
+    ensures performs { Performs (CallCreate name.now ∷ []) result (D.files disk.old)
+        (D.files disk.new) (D.tally disk.old) (D.tally disk.new) }
     ensures cause { RoseExactlyOn (D.faults disk.old) (D.faults disk.new) result DiskAnswer.Failed }
+    ensures stop { RoseExactlyOn (D.stops disk.old) (D.stops disk.new) result DiskAnswer.Stopped }
 {
     disk.create(name.as_slice())
 }
@@ -75,9 +76,10 @@ fn write_and_sync<D: SharedDisk>(
     at: u64,
     bytes: &Text,
 ) -> Result<(), DiskAnswer>
-    ensures performs { Performs (CallWrite name.now at bytes.now ∷ CallSync name.now ∷ [])
-        result (D.files disk.old) (D.files disk.new) }
+    ensures performs { Performs (CallWrite name.now at bytes.now ∷ CallSync name.now ∷ []) result
+        (D.files disk.old) (D.files disk.new) (D.tally disk.old) (D.tally disk.new) }
     ensures cause { RoseExactlyOn (D.faults disk.old) (D.faults disk.new) result DiskAnswer.Failed }
+    ensures stop { RoseExactlyOn (D.stops disk.old) (D.stops disk.new) result DiskAnswer.Stopped }
 {
     match disk.write_at(name.as_slice(), at, bytes.as_slice()) {
         Ok(()) => disk.sync(name.as_slice()),
@@ -86,17 +88,19 @@ fn write_and_sync<D: SharedDisk>(
 }
 
 fn rename<D: SharedDisk>(disk: &mut D, from: &Text, to: &Text) -> Result<(), DiskAnswer>
-    ensures performs { Performs (CallRename from.now to.now
-        ∷ []) result (D.files disk.old) (D.files disk.new) }
+    ensures performs { Performs (CallRename from.now to.now ∷ []) result (D.files disk.old)
+        (D.files disk.new) (D.tally disk.old) (D.tally disk.new) }
     ensures cause { RoseExactlyOn (D.faults disk.old) (D.faults disk.new) result DiskAnswer.Failed }
+    ensures stop { RoseExactlyOn (D.stops disk.old) (D.stops disk.new) result DiskAnswer.Stopped }
 {
     disk.rename(from.as_slice(), to.as_slice())
 }
 
 fn remove<D: SharedDisk>(disk: &mut D, name: &Text) -> Result<(), DiskAnswer>
-    ensures performs { Performs (CallRemove name.now
-        ∷ []) result (D.files disk.old) (D.files disk.new) }
+    ensures performs { Performs (CallRemove name.now ∷ []) result (D.files disk.old)
+        (D.files disk.new) (D.tally disk.old) (D.tally disk.new) }
     ensures cause { RoseExactlyOn (D.faults disk.old) (D.faults disk.new) result DiskAnswer.Failed }
+    ensures stop { RoseExactlyOn (D.stops disk.old) (D.stops disk.new) result DiskAnswer.Stopped }
 {
     disk.remove(name.as_slice())
 }

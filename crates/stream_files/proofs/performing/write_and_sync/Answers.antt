@@ -1,22 +1,28 @@
 use Rattle.std.proofs.Common.{◌≡◌, [], ◌∷◌, option_map}
 use Rattle.disk_model.specs.DeviceCalls.{CallWrite, CallSync, all_applied, Breaks, Performs}
 use Rattle.disk_model.proofs.Breaking.{performs_one, performs_after, breaks_one, breaks_within, none_applied}
+use Rattle.disk_model.proofs.Counting.{counts-one, counts-none}
 use Rattle.stream_files.proofs.performing.write_and_sync.Goals as goal
 
 pub returns-in-Ok-clause-performs : goal.returns-in-Ok-clause-performs
 returns-in-Ok-clause-performs g c =
-    let last : Performs (CallSync c.args.name.now ∷ []) c.sync.result (g.D.SharedDisk.files c.write_at.new.self) (g.D.SharedDisk.files c.sync.new.self) =
-    rw (← c.as_slice-in-Ok.ensures.bytes) (performs_one (CallSync _) c.sync.result _ _ c.sync.ensures.done c.sync.ensures.memory c.sync.ensures.failed) in
+    let last : Performs (CallSync c.args.name.now ∷ []) c.sync.result
+    (g.D.SharedDisk.files c.write_at.new.self) (g.D.SharedDisk.files c.sync.new.self)
+    (g.D.SharedDisk.tally c.write_at.new.self) (g.D.SharedDisk.tally c.sync.new.self) =
+    rw (← c.as_slice-in-Ok.ensures.bytes)
+    (performs_one (CallSync _) c.sync.result _ _ _ _ c.sync.ensures.done c.sync.ensures.memory c.sync.ensures.failed c.sync.ensures.stopped c.sync.ensures.counted) in
     let done : g.D.SharedDisk.files c.write_at.new.self
     ≡ option_map (all_applied (CallWrite c.args.name.now c.args.at c.args.bytes.now ∷ [])) (g.D.SharedDisk.files c.args.disk.now) =
     rw (← c.as_slice.ensures.bytes, ← c.as_slice-2.ensures.bytes) c.in-Ok.ensures.done in
-    performs_after (CallWrite c.args.name.now c.args.at c.args.bytes.now ∷ []) (CallSync c.args.name.now ∷ []) c.sync.result _ _ _ done last
+    performs_after (CallWrite c.args.name.now c.args.at c.args.bytes.now ∷ []) (CallSync c.args.name.now ∷ []) c.sync.result _ _ _ _ _ _ done
+    (counts-one (tt {0}) _ _ c.in-Ok.ensures.counted) last
 
 pub returns-in-Err-clause-performs : goal.returns-in-Err-clause-performs
 returns-in-Err-clause-performs g c =
     let first : Breaks c.in-Err.answer (CallWrite c.args.name.now c.args.at c.args.bytes.now ∷ [])
-    (g.D.SharedDisk.files c.args.disk.now) (g.D.SharedDisk.files c.write_at.new.self) =
+    (g.D.SharedDisk.files c.args.disk.now) (g.D.SharedDisk.files c.write_at.new.self)
+    (g.D.SharedDisk.tally c.args.disk.now) (g.D.SharedDisk.tally c.write_at.new.self) =
     rw (← c.as_slice.ensures.bytes, ← c.as_slice-2.ensures.bytes)
-    (breaks_one (CallWrite _ _ _) c.in-Err.answer _ _ c.in-Err.ensures.memory c.in-Err.ensures.failed) in
-    breaks_within [] (CallWrite c.args.name.now c.args.at c.args.bytes.now ∷ []) (CallSync c.args.name.now ∷ []) c.in-Err.answer _ _ _
-    (none_applied _) first
+    (breaks_one (CallWrite _ _ _) c.in-Err.answer _ _ _ _ c.in-Err.ensures.memory c.in-Err.ensures.failed c.in-Err.ensures.stopped c.in-Err.ensures.counted) in
+    breaks_within [] (CallWrite c.args.name.now c.args.at c.args.bytes.now ∷ []) (CallSync c.args.name.now ∷ []) c.in-Err.answer _ _ _ _ _ _
+    (none_applied _) (counts-none _) first
