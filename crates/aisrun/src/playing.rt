@@ -168,6 +168,8 @@ pub fn play<R: Threads + Wait + Sync, K: Sink, D: SharedDisk, G: Gate>(
         },
         Ok(Some(name)) => write_held(alloc, out, name.as_slice()),
         Err(DiskAnswer::Memory) => Status8::Memory,
+        // Names are read, so that the disk does not stop.
+        Err(DiskAnswer::Stopped) => Status8::Memory,
         Err(DiskAnswer::Failed) => write_broken(out, &[]),
     }
 }

@@ -441,7 +441,8 @@ fn a_short_read_is_shown_short(rt: HostRuntime) {
     let mut source = MemSource::new(input, Vec::new(alloc));
     let inner = MemSink::new(alloc, Vec::new(alloc));
     let mut out = Narrow { inner };
-    let mut disk = ShortDisk {};
+    let inner = MemDisk::new(alloc, Vec::new(alloc), Vec::new(alloc), Vec::new(alloc));
+    let mut disk = ShortDisk { inner };
     let status = play(&rt, alloc, &mut source, &mut out, &mut disk, "run");
     assert!(rt; status == 0 && out.inner.written() == b"text ab\n".as_slice());
     drop(source);

@@ -1,8 +1,13 @@
 -- The start of a cluster.
-use Rattle.std.proofs.Common.{◌≡◌, ℕ, List, [], ◌∷◌, Option, Some, None, refl, ap, sym, subst, ◌∙◌, inr}
-use Rattle.std.specs.Prelude.{ℤ, option_map}
+use Rattle.std.proofs.Common.{◌≡◌, ℕ, suc, false, List, [], ◌∷◌, Option, Some, None, refl, ap, sym, subst, ◌∙◌, inr}
+use Rattle.std.specs.Prelude.{ℤ, option_map, Err}
 use Rattle.disk_model.specs.Disk.{Files}
-use Rattle.disk_model.specs.DeviceCalls.{all_applied}
+use Rattle.disk_model.specs.Failures.{WhereTold}
+use Rattle.disk_model.specs.Counts.{reaches}
+use Rattle.disk_model.specs.DeviceCalls.{DeviceCall, all_applied, DoesFront, FailsAfter, Breaks}
+use Rattle.disk_model.specs.declared.answers.DiskAnswer.{DiskAnswer}
+use Rattle.disk_model.specs.declared.answers.DiskAnswer.TheVariants.{Memory, Failed, Stopped}
+use Rattle.disk_model.specs.declared.tally.Tally.{Tally}
 use Rattle.stream_layout.specs.Deeds.{calls_of_all}
 use Rattle.stream_layout.specs.declared.deed.Deed.{Deed}
 use Rattle.script_lines.specs.declared.line.WellOptions.{WellOptions}
@@ -18,10 +23,11 @@ use Rattle.service_core.specs.Beginning.{BeginsAs}
 use Rattle.cluster_facts.proofs.Keeping.{IsSound-start}
 use Rattle.lone_cluster.specs.Lone.{lone_start}
 use Rattle.mirror.specs.Nodes.{Server, at_rest}
+use Rattle.cluster_clients.specs.declared.answer.EventAnswer.{EventAnswer}
 use Rattle.cluster_core.specs.declared.world.World.{World}
 use Rattle.cluster_core.specs.Worlds.{Shows, IsGood, LeavesFiles}
-use Rattle.cluster_core.specs.Beginning.{Begins, HoldsNone, Begun}
-use Rattle.cluster_core.specs.Starting.{wells_of, world_of, Starts, StartsWorld}
+use Rattle.cluster_core.specs.Beginning.{Begins, HoldsNone, Begun, LeavesBroken}
+use Rattle.cluster_core.specs.Starting.{wells_of, world_of, broken_by, Starts, StartsWorld}
 use Rattle.cluster_core.proofs.BeginSpelled.{spelled-begins}
 
 good-start : (setup : Setup) (places : ℕ) → CanBegin setup → IsGood setup (lone_start setup.start places)
@@ -54,6 +60,29 @@ begun setup places held left world begins is none done = record {
   shows = subst (λ w. Shows setup (lone_start setup.start places) w) (sym is) (shows-start setup places);
   files = files-start setup places held left begins none done;
 }
+
+-- the start was not done
+
+front-stands : (done : List DeviceCall) (old new : Option Files) → WhereTold (λ before after. after ≡ all_applied done before) old new → new ≡ option_map (all_applied done) old
+front-stands done None None told = refl
+front-stands done None (Some new) told = absurd told
+front-stands done (Some old) None told = absurd told
+front-stands done (Some old) (Some new) told = ap Some told
+
+broken-stands : (T : Type 0) (setup : Setup) (answer : DiskAnswer) (calls : List DeviceCall) (held left : Option Files) (before after : Tally) → calls ≡ calls_of_all (opening_of setup) → before.armed ≡ None → Breaks answer calls held left before after → LeavesBroken {T = T} setup held left (Err (broken_by answer))
+broken-stands T setup Memory calls held left before after are unarmed broke =
+    subst (λ cs. DoesFront cs held left) are
+    (record { done = broke.1.done; undone = broke.1.broken ∷ broke.1.undone; in_order = broke.1.in_order; stands = front-stands broke.1.done held left broke.1.left })
+broken-stands T setup Failed calls held left before after are unarmed broke =
+    (refl, broke.0, subst (λ cs. FailsAfter cs broke.0 held left) are broke.1)
+broken-stands T setup Stopped calls held left before after are unarmed broke =
+    let none : reaches (suc broke.0) before.armed ≡ false = ap (reaches (suc broke.0)) unarmed in absurd (cc (none, broke.2.1))
+
+pub start-broken : (T : Type 0) (setup : Setup) (answer : DiskAnswer) (told : EventAnswer) (deeds : List Deed) (held same left : Option Files) (before after : Tally) → deeds ≡ opening_of setup → told ≡ broken_by answer → same ≡ held → before.armed ≡ None → Breaks answer (calls_of_all deeds) same left before after → LeavesBroken {T = T} setup held left (Err told)
+start-broken T setup answer told deeds held same left before after are told_is stays unarmed broke =
+    subst (λ (f : Option Files). LeavesBroken {T = T} setup f left (Err told)) stays
+    (subst (λ t. LeavesBroken {T = T} setup same left (Err t)) (sym told_is)
+    (broken-stands T setup answer (calls_of_all deeds) same left before after (ap calls_of_all are) unarmed broke))
 
 -- a cluster line of a script tells what a service begins as
 pub begins-as : (one : Line) (start : ℤ) (queue callbacks : ℕ) (alarm ntf sys : WellOptions) (wells : List StreamAttrs) → one ≡ Cluster start queue callbacks alarm ntf sys → wells ≡ wells_of alarm ntf sys

@@ -3,8 +3,10 @@ use Rattle.std.proofs.Common.{◌≡◌, ℕ, zero, suc, ◌≤◌, ◌⊎◌, i
 use Rattle.std.specs.Prelude.{IsSome, option_map}
 use Rattle.calls.specs.History.{Pushed}
 use Rattle.disk_model.specs.Disk.{Files}
+use Rattle.disk_model.specs.declared.answers.DiskAnswer.{DiskAnswer}
 use Rattle.disk_model.specs.declared.answers.DiskAnswer.TheVariants.{Failed}
-use Rattle.disk_model.specs.DeviceCalls.{all_applied, LacksMemoryAfter, FailsAfter}
+use Rattle.disk_model.specs.DeviceCalls.{all_applied, LeftOn, FailsAfter}
+use Rattle.disk_model.specs.DeviceCalls as device_calls
 use Rattle.stream_layout.specs.Deeds.{calls_of_all}
 use Rattle.plain_service.specs.Setups.{Setup}
 use Rattle.plain_service.specs.Legal.{IsHistory}
@@ -56,7 +58,7 @@ use Rattle.cluster_core.proofs.ServerSteps.{state_with, answered-history, IsHear
 use Rattle.cluster_core.proofs.WorkSteps.{IsWorked, drain-steady, drained-goes, each-posted}
 use Rattle.cluster_core.specs.LoneLaws.{lone_laws, lone-unasked}
 use Rattle.cluster_rounds.proofs.UnaskedSteps.{unasked-same}
-use Rattle.cluster_rounds.proofs.BrokenSteps.{left-between, same-between, unworked-between, lacking-between, failing-between, whole-broken, nothing-broken}
+use Rattle.cluster_rounds.proofs.BrokenSteps.{left-between, same-between, unworked-between, broken-between, whole-broken, nothing-broken}
 use Rattle.cluster_clients.proofs.ListSteps.{All-take}
 
 -- Messages that were posted in part.
@@ -187,19 +189,19 @@ rest-owes setup past a is some =
     none : IsSome (at_rest setup past).owed → ⊥
     none some = cc
 
-work-lacks-by : (setup : Setup) (state : State Alone) (hand : Hand) (old : Cluster Lone) (a : Server) (count : ℕ) (held left : Option Files) → (IsGood lone_kit) setup (state_with state hand) → (Shows lone_kit) setup (state_with state hand) old → IsSome old.servers.a.owed → LacksMemoryAfter (calls_of_all (deeds_in old.servers.a.owed)) count held left → Broken setup (state_with state hand) held left (record old { servers = record old.servers { a = a } })
-work-lacks-by setup state Empty old a count held left good shows some lacks = absurd (rest-owes setup state.world.core.answered old.servers.a shows.own.active some)
-work-lacks-by setup state (Ready entry) old a count held left good shows some lacks =
+work-lacks-by : (setup : Setup) (state : State Alone) (hand : Hand) (old : Cluster Lone) (a : Server) (answer : DiskAnswer) (count : ℕ) (held left : Option Files) → (IsGood lone_kit) setup (state_with state hand) → (Shows lone_kit) setup (state_with state hand) old → IsSome old.servers.a.owed → device_calls.BreaksOff (LeftOn answer) (calls_of_all (deeds_in old.servers.a.owed)) count held left → Broken setup (state_with state hand) held left (record old { servers = record old.servers { a = a } })
+work-lacks-by setup state Empty old a answer count held left good shows some lacks = absurd (rest-owes setup state.world.core.answered old.servers.a shows.own.active some)
+work-lacks-by setup state (Ready entry) old a answer count held left good shows some lacks =
     let now = state_with state (Ready entry) in
-    let L : Server → Type 0 = λ server. LacksMemoryAfter (calls_of_all (deeds_in server.owed)) count held left in
-    (whole-broken lone_kit lone_laws) setup now now [] held left (record old { servers = record old.servers { a = a } }) good.steady.sound (unasked-same (plain_of setup) now.world) shows.net shows.agents shows.history shows.now ((lacking-between lone_kit lone_laws) setup now entry count held left (subst L shows.own.active lacks))
-work-lacks-by setup state (Waiting entry) old a count held left good shows some lacks = elim good.steady.good [ ]
-work-lacks-by setup state (Applied entry) old a count held left good shows some lacks = elim good.steady.good [ ]
+    let L : Server → Type 0 = λ server. device_calls.BreaksOff (LeftOn answer) (calls_of_all (deeds_in server.owed)) count held left in
+    (whole-broken lone_kit lone_laws) setup now now [] held left (record old { servers = record old.servers { a = a } }) good.steady.sound (unasked-same (plain_of setup) now.world) shows.net shows.agents shows.history shows.now ((broken-between lone_kit lone_laws) setup now entry answer count held left (subst L shows.own.active lacks))
+work-lacks-by setup state (Waiting entry) old a answer count held left good shows some lacks = elim good.steady.good [ ]
+work-lacks-by setup state (Applied entry) old a answer count held left good shows some lacks = elim good.steady.good [ ]
 
--- **what work is left as for which memory ran out within its deeds**
-pub work-lacks : (setup : Setup) (state : State Alone) (old : Cluster Lone) (a : Server) (count : ℕ) (held left : Option Files) → (IsGood lone_kit) setup state → (Shows lone_kit) setup state old → IsSome old.servers.a.owed → LacksMemoryAfter (calls_of_all (deeds_in old.servers.a.owed)) count held left → Broken setup state held left (record old { servers = record old.servers { a = a } })
-work-lacks setup state old a count held left good shows some lacks =
-    work-lacks-by setup state state.world.core.hand old a count held left good shows some lacks
+-- **what work is left as whose deeds broke off, where no fault is to be told**
+pub work-lacks : (setup : Setup) (state : State Alone) (old : Cluster Lone) (a : Server) (answer : DiskAnswer) (count : ℕ) (held left : Option Files) → (IsGood lone_kit) setup state → (Shows lone_kit) setup state old → IsSome old.servers.a.owed → device_calls.BreaksOff (LeftOn answer) (calls_of_all (deeds_in old.servers.a.owed)) count held left → Broken setup state held left (record old { servers = record old.servers { a = a } })
+work-lacks setup state old a answer count held left good shows some lacks =
+    work-lacks-by setup state state.world.core.hand old a answer count held left good shows some lacks
 
 -- the deeds are done
 done-between : (setup : Setup) (state : State Alone) (entry : Entry) (held left : Option Files) → (IsGood lone_kit) setup (state_with state (Ready entry)) → left ≡ option_map (all_applied (calls_of_all (deeds_of setup state.world.core.answered entry))) held → TellsFiles setup state held → LeavesBetween setup (entry ∷ state.world.core.answered) held left
@@ -283,7 +285,7 @@ work-ends-by setup state (Ready entry) old a before after count held left told s
       now = shows.now;
       callbacks = shows.callbacks;
       lines = told;
-      files = (failing-between lone_kit lone_laws) setup now entry count held.files left.files (subst L shows.own.active fails);
+      files = (broken-between lone_kit lone_laws) setup now entry Failed count held.files left.files (subst L shows.own.active fails);
     }
 work-ends-by setup state (Waiting entry) old a before after count held left told some fell fails later rose good shows = elim good.steady.good [ ]
 work-ends-by setup state (Applied entry) old a before after count held left told some fell fails later rose good shows = elim good.steady.good [ ]

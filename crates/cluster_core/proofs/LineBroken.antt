@@ -3,7 +3,7 @@ use Rattle.std.proofs.Common.{◌≡◌, ℕ, inl, inr, true, Option, List, refl
 use Rattle.std.specs.Prelude.{Result, Ok, Err, OnOk, OnErr, IfErr, IsErrOf}
 use Rattle.disk_model.specs.Disk.{Files}
 use Rattle.disk_model.specs.declared.answers.DiskAnswer.{DiskAnswer}
-use Rattle.disk_model.specs.declared.answers.DiskAnswer.TheVariants.{Memory, Failed}
+use Rattle.disk_model.specs.declared.answers.DiskAnswer.TheVariants.{Memory, Failed, Stopped}
 use Rattle.script_lines.specs.declared.line.Line.{Line}
 use Rattle.script_lines.specs.declared.line.Line.TheVariants as line
 use Rattle.cluster_core.specs.Steps.{PlayBroken, EndsAs}
@@ -38,11 +38,13 @@ ends-broken (Err e) (Err f) next old new before after held same breaks =
 -- the entry in hand was to be worked
 work-off : (answer : DiskAnswer) (old new : Cluster Lone) (before after : List (List ℕ)) (held left : DiskSeen) → (ComesOff lone_kit) any_state (EndsStep lone_kit) answer old new before after held left → PlayBroken answer line.Work old new before after held.files left.files
 work-off Memory old new before after held left off = λ setup state good shows. (off setup state good shows tt).0
+work-off Stopped old new before after held left off = λ setup state good shows. (off setup state good shows tt).0
 work-off Failed old new before after held left off = λ setup state good shows.
     ended-faults (EndsStep lone_kit) (λ setup. EventStops (plain_of setup) (lone (plain_of setup)) line.Work) (λ setup fails state end ends. step-stops setup state end ends) setup state new before after held left (off setup state good shows tt)
 
 settle-off : (answer : DiskAnswer) (old new : Cluster Lone) (before after : List (List ℕ)) (held left : DiskSeen) → (ComesOff lone_kit) any_state (EndsSettle lone_kit) answer old new before after held left → PlayBroken answer line.Settle old new before after held.files left.files
 settle-off Memory old new before after held left off = λ setup state good shows. (off setup state good shows tt).0
+settle-off Stopped old new before after held left off = λ setup state good shows. (off setup state good shows tt).0
 settle-off Failed old new before after held left off = λ setup state good shows.
     ended-faults (EndsSettle lone_kit) (λ setup. EventStops (plain_of setup) (lone (plain_of setup)) line.Settle) (λ setup fails state end ends. settle-stops setup state end ends) setup state new before after held left (off setup state good shows tt)
 
@@ -60,6 +62,9 @@ settle-broken (Err answer) next old new before after held left is breaks =
 off-cause : {T : Type 0} (r : Result T DiskAnswer) (Ends : (EndOver lone_kit)) (old new : Cluster Lone) (before after : List (List ℕ)) (held left : DiskSeen) → (HasState lone_kit) old → OnOk r (left.faults ≡ held.faults) → IfErr r (λ answer. (ComesOff lone_kit) any_state Ends answer old new before after held left) → RoseExactlyOn held.faults left.faults r Failed
 off-cause (Ok x) Ends old new before after held left has stands off = record { later = omega arith; rose = λ is. cc; stands = stands }
 off-cause (Err Memory) Ends old new before after held left has stands off =
+    let same = (off has.setup has.state has.good has.shows tt).1 in
+    record { later = omega arith; rose = λ is. cc; stands = inr same }
+off-cause (Err Stopped) Ends old new before after held left has stands off =
     let same = (off has.setup has.state has.good has.shows tt).1 in
     record { later = omega arith; rose = λ is. cc; stands = inr same }
 off-cause (Err Failed) Ends old new before after held left has stands off =
@@ -81,11 +86,13 @@ memory-same old held left same = subst ((BreaksOn lone_kit) old old held) (sym s
 pub files-broken : {T : Type 0} (r : Result T DiskAnswer) (next : Line) (old : Cluster Lone) (before after : List (List ℕ)) (held left : Option Files) → next ≡ line.Files → left ≡ held → (IsErrOf r Failed → after ≡ before) → IfErr r (λ answer. PlayBroken answer next old old before after held left)
 files-broken (Ok x) next old before after held left is same stays = tt
 files-broken (Err Memory) next old before after held left is same stays = memory-same old held left same
+files-broken (Err Stopped) next old before after held left is same stays = memory-same old held left same
 files-broken (Err Failed) next old before after held left is same stays =
     subst (λ n. PlayBroken Failed n old old before after held left) (sym is) (refl, stays refl, same)
 
 pub cat-broken : {T : Type 0} (r : Result T DiskAnswer) (next : Line) (name : List ℕ) (old : Cluster Lone) (before after : List (List ℕ)) (held left : Option Files) → next ≡ line.Cat name → left ≡ held → (IsErrOf r Failed → after ≡ before) → IfErr r (λ answer. PlayBroken answer next old old before after held left)
 cat-broken (Ok x) next name old before after held left is same stays = tt
 cat-broken (Err Memory) next name old before after held left is same stays = memory-same old held left same
+cat-broken (Err Stopped) next name old before after held left is same stays = memory-same old held left same
 cat-broken (Err Failed) next name old before after held left is same stays =
     subst (λ n. PlayBroken Failed n old old before after held left) (sym is) (refl, stays refl, same)

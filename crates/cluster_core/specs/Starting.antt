@@ -46,3 +46,4 @@ StartsWorld setup places world deeds = (world ≡ world_of (at_rest setup []) se
 abbrev pub broken_by : DiskAnswer → EventAnswer
 broken_by answers.Memory = Memory
 broken_by answers.Failed = DiskFault []
+broken_by answers.Stopped = Memory

@@ -2,7 +2,7 @@
 use Rattle.std.specs.Prelude.{◌≡◌, ℕ, Option, IfSome, List, Result, Ok, Err}
 use Rattle.disk_model.specs.Disk.{Files}
 use Rattle.disk_model.specs.declared.answers.DiskAnswer.{DiskAnswer}
-use Rattle.disk_model.specs.declared.answers.DiskAnswer.TheVariants.{Memory, Failed}
+use Rattle.disk_model.specs.declared.answers.DiskAnswer.TheVariants.{Memory, Failed, Stopped}
 use Rattle.script_lines.specs.declared.line.Line.{Line}
 use Rattle.script_lines.specs.declared.line.Line.TheVariants as line
 use Rattle.plain_service.specs.Setups.{Setup, IsMoment}
@@ -66,7 +66,8 @@ EndsAs (Ok x) (Ok y) = x ≡ y
 EndsAs (Err e) (Err answer) = answer ≡ Memory
 EndsAs _ _ = ⊥
 
--- what a line left that was not done, by the disk's answer
+-- what a line left that was not done, by the disk's answer; a disk that stopped leaves it as want of memory does
 abbrev pub PlayBroken : DiskAnswer → Line → Cluster Lone → Cluster Lone → List (List ℕ) → List (List ℕ) → Option Files → Option Files → Type 0
 PlayBroken Memory next old new before after held left = (BreaksOn lone_kit) old new held left
 PlayBroken Failed next old new before after held left = FaultLeaves next (whole_of old) (whole_of new) before after held left
+PlayBroken Stopped next old new before after held left = (BreaksOn lone_kit) old new held left

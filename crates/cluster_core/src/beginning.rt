@@ -105,7 +105,7 @@ fn broken(alloc: Global, answer: DiskAnswer) -> EventAnswer
     ensures { result ≡ broken_by answer }
 {
     match answer {
-        DiskAnswer::Memory => EventAnswer::Memory,
+        DiskAnswer::Memory | DiskAnswer::Stopped => EventAnswer::Memory,
         DiskAnswer::Failed => EventAnswer::DiskFault {
             printed: Seq::new(alloc),
         },
@@ -145,6 +145,8 @@ impl World {
             Ok(made) => made,
             Err(_) => return Err(EventAnswer::Memory),
         };
+        // The start is not to stop.
+        disk.disarm();
         match perform(disk, &deeds) {
             Ok(()) => {
                 mem::drop(mem::replace(self, world));

@@ -58,6 +58,11 @@ impl World {
                 mem::drop(lines);
                 Err(EventAnswer::Memory)
             }
+            // Nothing arms the disk yet, so that it stops in no call.
+            Err(DiskAnswer::Stopped) => {
+                mem::drop(lines);
+                Err(EventAnswer::Memory)
+            }
             Err(DiskAnswer::Failed) => {
                 let printed = Seq::from_vec(lines);
                 Err(EventAnswer::DiskFault { printed })

@@ -72,6 +72,7 @@ pub(crate) fn work<D: SharedDisk>(
         }
         Err(DiskAnswer::Memory) => Err(DiskAnswer::Memory),
         Err(DiskAnswer::Failed) => Err(DiskAnswer::Failed),
+        Err(DiskAnswer::Stopped) => Err(DiskAnswer::Stopped),
     }
 }
 

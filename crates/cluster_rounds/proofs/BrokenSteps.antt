@@ -2,7 +2,9 @@
 use Rattle.std.proofs.Common.{◌≡◌, ℕ, ◌≤ℤ◌, inl, inr, Option, Some, None, List, [], ◌∷◌, ◌++◌, refl, ap, sym, ◌∙◌, subst}
 use Rattle.std.specs.List.{AllByRecursion}
 use Rattle.disk_model.specs.Disk.{Files}
-use Rattle.disk_model.specs.DeviceCalls.{DeviceCall, all_applied, FailsAfter, LacksMemoryAfter}
+use Rattle.disk_model.specs.declared.answers.DiskAnswer.{DiskAnswer}
+use Rattle.disk_model.specs.declared.answers.DiskAnswer.TheVariants.{Memory, Failed, Stopped}
+use Rattle.disk_model.specs.DeviceCalls.{DeviceCall, all_applied, LeftOn, BreaksOff}
 use Rattle.stream_layout.specs.Deeds.{calls_of_all}
 use Rattle.plain_service.specs.Setups.{Setup}
 use Rattle.plain_service.specs.Storing.{files_of, deeds_of}
@@ -73,27 +75,23 @@ module _ {Peers Group : Type 0} (kit : Kit Peers Group) (laws : IsKit kit) where
   attempted-between setup past entry old new is attempt =
       one_more no_attempt (subst (λ (f : Files). Attempt service_disk (calls_of_all (deeds_of setup past entry)) f new) is attempt)
 
-  -- the deeds of an entry broke off for want of memory
-  pub lacking-between : (setup : Setup) (state : State Peers) (entry : Entry) (count : ℕ) (held left : Option Files) → LacksMemoryAfter (calls_of_all (deeds_of setup state.world.core.answered entry)) count held left → TellsFiles setup state held → LeavesBetween setup (entry ∷ state.world.core.answered) held left
-  lacking-between setup state entry count None None lacks tells = refl
-  lacking-between setup state entry count None (Some left) lacks tells = absurd lacks.left
-  lacking-between setup state entry count (Some held) None lacks tells = absurd lacks.left
-  lacking-between setup state entry count (Some held) (Some left) lacks tells =
-      let past = state.world.core.answered in
-      let rest = lacks.broken ∷ lacks.undone in
-      let A : List DeviceCall → Type 0 = λ calls. Attempt service_disk calls held left in
-      (left, refl, attempted-between setup past entry held left tells (subst A (sym lacks.in_order) (attempt-after lacks.done rest held left (inl lacks.left))))
+  -- a call that gave an answer, and was not done
+  undone : (answer : DiskAnswer) (call : DeviceCall) (calls : List DeviceCall) (old new : Files) → LeftOn answer call old new → Attempt service_disk (call ∷ calls) old new
+  undone Memory call calls old new same = inl same
+  undone Failed call calls old new left = inr (inl (inl left))
+  undone Stopped call calls old new left = inr (inl (inr left))
 
-  -- or by a fault of the disk
-  pub failing-between : (setup : Setup) (state : State Peers) (entry : Entry) (count : ℕ) (held left : Option Files) → FailsAfter (calls_of_all (deeds_of setup state.world.core.answered entry)) count held left → TellsFiles setup state held → LeavesBetween setup (entry ∷ state.world.core.answered) held left
-  failing-between setup state entry count None None fails tells = refl
-  failing-between setup state entry count None (Some left) fails tells = absurd fails.left
-  failing-between setup state entry count (Some held) None fails tells = absurd fails.left
-  failing-between setup state entry count (Some held) (Some left) fails tells =
+  -- the deeds of an entry broke off
+  pub broken-between : (setup : Setup) (state : State Peers) (entry : Entry) (answer : DiskAnswer) (count : ℕ) (held left : Option Files) → BreaksOff (LeftOn answer) (calls_of_all (deeds_of setup state.world.core.answered entry)) count held left → TellsFiles setup state held → LeavesBetween setup (entry ∷ state.world.core.answered) held left
+  broken-between setup state entry answer count None None broke tells = refl
+  broken-between setup state entry answer count None (Some left) broke tells = absurd broke.left
+  broken-between setup state entry answer count (Some held) None broke tells = absurd broke.left
+  broken-between setup state entry answer count (Some held) (Some left) broke tells =
       let past = state.world.core.answered in
-      let rest = fails.broken ∷ fails.undone in
+      let rest = broke.broken ∷ broke.undone in
       let A : List DeviceCall → Type 0 = λ calls. Attempt service_disk calls held left in
-      (left, refl, attempted-between setup past entry held left tells (subst A (sym fails.in_order) (attempt-after fails.done rest held left (inr (inl fails.left)))))
+      let last = undone answer broke.broken broke.undone (all_applied broke.done held) left broke.left in
+      (left, refl, attempted-between setup past entry held left tells (subst A (sym broke.in_order) (attempt-after broke.done rest held left last)))
 
   -- Events that broke off.
 

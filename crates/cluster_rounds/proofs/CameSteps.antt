@@ -2,7 +2,7 @@
 use Rattle.std.proofs.Common.{◌≡◌, ℕ, ◌≤◌, Bool, false, ◌||◌, List, ◌++◌, length, refl, ap, sym, ◌∙◌, subst, append_assoc, arith}
 use Rattle.std.proofs.lemmas.List.{length-append}
 use Rattle.disk_model.specs.declared.answers.DiskAnswer.{DiskAnswer}
-use Rattle.disk_model.specs.declared.answers.DiskAnswer.TheVariants.{Memory, Failed}
+use Rattle.disk_model.specs.declared.answers.DiskAnswer.TheVariants.{Memory, Failed, Stopped}
 use Rattle.plain_service.specs.Setups.{Setup}
 use Rattle.service_laws.specs.PlainOf.{plain_of}
 use Rattle.cluster_facts.specs.Lists.{EndsIn}
@@ -169,6 +169,8 @@ module _ {Peers Group : Type 0} (kit : Kit Peers Group) (laws : IsKit kit) where
   pub off-after : (P Q : State Peers → Type 0) (Inner Outer : (EndOver kit)) (first : (EventOver kit)) (answer : DiskAnswer) (old middle new : Cluster Group) (before between after : List (List ℕ)) (a : Bool) (held told left : DiskSeen) → EndsBy P first Inner Outer → LeadsBy P Q first → (Comes kit) P first old middle before between a held told → (ComesOff kit) Q Inner answer middle new between after told left → (ComesOff kit) P Outer answer old new before after held left
   off-after P Q Inner Outer first Memory old middle new before between after a held told left stops =
       lacks-after P Q Inner Outer first old middle new before between after a held told left
+  off-after P Q Inner Outer first Stopped old middle new before between after a held told left stops =
+      lacks-after P Q Inner Outer first old middle new before between after a held told left
   off-after P Q Inner Outer first Failed old middle new before between after a held told left stops =
       ended-after P Q Inner Outer first old middle new before between after a held told left stops
 
@@ -184,6 +186,7 @@ module _ {Peers Group : Type 0} (kit : Kit Peers Group) (laws : IsKit kit) where
 
   pub off-as : (P Q : State Peers → Type 0) (Inner Outer : (EndOver kit)) (answer : DiskAnswer) (old new : Cluster Group) (before after : List (List ℕ)) (held left : DiskSeen) → EndsAs Inner Outer old → Follows P Q old → (ComesOff kit) Q Inner answer old new before after held left → (ComesOff kit) P Outer answer old new before after held left
   off-as P Q Inner Outer Memory old new before after held left as_outer follows breaks setup state good shows so = breaks setup state good shows (follows setup state good shows so)
+  off-as P Q Inner Outer Stopped old new before after held left as_outer follows breaks setup state good shows so = breaks setup state good shows (follows setup state good shows so)
   off-as P Q Inner Outer Failed old new before after held left as_outer follows ends setup state good shows so =
       let ended = ends setup state good shows (follows setup state good shows so) in
       record {

@@ -1,7 +1,7 @@
 -- Rounds one after another, that they end, and where `settle` ends.
 use Rattle.std.proofs.Common.{◌≡◌, ℕ, suc, ◌+◌, ◌<◌, ◌≤◌, Bool, true, false, if◌then◌else◌, List, [], ◌++◌, refl, ap, sym, ◌∙◌, subst, append_assoc, append-nil, arith}
 use Rattle.disk_model.specs.declared.answers.DiskAnswer.{DiskAnswer}
-use Rattle.disk_model.specs.declared.answers.DiskAnswer.TheVariants.{Memory, Failed}
+use Rattle.disk_model.specs.declared.answers.DiskAnswer.TheVariants.{Memory, Failed, Stopped}
 use Rattle.plain_service.specs.Setups.{Setup}
 use Rattle.service_laws.specs.PlainOf.{plain_of}
 use Rattle.service_laws.proofs.ServiceLaws.{is_plain}
@@ -131,6 +131,10 @@ module _ {Peers Group : Type 0} (kit : Kit Peers Group) (laws : IsKit kit) where
 
   pub settling-off : (answer : DiskAnswer) (old now new : Cluster Group) (before between after : List (List ℕ)) (held told left : DiskSeen) → (SettlesSo kit) old now before between true held told → (ComesOff kit) any_state (EndsRound kit) answer now new between after told left → (ComesOff kit) any_state (EndsSettle kit) answer old new before after held left
   settling-off Memory old now new before between after held told left settles off setup state good shows so =
+      let so_far = settles setup state good shows in
+      let broken = off setup so_far.state so_far.good so_far.shows tt in
+      ((happened-broken kit laws) setup state so_far.state so_far.told held.files told.files left.files new (settling-says setup state now before between held told good so_far) so_far.files broken.0, laws.further held.faults told.faults left.faults so_far.outlives broken.1)
+  settling-off Stopped old now new before between after held told left settles off setup state good shows so =
       let so_far = settles setup state good shows in
       let broken = off setup so_far.state so_far.good so_far.shows tt in
       ((happened-broken kit laws) setup state so_far.state so_far.told held.files told.files left.files new (settling-says setup state now before between held told good so_far) so_far.files broken.0, laws.further held.faults told.faults left.faults so_far.outlives broken.1)

@@ -3,7 +3,7 @@ use Rattle.std.specs.Prelude.{◌≡◌, ℕ, ◌≤◌, Bool, true, false, nat_
 use Rattle.ais_values.specs.Causes.{Rose}
 use Rattle.disk_model.specs.Disk.{Files}
 use Rattle.disk_model.specs.declared.answers.DiskAnswer.{DiskAnswer}
-use Rattle.disk_model.specs.declared.answers.DiskAnswer.TheVariants.{Memory, Failed}
+use Rattle.disk_model.specs.declared.answers.DiskAnswer.TheVariants.{Memory, Failed, Stopped}
 use Rattle.plain_service.specs.Setups.{Setup}
 use Rattle.service_laws.specs.PlainOf.{plain_of}
 use Rattle.cluster_facts.specs.History.{committed}
@@ -66,12 +66,14 @@ module _ {Peers Group : Type 0} (kit : Kit Peers Group) where
     pub lines : after ≡ before ++ kept_lines end.told
     pub files : TellsFiles setup state held.files → LeavesBetween setup (committed end.state.world.core) held.files left.files
 
-  -- what an event left of a state, by the answer with which it broke off
+  -- what an event left of a state, by the answer with which it broke off; a disk that stopped leaves it as want of memory does
   abbrev pub LeavesOff :
       Setup → State Peers → EndBy Peers → DiskAnswer → Cluster Group → List (List ℕ) → List (List ℕ) → DiskSeen → DiskSeen → Type 0
   LeavesOff setup state Ends Memory new before after held left =
       Broken setup state held.files left.files new × kit.Outlives held.faults left.faults
   LeavesOff setup state Ends Failed new before after held left = Ended setup state Ends new before after held left
+  LeavesOff setup state Ends Stopped new before after held left =
+      Broken setup state held.files left.files new × kit.Outlives held.faults left.faults
 
   abbrev pub ComesOff :
       (State Peers → Type 0) → EndOver kit → DiskAnswer → Cluster Group → Cluster Group → List (List ℕ) → List (List ℕ) → DiskSeen → DiskSeen → Type 0

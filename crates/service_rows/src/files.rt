@@ -11,7 +11,7 @@ pub(crate) fn perform_all(disk: &mut MemDisk, deeds: &Seq<Deed>) -> Result<bool,
     match perform(disk, deeds) {
         Ok(()) => Ok(true),
         Err(DiskAnswer::Memory) => Err(AllocError),
-        Err(DiskAnswer::Failed) => Ok(false),
+        Err(DiskAnswer::Failed | DiskAnswer::Stopped) => Ok(false),
     }
 }
 
@@ -32,7 +32,7 @@ pub(crate) fn put_files(
     let names = match disk.names(alloc) {
         Ok(names) => names,
         Err(DiskAnswer::Memory) => return Err(AllocError),
-        Err(DiskAnswer::Failed) => return put(out, b"disk fault\n"),
+        Err(DiskAnswer::Failed | DiskAnswer::Stopped) => return put(out, b"disk fault\n"),
     };
     for name in names.as_slice() {
         let length = length_of(disk, name.as_slice());

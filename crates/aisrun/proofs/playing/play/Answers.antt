@@ -51,6 +51,12 @@ returns-in-Err-Memory g c =
     let stood = other-stood (faults c.args.disk.now) (faults c.first_name.new.disk) c.in-Err-Memory.field-0 answer.Failed answer.Memory c.in-Err-Memory.ensures.cause c.in-Err-Memory.field-0-is (λ is. cc) in
     lacked _ _ _ (Unopened refl c.in-Err-Memory.ensures.same refl, refl, stood) refl
 
+pub returns-in-Err-Stopped : goal.returns-in-Err-Stopped
+returns-in-Err-Stopped g c =
+    let faults = g.D.SharedDisk.faults in
+    let stood = other-stood (faults c.args.disk.now) (faults c.first_name.new.disk) c.in-Err-Stopped.field-0 answer.Failed answer.Stopped c.in-Err-Stopped.ensures.cause c.in-Err-Stopped.field-0-is (λ is. cc) in
+    lacked _ _ _ (Unopened refl c.in-Err-Stopped.ensures.same refl, refl, stood) refl
+
 pub returns-in-Err-Failed : goal.returns-in-Err-Failed
 returns-in-Err-Failed g c =
     let sink = edge g.K.Sink.written g.K.Sink.faults c.args.out.now c.write_broken.new.out in
