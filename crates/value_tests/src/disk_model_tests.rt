@@ -99,6 +99,28 @@ fn a_disk_in_memory_changes_its_files(rt: HostRuntime) -> Result<(), Fail> {
     Ok(())
 }
 
+// A disk on folders writes half of what is written as it stops, and is not armed any more then.
+fn stops_in_a_write<D: SharedDisk>(
+    rt: &impl Abort,
+    disk: &mut D,
+    alloc: Global,
+) -> Result<(), DiskAnswer> {
+    disk.create(b"stop/f")?;
+    disk.arm(2);
+    disk.write_at(b"stop/f", 0, b"abcdef")?;
+    assert_eq!(rt;
+        disk.write_at(b"stop/f", 6, b"WXYZU"),
+        Err(DiskAnswer::Stopped)
+    );
+    holds(rt, disk, alloc, "stop/f", Some(b"abcdefWX"))?;
+    disk.cut(b"stop/f", 7)?;
+    holds(rt, disk, alloc, "stop/f", Some(b"abcdefW"))?;
+    disk.arm(1);
+    disk.disarm();
+    disk.crash();
+    disk.remove(b"stop/f")
+}
+
 #[test]
 fn a_disk_on_folders_changes_its_files(rt: HostRuntime) -> Result<(), Fail> {
     let alloc = rt.alloc();
@@ -118,6 +140,7 @@ fn a_disk_on_folders_changes_its_files(rt: HostRuntime) -> Result<(), Fail> {
     assert_eq!(rt; disk.len(b"b")?, None, "a folder is no file");
     fs::write(&rt, "ais_log_root/b/a\nb", "x")?;
     assert!(rt; disk.names(alloc).is_err(), "a name that is not plain");
+    stops_in_a_write(&rt, &mut disk, alloc)?;
     fs::remove_dir_all(&rt, ROOT)?;
     fs::write(&rt, ROOT, "x")?;
     assert!(rt;
@@ -183,5 +206,79 @@ fn a_failed_sync_tears_what_is_loose_also_under_a_new_name(rt: HostRuntime) -> R
         "g",
         Some(b"a\x01\x02d\x01\x02\x03\x01"),
     )?;
+    Ok(())
+}
+
+// A disk in memory with this file, of which nothing is loose, armed to stop at the changing call of this number.
+fn armed(
+    alloc: Global,
+    failing: Vec<u64>,
+    torn: &[u8],
+    bytes: &[u8],
+    left: u64,
+) -> Result<MemDisk, DiskAnswer> {
+    let mut disk = MemDisk::new(alloc, failing, Vec::new(alloc), torn.to_vec(alloc)?);
+    disk.hold(b"f", bytes.to_vec(alloc)?)?;
+    disk.arm(left.max(1));
+    Ok(disk)
+}
+
+#[test]
+fn an_armed_disk_stops_once_and_tears_a_write_once(rt: HostRuntime) -> Result<(), Fail> {
+    let alloc = rt.alloc();
+    let torn: [(&[u8], u64, &[u8], &[u8]); 4] = [
+        // within the file, growing it by 4 and by 3, and with no torn bytes
+        (b"\x01\x02\x03", 1, b"XY", b"a\x01\x02def"),
+        (b"\x01\x02\x03", 4, b"WXYZUV", b"abcd\x01\x02\x03\x01"),
+        (b"\x09", 6, b"WXY", b"abcdef\x09"),
+        (b"", 2, b"XY", b"ab\0\0ef"),
+    ];
+    for (torn, at, bytes, left) in torn {
+        // the call that stops the disk is listed as failing too
+        let mut disk = armed(alloc, [2].to_vec(alloc)?, torn, b"abcdef", 2)?;
+        disk.sync(b"f")?;
+        assert_eq!(rt; disk.write_at(b"f", at, bytes), Err(DiskAnswer::Stopped));
+        holds(&rt, &mut disk, alloc, "f", Some(left))?;
+        disk.crash();
+        holds(&rt, &mut disk, alloc, "f", Some(left))?;
+        disk.write_at(b"f", 0, b"ABCDEF")?;
+        disk.sync(b"f")?;
+    }
+    Ok(())
+}
+
+#[test]
+fn a_stop_tears_what_is_loose_in_any_file(rt: HostRuntime) -> Result<(), Fail> {
+    let alloc = rt.alloc();
+    for call in 0..4_u64 {
+        let mut disk = armed(alloc, Vec::new(alloc), b"\x07", b"abcdef", 4)?;
+        disk.write_at(b"f", 1, b"XY")?;
+        disk.create(b"g")?;
+        disk.write_at(b"g", 0, b"WXYZ")?;
+        let answer = match call {
+            0 => disk.create(b"f"),
+            1 => disk.rename(b"f", b"g"),
+            2 => disk.remove(b"f"),
+            _ => disk.sync(b"f"),
+        };
+        assert_eq!(rt; answer, Err(DiskAnswer::Stopped));
+        holds(&rt, &mut disk, alloc, "f", Some(b"a\x07\x07def"))?;
+        holds(&rt, &mut disk, alloc, "g", Some(b"\x07\x07"))?;
+    }
+    Ok(())
+}
+
+#[test]
+fn what_was_cut_off_is_gone_after_a_stop_too(rt: HostRuntime) -> Result<(), Fail> {
+    let alloc = rt.alloc();
+    let mut disk = armed(alloc, [1].to_vec(alloc)?, b"", b"abcdef", 4)?;
+    assert_eq!(rt; disk.cut(b"f", 5), Err(DiskAnswer::Failed));
+    disk.cut(b"f", 9)?;
+    holds(&rt, &mut disk, alloc, "f", Some(b"abcde"))?;
+    disk.disarm();
+    disk.cut(b"absent", 1)?;
+    disk.arm(1);
+    assert_eq!(rt; disk.cut(b"f", 2), Err(DiskAnswer::Stopped));
+    holds(&rt, &mut disk, alloc, "f", Some(b"ab"))?;
     Ok(())
 }

@@ -56,11 +56,39 @@ fn holds(
     Ok(())
 }
 
-// The files a.cfg, b, c and old, where the device call of that number fails.
+// The files a.cfg, b, c and old, where the device call of that number is not done.
 type Left = [Option<&'static [u8]>; 4];
 
+fn holds_all(
+    rt: &impl Abort,
+    disk: &mut MemDisk,
+    alloc: Global,
+    left: Left,
+) -> Result<(), DiskAnswer> {
+    holds(rt, disk, alloc, b"a.cfg", left[0])?;
+    holds(rt, disk, alloc, b"b", left[1])?;
+    holds(rt, disk, alloc, b"c", left[2])?;
+    holds(rt, disk, alloc, b"old", left[3])
+}
+
+// A disk with the two old files, on which the changing call of this number fails, or stops it.
+fn disk_before(alloc: Global, number: u64, stops: bool) -> Result<MemDisk, AllocError> {
+    let failing = if stops {
+        Vec::new(alloc)
+    } else {
+        [number].to_vec(alloc)?
+    };
+    let mut disk = MemDisk::new(alloc, failing, Vec::new(alloc), b"#".to_vec(alloc)?);
+    disk.hold(b"a.cfg", b"older".to_vec(alloc)?)?;
+    disk.hold(b"old", b"before".to_vec(alloc)?)?;
+    if stops {
+        disk.arm(number.max(1));
+    }
+    Ok(disk)
+}
+
 #[test]
-fn each_device_call_fails_in_turn(rt: HostRuntime) -> Result<(), Fail> {
+fn each_device_call_fails_or_stops_in_turn(rt: HostRuntime) -> Result<(), Fail> {
     let alloc = rt.alloc();
     let old: Option<&[u8]> = Some(b"before");
     let rows: [Left; 9] = [
@@ -76,49 +104,19 @@ fn each_device_call_fails_in_turn(rt: HostRuntime) -> Result<(), Fail> {
     ];
     let deeds = some_deeds(alloc)?;
     for (before, row) in rows.iter().enumerate() {
-        let failing = [before as u64 + 1].to_vec(alloc)?;
-        let mut disk = MemDisk::new(alloc, failing, Vec::new(alloc), b"#".to_vec(alloc)?);
-        disk.hold(b"a.cfg", b"older".to_vec(alloc)?)?;
-        disk.hold(b"old", b"before".to_vec(alloc)?)?;
-        let want = if before < 8 {
-            Err(DiskAnswer::Failed)
-        } else {
-            Ok(())
-        };
-        assert_eq!(rt; perform(&mut disk, &deeds), want, "call {before}");
-        holds(&rt, &mut disk, alloc, b"a.cfg", row[0])?;
-        holds(&rt, &mut disk, alloc, b"b", row[1])?;
-        holds(&rt, &mut disk, alloc, b"c", row[2])?;
-        holds(&rt, &mut disk, alloc, b"old", row[3])?;
-    }
-    Ok(())
-}
-
-/// The changing call of this number fails, and with `fails` the one before it too, and so does the first reading
-/// call: whether the deeds made all changing calls before it and no others, and no reading call.
-fn makes_calls_before(
-    alloc: Global,
-    deeds: &Seq<Deed>,
-    fails: bool,
-    next: u64,
-) -> Result<bool, DiskAnswer> {
-    let first = if fails { next.saturating_sub(1) } else { next };
-    let failing = [first, next].to_vec(alloc)?;
-    let mut disk = MemDisk::new(alloc, failing, [1].to_vec(alloc)?, Vec::new(alloc));
-    let answer = perform(&mut disk, deeds);
-    let changed = disk.remove(b"none").is_err();
-    Ok(answer.is_err() == fails && changed && disk.len(b"none").is_err())
-}
-
-#[test]
-fn each_deed_makes_its_calls_and_no_others(rt: HostRuntime) -> Result<(), Fail> {
-    let alloc = rt.alloc();
-    let deeds = some_deeds(alloc)?;
-    for (deed, next) in deeds.as_slice().iter().zip([4, 2, 3, 2, 2]) {
-        let mut one = Seq::new(alloc);
-        one.push(deed.copy(alloc)?)?;
-        assert!(rt; makes_calls_before(alloc, &one, false, next)?, "{next}");
-        assert!(rt; makes_calls_before(alloc, &one, true, next)?, "{next}");
+        for stops in [false, true] {
+            let mut disk = disk_before(alloc, before as u64 + 1, stops)?;
+            let want = match (before < 8, stops) {
+                (false, _) => Ok(()),
+                (true, false) => Err(DiskAnswer::Failed),
+                (true, true) => Err(DiskAnswer::Stopped),
+            };
+            assert_eq!(rt; perform(&mut disk, &deeds), want, "call {before}");
+            holds_all(&rt, &mut disk, alloc, *row)?;
+            disk.disarm();
+            perform(&mut disk, &deeds)?;
+            holds_all(&rt, &mut disk, alloc, rows[8])?;
+        }
     }
     Ok(())
 }
