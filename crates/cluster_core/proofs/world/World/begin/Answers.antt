@@ -12,11 +12,11 @@ returns-in-Ok-perform-clause-ok g c setup places begins none =
     let starts = c.in-Ok.ensures setup places begins in
     let held = g.D.SharedDisk.files c.args.disk.now in
     begun setup places held (g.D.SharedDisk.files c.perform.new.disk) c.replace.new.dest (spelled-begins c.args.line.now c.requires.spelled.0 setup places c.requires.spelled.1 begins) (c.replace.ensures.after ∙ starts.0) none
-    (c.in-Ok-perform.ensures.performs.0 ∙ ap (option_map (all_applied (calls_of_all _))) c.disarm.ensures.same
+    (c.in-Ok-perform.ensures.performs.0 ∙ ap (option_map (all_applied (calls_of_all c.in-Ok.made.1))) c.disarm.ensures.same
     ∙ ap (λ deeds. option_map (all_applied (calls_of_all deeds)) held) starts.1)
 
-pub returns-in-Err-perform-clause-broken : goal.returns-in-Err-perform-clause-broken
-returns-in-Err-perform-clause-broken g c setup places begins =
+pub returns-clause-broken : goal.returns-clause-broken
+returns-clause-broken g c setup places begins =
     let starts = c.in-Ok.ensures setup places begins in
-    start-broken _ setup c.in-Err-perform.answer _ _ (g.D.SharedDisk.files c.args.disk.now) (g.D.SharedDisk.files c.disarm.new.self) (g.D.SharedDisk.files c.perform.new.disk)
+    start-broken (Unit {0}) setup c.in-Err-perform.answer _ _ (g.D.SharedDisk.files c.args.disk.now) (g.D.SharedDisk.files c.disarm.new.self) (g.D.SharedDisk.files c.perform.new.disk)
     _ _ starts.1 c.broken.ensures c.disarm.ensures.same (ap (λ (t : Tally). t.armed) c.disarm.ensures.counted) c.in-Err-perform.ensures.performs
