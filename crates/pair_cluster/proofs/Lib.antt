@@ -1,0 +1,9 @@
+pub mod Sounding
+pub mod Stepping
+pub mod Serving
+pub mod Saying
+pub mod Lines
+pub mod Running
+pub mod Also
+pub mod Standing
+pub mod Rows

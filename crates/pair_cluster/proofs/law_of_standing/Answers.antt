@@ -1,0 +1,5 @@
+use Rattle.pair_cluster.proofs.Standing.{servers-stand}
+use Rattle.pair_cluster.proofs.law_of_standing.Goals as goal
+
+pub returns : goal.returns
+returns c = servers-stand

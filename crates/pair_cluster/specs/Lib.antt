@@ -1,0 +1,6 @@
+pub mod Peers
+pub mod Falling
+pub mod Pair
+pub mod Running
+pub mod Laws
+pub mod Standing

@@ -1,0 +1,21 @@
+//! The cluster of two servers, an active one and its partner: definitions and laws alone.
+#![tactic(auto)]
+
+ghost use Rattle.pair_cluster.specs.Laws.{PairKeepsPromises, PairSettleEnds, PairSettleSettles};
+ghost use Rattle.pair_cluster.specs.Standing.{ServersStand};
+
+/// Whatever servers are crashed, armed and restarted, and whatever works the disk fails in: at the end of each line of a
+/// run there is one history, legal and printed; each reply line is the service's, each call has one at most; callbacks are
+/// handed out in order, each once. `settle` ends, and after it every call is answered and no item is held, but for those
+/// whose client's callback queue is full.
+pub fn law_of_pairs()
+    ensures promises { PairKeepsPromises }
+    ensures ends { PairSettleEnds }
+    ensures settled { PairSettleSettles }
+{}
+
+/// Where no work fails and none is armed, every line that is not one on failing servers leaves the active server active
+/// and the other one up.
+pub fn law_of_standing()
+    ensures { ServersStand }
+{}
