@@ -7,3 +7,5 @@ pub mod Running
 pub mod Also
 pub mod Standing
 pub mod Rows
+pub mod Ends
+pub mod Ended

@@ -1,23 +1,26 @@
 -- Worked rows of two servers over a service that answers every call.
-use Rattle.std.proofs.Common.{◌≡◌, ℕ, Some, None, Bool, false, ◌&&◌, ◌==◌, pos, [], ◌∷◌, refl, codes}
+use Rattle.std.proofs.Common.{◌≡◌, ℕ, Some, None, Bool, true, false, ◌&&◌, ◌==◌, pos, [], ◌∷◌, refl, codes}
 use Rattle.script_lines.specs.declared.line.Line.TheVariants as line
 use Rattle.script_lines.specs.declared.line.Server.TheVariants.{A, B}
 use Rattle.stream_config.specs.declared.attrs.StreamName.TheVariants.{System}
 use Rattle.record_print.specs.declared.record.Header.{Header}
 use Rattle.record_print.specs.declared.record.Header.TheVariants.{Generic}
-use Rattle.cluster_facts.specs.Types.{Ask, Start, Other, Log, Call, LogWrite, Done, Called, Message, Request, Answer}
+use Rattle.cluster_facts.specs.Types.{Notification, Ask, Start, Other, Log, Ntf, Call, LogWrite, NtfSubscribe, Single, Done, Called, Notified, Message, Request, Answer, Delivery, Receipt}
+use Rattle.ntf_filters.specs.declared.filter.FilterSet.{FilterSet}
 use Rattle.cluster_facts.specs.Service.{Plain}
-use Rattle.cluster_events.specs.Lines.{Posted, Committed, Replied, Refused, Stood}
+use Rattle.cluster_events.specs.Lines.{Posted, Committed, Replied, HandedOut, Dispatched, Ignored, Refused, Stood}
+use Rattle.cluster_events.specs.declared.lines.Why.TheVariants as because
 use Rattle.cluster_events.specs.declared.lines.ServerRole.TheVariants.{Active, Armed, Standby, Joining, Down}
 use Rattle.cluster_events.specs.Outcomes.{Outcome, and_then}
 use Rattle.cluster_events.specs.Servers.{State, Servers, in_world}
 use Rattle.cluster_events.specs.Devices.{Device}
-use Rattle.cluster_events.specs.ClientEvents.{ask}
-use Rattle.cluster_events.specs.Events.{deliver, resend, mirror_next, ack_next, work_next, list_servers}
+use Rattle.cluster_events.specs.ClientEvents.{ask, dispatch_all}
+use Rattle.cluster_events.specs.Events.{deliver, resend, mirror_next, ack_next, work_next, push, list_servers}
 use Rattle.cluster_events.specs.Settling.{round}
 use Rattle.pair_cluster.specs.Peers.{Peers}
 use Rattle.pair_cluster.specs.Falling.{crash, arm, disarm, restart}
 use Rattle.pair_cluster.specs.Pair.{pair, pair_start}
+use Rattle.pair_cluster.specs.Ended.{ended}
 
 abbrev same_message : Message → Message → Bool
 same_message (Request client number call) (Request other index asked) = client == other && number == index
@@ -178,3 +181,51 @@ standby_unarmed = refl
 
 pub standing_again : (restart A start).told ≡ Refused (line.Restart A) (record { role_of_a = Active; role_of_b = Standby; net = 0; link = 0; back = 0; in_hand = None }) ∷ []
 standing_again = refl
+
+-- A fault in the work of a server that has no standby ends the run, and so does one in a takeover.
+
+pub last_falls : (ended (deliver ready calm 5 (ask_for (Other write) crashed.state).state).state).told ≡ Stood B Down ∷ []
+last_falls = refl
+
+pub takeover_fails : (ended start).told ≡ Stood B Down ∷ Stood A Down ∷ []
+takeover_fails = refl
+
+-- A service with one item, that of the subscription of client 1 by its call 2.
+
+abbrev same_spelling : Message → Message → Bool
+same_spelling (Delivery client key item) (Delivery other index asked) = client == other && (key == index && item.number == asked.number)
+same_spelling (Receipt client key through) (Receipt other index asked) = client == other && (key == index && through == asked)
+same_spelling one other = same_message one other
+
+module _ (notification : Notification) (filters : FilterSet) where
+  abbrev item : Message
+  item = Delivery 1 2 (record { number = 1; content = Single notification })
+
+  abbrev telling : Plain
+  telling = record {
+    reply = λ past client number time call. Done;
+    made = λ past client key. Single notification ∷ [];
+    through = λ past client key. 0;
+    lasts = λ past client key. true;
+    held = λ past. item ∷ [];
+    same = same_spelling;
+  }
+
+  abbrev calm_telling : Servers Peers
+  calm_telling = pair telling (device (λ number. false))
+
+  abbrev asked_of : Ask → State Peers → Outcome (State Peers)
+  asked_of asked state = in_world (ask telling 1 asked) state
+
+  -- the client has the item, and the server that pushed it crashes
+  abbrev told_once : State Peers
+  told_once = (crash A (round telling calm_telling (and_then (asked_of (Start Ntf (record { release = 65; major = 1; minor = 1 })) start) (asked_of (Other (NtfSubscribe 9 filters)))).state).state).state
+
+  pub taken_once : (deliver telling calm_telling 5 told_once).told ≡ Ignored 5 because.TakenItem ∷ []
+  taken_once = refl
+
+  pub pushed_once : (push telling calm_telling told_once).told ≡ []
+  pushed_once = refl
+
+  pub called_once : (in_world (dispatch_all 1) told_once).told ≡ Dispatched 1 1 ∷ HandedOut 1 1 (Notified 9 notification) ∷ []
+  called_once = refl

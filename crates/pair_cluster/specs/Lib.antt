@@ -4,3 +4,4 @@ pub mod Pair
 pub mod Running
 pub mod Laws
 pub mod Standing
+pub mod Ended

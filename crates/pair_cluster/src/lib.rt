@@ -3,6 +3,7 @@
 
 ghost use Rattle.pair_cluster.specs.Laws.{PairKeepsPromises, PairSettleEnds, PairSettleSettles};
 ghost use Rattle.pair_cluster.specs.Standing.{ServersStand};
+ghost use Rattle.pair_cluster.specs.Ended.{EndKeepsPromises, EndLacksReply};
 
 /// Whatever servers are crashed, armed and restarted, and whatever works the disk fails in: at the end of each line of a
 /// run there is one history, legal and printed; each reply line is the service's, each call has one at most; callbacks are
@@ -18,4 +19,11 @@ pub fn law_of_pairs()
 /// and the other one up.
 pub fn law_of_standing()
     ensures { ServersStand }
+{}
+
+/// Where a fault of the disk leaves no server that could go on, in `work`, in `settle` or in the takeover behind a `crash`,
+/// the history, replies and callbacks are as at the end of a line, and no reply is posted to a call whose work failed.
+pub fn law_of_ends()
+    ensures promises { EndKeepsPromises }
+    ensures lacks { EndLacksReply }
 {}

@@ -1,0 +1,79 @@
+-- Words of public clauses: where a fault of the disk ends a run of two servers.
+use Rattle.std.specs.Prelude.{◌≡◌, ℕ, ℤ, true, false, None, List, [], ◌∷◌, ◌++◌}
+use Rattle.script_lines.specs.declared.line.Line.{Line}
+use Rattle.script_lines.specs.declared.line.Line.TheVariants as line
+use Rattle.script_lines.specs.declared.line.Server.{Server}
+use Rattle.cluster_facts.specs.Types.{Call, Reply, Entry, Called, Answer}
+use Rattle.cluster_facts.specs.Lists.{Stands, without}
+use Rattle.cluster_facts.specs.Service.{Plain, IsPlain}
+use Rattle.cluster_facts.specs.History.{Empty, Ready, committed}
+use Rattle.cluster_events.specs.Lines.{Told, Stood, is_ignored}
+use Rattle.cluster_events.specs.declared.lines.ServerRole.TheVariants as role
+use Rattle.cluster_events.specs.Outcomes.{Outcome}
+use Rattle.cluster_events.specs.Servers.{State}
+use Rattle.cluster_events.specs.Devices.{Device}
+use Rattle.cluster_events.specs.Ending.{SettleEnds}
+use Rattle.cluster_events.specs.Serving.{IsSteady}
+use Rattle.cluster_events.specs.Running.{Shelf}
+use Rattle.cluster_events.specs.Runs.{RunBy}
+use Rattle.cluster_events.specs.Promises.{AtEnd}
+use Rattle.pair_cluster.specs.Peers.{Partner, Down, Standby, Peers, IsPair, other_server}
+use Rattle.pair_cluster.specs.Falling.{with_core}
+use Rattle.pair_cluster.specs.Pair.{is_standby, falls, pair, pair_start}
+use Rattle.pair_cluster.specs.Running.{PairStepBy}
+
+-- the line of a standby that fails as it takes over
+abbrev pub failed_takeover : Partner → Server → List Told
+failed_takeover (Standby on_way) server = Stood server role.Down ∷ []
+failed_takeover _ server = []
+
+-- the active server is down, and so is its standby, if there was one: what was committed is left, an entry that waited is gone
+abbrev pub ended : State Peers → Outcome (State Peers)
+ended state = record {
+  state = record {
+    world = with_core (committed state.world.core) Empty state.world;
+    peers = record { acting = state.peers.acting; partner = Down; keeps = false; armed = None };
+  };
+  told = failed_takeover state.peers.partner (other_server state.peers.acting) ++ Stood state.peers.acting role.Down ∷ [];
+}
+
+-- a fault in the work of the entry in hand ends the run where no standby takes over, or one fails in it
+pub record EndsPair (device : Device) (state : State Peers) (end : Outcome (State Peers)) : Type 0 where
+  pub entry : Entry
+  pub ready : state.world.core.hand ≡ Ready entry
+  pub fell : is_standby state.peers.partner ≡ true → falls device state.world.core.answered entry state.peers ≡ true
+  pub is : end ≡ ended state
+
+-- the active server crashes, and its standby fails as it takes over
+pub record EndsCrash (server : Server) (state : State Peers) (end : Outcome (State Peers)) : Type 0 where
+  pub active : state.peers.acting ≡ server
+  pub standby : is_standby state.peers.partner ≡ true
+  pub is : end ≡ ended state
+
+-- `settle` ends in one of its rounds, and prints no line on a message without effect
+pub record EndsSettle (plain : Plain) (device : Device) (state : State Peers) (end : Outcome (State Peers)) : Type 0 where
+  pub whole : Outcome (State Peers)
+  pub ends : SettleEnds plain (pair plain device) (λ now last. EndsPair device now last) state whole
+  pub is : end ≡ record { state = whole.state; told = without is_ignored whole.told }
+
+-- where the event of a line ends the run
+abbrev pub PairEnds : Plain → Device → Line → State Peers → Outcome (State Peers) → Type 0
+PairEnds plain device line.Work state end = EndsPair device state end
+PairEnds plain device (line.Crash server) state end = EndsCrash server state end
+PairEnds plain device line.Settle state end = EndsSettle plain device state end
+PairEnds plain device _ state end = ⊥
+
+-- all promises hold there too
+abbrev pub EndKeepsPromises : Type 0
+EndKeepsPromises =
+    (plain : Plain) → IsPlain plain → (shelf : Shelf) (calls : List Entry → Entry → ℕ) (device : Device) (now : ℤ) (places first : ℕ)
+    (lines : List Line) (state : State Peers) (told : List Told) (mark : ℕ) (next : Line) (end : Outcome (State Peers))
+    → RunBy (PairStepBy plain shelf calls) (pair_start now places) first lines state told mark → PairEnds plain device next state end
+    → AtEnd plain end.state.world (end.told ++ told)
+
+-- and no reply is posted to a call whose work fails so
+abbrev pub EndLacksReply : Type 0
+EndLacksReply =
+    (plain : Plain) (device : Device) (state : State Peers) (end : Outcome (State Peers)) → IsSteady plain IsPair state
+    → (ends : EndsPair device state end) (client number : ℕ) (time : ℤ) (call : Call) (reply : Reply)
+    → ends.entry ≡ Called client number time call → Stands (Answer client number reply) end.state.world.net → ⊥
