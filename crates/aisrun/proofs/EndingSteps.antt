@@ -29,7 +29,7 @@ use Rattle.aisrun.specs.Commands.{command_of, text_of}
 use Rattle.aisrun.specs.Checking.{CheckEnds, Judged, IsScript, IsNoScript, ExprEnds, IsExpression, IsNoExpression}
 use Rattle.aisrun.specs.Counts.{HasStood}
 use Rattle.aisrun.specs.Edges.{Edge, edge, before, after, fault_count, IsUntouched, Stage, stage, Around, LeavesAll}
-use Rattle.aisrun.specs.Endings.{input_limit, ReadsWhole, SourceFailed, InputTooLong, PlayEnds, PlayedTo, PlayLacks, Unopened, Opening, InEvent, Opens, FaultLeft, StoodUpTo, HasScript, DiskFails, AtNames, AtOpening, AtEvent, LacksBy, RunLacks, Unread as Unknown, Unplayed, Ends, Checked, Parsed, Ran, NoScript, NotBuilt, NoExpression}
+use Rattle.aisrun.specs.Endings.{input_limit, ReadsWhole, SourceFailed, InputTooLong, PlayEnds, PlayedTo, PlayLacks, Unopened, Opening, InEvent, Opens, FaultLeft, StoodUpTo, HasScript, DiskFails, AtNames, AtOpening, AtEvent, LacksBy, Unjudged, RunLacks, Unread as Unknown, Unplayed, Ends, Checked, Parsed, Ran, NoScript, NotBuilt, NoExpression}
 use Rattle.aisrun.specs.Inputs.{UnreadEnds, UnreadLacks}
 use Rattle.aisrun.specs.Playing.{files_told, has_failures, Goes, PlaysFront, StandsAt}
 use Rattle.aisrun.specs.RunSteps.{EndWritten, InputEnds, InputLacks}
@@ -294,7 +294,7 @@ lacks-early run (Some Run) all source = Unknown refl all
 lacks-early run (Some Check) all source = (refl, all)
 lacks-early run (Some (Expr kind)) all source = (refl, all, source)
 lacks-early run (Some (Gen count seed)) all source = (refl, all, source)
-lacks-early run (Some (Scan query)) all source = inl (refl, all)
+lacks-early run (Some (Scan query)) all source = Unjudged refl all source
 
 -- the end of a part
 pub ok-ends : {X : Type 0} (end : Result End X) (P : Status8 → List ℕ → Type 0) (E : Reaching) → ((status : Status8) (text : List ℕ) → P status text → E (Some status) text) → IfOk end (λ one. P one.status one.text.items) → IfOk end (λ one. E (Some one.status) one.text.items)
