@@ -223,6 +223,22 @@ fn armed(
     Ok(disk)
 }
 
+// A write at which the disk stops, though it is listed as failing too, leaves this; the disk is not armed any more then.
+fn stops_in_write(
+    rt: &impl Abort,
+    alloc: Global,
+    torn: &[u8],
+    at: u64,
+    bytes: &[u8],
+    left: &[u8],
+) -> Result<(), DiskAnswer> {
+    let mut disk = armed(alloc, [2].to_vec(alloc)?, torn, b"abcdef", 2)?;
+    disk.sync(b"f")?;
+    assert_eq!(rt; disk.write_at(b"f", at, bytes), Err(DiskAnswer::Stopped));
+    holds(rt, &mut disk, alloc, "f", Some(left))?;
+    disk.sync(b"f")
+}
+
 #[test]
 fn an_armed_disk_stops_once_and_tears_a_write_once(rt: HostRuntime) -> Result<(), Fail> {
     let alloc = rt.alloc();
@@ -234,51 +250,48 @@ fn an_armed_disk_stops_once_and_tears_a_write_once(rt: HostRuntime) -> Result<()
         (b"", 2, b"XY", b"ab\0\0ef"),
     ];
     for (torn, at, bytes, left) in torn {
-        // the call that stops the disk is listed as failing too
-        let mut disk = armed(alloc, [2].to_vec(alloc)?, torn, b"abcdef", 2)?;
-        disk.sync(b"f")?;
-        assert_eq!(rt; disk.write_at(b"f", at, bytes), Err(DiskAnswer::Stopped));
-        holds(&rt, &mut disk, alloc, "f", Some(left))?;
-        disk.crash();
-        holds(&rt, &mut disk, alloc, "f", Some(left))?;
-        disk.write_at(b"f", 0, b"ABCDEF")?;
-        disk.sync(b"f")?;
+        stops_in_write(&rt, alloc, torn, at, bytes, left)?;
     }
     Ok(())
+}
+
+// A call at which the disk stops tears what is loose in two files, and does nothing itself.
+fn stops_in_call(rt: &impl Abort, alloc: Global, call: u8) -> Result<(), DiskAnswer> {
+    let mut disk = armed(alloc, Vec::new(alloc), b"\x07", b"abcdef", 4)?;
+    disk.write_at(b"f", 1, b"XY")?;
+    disk.create(b"g")?;
+    disk.write_at(b"g", 0, b"WXYZ")?;
+    let answer = match call {
+        0 => disk.create(b"f"),
+        1 => disk.rename(b"f", b"g"),
+        2 => disk.remove(b"f"),
+        _ => disk.sync(b"f"),
+    };
+    assert_eq!(rt; answer, Err(DiskAnswer::Stopped));
+    holds(rt, &mut disk, alloc, "f", Some(b"a\x07\x07def"))?;
+    holds(rt, &mut disk, alloc, "g", Some(b"\x07\x07"))
 }
 
 #[test]
 fn a_stop_tears_what_is_loose_in_any_file(rt: HostRuntime) -> Result<(), Fail> {
-    let alloc = rt.alloc();
-    for call in 0..4_u64 {
-        let mut disk = armed(alloc, Vec::new(alloc), b"\x07", b"abcdef", 4)?;
-        disk.write_at(b"f", 1, b"XY")?;
-        disk.create(b"g")?;
-        disk.write_at(b"g", 0, b"WXYZ")?;
-        let answer = match call {
-            0 => disk.create(b"f"),
-            1 => disk.rename(b"f", b"g"),
-            2 => disk.remove(b"f"),
-            _ => disk.sync(b"f"),
-        };
-        assert_eq!(rt; answer, Err(DiskAnswer::Stopped));
-        holds(&rt, &mut disk, alloc, "f", Some(b"a\x07\x07def"))?;
-        holds(&rt, &mut disk, alloc, "g", Some(b"\x07\x07"))?;
+    for call in 0..4_u8 {
+        stops_in_call(&rt, rt.alloc(), call)?;
     }
     Ok(())
 }
 
-#[test]
-fn what_was_cut_off_is_gone_after_a_stop_too(rt: HostRuntime) -> Result<(), Fail> {
-    let alloc = rt.alloc();
-    let mut disk = armed(alloc, [1].to_vec(alloc)?, b"", b"abcdef", 4)?;
+// A cut that fails, one that changes nothing, and one at which the disk stops.
+fn cuts(rt: &impl Abort, alloc: Global) -> Result<(), DiskAnswer> {
+    let mut disk = armed(alloc, [1].to_vec(alloc)?, b"", b"abcdef", 3)?;
     assert_eq!(rt; disk.cut(b"f", 5), Err(DiskAnswer::Failed));
     disk.cut(b"f", 9)?;
-    holds(&rt, &mut disk, alloc, "f", Some(b"abcde"))?;
-    disk.disarm();
-    disk.cut(b"absent", 1)?;
-    disk.arm(1);
+    holds(rt, &mut disk, alloc, "f", Some(b"abcde"))?;
     assert_eq!(rt; disk.cut(b"f", 2), Err(DiskAnswer::Stopped));
-    holds(&rt, &mut disk, alloc, "f", Some(b"ab"))?;
+    holds(rt, &mut disk, alloc, "f", Some(b"ab"))
+}
+
+#[test]
+fn what_was_cut_off_is_gone(rt: HostRuntime) -> Result<(), Fail> {
+    cuts(&rt, rt.alloc())?;
     Ok(())
 }

@@ -87,6 +87,36 @@ fn disk_before(alloc: Global, number: u64, stops: bool) -> Result<MemDisk, Alloc
     Ok(disk)
 }
 
+// The deeds are performed up to the call of this number, which fails or stops the disk, and then again.
+fn breaks_off(
+    rt: &impl Abort,
+    alloc: Global,
+    deeds: &Seq<Deed>,
+    number: u64,
+    stops: bool,
+    left: Left,
+) -> Result<(), DiskAnswer> {
+    let mut disk = disk_before(alloc, number, stops)?;
+    let want = match (number < 9, stops) {
+        (false, _) => Ok(()),
+        (true, false) => Err(DiskAnswer::Failed),
+        (true, true) => Err(DiskAnswer::Stopped),
+    };
+    assert_eq!(rt; perform(&mut disk, deeds), want, "call {number}");
+    holds_all(rt, &mut disk, alloc, left)?;
+    if number == 9 {
+        return Ok(());
+    }
+    disk.disarm();
+    perform(&mut disk, deeds)?;
+    holds_all(
+        rt,
+        &mut disk,
+        alloc,
+        [Some(b"new"), None, Some(b"data"), None],
+    )
+}
+
 #[test]
 fn each_device_call_fails_or_stops_in_turn(rt: HostRuntime) -> Result<(), Fail> {
     let alloc = rt.alloc();
@@ -104,19 +134,9 @@ fn each_device_call_fails_or_stops_in_turn(rt: HostRuntime) -> Result<(), Fail> 
     ];
     let deeds = some_deeds(alloc)?;
     for (before, row) in rows.iter().enumerate() {
-        for stops in [false, true] {
-            let mut disk = disk_before(alloc, before as u64 + 1, stops)?;
-            let want = match (before < 8, stops) {
-                (false, _) => Ok(()),
-                (true, false) => Err(DiskAnswer::Failed),
-                (true, true) => Err(DiskAnswer::Stopped),
-            };
-            assert_eq!(rt; perform(&mut disk, &deeds), want, "call {before}");
-            holds_all(&rt, &mut disk, alloc, *row)?;
-            disk.disarm();
-            perform(&mut disk, &deeds)?;
-            holds_all(&rt, &mut disk, alloc, rows[8])?;
-        }
+        let number = before as u64 + 1;
+        breaks_off(&rt, alloc, &deeds, number, false, *row)?;
+        breaks_off(&rt, alloc, &deeds, number, true, *row)?;
     }
     Ok(())
 }
