@@ -130,7 +130,8 @@ impl Service {
     }
 
     /// The service of a value: with it each further entry is answered as by the service that handed the value on, and
-    /// of a fit value to which no history led as the value says. `Refused` comes exactly where the value is not fit, and `Memory` only for want of memory.
+    /// of a fit value to which no history led as the value says. `Refused` comes exactly where the value is not fit,
+    /// and `Memory` only for want of memory.
     pub fn restore(alloc: Global, saved: &Saved) -> Result<Service, RestoreAnswer>
         ensures ok { IfOk result (λ service. service ≡ saved.now) }
         ensures refused { IsErrOf result RestoreAnswer.Refused ↔ (¬ IsFit saved.now) }
