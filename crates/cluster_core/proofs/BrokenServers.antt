@@ -87,17 +87,17 @@ posts-one setup message net old new posts spelled =
 -- A message that is heard.
 
 abbrev GoesSo : Setup → State Alone → Outcome (State Alone) → Type 0
-GoesSo setup state outcome = Goes (SaysUnasked (plain_of setup)) (IsSteady (plain_of setup) IsGoodAlone) state outcome
+GoesSo setup state outcome = Goes (SaysUnasked lone_kit.Within (plain_of setup)) (IsSteady (plain_of setup) IsGoodAlone) state outcome
 
 -- what the code is left as
 abbrev left_as : Cluster Lone → Server → List (List ℕ) → Pushed → Cluster Lone
 left_as old a net history = record old { servers = record old.servers { a = a }; net = net; history = history }
 
-ignored-breaks : (setup : Setup) (state : State Alone) (old : Cluster Lone) (a : Server) (net : List (List ℕ)) (history : Pushed) (why : Reason) (held : Option Files) → (IsGood lone_kit) setup state → (Shows lone_kit) setup state old → IsPartlyTold (ignored why) old.net net old.history.entries history.entries → Broken setup state held held (left_as old a net history)
+ignored-breaks : (setup : Setup) (state : State Alone) (old : Cluster Lone) (a : Server) (net : List (List ℕ)) (history : Pushed) (why : Reason) (held : Option Files) → (IsGood lone_kit) setup state → (Shows lone_kit) setup state old → IsPartlyTold (ignored why) old.net net old.history.entries history.entries → Broken lone_kit.Within setup state held held (left_as old a net history)
 ignored-breaks setup state old a net history why held good shows partly =
     (nothing-broken lone_kit lone_laws) setup state held (left_as old a net history) good (posts-none setup state.world.net old.net net partly.posts shows.net) shows.agents (partly.commits ∙ shows.history) shows.now
 
-accepted-breaks : (setup : Setup) (state : State Alone) (old : Cluster Lone) (a : Server) (net : List (List ℕ)) (history : Pushed) (entry : Entry) (held : Option Files) → (IsGood lone_kit) setup (state_with state Empty) → (Shows lone_kit) setup (state_with state Empty) old → IsPartlyTold (accepted_alone entry) old.net net old.history.entries history.entries → GoesSo setup (state_with state Empty) (accept_alone entry (state_with state Empty)) → Broken setup (state_with state Empty) held held (left_as old a net history)
+accepted-breaks : (setup : Setup) (state : State Alone) (old : Cluster Lone) (a : Server) (net : List (List ℕ)) (history : Pushed) (entry : Entry) (held : Option Files) → (IsGood lone_kit) setup (state_with state Empty) → (Shows lone_kit) setup (state_with state Empty) old → IsPartlyTold (accepted_alone entry) old.net net old.history.entries history.entries → GoesSo setup (state_with state Empty) (accept_alone entry (state_with state Empty)) → Broken lone_kit.Within setup (state_with state Empty) held held (left_as old a net history)
 accepted-breaks setup state old a net history entry held good shows partly goes =
     let before = state_with state Empty in
     let after = accept_alone entry before in
@@ -110,7 +110,7 @@ accepted-breaks setup state old a net history entry held good shows partly goes 
           ((unworked-between lone_kit lone_laws) setup before entry held)
     ]
 
-repeated-breaks : (setup : Setup) (state : State Alone) (old : Cluster Lone) (a : Server) (net : List (List ℕ)) (history : Pushed) (message : Message) (held : Option Files) → (IsGood lone_kit) setup (state_with state Empty) → (Shows lone_kit) setup (state_with state Empty) old → IsPartlyTold (repeated message) old.net net old.history.entries history.entries → GoesSo setup (state_with state Empty) (in_world (post (plain_of setup) message) (state_with state Empty)) → Broken setup (state_with state Empty) held held (left_as old a net history)
+repeated-breaks : (setup : Setup) (state : State Alone) (old : Cluster Lone) (a : Server) (net : List (List ℕ)) (history : Pushed) (message : Message) (held : Option Files) → (IsGood lone_kit) setup (state_with state Empty) → (Shows lone_kit) setup (state_with state Empty) old → IsPartlyTold (repeated message) old.net net old.history.entries history.entries → GoesSo setup (state_with state Empty) (in_world (post (plain_of setup) message) (state_with state Empty)) → Broken lone_kit.Within setup (state_with state Empty) held held (left_as old a net history)
 repeated-breaks setup state old a net history message held good shows partly goes =
     let before = state_with state Empty in
     let after = in_world (post (plain_of setup) message) before in
@@ -122,7 +122,7 @@ repeated-breaks setup state old a net history message held good shows partly goe
           known shows.now ((same-between lone_kit lone_laws) setup before held good)
     ]
 
-request-breaks : (setup : Setup) (state : State Alone) (old : Cluster Lone) (a : Server) (net : List (List ℕ)) (history : Pushed) (heard : Heard) (place client number : ℕ) (call : Call) (verdict : Judged) (held : Option Files) → (IsGood lone_kit) setup (state_with state Empty) → (Shows lone_kit) setup (state_with state Empty) old → IsRequestHeard setup state.world.core.answered client number call state.world.now verdict heard a → IsPartlyTold heard old.net net old.history.entries history.entries → GoesSo setup (state_with state Empty) (request_as (plain_of setup) (lone (plain_of setup)) place client number call verdict (state_with state Empty)) → Broken setup (state_with state Empty) held held (left_as old a net history)
+request-breaks : (setup : Setup) (state : State Alone) (old : Cluster Lone) (a : Server) (net : List (List ℕ)) (history : Pushed) (heard : Heard) (place client number : ℕ) (call : Call) (verdict : Judged) (held : Option Files) → (IsGood lone_kit) setup (state_with state Empty) → (Shows lone_kit) setup (state_with state Empty) old → IsRequestHeard setup state.world.core.answered client number call state.world.now verdict heard a → IsPartlyTold heard old.net net old.history.entries history.entries → GoesSo setup (state_with state Empty) (request_as (plain_of setup) (lone (plain_of setup)) place client number call verdict (state_with state Empty)) → Broken lone_kit.Within setup (state_with state Empty) held held (left_as old a net history)
 request-breaks setup state old a net history heard place client number call New held good shows is partly goes =
     let T : Heard → Type 0 = λ h. IsPartlyTold h old.net net old.history.entries history.entries in
     accepted-breaks setup state old a net history (Called client number state.world.now call) held good shows (subst T is.0 partly) goes
@@ -138,7 +138,7 @@ request-breaks setup state old a net history heard place client number call Ahea
     let T : Heard → Type 0 = λ h. IsPartlyTold h old.net net old.history.entries history.entries in
     ignored-breaks setup (state_with state Empty) old a net history AheadMessage held good shows (subst T is.0 partly)
 
-receipt-breaks : (setup : Setup) (state : State Alone) (old : Cluster Lone) (a : Server) (net : List (List ℕ)) (history : Pushed) (heard : Heard) (place client key through : ℕ) (new : Bool) (held : Option Files) → (IsGood lone_kit) setup (state_with state Empty) → (Shows lone_kit) setup (state_with state Empty) old → IsReceiptHeard setup state.world.core.answered client key through state.world.now new heard a → IsPartlyTold heard old.net net old.history.entries history.entries → GoesSo setup (state_with state Empty) (receipt_as (lone (plain_of setup)) place client key through new (state_with state Empty)) → Broken setup (state_with state Empty) held held (left_as old a net history)
+receipt-breaks : (setup : Setup) (state : State Alone) (old : Cluster Lone) (a : Server) (net : List (List ℕ)) (history : Pushed) (heard : Heard) (place client key through : ℕ) (new : Bool) (held : Option Files) → (IsGood lone_kit) setup (state_with state Empty) → (Shows lone_kit) setup (state_with state Empty) old → IsReceiptHeard setup state.world.core.answered client key through state.world.now new heard a → IsPartlyTold heard old.net net old.history.entries history.entries → GoesSo setup (state_with state Empty) (receipt_as (lone (plain_of setup)) place client key through new (state_with state Empty)) → Broken lone_kit.Within setup (state_with state Empty) held held (left_as old a net history)
 receipt-breaks setup state old a net history heard place client key through true held good shows is partly goes =
     let T : Heard → Type 0 = λ h. IsPartlyTold h old.net net old.history.entries history.entries in
     accepted-breaks setup state old a net history (Receipted client key through state.world.now) held good shows (subst T is.0 partly) goes
@@ -146,7 +146,7 @@ receipt-breaks setup state old a net history heard place client key through fals
     let T : Heard → Type 0 = λ h. IsPartlyTold h old.net net old.history.entries history.entries in
     ignored-breaks setup (state_with state Empty) old a net history Done held good shows (subst T is.0 partly)
 
-rest-breaks : (setup : Setup) (state : State Alone) (old : Cluster Lone) (a : Server) (net : List (List ℕ)) (history : Pushed) (heard : Heard) (place : ℕ) (message : Message) (held : Option Files) → (IsGood lone_kit) setup (state_with state Empty) → (Shows lone_kit) setup (state_with state Empty) old → IsHeardAtRest setup state.world.core.answered state.world.now message heard a → IsPartlyTold heard old.net net old.history.entries history.entries → GoesSo setup (state_with state Empty) (hear_at_rest (plain_of setup) (lone (plain_of setup)) place message (state_with state Empty)) → Broken setup (state_with state Empty) held held (left_as old a net history)
+rest-breaks : (setup : Setup) (state : State Alone) (old : Cluster Lone) (a : Server) (net : List (List ℕ)) (history : Pushed) (heard : Heard) (place : ℕ) (message : Message) (held : Option Files) → (IsGood lone_kit) setup (state_with state Empty) → (Shows lone_kit) setup (state_with state Empty) old → IsHeardAtRest setup state.world.core.answered state.world.now message heard a → IsPartlyTold heard old.net net old.history.entries history.entries → GoesSo setup (state_with state Empty) (hear_at_rest (plain_of setup) (lone (plain_of setup)) place message (state_with state Empty)) → Broken lone_kit.Within setup (state_with state Empty) held held (left_as old a net history)
 rest-breaks setup state old a net history heard place (Request client number call) held good shows is partly goes =
     request-breaks setup state old a net history heard place client number call (judged_call state.world.core.answered client number) held good shows is partly goes
 rest-breaks setup state old a net history heard place (Receipt client key through) held good shows is partly goes =
@@ -158,9 +158,9 @@ rest-breaks setup state old a net history heard place _ held good shows is partl
 pub heard-goes : (setup : Setup) (place : ℕ) (message : Message) (state : State Alone) → (IsGood lone_kit) setup state → Stands message state.world.net → GoesSo setup state ((heard_by lone_kit) place message setup state)
 heard-goes setup place message state good stands =
     let plain = plain_of setup in
-    hear-goes plain (is_plain setup) (lone plain) IsGoodAlone (lone-serves plain (is_plain setup)) (SaysUnasked plain) (lone-unasked plain) place message state stands good.steady
+    hear-goes plain (is_plain setup) (lone plain) IsGoodAlone (lone-serves plain (is_plain setup)) (SaysUnasked lone_kit.Within plain) (lone-unasked plain) place message state stands good.steady
 
-hears-break-by : (setup : Setup) (state : State Alone) (hand : Hand) (old : Cluster Lone) (a : Server) (net : List (List ℕ)) (history : Pushed) (heard : Heard) (place : ℕ) (message : Message) (held : Option Files) → (IsGood lone_kit) setup (state_with state hand) → (Shows lone_kit) setup (state_with state hand) old → Stands message state.world.net → IsHeardBy old.servers.a old.now message heard a → IsPartlyTold heard old.net net old.history.entries history.entries → Broken setup (state_with state hand) held held (left_as old a net history)
+hears-break-by : (setup : Setup) (state : State Alone) (hand : Hand) (old : Cluster Lone) (a : Server) (net : List (List ℕ)) (history : Pushed) (heard : Heard) (place : ℕ) (message : Message) (held : Option Files) → (IsGood lone_kit) setup (state_with state hand) → (Shows lone_kit) setup (state_with state hand) old → Stands message state.world.net → IsHeardBy old.servers.a old.now message heard a → IsPartlyTold heard old.net net old.history.entries history.entries → Broken lone_kit.Within setup (state_with state hand) held held (left_as old a net history)
 hears-break-by setup state Empty old a net history heard place message held good shows stands hears partly =
     let past = state.world.core.answered in
     let now : IsHeardAtRest setup past old.now message heard a = hears.rest setup past (answered-history setup state Empty good) shows.own.active in
@@ -174,7 +174,7 @@ hears-break-by setup state (Waiting entry) old a net history heard place message
 hears-break-by setup state (Applied entry) old a net history heard place message held good shows stands hears partly = elim good.steady.good [ ]
 
 -- **what a message is left as that was heard, and told in part**
-pub hears-break : (setup : Setup) (state : State Alone) (old : Cluster Lone) (a : Server) (net : List (List ℕ)) (history : Pushed) (heard : Heard) (place : ℕ) (message : Message) (held : Option Files) → (IsGood lone_kit) setup state → (Shows lone_kit) setup state old → Stands message state.world.net → IsHeardBy old.servers.a old.now message heard a → IsPartlyTold heard old.net net old.history.entries history.entries → Broken setup state held held (record old { servers = record old.servers { a = a }; net = net; history = history })
+pub hears-break : (setup : Setup) (state : State Alone) (old : Cluster Lone) (a : Server) (net : List (List ℕ)) (history : Pushed) (heard : Heard) (place : ℕ) (message : Message) (held : Option Files) → (IsGood lone_kit) setup state → (Shows lone_kit) setup state old → Stands message state.world.net → IsHeardBy old.servers.a old.now message heard a → IsPartlyTold heard old.net net old.history.entries history.entries → Broken lone_kit.Within setup state held held (record old { servers = record old.servers { a = a }; net = net; history = history })
 hears-break setup state old a net history heard place message held good shows stands hears partly =
     hears-break-by setup state state.world.core.hand old a net history heard place message held good shows stands hears partly
 
@@ -189,7 +189,7 @@ rest-owes setup past a is some =
     none : IsSome (at_rest setup past).owed → ⊥
     none some = cc
 
-work-lacks-by : (setup : Setup) (state : State Alone) (hand : Hand) (old : Cluster Lone) (a : Server) (answer : DiskAnswer) (count : ℕ) (held left : Option Files) → (IsGood lone_kit) setup (state_with state hand) → (Shows lone_kit) setup (state_with state hand) old → IsSome old.servers.a.owed → device_calls.BreaksOff (LeftOn answer) (calls_of_all (deeds_in old.servers.a.owed)) count held left → Broken setup (state_with state hand) held left (record old { servers = record old.servers { a = a } })
+work-lacks-by : (setup : Setup) (state : State Alone) (hand : Hand) (old : Cluster Lone) (a : Server) (answer : DiskAnswer) (count : ℕ) (held left : Option Files) → (IsGood lone_kit) setup (state_with state hand) → (Shows lone_kit) setup (state_with state hand) old → IsSome old.servers.a.owed → device_calls.BreaksOff (LeftOn answer) (calls_of_all (deeds_in old.servers.a.owed)) count held left → Broken lone_kit.Within setup (state_with state hand) held left (record old { servers = record old.servers { a = a } })
 work-lacks-by setup state Empty old a answer count held left good shows some lacks = absurd (rest-owes setup state.world.core.answered old.servers.a shows.own.active some)
 work-lacks-by setup state (Ready entry) old a answer count held left good shows some lacks =
     let now = state_with state (Ready entry) in
@@ -199,7 +199,7 @@ work-lacks-by setup state (Waiting entry) old a answer count held left good show
 work-lacks-by setup state (Applied entry) old a answer count held left good shows some lacks = elim good.steady.good [ ]
 
 -- **what work is left as whose deeds broke off, where no fault is to be told**
-pub work-lacks : (setup : Setup) (state : State Alone) (old : Cluster Lone) (a : Server) (answer : DiskAnswer) (count : ℕ) (held left : Option Files) → (IsGood lone_kit) setup state → (Shows lone_kit) setup state old → IsSome old.servers.a.owed → device_calls.BreaksOff (LeftOn answer) (calls_of_all (deeds_in old.servers.a.owed)) count held left → Broken setup state held left (record old { servers = record old.servers { a = a } })
+pub work-lacks : (setup : Setup) (state : State Alone) (old : Cluster Lone) (a : Server) (answer : DiskAnswer) (count : ℕ) (held left : Option Files) → (IsGood lone_kit) setup state → (Shows lone_kit) setup state old → IsSome old.servers.a.owed → device_calls.BreaksOff (LeftOn answer) (calls_of_all (deeds_in old.servers.a.owed)) count held left → Broken lone_kit.Within setup state held left (record old { servers = record old.servers { a = a } })
 work-lacks setup state old a answer count held left good shows some lacks =
     work-lacks-by setup state state.world.core.hand old a answer count held left good shows some lacks
 
@@ -221,7 +221,7 @@ answer-breaks setup state (Called client number time call) net old new posts spe
     posts-one setup (Answer client number ((plain_of setup).reply state.world.core.answered client number time call)) net old new posts spelled
 answer-breaks setup state (Receipted client key through time) net old new posts spelled = inl (posts-none setup net old new posts spelled)
 
-work-untold-by : (setup : Setup) (state : State Alone) (hand : Hand) (old : Cluster Lone) (a : Server) (net : List (List ℕ)) (heard : Heard) (held left : Option Files) → (IsGood lone_kit) setup (state_with state hand) → (Shows lone_kit) setup (state_with state hand) old → IsSome old.servers.a.owed → IsWorked old.servers.a heard a → PostsSome heard.to_net old.net net → left ≡ option_map (all_applied (calls_of_all (deeds_in old.servers.a.owed))) held → Broken setup (state_with state hand) held left (record old { servers = record old.servers { a = a }; net = net })
+work-untold-by : (setup : Setup) (state : State Alone) (hand : Hand) (old : Cluster Lone) (a : Server) (net : List (List ℕ)) (heard : Heard) (held left : Option Files) → (IsGood lone_kit) setup (state_with state hand) → (Shows lone_kit) setup (state_with state hand) old → IsSome old.servers.a.owed → IsWorked old.servers.a heard a → PostsSome heard.to_net old.net net → left ≡ option_map (all_applied (calls_of_all (deeds_in old.servers.a.owed))) held → Broken lone_kit.Within setup (state_with state hand) held left (record old { servers = record old.servers { a = a }; net = net })
 work-untold-by setup state Empty old a net heard held left good shows some is posts files = absurd (rest-owes setup state.world.core.answered old.servers.a shows.own.active some)
 work-untold-by setup state (Ready entry) old a net heard held left good shows some is posts files =
     let past = state.world.core.answered in
@@ -242,7 +242,7 @@ work-untold-by setup state (Waiting entry) old a net heard held left good shows 
 work-untold-by setup state (Applied entry) old a net heard held left good shows some is posts files = elim good.steady.good [ ]
 
 -- **what work is left as whose deeds are done, and whose reply was posted or not**
-pub work-untold : (setup : Setup) (state : State Alone) (old : Cluster Lone) (a : Server) (net : List (List ℕ)) (heard : Heard) (held left : Option Files) → (IsGood lone_kit) setup state → (Shows lone_kit) setup state old → IsSome old.servers.a.owed → IsWorked old.servers.a heard a → PostsSome heard.to_net old.net net → left ≡ option_map (all_applied (calls_of_all (deeds_in old.servers.a.owed))) held → Broken setup state held left (record old { servers = record old.servers { a = a }; net = net })
+pub work-untold : (setup : Setup) (state : State Alone) (old : Cluster Lone) (a : Server) (net : List (List ℕ)) (heard : Heard) (held left : Option Files) → (IsGood lone_kit) setup state → (Shows lone_kit) setup state old → IsSome old.servers.a.owed → IsWorked old.servers.a heard a → PostsSome heard.to_net old.net net → left ≡ option_map (all_applied (calls_of_all (deeds_in old.servers.a.owed))) held → Broken lone_kit.Within setup state held left (record old { servers = record old.servers { a = a }; net = net })
 work-untold setup state old a net heard held left good shows some is posts files =
     work-untold-by setup state state.world.core.hand old a net heard held left good shows some is posts files
 
@@ -297,7 +297,7 @@ work-ends old a before after count held left told some fell fails later rose set
 
 -- A push.
 
-push-breaks-by : (setup : Setup) (state : State Alone) (hand : Hand) (old : Cluster Lone) (net : List (List ℕ)) (items : List Message) (held : Option Files) → (IsGood lone_kit) setup (state_with state hand) → (Shows lone_kit) setup (state_with state hand) old → old.servers.a.owed ≡ None → ((past : List Entry) → IsHistory setup past → old.servers.a ≡ at_rest setup past → items ≡ (plain_of setup).held past) → PostsSome items old.net net → Broken setup (state_with state hand) held held (record old { net = net })
+push-breaks-by : (setup : Setup) (state : State Alone) (hand : Hand) (old : Cluster Lone) (net : List (List ℕ)) (items : List Message) (held : Option Files) → (IsGood lone_kit) setup (state_with state hand) → (Shows lone_kit) setup (state_with state hand) old → old.servers.a.owed ≡ None → ((past : List Entry) → IsHistory setup past → old.servers.a ≡ at_rest setup past → items ≡ (plain_of setup).held past) → PostsSome items old.net net → Broken lone_kit.Within setup (state_with state hand) held held (record old { net = net })
 push-breaks-by setup state Empty old net items held good shows idle are posts =
     let plain = plain_of setup in
     let past = state.world.core.answered in
@@ -306,10 +306,10 @@ push-breaks-by setup state Empty old net items held good shows idle are posts =
     let done = subst P (are past (answered-history setup state Empty good) shows.own.active) posts plain state.world.net (is_plain setup) shows.net in
     let front = take done.0 (plain.held past) in
     let made = All-take (IsMadeItem plain past) done.0 (plain.held past) (held-made plain (is_plain setup) past) in
-    let goes = post_all-goes plain (is_plain setup) (lone plain) IsGoodAlone (lone-serves plain (is_plain setup)) (SaysUnasked plain) (lone-unasked plain) front rest (record { steady = good.steady; empty = refl }) made in
+    let goes = post_all-goes plain (is_plain setup) (lone plain) IsGoodAlone (lone-serves plain (is_plain setup)) (SaysUnasked lone_kit.Within plain) (lone-unasked plain) front rest (record { steady = good.steady; empty = refl }) made in
     let same = each-posted plain front rest in
     let S : Outcome (State Alone) → Type 0 = λ outcome. IsSteady plain IsGoodAlone outcome.state in
-    let T : Outcome (State Alone) → Type 0 = λ outcome. SaysUnasked plain rest.world outcome.state.world outcome.told in
+    let T : Outcome (State Alone) → Type 0 = λ outcome. SaysUnasked lone_kit.Within plain rest.world outcome.state.world outcome.told in
     let other = record rest.world { net = posted_all plain front rest.world.net } in
     (whole-broken lone_kit lone_laws) setup rest (record { world = other; peers = rest.peers }) (lines_all plain front rest.world.net) held held (record old { net = net }) (subst S same goes.holds.steady).sound (subst T same goes.carried) done.1
     (agents-as rest.world other old.agents refl refl refl shows.agents)
@@ -321,6 +321,6 @@ push-breaks-by setup state (Waiting entry) old net items held good shows idle ar
 push-breaks-by setup state (Applied entry) old net items held good shows idle are posts = elim good.steady.good [ ]
 
 -- **what a push is left as of which some items were posted**
-pub push-breaks : (setup : Setup) (state : State Alone) (old : Cluster Lone) (net : List (List ℕ)) (items : List Message) (held : Option Files) → (IsGood lone_kit) setup state → (Shows lone_kit) setup state old → old.servers.a.owed ≡ None → ((past : List Entry) → IsHistory setup past → old.servers.a ≡ at_rest setup past → items ≡ (plain_of setup).held past) → PostsSome items old.net net → Broken setup state held held (record old { net = net })
+pub push-breaks : (setup : Setup) (state : State Alone) (old : Cluster Lone) (net : List (List ℕ)) (items : List Message) (held : Option Files) → (IsGood lone_kit) setup state → (Shows lone_kit) setup state old → old.servers.a.owed ≡ None → ((past : List Entry) → IsHistory setup past → old.servers.a ≡ at_rest setup past → items ≡ (plain_of setup).held past) → PostsSome items old.net net → Broken lone_kit.Within setup state held held (record old { net = net })
 push-breaks setup state old net items held good shows idle are posts =
     push-breaks-by setup state state.world.core.hand old net items held good shows idle are posts

@@ -131,10 +131,10 @@ drain-by plain (Ready (Receipted client key through time)) state = record { line
 pub drained-quiet : (setup : Setup) (state : State Alone) → IsQuiet (drained setup state).told
 drained-quiet setup state = drain-by (plain_of setup) state.world.core.hand state
 
-pub drained-goes : (setup : Setup) (state : State Alone) → (IsGood lone_kit) setup state → SaysUnasked (plain_of setup) state.world (drained setup state).state.world (drained setup state).told
+pub drained-goes : (setup : Setup) (state : State Alone) → (IsGood lone_kit) setup state → SaysUnasked lone_kit.Within (plain_of setup) state.world (drained setup state).state.world (drained setup state).told
 drained-goes setup state good =
     let plain = plain_of setup in
-    (drain-goes plain (is_plain setup) (lone plain) IsGoodAlone (lone-serves plain (is_plain setup)) (SaysUnasked plain) (lone-unasked plain) state good.steady).carried
+    (drain-goes plain (is_plain setup) (lone plain) IsGoodAlone (lone-serves plain (is_plain setup)) (SaysUnasked lone_kit.Within plain) (lone-unasked plain) state good.steady).carried
 
 -- **the work of the entry in hand is a step of the servers**
 pub work-comes : (old : Cluster Lone) (a : Server) (net : List (List ℕ)) (heard : Heard) (before after : List (List ℕ)) (held left : DiskSeen) → IsSome old.servers.a.owed → IsWorked old.servers.a heard a → PostsAll heard.to_net old.net net before after → left.files ≡ option_map (all_applied (calls_of_all (deeds_in old.servers.a.owed))) held.files → left.faults ≡ held.faults → (Advances lone_kit) true old (record old { servers = record old.servers { a = a }; net = net }) before after held left

@@ -19,11 +19,12 @@ use Rattle.mirror.specs.Nodes.{down, at_work}
 use Rattle.cluster_rounds.specs.Broken as cluster
 pub use Rattle.cluster_rounds.specs.Broken.{LeavesBetween}
 use Rattle.cluster_core.specs.declared.world.World.{World}
+use Rattle.cluster_core.specs.LoneKit.{lone_kit}
 use Rattle.cluster_core.specs.Worlds.{parts_of, IsGood, Shows, TellsFiles}
 
 -- an event broke off for want of memory, and left the parts of the world so
 abbrev pub Broken : Setup → State Alone → Option Files → Option Files → World → Type 0
-Broken setup state held left world = cluster.Broken setup state held left (parts_of world)
+Broken setup state held left world = cluster.Broken lone_kit.Within setup state held left (parts_of world)
 
 -- so it is over each good state that the world stood for
 abbrev pub BreaksOn : World → World → Option Files → Option Files → Type 0

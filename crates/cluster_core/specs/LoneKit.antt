@@ -47,7 +47,7 @@ pub record FellAlone (state : State Alone) (servers : Lone) : Type 0 where
   pub fell : servers.a ≡ down
   pub rest : IsRest servers
 
--- a drain is one step, and no event is done once the disk had a fault
+-- a drain is one step, an entry comes to the history as it is accepted, and no event is done once the disk had a fault
 abbrev pub lone_kit : Kit Alone Lone
 lone_kit = record {
   servers = λ plain device. lone plain;
@@ -56,6 +56,7 @@ lone_kit = record {
   Own = λ setup past hand peers servers. IsLone setup past hand servers;
   EndsAtWork = λ device state end. EndsAlone state end;
   Fell = λ setup state servers. FellAlone state servers;
+  Within = λ accepted now. accepted ≡ now;
   Outlives = λ before now. now ≡ before;
 }
 

@@ -1,8 +1,7 @@
 -- The active server alone is such servers as a cluster may have.
-use Rattle.std.specs.Prelude.{◌≡◌, ℕ, ℤ, ◌≤◌, ◌≤ℤ◌, suc, true, false, if◌then◌else◌, List, [], ◌∷◌, length}
+use Rattle.std.specs.Prelude.{◌≡◌, ℕ, ℤ, ◌≤◌, suc, true, false, if◌then◌else◌, List, [], ◌∷◌, length}
 use Rattle.std.proofs.Common.{refl, sym, subst, ◌∙◌, le_refl}
 use Rattle.std.specs.List.{AllByRecursion}
-use lib.Signed.{≤ℤ_refl}
 use Rattle.cluster_facts.specs.Types.{Entry, Called, Receipted, Message, Answer}
 use Rattle.cluster_facts.specs.Service.{Plain}
 use Rattle.cluster_facts.specs.History.{Hand, Empty, Waiting, Applied, Ready, committed_by, time_of}
@@ -29,15 +28,15 @@ state_with state hand = record {
 
 -- the lines of a reply tell no entry
 answer-times : (plain : Plain) (past : List Entry) (entry : Entry) (net : List Message) (now : ℤ)
-    → AllByRecursion (λ (line : ℕ × Entry). time_of line.1 ≤ℤ now) (entries_told (lines_answering plain past entry net))
+    → AllByRecursion (λ (line : ℕ × Entry). time_of line.1 ≡ now) (entries_told (lines_answering plain past entry net))
 answer-times plain past (Called client number time call) net now =
     let message = Answer client number (plain.reply past client number time call) in
-    let T : List Told → Type 0 = λ told. AllByRecursion (λ (line : ℕ × Entry). time_of line.1 ≤ℤ now) (entries_told told) in
+    let T : List Told → Type 0 = λ told. AllByRecursion (λ (line : ℕ × Entry). time_of line.1 ≡ now) (entries_told told) in
     elim (knows plain message net) as (λ b. T (if b then [] else Posted (suc (length net)) message ∷ [])) [ true ↦ tt | false ↦ tt ]
 answer-times plain past (Receipted client key through time) net now = tt
 
 drain-asks : (plain : Plain) (state : State Alone) (hand : Hand) → IsLoneHand hand
-    → AsksNone (state_with state hand).world (drain (lone plain) (state_with state hand)).state.world (drain (lone plain) (state_with state hand)).told
+    → AsksNone lone_kit.Within (state_with state hand).world (drain (lone plain) (state_with state hand)).state.world (drain (lone plain) (state_with state hand)).told
 drain-asks plain state Empty good = asks-none (state_with state Empty).world
 drain-asks plain state (Ready entry) good = record {
   sent = posted-sent plain state.world.core.answered entry state.world.net;
@@ -48,7 +47,7 @@ drain-asks plain state (Waiting entry) good = elim good [ ]
 drain-asks plain state (Applied entry) good = elim good [ ]
 
 -- each step that a round is made of says what happened, and asks nothing
-pub lone-unasked : (plain : Plain) → IsCarried plain (lone plain) IsGoodAlone (SaysUnasked plain)
+pub lone-unasked : (plain : Plain) → IsCarried plain (lone plain) IsGoodAlone (SaysUnasked lone_kit.Within plain)
 lone-unasked plain =
     let says = lone-says plain in
     record {
@@ -82,7 +81,7 @@ lone-unasked plain =
         asks = record {
           sent = λ client. refl;
           now = refl;
-          times = (subst (λ (now : ℤ). time_of entry ≤ℤ now) at (≤ℤ_refl (time_of entry)), tt);
+          times = (at, tt);
         };
       };
       drain = λ state steady. record {
@@ -105,7 +104,7 @@ lone_laws = record {
   unasked = λ plain device is_plain. lone-unasked plain;
   spends = λ plain device is_plain. lone-spends plain is_plain;
   steps = λ plain device. refl;
-  stepped = λ plain device is_plain. lone-steps plain is_plain (SaysUnasked plain) (lone-unasked plain);
+  stepped = λ plain device is_plain. lone-steps plain is_plain (SaysUnasked lone_kit.Within plain) (lone-unasked plain);
   alike = λ plain one other. refl;
   keeps = λ plain device entry state. refl;
   measured = λ plain device entry state empty good. accept-measured entry state empty;

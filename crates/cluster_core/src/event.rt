@@ -30,11 +30,11 @@ impl World {
     /// one telling that the server is down.
     ///
     /// `Memory` comes where memory ran out: some of the line was done, without its lines. The history is legal; each client's
-    /// calls in it are the first of those that it had sent before, and what came to it is of the time in force or of an
-    /// earlier one; that time stays. Each client was fed the beginning of its items, each reply that it took is the
-    /// history's, and the files are between. The same is answered where the history has 4,000,000,000 entries, where a
-    /// client's agent has numbered 4,294,967,294 calls, where a string of the net has more than 4,294,967,294 bytes, and
-    /// where the disk stopped, which one that is not armed never does.
+    /// calls in it are the first of those that it had sent before, and what came to it is of the time in force, which stays.
+    /// Each client was fed the beginning of its items, each reply that it took is the history's, and the files are between.
+    /// The same is answered where the history has 4,000,000,000 entries, where a client's agent has numbered 4,294,967,294
+    /// calls, where a string of the net has more than 4,294,967,294 bytes, and where the disk stopped, which one that is not
+    /// armed never does.
     pub fn event<R: Threads + Wait + Sync, D: SharedDisk, G: Gate>(
         &mut self,
         rt: &R,

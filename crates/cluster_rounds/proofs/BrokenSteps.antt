@@ -1,5 +1,5 @@
 -- Events that break off: what the world of the code is left as.
-use Rattle.std.proofs.Common.{◌≡◌, ℕ, ◌≤ℤ◌, inl, inr, Option, Some, None, List, [], ◌∷◌, ◌++◌, refl, ap, sym, ◌∙◌, subst}
+use Rattle.std.proofs.Common.{◌≡◌, ℕ, inl, inr, Option, Some, None, List, [], ◌∷◌, ◌++◌, refl, ap, sym, ◌∙◌, subst}
 use Rattle.std.specs.List.{AllByRecursion}
 use Rattle.disk_model.specs.Disk.{Files}
 use Rattle.disk_model.specs.declared.answers.DiskAnswer.{DiskAnswer}
@@ -110,7 +110,7 @@ module _ {Peers Group : Type 0} (kit : Kit Peers Group) (laws : IsKit kit) where
       subst F (same client) (sound-fed plain new sound client)
 
   -- some whole events happened, and what was to come did not
-  pub whole-broken : (setup : Setup) (old new : State Peers) (told : List Told) (held left : Option Files) (world : Cluster Group) → IsSound (plain_of setup) new.world → SaysUnasked (plain_of setup) old.world new.world told → AreSpelled new.world.net world.net → ShowsAgents new.world world.agents → world.history.entries ≡ committed new.world.core → world.now ≡ new.world.now → (TellsFiles setup old held → LeavesBetween setup (committed new.world.core) held left) → Broken setup old held left world
+  pub whole-broken : (setup : Setup) (old new : State Peers) (told : List Told) (held left : Option Files) (world : Cluster Group) → IsSound (plain_of setup) new.world → SaysUnasked kit.Within (plain_of setup) old.world new.world told → AreSpelled new.world.net world.net → ShowsAgents new.world world.agents → world.history.entries ≡ committed new.world.core → world.now ≡ new.world.now → (TellsFiles setup old held → LeavesBetween setup (committed new.world.core) held left) → Broken kit.Within setup old held left world
   whole-broken setup old new told held left world sound says net agents history now files = record {
     rest = new.world;
     unseen = told;
@@ -129,11 +129,11 @@ module _ {Peers Group : Type 0} (kit : Kit Peers Group) (laws : IsKit kit) where
   }
 
   -- nothing happened yet
-  pub nothing-broken : (setup : Setup) (state : State Peers) (held : Option Files) (world : Cluster Group) → (IsGood kit) setup state → AreSpelled state.world.net world.net → ShowsAgents state.world world.agents → world.history.entries ≡ committed state.world.core → world.now ≡ state.world.now → Broken setup state held held world
+  pub nothing-broken : (setup : Setup) (state : State Peers) (held : Option Files) (world : Cluster Group) → (IsGood kit) setup state → AreSpelled state.world.net world.net → ShowsAgents state.world world.agents → world.history.entries ≡ committed state.world.core → world.now ≡ state.world.now → Broken kit.Within setup state held held world
   nothing-broken setup state held world good net agents history now =
       whole-broken setup state state [] held held world good.steady.sound (unasked-same (plain_of setup) state.world) net agents history now (same-between setup state held good)
 
-  pub shown-broken : (setup : Setup) (state : State Peers) (held : Option Files) (world : Cluster Group) → (IsGood kit) setup state → (Shows kit) setup state world → Broken setup state held held world
+  pub shown-broken : (setup : Setup) (state : State Peers) (held : Option Files) (world : Cluster Group) → (IsGood kit) setup state → (Shows kit) setup state world → Broken kit.Within setup state held held world
   shown-broken setup state held world good shows = nothing-broken setup state held world good shows.net shows.agents shows.history shows.now
 
   -- one event happened, and the next broke off
@@ -144,7 +144,7 @@ module _ {Peers Group : Type 0} (kit : Kit Peers Group) (laws : IsKit kit) where
   files-after setup state middle past (Some held) (Some between) left first next tells =
       next (left-told setup middle (Some held) (Some between) (first tells))
 
-  pub happened-broken : (setup : Setup) (state middle : State Peers) (told : List Told) (held between left : Option Files) (world : Cluster Group) → SaysUnasked (plain_of setup) state.world middle.world told → (TellsFiles setup state held → LeavesFiles setup middle held between) → Broken setup middle between left world → Broken setup state held left world
+  pub happened-broken : (setup : Setup) (state middle : State Peers) (told : List Told) (held between left : Option Files) (world : Cluster Group) → SaysUnasked kit.Within (plain_of setup) state.world middle.world told → (TellsFiles setup state held → LeavesFiles setup middle held between) → Broken kit.Within setup middle between left world → Broken kit.Within setup state held left world
   happened-broken setup state middle told held between left world says files broken = record {
     rest = broken.rest;
     unseen = broken.unseen ++ told;
@@ -202,7 +202,7 @@ module _ {Peers Group : Type 0} (kit : Kit Peers Group) (laws : IsKit kit) where
         fed = λ client. subst (F client) agents_are.same.core ((Sound-holds plain of_agents.state agents_are.sound).fed client);
       }
 
-  event-by : (setup : Setup) (state : State Peers) (of_net of_agents : Outcome World) (old : Cluster Group) (net : List (List ℕ)) (agents : List Seen) (held : Option Files) → (IsGood kit) setup state → (Shows kit) setup state old → IsOfWorld setup state.world of_net → IsOfWorld setup state.world of_agents → AreSpelled of_net.state.net net → ShowsAgents of_agents.state agents → Broken setup state held held (record old { net = net; agents = agents })
+  event-by : (setup : Setup) (state : State Peers) (of_net of_agents : Outcome World) (old : Cluster Group) (net : List (List ℕ)) (agents : List Seen) (held : Option Files) → (IsGood kit) setup state → (Shows kit) setup state old → IsOfWorld setup state.world of_net → IsOfWorld setup state.world of_agents → AreSpelled of_net.state.net net → ShowsAgents of_agents.state agents → Broken kit.Within setup state held held (record old { net = net; agents = agents })
   event-by setup state of_net of_agents old net agents held good shows net_is agents_are spelled seen =
       let plain = plain_of setup in
       let world = state.world in
@@ -218,7 +218,7 @@ module _ {Peers Group : Type 0} (kit : Kit Peers Group) (laws : IsKit kit) where
         deals = λ client. subst (D client) agents_are.same.core (agents_are.says.deals client);
         asked = (Sound-holds plain world good.steady.sound).calls;
         fed = λ client. subst (F client) agents_are.same.core (agents_are.fed client);
-        times = subst (λ (lines : List (ℕ × Entry)). AllByRecursion (λ (line : ℕ × Entry). time_of line.1 ≤ℤ world.now) lines) (sym none) tt;
+        times = subst (λ (lines : List (ℕ × Entry)). AllByRecursion (λ (line : ℕ × Entry). kit.Within (time_of line.1) world.now) lines) (sym none) tt;
         stays = refl;
         net = spelled;
         agents = agents-as of_agents.state rest agents (sym agents_are.same.places) refl refl seen;
@@ -227,7 +227,7 @@ module _ {Peers Group : Type 0} (kit : Kit Peers Group) (laws : IsKit kit) where
         files = same-between setup state held good;
       }
 
-  pub event-broken : (setup : Setup) (state : State Peers) (outcome : Outcome World) (old : Cluster Group) (net : List (List ℕ)) (agents : List Seen) (held : Option Files) → (IsGood kit) setup state → (Shows kit) setup state old → IsOfWorld setup state.world outcome → PartlyShows state.world outcome.state net agents → Broken setup state held held (record old { net = net; agents = agents })
+  pub event-broken : (setup : Setup) (state : State Peers) (outcome : Outcome World) (old : Cluster Group) (net : List (List ℕ)) (agents : List Seen) (held : Option Files) → (IsGood kit) setup state → (Shows kit) setup state old → IsOfWorld setup state.world outcome → PartlyShows state.world outcome.state net agents → Broken kit.Within setup state held held (record old { net = net; agents = agents })
   event-broken setup state outcome old net agents held good shows event partly =
       let before = quietly state.world in
       let nothing = nothing-is setup state.world good.steady.sound in

@@ -1,6 +1,6 @@
 -- Events in which no client asks anything.
 -- What an event adds.
-use Rattle.std.proofs.Common.{◌≡◌, ℕ, ◌≤ℤ◌, suc, List, [], ◌∷◌, ◌++◌, length, refl, ap, sym, ◌∙◌, subst, arith}
+use Rattle.std.proofs.Common.{◌≡◌, ℕ, ℤ, suc, List, [], ◌∷◌, ◌++◌, length, refl, ap, sym, ◌∙◌, subst, arith}
 use Rattle.std.specs.List.{AllByRecursion}
 use Rattle.std.proofs.lemmas.List.{length-append}
 use Rattle.cluster_facts.specs.Types.{Call, Reply, Entry}
@@ -15,25 +15,25 @@ use Rattle.cluster_events.specs.Saying.{seconds, entry_in, deal_in, deals_told, 
 use Rattle.cluster_events.proofs.Telling.{gathered-append, Says-same, dealt-more}
 use Rattle.cluster_rounds.specs.PartlyDone.{AsksNone, SaysUnasked}
 
-pub asks-none : (world : World) → AsksNone world world []
+pub asks-none : {Within : ℤ → ℤ → Type 0} (world : World) → AsksNone Within world world []
 asks-none world = record { sent = λ client. refl; now = refl; times = tt }
 
--- entries that lines tell after events in which nobody asks are of the time before these
-pub times-both : (one two : World) (first second : List Told) → AsksNone one two first → AllByRecursion (λ (line : ℕ × Entry). time_of line.1 ≤ℤ two.now) (entries_told second) → AllByRecursion (λ (line : ℕ × Entry). time_of line.1 ≤ℤ one.now) (entries_told (second ++ first))
-times-both one two first second asks times =
-    let Old : ℕ × Entry → Type 0 = λ line. time_of line.1 ≤ℤ one.now in
-    let New : ℕ × Entry → Type 0 = λ line. time_of line.1 ≤ℤ two.now in
-    let late = All-map New Old (entries_told second) (λ line is. subst (λ now. time_of line.1 ≤ℤ now) asks.now is) times in
+-- entries that lines tell after events in which nobody asks stand so to the time before these
+pub times-both : {Within : ℤ → ℤ → Type 0} (one two : World) (first second : List Told) → AsksNone Within one two first → AllByRecursion (λ (line : ℕ × Entry). Within (time_of line.1) two.now) (entries_told second) → AllByRecursion (λ (line : ℕ × Entry). Within (time_of line.1) one.now) (entries_told (second ++ first))
+times-both {Within = Within} one two first second asks times =
+    let Old : ℕ × Entry → Type 0 = λ line. Within (time_of line.1) one.now in
+    let New : ℕ × Entry → Type 0 = λ line. Within (time_of line.1) two.now in
+    let late = All-map New Old (entries_told second) (λ line is. subst (λ now. Within (time_of line.1) now) asks.now is) times in
     subst (λ lines. AllByRecursion Old lines) (sym (gathered-append entry_in second first)) (All-append Old (entries_told second) (entries_told first) late asks.times)
 
-pub asks-both : (one two three : World) (first second : List Told) → AsksNone one two first → AsksNone two three second → AsksNone one three (second ++ first)
+pub asks-both : {Within : ℤ → ℤ → Type 0} (one two three : World) (first second : List Told) → AsksNone Within one two first → AsksNone Within two three second → AsksNone Within one three (second ++ first)
 asks-both one two three first second asks more = record {
   sent = λ client. more.sent client ∙ asks.sent client;
   now = more.now ∙ asks.now;
   times = times-both one two first second asks more.times;
 }
 
-pub unasked-same : (plain : Plain) (world : World) → SaysUnasked plain world world []
+pub unasked-same : {Within : ℤ → ℤ → Type 0} (plain : Plain) (world : World) → SaysUnasked Within plain world world []
 unasked-same plain world = record { says = Says-same plain world; asks = asks-none world }
 
 -- Deals of events, one after another.

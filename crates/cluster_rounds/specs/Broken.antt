@@ -1,5 +1,5 @@
 -- Words of public clauses: what stands where an event breaks off for want of memory, over any servers.
-use Rattle.std.specs.Prelude.{◌≡◌, ℕ, ◌≤ℤ◌, Option, Some, None, List}
+use Rattle.std.specs.Prelude.{◌≡◌, ℕ, ℤ, Option, Some, None, List}
 use Rattle.std.specs.List.{AllByRecursion}
 use Rattle.disk_model.specs.Disk.{Files}
 use Rattle.plain_service.specs.Setups.{Setup}
@@ -40,10 +40,10 @@ pub record IsFedOf (plain : Plain) (past : List Entry) (sent : List (ℕ × Call
   pub items : Fits (IsToldItem plain past sent client) marks fed
 
 -- An event broke off for want of memory: from this state some of it happened, with lines that nobody sees. The history is legal;
--- each client's calls in it are the first of those that it had sent before the event, and what came to it is of the time in force
--- or of an earlier one; that time stays. Each client was fed the beginning of the items of subscriptions that it had asked for
+-- each client's calls in it are the first of those that it had sent before the event, and what came to it is of a time
+-- that may stand so to the time in force; that time stays. Each client was fed the beginning of the items of subscriptions that it had asked for
 -- before the event, each reply that it took is the history's, and the files are between.
-pub record Broken {P S : Type 0} (setup : Setup) (state : State P) (held left : Option Files) (world : Cluster S) : Type 0 where
+pub record Broken {P S : Type 0} (Within : ℤ → ℤ → Type 0) (setup : Setup) (state : State P) (held left : Option Files) (world : Cluster S) : Type 0 where
   pub rest : World
   pub unseen : List Told
   pub tells : Tells (plain_of setup) state.world rest unseen
@@ -53,7 +53,7 @@ pub record Broken {P S : Type 0} (setup : Setup) (state : State P) (held left : 
       → AllByRecursion (λ (deal : ℕ × Call × Reply). Stands deal (dealt_in (plain_of setup) client rest.core.answered)) (deals_told client unseen)
   pub asked : (client : ℕ) → EndsIn (sent_by client state.world.net) (calls_in client (committed rest.core))
   pub fed : (client : ℕ) → IsFedOf (plain_of setup) rest.core.answered (sent_by client state.world.net) client (fed_of (rest.agents client))
-  pub times : AllByRecursion (λ (line : ℕ × Entry). time_of line.1 ≤ℤ state.world.now) (entries_told unseen)
+  pub times : AllByRecursion (λ (line : ℕ × Entry). Within (time_of line.1) state.world.now) (entries_told unseen)
   pub stays : rest.now ≡ state.world.now
   pub net : AreSpelled rest.net world.net
   pub agents : ShowsAgents rest world.agents
@@ -66,7 +66,7 @@ module _ {Peers Group : Type 0} (kit : Kit Peers Group) where
   abbrev pub BreaksIf : (State Peers → Type 0) → Cluster Group → Cluster Group → Option Files → Option Files → Type 0
   BreaksIf P old new held left =
       (setup : Setup) (state : State Peers) → (IsGood kit) setup state → (Shows kit) setup state old → P state
-      → Broken setup state held left new
+      → Broken kit.Within setup state held left new
 
   -- the same of an event that leaves the disk alone
   abbrev pub BreaksAloneIf : (State Peers → Type 0) → Cluster Group → Cluster Group → Type 0
@@ -74,7 +74,7 @@ module _ {Peers Group : Type 0} (kit : Kit Peers Group) where
 
   abbrev pub BreaksOn : Cluster Group → Cluster Group → Option Files → Option Files → Type 0
   BreaksOn old new held left =
-      (setup : Setup) (state : State Peers) → (IsGood kit) setup state → (Shows kit) setup state old → Broken setup state held left new
+      (setup : Setup) (state : State Peers) → (IsGood kit) setup state → (Shows kit) setup state old → Broken kit.Within setup state held left new
 
   abbrev pub BreaksAlone : Cluster Group → Cluster Group → Type 0
   BreaksAlone old new = (held : Option Files) → BreaksOn old new held held
