@@ -36,7 +36,8 @@ answer-times plain past (Called client number time call) net now =
 answer-times plain past (Receipted client key through time) net now = tt
 
 drain-asks : (plain : Plain) (state : State Alone) (hand : Hand) → IsLoneHand hand
-    → AsksNone lone_kit.Within (state_with state hand).world (drain (lone plain) (state_with state hand)).state.world (drain (lone plain) (state_with state hand)).told
+    → AsksNone lone_kit.Within (state_with state hand).world (drain (lone plain) (state_with state hand)).state.world
+    (drain (lone plain) (state_with state hand)).told
 drain-asks plain state Empty good = asks-none (state_with state Empty).world
 drain-asks plain state (Ready entry) good = record {
   sent = posted-sent plain state.world.core.answered entry state.world.net;
