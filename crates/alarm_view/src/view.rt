@@ -1,5 +1,5 @@
 //! The alarms that are kept.
-ghost use Rattle.std.specs.Prelude.{◌≡◌, ◌<◌, [], ◌∷◌, ◌++◌, length, OnOk, OnErr, IfSome, IfNone, slice_get, MatchOption};
+ghost use Rattle.std.specs.Prelude.{◌≡◌, ◌<◌, [], ◌∷◌, ◌++◌, length, OnOk, OnErr, IfOk, IfSome, IfNone, slice_get, MatchOption};
 ghost use Rattle.alarm_view.specs.Alarms.{kept_alarm, notifications, AreInOrder, CanAdd, from_record};
 ghost use Rattle.alarm_view.specs.Nearest.{IsNone, CanStart, CanFollow, IsStartAt, IsNext, cursor_after};
 
@@ -12,6 +12,7 @@ use ntf_types::Notification;
 use std::alloc::{AllocError, Global};
 use std::collections::VecDeque;
 use std::marker::Model;
+use std::mem;
 
 /// The alarms whose records are stored, in order of their records, and their places in order of event
 /// time and id. Contracts see the list of alarms.
@@ -34,6 +35,45 @@ impl Model for AlarmView {
     ghost invariant = { λ view. IsIndexed view.alarms.items view.order.items };
 }
 
+/// Alarms with room for one more, both in order of their records and in order of event time and id.
+/// Contracts see the list of alarms.
+#[derive(Drop)]
+pub struct ReservedAlarms {
+    alarms: VecDeque<KeptAlarm>,
+    order: Vec<Place>,
+}
+
+impl Model for ReservedAlarms {
+    ghost use Rattle.std.specs.Prelude.{List};
+    ghost use Rattle.alarm_view.specs.declared.alarm.KeptAlarm.{KeptAlarm};
+
+    ghost Value = { List KeptAlarm };
+
+    ghost use Rattle.std.specs.Prelude.{◌<◌, vec_len};
+    ghost use Rattle.std.specs.Vec.{vec_capacity};
+    ghost use Rattle.std.specs.VecDeque.{deque_len, deque_capacity};
+    ghost use Rattle.alarm_view.specs.Inside.{IsIndexed};
+
+    ghost view = { λ room. room.alarms.items };
+
+    ghost invariant = { λ room. IsIndexed room.alarms.items room.order.items
+        × (deque_len room.alarms < deque_capacity room.alarms)
+        × (vec_len room.order < vec_capacity room.order) };
+}
+
+impl ReservedAlarms {
+    /// Adds the alarm of record `number` of the alarm stream, as `AlarmView::add` does. It takes no memory.
+    pub fn add_reserved(self, number: u32, notification: Notification) -> AlarmView
+        requires { CanAdd number notification self }
+        ensures { result ≡ self ++ kept_alarm number notification ∷ [] }
+    {
+        let mut alarms = self.alarms;
+        let mut order = self.order;
+        add_reserved(&mut alarms, &mut order, number, notification);
+        AlarmView { alarms, order }
+    }
+}
+
 impl AlarmView {
     /// No alarms. It takes no memory.
     pub fn new(alloc: Global) -> AlarmView
@@ -51,10 +91,24 @@ impl AlarmView {
         ensures ok { OnOk result (self.new ≡ self.old ++ kept_alarm number notification ∷ []) }
         ensures err { OnErr result (self.new ≡ self.old) }
     {
+        let alloc = *self.alarms.allocator();
+        let room = self.reserve(alloc)?;
+        *self = room.add_reserved(number, notification);
+        Ok(())
+    }
+
+    /// Makes room for one alarm more, and takes the alarms out with it: none are left here until what
+    /// `add_reserved` makes of them takes their place. An error is want of memory; then nothing changes.
+    pub fn reserve(&mut self, alloc: Global) -> Result<ReservedAlarms, AllocError>
+        ensures taken { IfOk result (λ room. room ≡ self.old) }
+        ensures left { OnOk result (self.new ≡ []) }
+        ensures err { OnErr result (self.new ≡ self.old) }
+    {
         self.alarms.reserve(1)?;
         self.order.reserve(1)?;
-        add_reserved(&mut self.alarms, &mut self.order, number, notification);
-        Ok(())
+        let alarms = mem::replace(&mut self.alarms, VecDeque::new(alloc));
+        let order = mem::replace(&mut self.order, Vec::new(alloc));
+        Ok(ReservedAlarms { alarms, order })
     }
 
     /// Drops the alarms of records below `number`. It takes no memory.
