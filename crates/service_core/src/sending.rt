@@ -26,7 +26,7 @@ use crate::deeds::deeds_of_all;
 use crate::parts::{Acted, Parts, act_of};
 use crate::writing::keep_standing;
 use ais_values::{Duplicate, Seq, Status, StreamKind};
-use alarm_view::AlarmView;
+use alarm_view::{AlarmView, ReservedAlarms};
 use log_service::{LogPlan, LogState};
 use ntf_service::NtfState;
 use ntf_types::{Notification, check_notification};
@@ -63,24 +63,20 @@ fn alarm_number(log: &LogState) -> u32
     }
 }
 
-/// Keeps a notification that is an alarm, of which the record has this number. On an error nothing changes.
-fn keep_alarm(
+/// The kept alarms, taken out with room for one more, and a copy of the alarm that they are to get. On an error nothing
+/// changes.
+fn reserve_alarm(
     alarms: &mut AlarmView,
     alloc: Global,
-    number: u32,
     sent: &Notification,
-) -> Result<(), AllocError>
-    requires { is_alarm sent.now.body ≡ true → CanAdd number sent.now alarms.old }
-    ensures ok { OnOk result (alarms.new ≡ alarms_with (Some (Sent sent.now number)) alarms.old) }
+) -> Result<(ReservedAlarms, Notification), AllocError>
+    ensures taken { IfOk result (λ reserved. reserved.0 ≡ alarms.old) }
+    ensures alarm { IfOk result (λ reserved. reserved.1 ≡ sent.now) }
     ensures err { OnErr result (alarms.new ≡ alarms.old) }
 {
-    if is_alarm(&sent.body) {
-        let alarm = sent.copy(alloc)?;
-        alarms.add(number, alarm)?;
-        Ok(())
-    } else {
-        Ok(())
-    }
+    let alarm = sent.copy(alloc)?;
+    let room = alarms.reserve(alloc)?;
+    Ok((room, alarm))
 }
 
 /// Offers a notification, and keeps it where it is an alarm, of which the record has this number. The answer is its
@@ -103,8 +99,15 @@ fn offer_and_keep(
 {
     let copy = sent.copy(alloc)?;
     let plan = ntf.plan_send(alloc, copy)?;
-    match keep_alarm(alarms, alloc, number, sent) {
-        Ok(()) => Ok(ntf.commit_send(plan)),
+    if !is_alarm(&sent.body) {
+        return Ok(ntf.commit_send(plan));
+    }
+    match reserve_alarm(alarms, alloc, sent) {
+        Ok((room, alarm)) => {
+            let id = ntf.commit_send(plan);
+            *alarms = room.add_reserved(number, alarm);
+            Ok(id)
+        }
         Err(error) => {
             drop(plan);
             Err(error)
