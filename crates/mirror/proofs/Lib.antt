@@ -1,3 +1,4 @@
 pub mod HearingLaws
 pub mod Judging
 pub mod NodeLaws
+pub mod PairingLaws

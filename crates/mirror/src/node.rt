@@ -6,23 +6,29 @@ ghost use Rattle.disk_model.specs.declared.answers.DiskAnswer.{DiskAnswer};
 ghost use Rattle.stream_layout.specs.Deeds.{calls_of_all};
 ghost use Rattle.calls.specs.declared.entry.Entry.{Entry as EntryOf};
 ghost use Rattle.plain_service.specs.Setups.{Setup};
-ghost use Rattle.plain_service.specs.Legal.{IsHistory};
+ghost use Rattle.plain_service.specs.Legal.{IsHistory, CanFollow};
+ghost use Rattle.plain_service.specs.Values.{saved_of};
 ghost use Rattle.service_laws.specs.PlainOf.{plain_of};
-ghost use Rattle.mirror.specs.declared.heard.Role.TheVariants.{Active};
+ghost use Rattle.mirror.specs.declared.heard.Role.TheVariants.{Active, Standby};
 ghost use Rattle.mirror.specs.declared.heard.Why.TheVariants.{Busy, NotForRole};
 ghost use Rattle.mirror.specs.Nodes.{HasService, HasRoom, down, started, number_of, number_in_hand, at_rest, at_work};
 ghost use Rattle.mirror.specs.Hearing.{CanHear, IsHeardAtRest, ignored};
 ghost use Rattle.mirror.specs.Working.{deeds_in, replies_in, worked, emptied};
+ghost use Rattle.mirror.specs.Pairing.{joining, snapshots, acting, CanApplyIn};
+ghost use Rattle.mirror.specs.Preparing.{number_next, HasApplied};
 
 use crate::hearing::ignore;
+use crate::pairing::{apply_mirrored, snapshot_of};
 use crate::parts::{do_deeds, hear_or_ignore, post_owed, push_items};
 use crate::{Heard, Owed, Role, Why};
 use ais_values::Seq;
+use calls::Entry;
 use disk_model::{DiskAnswer, SharedDisk};
 use service_core::Service;
 use std::alloc::{AllocError, Global};
 use std::marker::Model;
 use std::mem::replace;
+use stream_layout::Deed;
 use wire::Message;
 
 /// How many entries a service accepts.
@@ -54,6 +60,17 @@ impl Node {
     {
         Node {
             role: Role::Down,
+            service: None,
+            owed: None,
+        }
+    }
+
+    /// A server that waits for the value of the service.
+    pub(crate) fn joining() -> Node
+        ensures { result ≡ joining }
+    {
+        Node {
+            role: Role::Joining,
             service: None,
             owed: None,
         }
@@ -153,6 +170,55 @@ impl Node {
                 Ok(heard)
             }
         }
+    }
+
+    /// The number of the next entry.
+    pub(crate) fn next_number(&self) -> u64
+        requires { HasRoom self.now.service }
+        ensures { result ≡ number_next self.now.service }
+    {
+        match &self.service {
+            None => 1,
+            Some(service) => service.number() + 1,
+        }
+    }
+
+    /// The message that brings the value of the service to a server that joins; none where there is no service.
+    pub(crate) fn snapshot(&self, alloc: Global) -> Result<Seq<Message>, AllocError>
+        ensures { IfOk result (λ messages. messages ≡ snapshots self.now.service) }
+    {
+        match &self.service {
+            None => Ok(Seq::new(alloc)),
+            Some(service) => {
+                let messages = snapshot_of(service, alloc)?;
+                Ok(messages)
+            }
+        }
+    }
+
+    /// Applies an entry of the partner's, and gives its deeds. On an error nothing changes.
+    pub(crate) fn apply(&mut self, alloc: Global, entry: &Entry) -> Result<Seq<Deed>, AllocError>
+        requires { CanApplyIn entry.now self.old.service }
+        ensures ok { IfOk result (λ deeds. (setup : Setup) (past : List EntryOf) →
+            IsHistory setup past → CanFollow setup entry.now past →
+            self.old ≡ started Standby (saved_of setup past) →
+            HasApplied setup past entry.now deeds self.new) }
+        ensures err { OnErr result (self.new ≡ self.old) }
+    {
+        match &mut self.service {
+            None => Ok(Seq::new(alloc)),
+            Some(service) => {
+                let deeds = apply_mirrored(service, alloc, entry)?;
+                Ok(deeds)
+            }
+        }
+    }
+
+    /// It is the active one from now on.
+    pub(crate) fn act(&mut self)
+        ensures { self.new ≡ acting self.old }
+    {
+        self.role = Role::Active;
     }
 
     // Goes down; what it had is let go.

@@ -1,0 +1,35 @@
+-- Words of bodies alone: how an entry that may be accepted is made ready for the partner.
+use Rattle.std.specs.Prelude.{◌≡◌, ℕ, suc, ℤ, Option, Some, None, List, ◌∷◌}
+use Rattle.calls.specs.declared.entry.Entry.{Entry}
+use Rattle.calls.specs.declared.entry.Entry.TheVariants.{Called, Receipted}
+use Rattle.calls.specs.declared.saved.Saved.{Saved}
+use Rattle.wire.specs.declared.message.Message.{Message}
+use Rattle.wire.specs.declared.message.Message.TheVariants.{Request, Receipt}
+use Rattle.stream_layout.specs.declared.deed.Deed.{Deed}
+use Rattle.plain_service.specs.Setups.{Setup}
+use Rattle.plain_service.specs.Storing.{deeds_of}
+use Rattle.plain_service.specs.Values.{saved_of}
+use Rattle.mirror.specs.declared.heard.Heard.{Heard}
+use Rattle.mirror.specs.declared.heard.Role.TheVariants.{Standby}
+use Rattle.mirror.specs.Nodes.{Server, started}
+
+-- the entry that a message may become
+abbrev pub entry_by : Message → ℤ → Option Entry
+entry_by (Request client number call) now = Some (Called client number now call)
+entry_by (Receipt client key through) now = Some (Receipted client key through now)
+entry_by message now = None
+
+-- the number of the next entry
+abbrev pub number_next : Option Saved → ℕ
+number_next None = 1
+number_next (Some saved) = suc saved.number
+
+-- an entry that was accepted is held back, and messages go to the partner
+abbrev pub held_back : Option Entry → List Message → Heard → Heard
+held_back None messages heard = heard
+held_back (Some entry) messages heard = record { to_net = heard.to_net; to_peer = messages; committed = None; outcome = heard.outcome }
+
+-- the standby applied an entry that follows a history
+abbrev pub HasApplied : Setup → List Entry → Entry → List Deed → Server → Type 0
+HasApplied setup past entry deeds server =
+    (deeds ≡ deeds_of setup past entry) × (server ≡ started Standby (saved_of setup (entry ∷ past)))

@@ -1,0 +1,384 @@
+//! A server of a pair: one is active, and the other follows it and takes over where it goes down.
+ghost use Rattle.std.specs.Prelude.{◌≡◌, ◌↔◌, IsTrue, IsSome, Some, None, [], ◌∷◌, is_some, IfOk, OnErr, IsErrOf};
+ghost use Rattle.ais_values.specs.Causes.{RoseExactlyOn};
+ghost use Rattle.disk_model.specs.DeviceCalls.{Performs};
+ghost use Rattle.disk_model.specs.declared.answers.DiskAnswer.{DiskAnswer};
+ghost use Rattle.stream_layout.specs.Deeds.{calls_of_all};
+ghost use Rattle.plain_service.specs.Fitness.{IsFit};
+ghost use Rattle.wire.specs.declared.message.Message.TheVariants.{JoinAck};
+ghost use Rattle.mirror.specs.declared.heard.Role.TheVariants as role;
+ghost use Rattle.mirror.specs.declared.heard.Outcome.TheVariants.{Changed, Joined, Confirmed};
+ghost use Rattle.mirror.specs.Nodes.{HasService, HasRoom, down, started, number_in_hand};
+ghost use Rattle.mirror.specs.Hearing.{CanHear};
+ghost use Rattle.mirror.specs.Working.{deeds_in, replies_in, worked};
+ghost use Rattle.mirror.specs.Pairing.{alone, joining, sent, IsJoinBegun, parted, worked_out, with_peer, taken_over, IsHeard, IsFollowed, IsReceived, CanApplyIn, CanReceive};
+
+use crate::hearing::ignore;
+use crate::pairing::{hear_linked, link, one, restored, send, send_also};
+use crate::{Heard, Node, Outcome, Role, Why};
+use ais_values::{Duplicate, Seq};
+use calls::{Entry, Saved};
+use disk_model::{DiskAnswer, SharedDisk};
+use service_core::Service;
+use std::alloc::{AllocError, Global};
+use std::mem::replace;
+use stream_files::perform;
+use stream_layout::Deed;
+use wire::Message;
+
+/// What ties the active server to its partner.
+#[derive(Clone, Copy, PartialEq, Eq, Debug)]
+pub enum Tie {
+    /// Nothing.
+    Apart,
+    /// The partner joins, and is promised the value of the service once the entry in hand is worked.
+    Owing,
+    /// Each entry goes to the partner before it is committed.
+    Linked,
+}
+
+/// A server of a pair: the server by itself; the entry in hand while it waits until the partner has it; what ties it to
+/// its partner; the messages that the partner is promised; and the deeds of the last entry that it applied as standby.
+#[derive(Drop)]
+pub struct PairNode {
+    pub node: Node,
+    pub waits: Option<Entry>,
+    pub tie: Tie,
+    pub promised: Seq<Message>,
+    pub kept: Seq<Deed>,
+}
+
+/// A server without partner, as it is by itself.
+fn alone(alloc: Global, node: Node) -> PairNode
+    ensures { result ≡ alone node }
+{
+    PairNode {
+        node,
+        waits: None,
+        tie: Tie::Apart,
+        promised: Seq::new(alloc),
+        kept: Seq::new(alloc),
+    }
+}
+
+impl PairNode {
+    /// A server that begins with a service, as the active one or as standby, without link and with nothing in hand.
+    pub fn start(alloc: Global, role: Role, service: Service) -> PairNode
+        requires { HasService role }
+        ensures { result ≡ alone (started role service) }
+    {
+        alone(alloc, Node::start(role, service))
+    }
+
+    /// A server that waits for the value of the service.
+    pub fn joining(alloc: Global) -> PairNode
+        ensures { result ≡ alone joining }
+    {
+        alone(alloc, Node::joining())
+    }
+
+    /// A server that is down.
+    pub fn down(alloc: Global) -> PairNode
+        ensures { result ≡ alone down }
+    {
+        alone(alloc, Node::down())
+    }
+
+    /// The server's role.
+    pub fn role(&self) -> Role
+        ensures { result ≡ self.now.node.role }
+    {
+        self.node.role()
+    }
+
+    /// The number of the entry in hand: the first that was ever accepted has number 1.
+    pub fn in_hand(&self) -> Option<u64>
+        ensures { result ≡ number_in_hand self.now.node }
+    {
+        self.node.in_hand()
+    }
+
+    /// Whether an entry is in hand that is ready to work.
+    pub fn ready(&self) -> bool
+        ensures { IsTrue result ↔ (IsSome self.now.node.owed × (self.now.waits ≡ None)) }
+    {
+        self.node.ready() && self.waits.is_none()
+    }
+
+    // Goes down; what it had is let go.
+    fn go_down(&mut self, alloc: Global)
+        ensures { self.new ≡ alone down }
+    {
+        let before = replace(self, PairNode::down(alloc));
+        drop(before);
+    }
+
+    /// A partner joins the active server. With nothing in hand it gets the value of the service at once and is linked;
+    /// else both come with the work that empties the hand. `Err` comes only for want of memory, and nothing changes then.
+    pub fn begin_join(&mut self, alloc: Global) -> Result<Heard, AllocError>
+        ensures ok { IfOk result (λ heard.
+            IsJoinBegun (is_some self.old.node.owed) self.old heard self.new) }
+        ensures err { OnErr result (self.new ≡ self.old) }
+    {
+        let snapshot = self.node.snapshot(alloc)?;
+        if self.node.ready() {
+            self.promised = snapshot;
+            self.tie = Tie::Owing;
+            return Ok(send(alloc, Seq::new(alloc), None, Outcome::Changed));
+        }
+        self.promised = Seq::new(alloc);
+        self.tie = Tie::Linked;
+        Ok(send(alloc, snapshot, None, Outcome::Changed))
+    }
+
+    /// The partner of the active server went down: there is no link, nothing is promised, and an entry that waits is
+    /// committed and ready.
+    pub fn peer_down(&mut self, alloc: Global) -> Heard
+        ensures heard { result ≡ sent [] self.old.waits Changed }
+        ensures now { self.new ≡ parted self.old }
+    {
+        self.promised = Seq::new(alloc);
+        self.tie = Tie::Apart;
+        let committed = self.waits.take();
+        send(alloc, Seq::new(alloc), committed, Outcome::Changed)
+    }
+
+    /// Does the deeds of the entry in hand, which is ready, in order, and then asks for the reply to be posted, if there
+    /// is one, and for what the partner is promised; nothing is in hand after it.
+    ///
+    /// It makes the deeds' calls in order, up to the first that is not done, and no others. `Memory`: some of them from
+    /// the front are done, fewer than all, and the server is as it was, so that it can work again. `Failed`, which comes
+    /// exactly where the disk's count of faults rose: some calls from the front are done, the next one failed, and the
+    /// server is down. `Stopped`, which comes exactly where its count of stops rose: some calls from the front are done,
+    /// the armed count was reached in the next one, in which the disk crashed, and the server is down.
+    pub fn work<D: SharedDisk>(&mut self, alloc: Global, disk: &mut D) -> Result<Heard, DiskAnswer>
+        requires hand { IsSome self.old.node.owed }
+        requires ready { self.old.waits ≡ None }
+        ensures done { IfOk result (λ heard.
+            (heard ≡ with_peer (worked (replies_in self.old.node.owed)) self.old.promised)
+            × (self.new ≡ worked_out self.old)) }
+        ensures performs { Performs (calls_of_all (deeds_in self.old.node.owed)) result
+            (D.files disk.old) (D.files disk.new) (D.tally disk.old) (D.tally disk.new) }
+        ensures memory { IsErrOf result DiskAnswer.Memory → self.new ≡ self.old }
+        ensures failed { IsErrOf result DiskAnswer.Failed → self.new ≡ alone down }
+        ensures stopped { IsErrOf result DiskAnswer.Stopped → self.new ≡ alone down }
+        ensures cause { RoseExactlyOn (D.faults disk.old) (D.faults disk.new) result
+            DiskAnswer.Failed }
+        ensures stop { RoseExactlyOn (D.stops disk.old) (D.stops disk.new) result
+            DiskAnswer.Stopped }
+    {
+        match self.node.work(alloc, disk) {
+            Ok(heard) => {
+                self.tie = link(self.tie);
+                let promised = replace(&mut self.promised, Seq::new(alloc));
+                Ok(send_also(heard, promised))
+            }
+            Err(DiskAnswer::Memory) => Err(DiskAnswer::Memory),
+            Err(DiskAnswer::Failed) => {
+                self.go_down(alloc);
+                Err(DiskAnswer::Failed)
+            }
+            Err(DiskAnswer::Stopped) => {
+                self.go_down(alloc);
+                Err(DiskAnswer::Stopped)
+            }
+        }
+    }
+
+    /// The standby becomes active, without link and with nothing in hand: it first does the deeds of the last entry that
+    /// it applied again, in order; none if it applied none since it joined.
+    ///
+    /// It makes the deeds' calls in order, up to the first that is not done, and no others. `Memory`: some of them from
+    /// the front are done, fewer than all, and the server is as it was, so that it can take over again. `Failed` comes
+    /// exactly where the disk's count of faults rose, and `Stopped` exactly where its count of stops rose; the server is
+    /// down then.
+    pub fn takeover<D: SharedDisk>(
+        &mut self,
+        alloc: Global,
+        disk: &mut D,
+    ) -> Result<Heard, DiskAnswer>
+        requires { self.old.node.role ≡ role.Standby }
+        ensures done { IfOk result (λ heard. (heard ≡ sent [] None Changed)
+            × (self.new ≡ taken_over self.old)) }
+        ensures performs { Performs (calls_of_all self.old.kept) result
+            (D.files disk.old) (D.files disk.new) (D.tally disk.old) (D.tally disk.new) }
+        ensures memory { IsErrOf result DiskAnswer.Memory → self.new ≡ self.old }
+        ensures failed { IsErrOf result DiskAnswer.Failed → self.new ≡ alone down }
+        ensures stopped { IsErrOf result DiskAnswer.Stopped → self.new ≡ alone down }
+        ensures cause { RoseExactlyOn (D.faults disk.old) (D.faults disk.new) result
+            DiskAnswer.Failed }
+        ensures stop { RoseExactlyOn (D.stops disk.old) (D.stops disk.new) result
+            DiskAnswer.Stopped }
+    {
+        match perform(disk, &self.kept) {
+            Ok(()) => {
+                self.node.act();
+                self.kept = Seq::new(alloc);
+                Ok(send(alloc, Seq::new(alloc), None, Outcome::Changed))
+            }
+            Err(DiskAnswer::Memory) => Err(DiskAnswer::Memory),
+            Err(DiskAnswer::Failed) => {
+                self.go_down(alloc);
+                Err(DiskAnswer::Failed)
+            }
+            Err(DiskAnswer::Stopped) => {
+                self.go_down(alloc);
+                Err(DiskAnswer::Stopped)
+            }
+        }
+    }
+
+    // The active server hears a request or a receipt. On an error nothing changes.
+    fn hear(&mut self, alloc: Global, message: &Message, now: i64) -> Result<Heard, AllocError>
+        requires hear { CanHear message.now now }
+        requires few { HasRoom self.old.node.service }
+        requires role { self.old.node.role ≡ role.Active }
+        ensures ok { IfOk result (λ heard. IsHeard message.now now self.old heard self.new) }
+        ensures err { OnErr result (self.new ≡ self.old) }
+    {
+        match self.tie {
+            Tie::Linked => hear_linked(&mut self.node, &mut self.waits, alloc, message, now),
+            _ => self.node.receive(alloc, message, now),
+        }
+    }
+
+    // The standby applies an entry and keeps its deeds. On an error nothing changes.
+    fn follow(&mut self, alloc: Global, number: u64, entry: &Entry) -> Result<Heard, AllocError>
+        requires { CanApplyIn entry.now self.old.node.service }
+        ensures ok { IfOk result (λ heard. IsFollowed number entry.now self.old heard self.new) }
+        ensures err { OnErr result (self.new ≡ self.old) }
+    {
+        let to_peer = one(alloc, Message::MirrorAck { number })?;
+        let committed = entry.copy(alloc)?;
+        let deeds = match self.node.apply(alloc, entry) {
+            Ok(deeds) => deeds,
+            Err(error) => {
+                drop(committed);
+                return Err(error);
+            }
+        };
+        self.kept = deeds;
+        Ok(send(alloc, to_peer, Some(committed), Outcome::Applied))
+    }
+
+    // A server that joins gets the value of the service. On an error nothing changes.
+    fn join(&mut self, alloc: Global, saved: &Saved) -> Result<Heard, AllocError>
+        requires { IsFit saved.now }
+        ensures ok { IfOk result (λ heard.
+            (heard ≡ sent (JoinAck saved.now.number ∷ []) None Joined)
+            × (self.new ≡ alone (started role.Standby saved.now))) }
+        ensures err { OnErr result (self.new ≡ self.old) }
+    {
+        let number = saved.number;
+        let to_peer = one(alloc, Message::JoinAck { number })?;
+        let service = restored(alloc, saved)?;
+        let before = replace(self, PairNode::start(alloc, Role::Standby, service));
+        drop(before);
+        Ok(send(alloc, to_peer, None, Outcome::Joined))
+    }
+
+    // The active server hears a message. On an error nothing changes.
+    fn receive_active(
+        &mut self,
+        alloc: Global,
+        message: &Message,
+        now: i64,
+    ) -> Result<Heard, AllocError>
+        requires receive { CanReceive message.now now self.old }
+        requires few { HasRoom self.old.node.service }
+        requires role { self.old.node.role ≡ role.Active }
+        ensures ok { IfOk result (λ heard.
+            IsReceived role.Active message.now now self.old heard self.new) }
+        ensures err { OnErr result (self.new ≡ self.old) }
+    {
+        match message {
+            Message::Request { .. } => self.hear(alloc, message, now),
+            Message::Receipt { .. } => self.hear(alloc, message, now),
+            Message::MirrorAck { .. } => {
+                let confirmed = self.waits.take();
+                drop(confirmed);
+                Ok(send(alloc, Seq::new(alloc), None, Outcome::Confirmed))
+            }
+            Message::JoinAck { .. } => { Ok(send(alloc, Seq::new(alloc), None, Outcome::Joined)) }
+            _ => Ok(ignore(alloc, Why::NotForRole { role: Role::Active })),
+        }
+    }
+
+    // The standby hears a message. On an error nothing changes.
+    fn receive_standby(
+        &mut self,
+        alloc: Global,
+        message: &Message,
+        now: i64,
+    ) -> Result<Heard, AllocError>
+        requires { CanReceive message.now now self.old }
+        ensures ok { IfOk result (λ heard.
+            IsReceived role.Standby message.now now self.old heard self.new) }
+        ensures err { OnErr result (self.new ≡ self.old) }
+    {
+        let _ = now;
+        match message {
+            Message::Mirror { number, entry } => self.follow(alloc, *number, entry),
+            _ => Ok(ignore(
+                alloc,
+                Why::NotForRole {
+                    role: Role::Standby,
+                },
+            )),
+        }
+    }
+
+    // A server that joins hears a message. On an error nothing changes.
+    fn receive_joining(
+        &mut self,
+        alloc: Global,
+        message: &Message,
+        now: i64,
+    ) -> Result<Heard, AllocError>
+        requires { CanReceive message.now now self.old }
+        ensures ok { IfOk result (λ heard.
+            IsReceived role.Joining message.now now self.old heard self.new) }
+        ensures err { OnErr result (self.new ≡ self.old) }
+    {
+        let _ = now;
+        match message {
+            Message::Snapshot { saved } => self.join(alloc, saved),
+            _ => Ok(ignore(
+                alloc,
+                Why::NotForRole {
+                    role: Role::Joining,
+                },
+            )),
+        }
+    }
+
+    /// Hears a message at a moment, from 0 to 9,000,000,000,000,000,000. A request or a receipt is that of a client from
+    /// 1 to 4,096, and a request's number is at least 1; a mirrored entry is one that the server's service can apply, and
+    /// the value of a service is fit. Fewer than 4,000,000,000 entries were accepted.
+    ///
+    /// A message for another role is ignored as such: requests, receipts and the partner's answers are for the active
+    /// server, mirrored entries for the standby, the value of the service for a server that joins, and replies and items
+    /// for none. Requests and receipts are judged as `Node::receive` judges them; where a partner is linked, an entry that
+    /// is accepted goes to it, and waits. The partner's answer makes it ready. The standby applies a mirrored entry, keeps
+    /// its deeds and answers its number; it is committed with that. A server that joins is standby with the value, and
+    /// answers how many entries it has. `Err` comes only for want of memory, and nothing changes then.
+    pub fn receive(
+        &mut self,
+        alloc: Global,
+        message: &Message,
+        now: i64,
+    ) -> Result<Heard, AllocError>
+        requires receive { CanReceive message.now now self.old }
+        requires few { HasRoom self.old.node.service }
+        ensures ok { IfOk result (λ heard.
+            IsReceived self.old.node.role message.now now self.old heard self.new) }
+        ensures err { OnErr result (self.new ≡ self.old) }
+    {
+        match self.node.role() {
+            Role::Active => self.receive_active(alloc, message, now),
+            Role::Standby => self.receive_standby(alloc, message, now),
+            Role::Joining => self.receive_joining(alloc, message, now),
+            Role::Down => Ok(ignore(alloc, Why::NotForRole { role: Role::Down })),
+        }
+    }
+}

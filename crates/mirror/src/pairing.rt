@@ -1,0 +1,191 @@
+//! What a server of a pair does on its parts.
+ghost use Rattle.std.specs.Prelude.{◌≡◌, suc, List, [], ◌∷◌, None, length, IfOk, OnErr};
+ghost use Rattle.calls.specs.declared.entry.Entry.{Entry as EntryOf};
+ghost use Rattle.wire.specs.declared.message.Message.TheVariants.{Snapshot};
+ghost use Rattle.plain_service.specs.Setups.{Setup};
+ghost use Rattle.plain_service.specs.Legal.{IsHistory, CanFollow};
+ghost use Rattle.plain_service.specs.Fitness.{IsFit};
+ghost use Rattle.plain_service.specs.Storing.{deeds_of};
+ghost use Rattle.plain_service.specs.Values.{StandsFor};
+ghost use Rattle.mirror.specs.declared.heard.Role.TheVariants as role;
+ghost use Rattle.service_core.specs.Applying.{CanApply};
+ghost use Rattle.mirror.specs.declared.heard.Why.TheVariants.{Busy};
+ghost use Rattle.mirror.specs.Nodes.{HasRoom, at_rest, at_work};
+ghost use Rattle.mirror.specs.Hearing.{CanHear, ignored};
+ghost use Rattle.mirror.specs.Pairing.{sent, with_peer, tied_after, mirrors, newest, IsMirrored};
+ghost use Rattle.mirror.specs.Preparing.{entry_by, held_back};
+
+use crate::{Heard, Node, Outcome, Tie};
+use ais_values::{Duplicate, Seq};
+use calls::{Entry, Saved};
+use service_core::Service;
+use std::alloc::{AllocError, Global};
+use std::mem::replace;
+use stream_layout::Deed;
+use wire::Message;
+
+/// Messages for the partner, and an entry that is committed.
+pub(crate) fn send(
+    alloc: Global,
+    to_peer: Seq<Message>,
+    committed: Option<Entry>,
+    outcome: Outcome,
+) -> Heard
+    ensures { result ≡ sent to_peer committed outcome }
+{
+    Heard {
+        to_net: Seq::new(alloc),
+        to_peer,
+        committed,
+        outcome,
+    }
+}
+
+/// What was heard, with messages for the partner.
+pub(crate) fn send_also(mut heard: Heard, to_peer: Seq<Message>) -> Heard
+    ensures { result ≡ with_peer heard to_peer }
+{
+    heard.to_peer = to_peer;
+    heard
+}
+
+/// A list of one message.
+pub(crate) fn one(alloc: Global, message: Message) -> Result<Seq<Message>, AllocError>
+    ensures { IfOk result (λ messages. messages ≡ message ∷ []) }
+{
+    let mut messages = match Vec::with_capacity(alloc, 1) {
+        Ok(messages) => messages,
+        Err(error) => {
+            drop(message);
+            return Err(error);
+        }
+    };
+    messages.push_reserved(message);
+    Ok(Seq::from_vec(messages))
+}
+
+/// What ties the active server to its partner once the entry in hand is worked.
+pub(crate) fn link(tie: Tie) -> Tie
+    ensures { result ≡ tied_after tie }
+{
+    match tie {
+        Tie::Owing => Tie::Linked,
+        _ => tie,
+    }
+}
+
+/// The message that brings the value of a service.
+pub(crate) fn snapshot_of(service: &Service, alloc: Global) -> Result<Seq<Message>, AllocError>
+    ensures { IfOk result (λ messages. messages ≡ Snapshot service.now ∷ []) }
+{
+    let saved = service.save(alloc)?;
+    one(alloc, Message::Snapshot { saved })
+}
+
+/// The service of a fit value.
+pub(crate) fn restored(alloc: Global, saved: &Saved) -> Result<Service, AllocError>
+    requires { IsFit saved.now }
+    ensures { IfOk result (λ service. service ≡ saved.now) }
+{
+    match Service::restore(alloc, saved) {
+        Ok(service) => Ok(service),
+        Err(_) => Err(AllocError),
+    }
+}
+
+/// Applies an entry of the partner's, and gives its deeds. On an error nothing changes.
+pub(crate) fn apply_mirrored(
+    service: &mut Service,
+    alloc: Global,
+    entry: &Entry,
+) -> Result<Seq<Deed>, AllocError>
+    requires { CanApply entry.now service.old }
+    ensures ok { IfOk result (λ deeds. (setup : Setup) (past : List EntryOf) →
+        IsHistory setup past → StandsFor setup past service.old →
+        CanFollow setup entry.now past → (deeds ≡ deeds_of setup past entry.now)
+        × StandsFor setup (entry.now ∷ past) service.new) }
+    ensures err { OnErr result (service.new ≡ service.old) }
+{
+    let effect = service.apply(alloc, entry)?;
+    drop(effect.reply);
+    Ok(effect.deeds)
+}
+
+/// The message that mirrors the entry that a request or a receipt may become.
+fn prepare(
+    alloc: Global,
+    number: u64,
+    message: &Message,
+    now: i64,
+) -> Result<Seq<Message>, AllocError>
+    ensures { IfOk result (λ messages. messages ≡ mirrors number (entry_by message.now now)) }
+{
+    match message {
+        Message::Request { client, seq, call } => {
+            let entry = Entry::Called {
+                client: *client,
+                seq: *seq,
+                time: now,
+                call: call.copy(alloc)?,
+            };
+            one(alloc, Message::Mirror { number, entry })
+        }
+        Message::Receipt {
+            client,
+            key,
+            through,
+        } => {
+            let entry = Entry::Receipted {
+                client: *client,
+                key: *key,
+                through: *through,
+                time: now,
+            };
+            one(alloc, Message::Mirror { number, entry })
+        }
+        _ => Ok(Seq::new(alloc)),
+    }
+}
+
+/// An entry that was accepted waits, and goes to the partner.
+fn hold_back(heard: &mut Heard, waits: &mut Option<Entry>, mirror: Seq<Message>)
+    ensures heard { heard.new ≡ held_back heard.old.committed mirror heard.old }
+    ensures waits { waits.new ≡ newest heard.old.committed waits.old }
+{
+    match heard.committed.take() {
+        None => drop(mirror),
+        Some(entry) => {
+            heard.to_peer = mirror;
+            let before = replace(waits, Some(entry));
+            drop(before);
+        }
+    }
+}
+
+/// The active server hears a request or a receipt while a partner is linked. On an error nothing changes.
+pub(crate) fn hear_linked(
+    node: &mut Node,
+    waits: &mut Option<Entry>,
+    alloc: Global,
+    message: &Message,
+    now: i64,
+) -> Result<Heard, AllocError>
+    requires hear { CanHear message.now now }
+    requires few { HasRoom node.old.service }
+    requires role { node.old.role ≡ role.Active }
+    ensures busy { IfOk result (λ heard. (setup : Setup) (past : List EntryOf)
+        (entry : EntryOf) → node.old ≡ at_work setup past entry →
+        (heard ≡ ignored (Busy (suc (length past)))) × (node.new ≡ node.old) × (waits.new
+        ≡ waits.old)) }
+    ensures rest { IfOk result (λ heard. (setup : Setup) (past : List EntryOf) →
+        IsHistory setup past → node.old ≡ at_rest setup past →
+        IsMirrored setup past now message.now waits.old heard node.new waits.new) }
+    ensures node { OnErr result (node.new ≡ node.old) }
+    ensures waits { OnErr result (waits.new ≡ waits.old) }
+{
+    let number = node.next_number();
+    let mirror = prepare(alloc, number, message, now)?;
+    let mut heard = node.receive(alloc, message, now)?;
+    hold_back(&mut heard, waits, mirror);
+    Ok(heard)
+}
