@@ -1,14 +1,15 @@
 //! What no clause says: that each call succeeds while there is memory.
 ghost use Rattle.std.specs.Prelude.{◌≡◌, ◌≢◌, ◌<◌, ◌≤◌, pos, ◌∷◌, []};
 ghost use Rattle.calls.specs.declared.call.Call.TheVariants.{NtfInit};
+ghost use Rattle.calls.specs.declared.entry.Entry.TheVariants.{Called};
 ghost use Rattle.wire.specs.declared.message.Message.TheVariants.{Request, Receipt};
 ghost use Rattle.stream_config.specs.WellKnown.{default_attrs};
 ghost use Rattle.mirror.specs.Hearing.{CanHear};
 
 use ais_values::{Seq, StreamKind};
-use calls::Call;
+use calls::{Call, Entry};
 use disk_model::MemDisk;
-use mirror::{Heard, Node, Outcome, Role, Why};
+use mirror::{Heard, Node, Outcome, PairNode, Role, Why};
 use service_core::Service;
 use std::alloc::Global;
 use std::process::Abort;
@@ -236,4 +237,147 @@ fn nothing_is_pushed_while_nothing_is_held(rt: HostRuntime) {
     drop(messages);
     drop(node);
     assert!(rt; count == 0);
+}
+
+/// What a server of a pair told, and how many messages its partner gets.
+#[derive(Clone, Copy, PartialEq)]
+struct PairTold {
+    told: Told,
+    for_peer: usize,
+}
+
+fn pair_told(outcome: Outcome, posts: usize, for_peer: usize, commits: bool) -> PairTold {
+    PairTold {
+        told: Told {
+            outcome,
+            posts,
+            commits,
+        },
+        for_peer,
+    }
+}
+
+fn pair_told_by(heard: Heard) -> PairTold {
+    let for_peer = heard.to_peer.as_slice().len();
+    PairTold {
+        told: told_by(heard),
+        for_peer,
+    }
+}
+
+/// The first call, as it is mirrored.
+fn first_entry() -> Entry
+    ensures { result ≡ Called 1 1 (pos 1704067200000000000) NtfInit }
+{
+    Entry::Called {
+        client: 1,
+        seq: 1,
+        time: START,
+        call: Call::NtfInit,
+    }
+}
+
+/// The active server's partner joins, and the first call is accepted and waits; then the server is lost.
+fn mirrors(rt: &impl Abort, alloc: Global) {
+    let mut node = PairNode::start(alloc, Role::Active, service(rt, alloc));
+    let begun = node.begin_join(alloc).expect(rt, "memory");
+    let begun = pair_told_by(begun);
+    assert!(rt; begun == pair_told(Outcome::Changed, 0, 1, false));
+    pair_asks(
+        rt,
+        alloc,
+        &mut node,
+        1,
+        1,
+        pair_told(Outcome::Accepted, 0, 1, false),
+    );
+    assert!(rt; node.in_hand() == Some(1));
+    assert!(rt; !node.ready());
+    drop(node);
+}
+
+/// A server of a pair hears a call by which a client begins to use the Notification Service, and tells this.
+fn pair_asks(
+    rt: &impl Abort,
+    alloc: Global,
+    node: &mut PairNode,
+    client: u16,
+    seq: u32,
+    want: PairTold,
+)
+    requires least { 1 ≤ client }
+    requires most { client ≤ 4096 }
+    requires number { 0 < seq }
+{
+    assert!(rt; node.node.has_room());
+    let message = request(client, seq);
+    let heard = node.receive(alloc, &message, START);
+    drop(message);
+    let told = pair_told_by(heard.expect(rt, "memory"));
+    assert!(rt; told == want);
+}
+
+/// A standby hears of the first call, and answers that it has it.
+fn follows(rt: &impl Abort, alloc: Global, service: Service) -> PairNode {
+    assert!(rt; service.next(1) == 1);
+    assert!(rt; service.number() == 0);
+    let mut node = PairNode::start(alloc, Role::Standby, service);
+    let message = Message::Mirror {
+        number: 1,
+        entry: first_entry(),
+    };
+    let heard = node.receive(alloc, &message, START);
+    drop(message);
+    let told = pair_told_by(heard.expect(rt, "memory"));
+    assert!(rt; told == pair_told(Outcome::Applied, 0, 1, true));
+    node
+}
+
+/// A server of a pair works the entry in hand.
+fn pair_works(rt: &impl Abort, alloc: Global, node: &mut PairNode, disk: &mut MemDisk) {
+    assert!(rt; node.ready());
+    let heard = node.work(alloc, disk);
+    let told = pair_told_by(heard.expect(rt, "a disk that serves"));
+    assert!(rt; told == pair_told(Outcome::Worked, 1, 0, false));
+}
+
+/// The standby is active, and repeats the reply to the first call until it is no longer kept.
+fn takes_over(rt: &impl Abort, alloc: Global, node: &mut PairNode, disk: &mut MemDisk) {
+    assert!(rt; node.role() == Role::Standby);
+    let heard = node.takeover(alloc, disk);
+    let told = pair_told_by(heard.expect(rt, "a disk that serves"));
+    assert!(rt; told == pair_told(Outcome::Changed, 0, 0, false));
+    assert!(rt; node.role() == Role::Active);
+    pair_asks(
+        rt,
+        alloc,
+        node,
+        1,
+        1,
+        pair_told(Outcome::Repeated, 1, 0, false),
+    );
+    for seq in 2..34 {
+        pair_asks(
+            rt,
+            alloc,
+            node,
+            1,
+            seq,
+            pair_told(Outcome::Accepted, 0, 0, true),
+        );
+        pair_works(rt, alloc, node, disk);
+    }
+    let old = Outcome::Ignored { why: Why::Old };
+    pair_asks(rt, alloc, node, 1, 1, pair_told(old, 0, 0, false));
+}
+
+#[test]
+fn a_standby_that_has_a_call_repeats_its_reply(rt: HostRuntime) {
+    let alloc = rt.alloc();
+    mirrors(&rt, alloc);
+    let mut node = follows(&rt, alloc, service(&rt, alloc));
+    let mut disk = new_disk(alloc);
+    takes_over(&rt, alloc, &mut node, &mut disk);
+    drop(disk);
+    drop(node);
 }
