@@ -34,7 +34,8 @@ pub record RecordKept (setup : Setup) (entry : Entry) (past : List Entry) (files
 -- what was answered as stored before the entry in hand stands, unless this entry gives its place away
 abbrev pub RecordsKept : Setup → Entry → WorldOf → Files → Type 0
 RecordsKept setup entry world files =
-    (client number : ℕ) (reply : Reply) → Stands (Answer client number reply) world.net → RecordKept setup entry world.core.answered files client number reply
+    (client number : ℕ) (reply : Reply) → Stands (Answer client number reply) world.net
+    → RecordKept setup entry world.core.answered files client number reply
 
 -- the net has no reply to the entry, and no `reply` line of it was printed
 abbrev pub IsUnanswered : Entry → List Message → List Told → Type 0

@@ -1,5 +1,6 @@
 -- Words of public clauses: how a run ends, which is its status with what was read, what is printed, and what it leaves.
-use Rattle.std.specs.Prelude.{◌≡◌, ℕ, ◌+◌, ◌≤◌, List, [], ◌∷◌, ◌++◌, length, Bool, true, false, Option, Some, None, IfSome, ◌⊎◌, codes}
+use Rattle.std.specs.Prelude.{◌≡◌, ℕ, ◌+◌, ◌≤◌, List, [], ◌∷◌, ◌++◌, length, codes}
+use Rattle.std.specs.Prelude.{Bool, true, false, Option, Some, None, IfSome, ◌⊎◌}
 use Rattle.std.specs.FinMap as files
 use Rattle.std.specs.Io.KnownBytes.{Appends}
 use Rattle.std.specs.Fmt.{decimal}
@@ -130,7 +131,9 @@ shows_files _ = false
 -- to an entry that was to be worked
 pub data FaultLeft (setup : Setup) (state : State Alone) (next : Line) (held left : Option Files) (world : World) (lines : List ℕ) : Type 0 where
   Showing : shows_files next ≡ true → Shows setup state world → left ≡ held → lines ≡ [] → FaultLeft setup state next held left world lines
-  Working : (told : List Told) → FaultedIn setup next state told held left world → lines ≡ text_of told → FaultLeft setup state next held left world lines
+  Working :
+      (told : List Told) → FaultedIn setup next state told held left world → lines ≡ text_of told
+      → FaultLeft setup state next held left world lines
 
 -- there is a value of the disk that tells these files and has the count of the start. That the run passed through it is not said:
 -- of a disk a contract knows the values before a call and after it, and no steps between
@@ -144,13 +147,16 @@ pub record StoodUpTo {D : Type 0} (disk : Edge D Files) (held : Option Files) : 
 pub data DiskFails {K D : Type 0} (script : List Line) (scene : Stage K D) (text : List ℕ) : Type 0 where
   AtNames : after scene.disk ≡ before scene.disk → scene.world_after ≡ scene.world → text ≡ fault_line → DiskFails script scene text
   AtOpening :
-      (opens : Opens script (before scene.disk)) (count : ℕ) → FailsAfter (calls_of_all (opening_of opens.setup)) count (before scene.disk) (after scene.disk)
+      (opens : Opens script (before scene.disk)) (count : ℕ)
+      → FailsAfter (calls_of_all (opening_of opens.setup)) count (before scene.disk) (after scene.disk)
       → scene.world_after ≡ scene.world → text ≡ fault_line → DiskFails script scene text
   AtEvent :
-      (done : List Line) (next : Line) (rest : List Line) (text_before : List ℕ) (front : PlaysFront (before scene.disk) script done (next ∷ rest) text_before)
+      (done : List Line) (next : Line) (rest : List Line) (text_before : List ℕ)
+      (front : PlaysFront (before scene.disk) script done (next ∷ rest) text_before)
       (lines : List ℕ)
       → FaultLeft front.setup front.goes.state next (files_told front.goes.files (before scene.disk)) (after scene.disk) scene.world_after lines
-      → StoodUpTo scene.disk (files_told front.goes.files (before scene.disk)) → text ≡ text_before ++ (lines ++ fault_line) → DiskFails script scene text
+      → StoodUpTo scene.disk (files_told front.goes.files (before scene.disk)) → text ≡ text_before ++ (lines ++ fault_line)
+      → DiskFails script scene text
 
 -- these events of a script were done, and world and disk stand where they led
 pub record PlayedTo {K D : Type 0} (scene : Stage K D) (script done rest : List Line) (text : List ℕ) : Type 0 where
@@ -190,7 +196,8 @@ pub data Succeeds {S K D : Type 0} (run : Around S K D) (text : List ℕ) : Type
       command_of run.words ≡ Some Check → LeavesAll run.stage → (bytes : List ℕ) → ReadsWhole run.source bytes → ScriptPasses bytes text
       → Succeeds run text
   Parsed :
-      (kind : StreamKind) → command_of run.words ≡ Some (Expr kind) → LeavesAll run.stage → IsUntouched run.source → TextPasses kind (word_text run.words) text
+      (kind : StreamKind) → command_of run.words ≡ Some (Expr kind) → LeavesAll run.stage → IsUntouched run.source
+      → TextPasses kind (word_text run.words) text
       → Succeeds run text
   Generated :
       (count seed : ℕ) → command_of run.words ≡ Some (Gen count seed) → LeavesAll run.stage → IsUntouched run.source → text ≡ load_text count seed

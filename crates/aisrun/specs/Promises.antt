@@ -34,7 +34,9 @@ Sentence = List Line → State Alone → List Told → Files → Type 0
 abbrev pub Throughout : (held : Option Files) (P : Setup → Sentence) → Type 0
 Throughout held P =
     (script done rest : List Line) (text : List ℕ) (front : PlaysFront held script done rest text)
-    → AtEachEnd (λ (lines : List Line) (state : State Alone) (told : List Told) (left : Files × Unit {0}). P front.setup lines state told left.0) front.goes.run
+    → AtEachEnd
+    (λ (lines : List Line) (state : State Alone) (told : List Told) (left : Files × Unit {0}). P front.setup lines state told left.0)
+    front.goes.run
 
 -- what is said of one line: what was told before it, where it was played, and what it led to
 abbrev pub LineSentence : Type 1
@@ -79,7 +81,8 @@ KeepsRecords setup lines state told files = RecordsStay (plain_of setup) service
 abbrev pub StandsOnce : Setup → Sentence
 StandsOnce setup lines state told files =
     let past = state.world.core.answered in
-    (client number other_client other_number : ℕ) (stored other : StoredRecord) (spot : List ℕ × ℕ) → record_of setup past client number ≡ Some stored
+    (client number other_client other_number : ℕ) (stored other : StoredRecord) (spot : List ℕ × ℕ)
+    → record_of setup past client number ≡ Some stored
     → record_of setup past other_client other_number ≡ Some other → place_of setup past stored ≡ Some spot → place_of setup past other ≡ Some spot
     → (client ≡ other_client) × (number ≡ other_number)
 
