@@ -1,3 +1,4 @@
+pub mod ChangedPlace
 pub mod RisingLaws
 pub mod Places
 pub mod MemberLaws

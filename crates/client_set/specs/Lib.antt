@@ -1,3 +1,4 @@
+pub mod Edits
 pub mod Members
 pub mod Rising
 pub mod Searching

@@ -1,12 +1,11 @@
 -- The first element that passes a test, by its place.
-use Rattle.std.proofs.Common.{◌≡◌, ℕ, ◌+◌, ◌<◌, ◌≤◌, suc, zero, Bool, true, false, not, cond, ltb, List, [], ◌∷◌, ◌++◌, length, get_or, set, take, drop, map, append-nil, subst, refl, ap, sym, ◌∙◌, arith}
+use Rattle.std.proofs.Common.{◌≡◌, ℕ, ◌+◌, ◌<◌, ◌≤◌, suc, Bool, true, false, not, cond, ltb, List, [], ◌∷◌, ◌++◌, length, get_or, set, take, drop, map, append-nil, subst, refl, ap, sym, ◌∙◌, arith}
 use Rattle.std.specs.Prelude.{Some, None}
 use Rattle.std.proofs.Math.ListN.{drop_of_length-le}
 use Rattle.std.proofs.lemmas.List.{take_all}
 use Rattle.std.specs.List.{find, position, position_or_len}
 use Rattle.std.proofs.lemmas.Bool.Decides.{nat_tests}
 use Rattle.log_history.specs.Firsts.{change_first}
-use Rattle.log_service.specs.Planning.{change_at}
 
 -- the place of the first one that passes
 pub record IsFirst {X : Type 0} (test : X → Bool) (xs : List X) (place : ℕ) : Type 0 where
@@ -77,10 +76,3 @@ module _ {X : Type 0} (test : X → Bool) where
 pub map-whole : {X : Type 0} (f : X → X) (xs now : List X) (place : ℕ) → length xs ≤ place → now ≡ map f (take place xs) ++ drop place xs → now ≡ map f xs
 map-whole f xs now place past is =
     is ∙ ap (λ front. map f front ++ drop place xs) (take_all place xs past) ∙ ap (λ back. map f xs ++ back) (drop_of_length-le xs past) ∙ append-nil (map f xs)
-
--- what was read written over by what it changes to
-pub set-change_at : {X : Type 0} (change : X → X) (xs : List X) (place : ℕ) (read : X) → read ≡ get_or xs place read → place < length xs → set xs place (change read) ≡ change_at change xs place
-set-change_at change [] place read is within = absurd (omega arith)
-set-change_at change (x ∷ xs) zero read is within = ap (λ y. change y ∷ xs) is
-set-change_at change (x ∷ xs) (suc place) read is within =
-    ap (λ rest. x ∷ rest) (set-change_at change xs place read is (omega arith))

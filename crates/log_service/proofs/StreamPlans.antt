@@ -4,6 +4,7 @@ use Rattle.std.specs.Prelude.{Option, ℤ, pos, ◌≤ℤ◌, unsigned_abs}
 use Rattle.std.specs.Option.{option_map_or}
 use Rattle.ais_values.specs.declared.status.Status.TheVariants as status
 use Rattle.client_set.specs.Rising.{put}
+use Rattle.client_set.proofs.ChangedPlace.{set-change_at}
 use Rattle.stream_config.specs.declared.attrs.StreamName.{StreamName}
 use Rattle.stream_config.specs.declared.state.LogFile.{LogFile}
 use Rattle.stream_config.specs.declared.event.StreamEvent.{StreamEvent}
@@ -16,7 +17,7 @@ use Rattle.log_service.specs.PlanningParts.{PlansJoining, PlansStoring}
 use Rattle.log_service.specs.declared.plan.Doing.{Doing}
 use Rattle.log_service.specs.declared.plan.Doing.TheVariants.{Stay, Join, Store}
 use Rattle.log_service.specs.declared.plan.LogPlan.{LogPlan}
-use Rattle.log_service.proofs.PlaceLemmas.{IsFirst, IsNowhere, changed-at, found-at, set-change_at}
+use Rattle.log_service.proofs.PlaceLemmas.{IsFirst, IsNowhere, changed-at, found-at}
 use Rattle.ais_values.proofs.Basics.{pos-unsigned_abs}
 
 -- the plan of a call that is ok

@@ -1,8 +1,9 @@
 -- Words of public clauses: what a planned call tells, what it makes of the state, and when it can be made.
-use Rattle.std.specs.Prelude.{◌≡◌, ◌≢◌, ◌<◌, ℕ, zero, suc, ◌==◌, false, pos, ◌≤ℤ◌, unsigned_abs, vec_capacity, List, [], ◌∷◌, ◌++◌, length}
+use Rattle.std.specs.Prelude.{◌≡◌, ◌≢◌, ◌<◌, ℕ, ◌==◌, false, pos, ◌≤ℤ◌, unsigned_abs, vec_capacity, List, [], ◌∷◌, ◌++◌, length}
 use Rattle.std.specs.List.{list_any}
 use Rattle.ais_values.specs.declared.status.Status.{Status}
 use Rattle.ais_values.specs.declared.status.Status.TheVariants as status
+use Rattle.client_set.specs.Edits.{change_at}
 use Rattle.client_set.specs.Rising.{without}
 use Rattle.stream_config.specs.declared.state.LogFile.{LogFile}
 use Rattle.log_history.specs.Changes.{LogChange}
@@ -16,12 +17,6 @@ use Rattle.log_service.specs.declared.plan.LogPlan.{LogPlan}
 -- what the planned call is answered and does to streams
 abbrev pub step_of : LogPlan → Step
 step_of plan = plan.step
-
--- the list with the element at a place changed
-abbrev pub change_at : {X : Type 0} → (X → X) → List X → ℕ → List X
-change_at change [] place = []
-change_at change (x ∷ xs) zero = change x ∷ xs
-change_at change (x ∷ xs) (suc place) = x ∷ change_at change xs place
 
 abbrev pub with_openers : List ℕ → OpenStream → OpenStream
 with_openers openers stream = record { state = stream.state; openers = openers }

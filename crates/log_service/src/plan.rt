@@ -1,6 +1,7 @@
 //! What a call would do, planned with all the memory that it takes.
 ghost use Rattle.std.specs.Prelude.{◌≡◌, ◌<◌, ◌++◌, ◌∷◌, [], vec_len, vec_capacity};
-ghost use Rattle.log_service.specs.Planning.{step_of, change_at, with_openers, with_files, CanDo, streams_after, users_after};
+ghost use Rattle.client_set.specs.Edits.{change_at};
+ghost use Rattle.log_service.specs.Planning.{step_of, with_openers, with_files, CanDo, streams_after, users_after};
 
 use crate::live::LiveStream;
 use crate::step::Step;

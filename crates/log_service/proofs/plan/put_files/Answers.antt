@@ -1,6 +1,6 @@
 use Rattle.std.proofs.Common.{ap, ◌∙◌, set, arith}
 use Rattle.log_service.specs.Planning.{with_files}
-use Rattle.log_service.proofs.PlaceLemmas.{set-change_at}
+use Rattle.client_set.proofs.ChangedPlace.{set-change_at}
 use Rattle.log_service.proofs.plan.put_files.Goals as goal
 
 pub returns : goal.returns
