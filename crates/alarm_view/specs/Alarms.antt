@@ -5,6 +5,11 @@ use Rattle.ntf_types.specs.declared.notification.Body.TheVariants.{Objects, Attr
 use Rattle.ntf_types.specs.declared.notification.Notification.{Notification}
 use Rattle.alarm_view.specs.declared.alarm.KeptAlarm.{KeptAlarm}
 
+-- the alarms, in order of their records, and for how many more there is room
+pub record KeptAlarms : Type 0 where
+  pub kept : List KeptAlarm
+  pub spare : ℕ
+
 -- an alarm or a security alarm
 abbrev pub IsAlarm : Body → Type 0
 IsAlarm (Objects source attrs) = ⊥

@@ -1,6 +1,9 @@
 -- Words of bodies alone: how the alarms are kept, in order of records and beside them their places in order of time and id; what searches of places find.
-use Rattle.std.specs.Prelude.{◌≡◌, ◌↔◌, ℕ, ℤ, pos, ◌<◌, ◌≤◌, Bool, true, false, not, int_lt, List, length, map, Option, MatchOption, slice_index_or}
+use Rattle.std.specs.Prelude.{◌≡◌, ◌↔◌, ℕ, ℤ, pos, ◌-◌, ◌<◌, ◌≤◌, min, Bool, true, false, not, int_lt, Option, MatchOption}
+use Rattle.std.specs.Prelude.{List, length, map, slice_index_or, vec_len}
 use Rattle.std.specs.List.Sorted.{IsPartitionPoint}
+use Rattle.std.specs.Vec.{vec_capacity}
+use Rattle.std.specs.VecDeque.{deque_len, deque_capacity}
 use Rattle.ntf_types.specs.declared.notification.Notification.{Notification}
 use Rattle.ntf_filters.specs.declared.filter.FilterSet.{FilterSet}
 use Rattle.ntf_filters.specs.Meaning.{IsMatch}
@@ -15,7 +18,8 @@ use Rattle.alarm_view.specs.declared.place.Place.{Place}
 use Rattle.alarm_view.specs.declared.place.Cut.{Cut}
 use Rattle.alarm_view.specs.declared.place.Cut.TheVariants.{Before, Through, At, Behind}
 use Rattle.alarm_view.specs.Order.{Point, point_of, is_older}
-use Rattle.alarm_view.specs.Alarms.{AreInOrder}
+use Rattle.alarm_view.specs.declared.view.AlarmView.TheInside.{Inside}
+use Rattle.alarm_view.specs.Alarms.{AreInOrder, KeptAlarms}
 use Rattle.alarm_view.specs.Nearest.{IsNearest, IsNone, CanStart, CanFollow, IsStart, IsNext}
 
 -- the place of an alarm, and its point in the order
@@ -38,6 +42,13 @@ pub record IsIndexed (alarms : List KeptAlarm) (order : List Place) : Type 0 whe
   pub in_order : AreInOrder alarms
   pub rising : IsRising place_first order
   pub listed : (place : Place) → Stands place order ↔ Stands place (places_of alarms)
+
+-- room for an alarm is room in both orders
+abbrev pub kept_inside : Inside → KeptAlarms
+kept_inside inside = record {
+  kept = inside.alarms.items;
+  spare = min (deque_capacity inside.alarms - deque_len inside.alarms) (vec_capacity inside.order - vec_len inside.order);
+}
 
 -- the points that lie below a cut
 abbrev pub is_below : Cut → Point → Bool

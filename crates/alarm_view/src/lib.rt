@@ -14,4 +14,4 @@ pub use alarm::KeptAlarm;
 pub use cursor::Cursor;
 pub use law::{law_of_nearest, law_of_order, law_of_search};
 pub use mode::{Direction, SearchMode};
-pub use view::{AlarmView, ReservedAlarms};
+pub use view::AlarmView;

@@ -1,5 +1,5 @@
 //! The alarms that are kept.
-ghost use Rattle.std.specs.Prelude.{◌≡◌, ◌<◌, [], ◌∷◌, ◌++◌, length, OnOk, OnErr, IfOk, IfSome, IfNone, slice_get, MatchOption};
+ghost use Rattle.std.specs.Prelude.{◌≡◌, ◌≤◌, [], ◌∷◌, ◌++◌, length, OnOk, OnErr, IfOk, IfSome, IfNone, slice_get, MatchOption};
 ghost use Rattle.alarm_view.specs.Alarms.{kept_alarm, notifications, AreInOrder, CanAdd, from_record};
 ghost use Rattle.alarm_view.specs.Nearest.{IsNone, CanStart, CanFollow, IsStartAt, IsNext, cursor_after};
 
@@ -12,10 +12,9 @@ use ntf_types::Notification;
 use std::alloc::{AllocError, Global};
 use std::collections::VecDeque;
 use std::marker::Model;
-use std::mem;
 
 /// The alarms whose records are stored, in order of their records, and their places in order of event
-/// time and id. Contracts see the list of alarms.
+/// time and id. Contracts see the list of alarms, and for how many more there is room.
 #[derive(Drop)]
 pub struct AlarmView {
     alarms: VecDeque<KeptAlarm>,
@@ -23,61 +22,21 @@ pub struct AlarmView {
 }
 
 impl Model for AlarmView {
-    ghost use Rattle.std.specs.Prelude.{List};
-    ghost use Rattle.alarm_view.specs.declared.alarm.KeptAlarm.{KeptAlarm};
+    ghost use Rattle.alarm_view.specs.Alarms.{KeptAlarms};
 
-    ghost Value = { List KeptAlarm };
+    ghost Value = { KeptAlarms };
 
-    ghost use Rattle.alarm_view.specs.Inside.{IsIndexed};
+    ghost use Rattle.alarm_view.specs.Inside.{kept_inside, IsIndexed};
 
-    ghost view = { λ view. view.alarms.items };
+    ghost view = { kept_inside };
 
     ghost invariant = { λ view. IsIndexed view.alarms.items view.order.items };
-}
-
-/// Alarms with room for one more, both in order of their records and in order of event time and id.
-/// Contracts see the list of alarms.
-#[derive(Drop)]
-pub struct ReservedAlarms {
-    alarms: VecDeque<KeptAlarm>,
-    order: Vec<Place>,
-}
-
-impl Model for ReservedAlarms {
-    ghost use Rattle.std.specs.Prelude.{List};
-    ghost use Rattle.alarm_view.specs.declared.alarm.KeptAlarm.{KeptAlarm};
-
-    ghost Value = { List KeptAlarm };
-
-    ghost use Rattle.std.specs.Prelude.{◌<◌, vec_len};
-    ghost use Rattle.std.specs.Vec.{vec_capacity};
-    ghost use Rattle.std.specs.VecDeque.{deque_len, deque_capacity};
-    ghost use Rattle.alarm_view.specs.Inside.{IsIndexed};
-
-    ghost view = { λ room. room.alarms.items };
-
-    ghost invariant = { λ room. IsIndexed room.alarms.items room.order.items
-        × (deque_len room.alarms < deque_capacity room.alarms)
-        × (vec_len room.order < vec_capacity room.order) };
-}
-
-impl ReservedAlarms {
-    /// Adds the alarm of record `number` of the alarm stream, as `AlarmView::add` does. It takes no memory.
-    pub fn add_reserved(self, number: u32, notification: Notification) -> AlarmView
-        requires { CanAdd number notification self }
-        ensures { result ≡ self ++ kept_alarm number notification ∷ [] }
-    {
-        let mut alarms = self.alarms;
-        let mut order = self.order;
-        add_reserved(&mut alarms, &mut order, number, notification);
-        AlarmView { alarms, order }
-    }
 }
 
 impl AlarmView {
     /// No alarms. It takes no memory.
     pub fn new(alloc: Global) -> AlarmView
-        ensures { result ≡ [] }
+        ensures { result.kept ≡ [] }
     {
         AlarmView {
             alarms: VecDeque::new(alloc),
@@ -85,35 +44,43 @@ impl AlarmView {
         }
     }
 
-    /// Adds the alarm of record `number` of the alarm stream. On an error nothing changes.
+    /// Adds the alarm of record `number` of the alarm stream. On an error, which is want of memory, no alarm
+    /// is added.
     pub fn add(&mut self, number: u32, notification: Notification) -> Result<(), AllocError>
-        requires { CanAdd number notification self.old }
-        ensures ok { OnOk result (self.new ≡ self.old ++ kept_alarm number notification ∷ []) }
-        ensures err { OnErr result (self.new ≡ self.old) }
+        requires { CanAdd number notification self.old.kept }
+        ensures ok { OnOk result
+            (self.new.kept ≡ self.old.kept ++ kept_alarm number notification ∷ []) }
+        ensures err { OnErr result (self.new.kept ≡ self.old.kept) }
     {
         let alloc = *self.alarms.allocator();
-        let room = self.reserve(alloc)?;
-        *self = room.add_reserved(number, notification);
+        self.reserve(alloc)?;
+        self.add_reserved(number, notification);
         Ok(())
     }
 
-    /// Makes room for one alarm more, and takes the alarms out with it: none are left here until what
-    /// `add_reserved` makes of them takes their place. An error is want of memory; then nothing changes.
-    pub fn reserve(&mut self, alloc: Global) -> Result<ReservedAlarms, AllocError>
-        ensures taken { IfOk result (λ room. room ≡ self.old) }
-        ensures left { OnOk result (self.new ≡ []) }
-        ensures err { OnErr result (self.new ≡ self.old) }
+    /// Makes room for one alarm more. The alarms stay as they are; an error is want of memory.
+    pub fn reserve(&mut self, _alloc: Global) -> Result<(), AllocError>
+        ensures kept { self.new.kept ≡ self.old.kept }
+        ensures ok { OnOk result (1 ≤ self.new.spare) }
     {
         self.alarms.reserve(1)?;
         self.order.reserve(1)?;
-        let alarms = mem::replace(&mut self.alarms, VecDeque::new(alloc));
-        let order = mem::replace(&mut self.order, Vec::new(alloc));
-        Ok(ReservedAlarms { alarms, order })
+        Ok(())
+    }
+
+    /// Adds the alarm of record `number` of the alarm stream, as `add` does, into room that was made for
+    /// it. It takes no memory.
+    pub fn add_reserved(&mut self, number: u32, notification: Notification)
+        requires room { 1 ≤ self.old.spare }
+        requires can { CanAdd number notification self.old.kept }
+        ensures { self.new.kept ≡ self.old.kept ++ kept_alarm number notification ∷ [] }
+    {
+        add_reserved(&mut self.alarms, &mut self.order, number, notification);
     }
 
     /// Drops the alarms of records below `number`. It takes no memory.
     pub fn keep_from(&mut self, number: u32)
-        ensures { self.new ≡ from_record number self.old }
+        ensures { self.new.kept ≡ from_record number self.old.kept }
     {
         drop_early(&mut self.alarms, &mut self.order, number);
     }
@@ -123,10 +90,10 @@ impl AlarmView {
     /// is no such alarm. It takes no memory.
     pub fn start(&self, mode: SearchMode, value: i64, filters: &FilterSet) -> Option<Cursor>
         ensures found { IfSome result
-            (λ cursor. IsStartAt mode value filters.now (notifications self.now) cursor) }
+            (λ cursor. IsStartAt mode value filters.now (notifications self.now.kept) cursor) }
         ensures none { IfNone result (IsNone (CanStart mode value filters.now)
-            (notifications self.now)) }
-        ensures order { AreInOrder self.now }
+            (notifications self.now.kept)) }
+        ensures order { AreInOrder self.now.kept }
     {
         match start_in(&self.alarms, self.order.as_slice(), mode, value, filters) {
             None => None,
@@ -144,11 +111,11 @@ impl AlarmView {
         filters: &FilterSet,
     ) -> Option<(Cursor, &Notification)>
         ensures found { IfSome result
-            (λ found. IsNext cursor way filters.now (notifications self.now) found.1.now) }
+            (λ found. IsNext cursor way filters.now (notifications self.now.kept) found.1.now) }
         ensures after { IfSome result (λ found. found.0 ≡ cursor_after found.1.now) }
         ensures none { IfNone result (IsNone (CanFollow way cursor filters.now)
-            (notifications self.now)) }
-        ensures order { AreInOrder self.now }
+            (notifications self.now.kept)) }
+        ensures order { AreInOrder self.now.kept }
     {
         match next_in(&self.alarms, self.order.as_slice(), &cursor, way, filters) {
             None => None,
@@ -158,8 +125,8 @@ impl AlarmView {
 
     /// How many alarms are kept.
     pub fn count(&self) -> u32
-        ensures count { result ≡ length self.now }
-        ensures order { AreInOrder self.now }
+        ensures count { result ≡ length self.now.kept }
+        ensures order { AreInOrder self.now.kept }
     {
         self.alarms.len() as u32
     }
@@ -167,8 +134,8 @@ impl AlarmView {
     /// The alarm at a place, from 0, in order of records, with the number of its record. None
     /// exactly where fewer are kept.
     pub fn alarm_at(&self, place: u32) -> Option<(u32, &Notification)>
-        ensures { MatchOption result (slice_get self.now place ≡ None)
-            (λ found. slice_get self.now place ≡ Some (kept_alarm found.0 found.1.now)) }
+        ensures { MatchOption result (slice_get self.now.kept place ≡ None)
+            (λ found. slice_get self.now.kept place ≡ Some (kept_alarm found.0 found.1.now)) }
     {
         let alarm = self.alarms.get(place as usize)?;
         Some((alarm.number, &alarm.notification))

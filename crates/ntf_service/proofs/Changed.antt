@@ -1,7 +1,8 @@
 -- Lists of which elements at some places are changed.
-use Rattle.std.proofs.Common.{◌≡◌, ℕ, zero, suc, ◌<◌, ◌≤◌, Bool, true, false, cond, List, [], ◌∷◌, ◌++◌, length, map, take, get_or, set, refl, ap, sym, ◌∙◌, arith}
+use Rattle.std.proofs.Common.{◌≡◌, ℕ, zero, suc, ◌<◌, ◌≤◌, Bool, true, false, cond, List, [], ◌∷◌, ◌++◌, length, map, take, get_or, refl, ap, sym, ◌∙◌, arith}
 use Rattle.std.specs.List.{AllByRecursion}
-use Rattle.ntf_service.specs.Planning.{change_at, HoldsAt}
+use Rattle.client_set.specs.Edits.{change_at}
+use Rattle.ntf_service.specs.Planning.{HoldsAt}
 use Rattle.ntf_service.specs.Offering.{change_each}
 use Rattle.ntf_service.specs.ByKind.{positions, RiseBetween}
 
@@ -38,12 +39,6 @@ module _ {X : Type 0} where
   holds-behind P change [] xs place before holds = holds
   holds-behind P change (other ∷ places) xs place before holds =
       holds-behind P change places (change_at change xs other) place before.1 (holds-behind_one P change xs other place before.0 holds)
-
-  pub set-change_at : (change : X → X) (xs : List X) (place : ℕ) (read : X) → read ≡ get_or xs place read → place < length xs → set xs place (change read) ≡ change_at change xs place
-  set-change_at change [] place read is within = absurd (omega arith)
-  set-change_at change (x ∷ xs) zero read is within = ap (λ y. change y ∷ xs) is
-  set-change_at change (x ∷ xs) (suc place) read is within =
-      ap (λ rest. x ∷ rest) (set-change_at change xs place read is (omega arith))
 
   -- two changes that are the same for what stands at the place
   pub change_at-same : (change other : X → X) (xs : List X) (place : ℕ) → HoldsAt (λ x. change x ≡ other x) xs place → change_at change xs place ≡ change_at other xs place

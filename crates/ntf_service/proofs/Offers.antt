@@ -10,14 +10,14 @@ use Rattle.ntf_filters.specs.declared.filter.FilterSet.{FilterSet}
 use Rattle.ntf_filters.specs.Meaning.{filter_for}
 use Rattle.ntf_filters.specs.Matching.{admitted_by, matches}
 use Rattle.sub_queue.specs.Queue.{HasNumberLeft, offered}
-use Rattle.sub_queue.specs.Losing.{IsRoomFor}
 use Rattle.ntf_history.specs.declared.subscription.Subscription.{Subscription}
 use Rattle.ntf_history.specs.Tables.{requeued, offered_sub}
 use Rattle.ntf_service.specs.declared.plan.Offer.{Offer}
 use Rattle.ntf_service.specs.State.{HaveNumbersLeft}
-use Rattle.ntf_service.specs.Planning.{change_at, HoldsAt, offered_to, offers_made, CanOffer, CanOfferAll}
+use Rattle.client_set.specs.Edits.{change_at}
+use Rattle.ntf_service.specs.Planning.{HoldsAt, sub_with_share, offers_made, CanGive, CanOffer, CanOfferAll}
 use Rattle.ntf_service.specs.ByKind.{kind_for, filter_of, has_filter, positions, filters_of, RiseBetween}
-use Rattle.ntf_service.specs.Offering.{change_each, Joins, AreOffers}
+use Rattle.ntf_service.specs.Offering.{change_each, IsOffer, Joins, AreOffers}
 use Rattle.ntf_service.proofs.Changed.{holds-read, holds-weaker, holds-behind, change_at-same, change_at-none, map-change_at, change_each-append, change_each-positions, rise-before, rise-below}
 use Rattle.ntf_service.proofs.Positions.{positions-map}
 
@@ -29,24 +29,24 @@ number-at (x ∷ xs) (suc n) d left within = number-at xs n d left.1 (omega arit
 offers_made-append : (offers more : List Offer) (subs : List Subscription) → offers_made (offers ++ more) subs ≡ offers_made more (offers_made offers subs)
 offers_made-append [] more subs = refl
 offers_made-append (offer ∷ offers) more subs =
-    offers_made-append offers more (change_at (offered_to offer.notification) subs offer.place)
+    offers_made-append offers more (change_at (sub_with_share offer.share) subs offer.place)
 
 can-append : (offers more : List Offer) (subs : List Subscription) → CanOfferAll offers subs → CanOfferAll more (offers_made offers subs) → CanOfferAll (offers ++ more) subs
 can-append [] more subs can then_more = then_more
 can-append (offer ∷ offers) more subs can then_more =
-    (can.0, can-append offers more (change_at (offered_to offer.notification) subs offer.place) can.1 then_more)
+    (can.0, can-append offers more (change_at (sub_with_share offer.share) subs offer.place) can.1 then_more)
 
 -- offers leave what subscriptions ask for
 pub filters-made : (offers : List Offer) (subs : List Subscription) → filters_of (offers_made offers subs) ≡ filters_of subs
 filters-made [] subs = refl
 filters-made (offer ∷ offers) subs =
-    let change = offered_to offer.notification in
+    let change = sub_with_share offer.share in
     filters-made offers (change_at change subs offer.place) ∙ map-change_at (λ (kept : Subscription). kept.filters) change (λ kept. refl) subs offer.place
 
 -- a subscription that asks, or does not
-asking : (notification : Notification) (kept : Subscription) → matches kept.filters notification ≡ true → offered_to notification kept ≡ offered_sub notification kept
-asking notification kept asks =
-    ap (λ b. requeued kept (cond b (offered notification kept.queue) kept.queue)) (sym asks)
+asking : (place : ℕ) (notification : Notification) (kept : Subscription) (offer : Offer) → IsOffer place notification kept.queue offer → matches kept.filters notification ≡ true → sub_with_share offer.share kept ≡ offered_sub notification kept
+asking place notification kept offer is asks =
+    ap (requeued kept) is.made ∙ ap (λ b. requeued kept (cond b (offered notification kept.queue) kept.queue)) (sym asks)
 
 not_asking : (notification : Notification) (kept : Subscription) → matches kept.filters notification ≡ false → offered_sub notification kept ≡ kept
 not_asking notification kept asks =
@@ -79,12 +79,16 @@ module _ (notification : Notification) (subs : List Subscription) (places : List
 
   pub next-offers : (asked : Bool) → matches kept.filters notification ≡ asked → Joins asked place notification kept offers new → AreOffers notification (take next places) subs new
   next-offers true asks joins =
-      let offer : Offer = record { place = place; notification = notification; room = joins.0 } in
-      let served : CanOffer offer (offers_made offers subs) = holds-weaker (λ x. x ≡ kept) (λ x. HasNumberLeft x.queue × IsRoomFor joins.0 x.queue) (λ x same. subst (λ (y : Subscription). HasNumberLeft y.queue × IsRoomFor joins.0 y.queue) (sym same) (number, joins.1)) (offers_made offers subs) place unchanged in
-      let as_asked = holds-weaker (λ x. x ≡ kept) (λ x. offered_to notification x ≡ offered_sub notification x) (λ x same. asking notification x (ap (λ (y : Subscription). matches y.filters notification) same ∙ asks)) (offers_made offers subs) place unchanged in
+      let offer = joins.0 in
+      let now = offers_made offers subs in
+      let can : CanGive offer kept.queue = record { numbers = number; room = joins.1.room; suits = joins.1.suits } in
+      let there = subst (λ k. HoldsAt (λ x. x ≡ kept) now k) (sym joins.1.placed) unchanged in
+      let served : CanOffer offer now = holds-weaker (λ x. x ≡ kept) (λ x. CanGive offer x.queue) (λ x same. subst (λ (y : Subscription). CanGive offer y.queue) (sym same) can) now offer.place there in
+      let Same : Subscription → Type 0 = λ x. sub_with_share offer.share x ≡ offered_sub notification x in
+      let as_asked = holds-weaker (λ x. x ≡ kept) Same (λ x same. subst Same (sym same) (asking place notification kept offer joins.1 asks)) now place unchanged in
       record {
         can = subst (λ os. CanOfferAll os subs) (sym joins.2) (can-append offers (offer ∷ []) subs so_far.can (served, tt));
-        made = ap (λ os. offers_made os subs) joins.2 ∙ offers_made-append offers (offer ∷ []) subs ∙ change_at-same (offered_to notification) (offered_sub notification) (offers_made offers subs) place as_asked ∙ sym all;
+        made = ap (λ os. offers_made os subs) joins.2 ∙ offers_made-append offers (offer ∷ []) subs ∙ ap (change_at (sub_with_share offer.share) now) joins.1.placed ∙ change_at-same (sub_with_share offer.share) (offered_sub notification) now place as_asked ∙ sym all;
       }
   next-offers false asks joins =
       let stays = holds-weaker (λ x. x ≡ kept) (λ x. offered_sub notification x ≡ x) (λ x same. not_asking notification x (ap (λ (y : Subscription). matches y.filters notification) same ∙ asks)) (offers_made offers subs) place unchanged in

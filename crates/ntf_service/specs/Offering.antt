@@ -1,21 +1,30 @@
 -- Words of bodies alone: the offers that a plan gathers, place by place.
 use Rattle.std.specs.Prelude.{◌≡◌, ℕ, Bool, true, false, List, [], ◌∷◌, ◌++◌}
 use Rattle.ntf_types.specs.declared.notification.Notification.{Notification}
+use Rattle.sub_queue.specs.Queue.{Queue, offered}
 use Rattle.sub_queue.specs.Losing.{IsRoomFor}
 use Rattle.ntf_history.specs.declared.subscription.Subscription.{Subscription}
 use Rattle.ntf_history.specs.Tables.{offered_sub}
 use Rattle.ntf_service.specs.declared.plan.Offer.{Offer}
-use Rattle.ntf_service.specs.Planning.{change_at, offers_made, CanOfferAll}
+use Rattle.client_set.specs.Edits.{change_at}
+use Rattle.ntf_service.specs.Planning.{queue_with, offers_made, Suits, CanOfferAll}
 
 -- the list with the elements at these places changed, one after another
 abbrev pub change_each : {X : Type 0} → (X → X) → List ℕ → List X → List X
 change_each change [] xs = xs
 change_each change (place ∷ places) xs = change_each change places (change_at change xs place)
 
+-- an offer of a notification to a queue at a place: it suits the queue, which it makes what the notification makes of it
+pub record IsOffer (place : ℕ) (notification : Notification) (queue : Queue) (offer : Offer) : Type 0 where
+  pub placed : offer.place ≡ place
+  pub room : IsRoomFor offer.room queue
+  pub suits : Suits offer.share queue
+  pub made : queue_with offer.share queue ≡ offered notification queue
+
 -- an offer to the subscription at a place joins the others where it asks for the notification
 abbrev pub Joins : (asked : Bool) → ℕ → Notification → Subscription → List Offer → List Offer → Type 0
 Joins true place notification kept old new =
-    (room : ℕ) × IsRoomFor room kept.queue × (new ≡ old ++ record { place = place; notification = notification; room = room } ∷ [])
+    (offer : Offer) × IsOffer place notification kept.queue offer × (new ≡ old ++ offer ∷ [])
 Joins false place notification kept old new = new ≡ old
 
 -- the offers to those of the subscriptions at these places that ask for a notification

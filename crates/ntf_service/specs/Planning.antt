@@ -1,18 +1,15 @@
 -- Words of public clauses: what a planned send makes of the table, and when it can be made.
-use Rattle.std.specs.Prelude.{◌≡◌, ℕ, zero, suc, ◌+◌, ⊤, List, [], ◌∷◌}
+use Rattle.std.specs.Prelude.{◌≡◌, ℕ, zero, suc, ◌+◌, ⊤, true, false, List, [], ◌∷◌}
 use Rattle.ntf_types.specs.declared.notification.Notification.{Notification}
-use Rattle.sub_queue.specs.Queue.{HasNumberLeft, offered}
+use Rattle.client_set.specs.Edits.{change_at}
+use Rattle.sub_queue.specs.Queue.{Queue, HasNumberLeft, has_room, offered, with_lost}
 use Rattle.sub_queue.specs.Losing.{IsRoomFor}
 use Rattle.ntf_history.specs.declared.subscription.Subscription.{Subscription}
 use Rattle.ntf_history.specs.Tables.{NtfTable, IsSoundTable, table_with, requeued, with_id, after_send}
+use Rattle.ntf_service.specs.declared.plan.Share.{Share}
+use Rattle.ntf_service.specs.declared.plan.Share.TheVariants.{Whole, Mark}
 use Rattle.ntf_service.specs.declared.plan.Offer.{Offer}
 use Rattle.ntf_service.specs.declared.plan.SendPlan.{SendPlan}
-
--- the list with the element at a place, from 0, changed
-abbrev pub change_at : {X : Type 0} → (X → X) → List X → ℕ → List X
-change_at change [] place = []
-change_at change (x ∷ xs) zero = change x ∷ xs
-change_at change (x ∷ xs) (suc place) = x ∷ change_at change xs place
 
 -- there is an element at a place, and this holds of it
 abbrev pub HoldsAt : {X : Type 0} → (X → Type 0) → List X → ℕ → Type 0
@@ -20,24 +17,39 @@ HoldsAt P [] place = ⊥
 HoldsAt P (x ∷ xs) zero = P x
 HoldsAt P (x ∷ xs) (suc place) = HoldsAt P xs place
 
--- the subscription once it is offered a notification
-abbrev pub offered_to : Notification → Subscription → Subscription
-offered_to notification kept = requeued kept (offered notification kept.queue)
+-- the queue once it is given its share
+abbrev pub queue_with : Share → Queue → Queue
+queue_with (Whole notification) queue = offered notification queue
+queue_with (Mark mark) queue = with_lost mark queue
+
+-- all of a notification is for a queue that has a place free, and its mark alone for one that has none
+abbrev pub Suits : Share → Queue → Type 0
+Suits (Whole notification) queue = has_room queue ≡ true
+Suits (Mark mark) queue = has_room queue ≡ false
+
+-- the subscription once its queue is given its share
+abbrev pub sub_with_share : Share → Subscription → Subscription
+sub_with_share share kept = requeued kept (queue_with share kept.queue)
 
 -- the subscriptions once the offers are made, one after another
 abbrev pub offers_made : List Offer → List Subscription → List Subscription
 offers_made [] subs = subs
-offers_made (offer ∷ offers) subs = offers_made offers (change_at (offered_to offer.notification) subs offer.place)
+offers_made (offer ∷ offers) subs = offers_made offers (change_at (sub_with_share offer.share) subs offer.place)
 
--- there is the subscription of an offer, it has a number left for the item, and the room serves it
+-- a queue can be given an offer: it has a number left for the item, the room serves it, and the share suits it
+pub record CanGive (offer : Offer) (queue : Queue) : Type 0 where
+  pub numbers : HasNumberLeft queue
+  pub room : IsRoomFor offer.room queue
+  pub suits : Suits offer.share queue
+
+-- there is the subscription of an offer, and its queue can be given it
 abbrev pub CanOffer : Offer → List Subscription → Type 0
-CanOffer offer subs =
-    HoldsAt (λ (kept : Subscription). HasNumberLeft kept.queue × IsRoomFor offer.room kept.queue) subs offer.place
+CanOffer offer subs = HoldsAt (λ (kept : Subscription). CanGive offer kept.queue) subs offer.place
 
 abbrev pub CanOfferAll : List Offer → List Subscription → Type 0
 CanOfferAll [] subs = ⊤
 CanOfferAll (offer ∷ offers) subs =
-    CanOffer offer subs × CanOfferAll offers (change_at (offered_to offer.notification) subs offer.place)
+    CanOffer offer subs × CanOfferAll offers (change_at (sub_with_share offer.share) subs offer.place)
 
 -- what the planned send makes of a table
 abbrev pub sent_by : SendPlan → NtfTable → NtfTable

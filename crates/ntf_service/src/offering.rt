@@ -4,14 +4,17 @@ ghost use Rattle.std.specs.Vec.{vec_capacity};
 ghost use Rattle.ntf_filters.specs.Matching.{matches};
 ghost use Rattle.ntf_service.specs.State.{HaveNumbersLeft};
 ghost use Rattle.ntf_service.specs.ByKind.{RiseBetween};
-ghost use Rattle.ntf_service.specs.Offering.{Joins, AreOffers};
+ghost use Rattle.ntf_service.specs.Planning.{queue_with, Suits};
+ghost use Rattle.ntf_service.specs.Offering.{IsOffer, Joins, AreOffers};
+ghost use Rattle.sub_queue.specs.Queue.{offered};
 
-use crate::plan::Offer;
+use crate::plan::{Offer, Share};
 use ais_values::Duplicate;
 use ntf_filters::{FilterSet, matches};
 use ntf_history::Subscription;
 use ntf_types::Notification;
 use std::alloc::{AllocError, Global};
+use sub_queue::{SubQueue, mark_of};
 
 /// Whether the filters ask for a notification.
 fn is_asked_for(filters: &FilterSet, notification: &Notification) -> bool
@@ -20,8 +23,41 @@ fn is_asked_for(filters: &FilterSet, notification: &Notification) -> bool
     matches(filters, notification)
 }
 
-/// Adds the offer of a copy of a notification to the subscription at a place, if that asks for it. There is room for it
-/// among the offers.
+/// The share of a queue in a notification: a copy where a place is free, and else the mark, which takes no memory.
+fn share_of(
+    alloc: Global,
+    queue: &SubQueue,
+    notification: &Notification,
+) -> Result<Share, AllocError>
+    ensures suits { IfOk result (λ share. Suits share queue.now) }
+    ensures made { IfOk result (λ share.
+        queue_with share queue.now ≡ offered notification.now queue.now) }
+{
+    if queue.has_room() {
+        let notification = notification.copy(alloc)?;
+        Ok(Share::Whole { notification })
+    } else {
+        let mark = mark_of(notification);
+        Ok(Share::Mark { mark })
+    }
+}
+
+/// The offer of a notification to the queue of the subscription at a place, with room for it there.
+fn offer_to(
+    alloc: Global,
+    place: usize,
+    queue: &SubQueue,
+    notification: &Notification,
+) -> Result<Offer, AllocError>
+    ensures { IfOk result (IsOffer place notification.now queue.now) }
+{
+    let room = queue.reserve(alloc)?;
+    let share = share_of(alloc, queue, notification)?;
+    Ok(Offer { place, share, room })
+}
+
+/// Adds the offer of a notification to the subscription at a place, if that asks for it. There is room for it among the
+/// offers.
 fn add_offer(
     alloc: Global,
     offers: &mut Vec<Offer>,
@@ -38,13 +74,8 @@ fn add_offer(
     if !is_asked_for(&kept.filters, notification) {
         return Ok(());
     }
-    let room = kept.queue.reserve(alloc)?;
-    let notification = notification.copy(alloc)?;
-    offers.push_reserved(Offer {
-        place,
-        notification,
-        room,
-    });
+    let offer = offer_to(alloc, place, &kept.queue, notification)?;
+    offers.push_reserved(offer);
     Ok(())
 }
 

@@ -1,16 +1,26 @@
 //! What a send would do, planned with all the memory that it takes.
 ghost use Rattle.std.specs.Prelude.{◌≡◌, vec_len};
-ghost use Rattle.ntf_service.specs.Planning.{change_at, offered_to, offers_made, CanOffer, CanOfferAll};
+ghost use Rattle.client_set.specs.Edits.{change_at};
+ghost use Rattle.sub_queue.specs.Queue.{HasNumberLeft};
+ghost use Rattle.sub_queue.specs.Losing.{IsRoomFor};
+ghost use Rattle.ntf_service.specs.Planning.{queue_with, sub_with_share, offers_made, Suits, CanOffer, CanOfferAll};
 
 use ntf_history::Subscription;
 use ntf_types::Notification;
-use sub_queue::Room;
+use sub_queue::{Lost, Room, SubQueue};
 
-/// An offer of a notification to the subscription at a place, with its room there.
+/// What a queue gets of a notification: all of it, or its mark alone, where it finds no place.
+#[derive(Drop)]
+pub(crate) enum Share {
+    Whole { notification: Notification },
+    Mark { mark: Lost },
+}
+
+/// An offer to the subscription at a place, with its room there.
 #[derive(Drop)]
 pub(crate) struct Offer {
     pub(crate) place: usize,
-    pub(crate) notification: Notification,
+    pub(crate) share: Share,
     pub(crate) room: Room,
 }
 
@@ -31,19 +41,28 @@ impl SendPlan {
     }
 }
 
+/// Gives a queue its share.
+fn give(queue: &mut SubQueue, share: Share, room: Room)
+    requires numbers { HasNumberLeft queue.old }
+    requires room { IsRoomFor room queue.old }
+    requires suits { Suits share queue.old }
+    ensures { queue.new ≡ queue_with share queue.old }
+{
+    match share {
+        Share::Whole { notification } => queue.offer_reserved(notification, room),
+        Share::Mark { mark } => queue.lose_reserved(mark, room),
+    }
+}
+
 /// Makes an offer.
 fn make_offer(subs: &mut Vec<Subscription>, offer: Offer)
     requires { CanOffer offer subs.old.items }
     ensures { subs.new.items
-        ≡ change_at (offered_to offer.notification) subs.old.items offer.place }
+        ≡ change_at (sub_with_share offer.share) subs.old.items offer.place }
 {
-    let Offer {
-        place,
-        notification,
-        room,
-    } = offer;
+    let Offer { place, share, room } = offer;
     let kept = &mut subs[place];
-    kept.queue.offer_reserved(notification, room);
+    give(&mut kept.queue, share, room);
 }
 
 /// Makes offers, one after another. It takes no memory.

@@ -42,6 +42,10 @@ offered notification queue = record {
   lost = if has_room queue then queue.lost else queue.lost ++ mark_of notification ∷ [];
 }
 
+-- a mark joins those lost
+abbrev pub with_lost : Lost → Queue → Queue
+with_lost mark queue = queue_of_parts queue.capacity queue.first queue.held (queue.lost ++ mark ∷ [])
+
 -- a receipt is new where its number is that of an item without receipt
 pub record IsNew (through : ℕ) (queue : Queue) : Type 0 where
   pub from : queue.first ≤ through

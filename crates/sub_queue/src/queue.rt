@@ -1,10 +1,10 @@
 //! The queue of one subscription.
-ghost use Rattle.std.specs.Prelude.{◌≡◌, ◌+◌, ◌<◌, ◌≤◌, ◌↔◌, [], ◌++◌, drop, length, IsTrue, IsOk, IfOk, OnOk, OnErr, vec_len};
+ghost use Rattle.std.specs.Prelude.{◌≡◌, ◌+◌, ◌<◌, ◌≤◌, ◌↔◌, false, [], ◌++◌, drop, length, IsTrue, IsOk, IfOk, OnOk, OnErr, vec_len};
 ghost use Rattle.std.specs.Vec.{vec_capacity};
 ghost use Rattle.sub_queue.specs.Items.{mark_of, numbered, discarded};
 ghost use Rattle.ntf_types.specs.declared.notification.Notification.{Notification};
 ghost use Rattle.sub_queue.specs.Losing.{IsRoomFor};
-ghost use Rattle.sub_queue.specs.Queue.{IsCapacity, IsSound, IsNew, HasNumberLeft, empty_queue, queue_of_parts, has_room, offered, received};
+ghost use Rattle.sub_queue.specs.Queue.{IsCapacity, IsSound, IsNew, HasNumberLeft, empty_queue, queue_of_parts, has_room, offered, with_lost, received};
 
 use crate::losses::{Losses, Room};
 use crate::{Content, Item, Lost};
@@ -47,14 +47,14 @@ fn remove_front(items: &mut Vec<Item>, count: usize)
     items.truncate(rest);
 }
 
-/// The type and the id of a notification, which is let go.
-fn mark_of(notification: Notification) -> Lost
-    ensures { result ≡ mark_of notification }
+/// The type and the id of a notification, which stand for it where it is lost.
+pub fn mark_of(notification: &Notification) -> Lost
+    ensures { result ≡ mark_of notification.now }
 {
-    let kind = kind_of(&notification);
-    let id = notification.id;
-    drop(notification);
-    Lost { kind, id }
+    Lost {
+        kind: kind_of(notification),
+        id: notification.id,
+    }
 }
 
 /// Adds an item of what was lost, where anything was. It takes the place of a removed one.
@@ -154,7 +154,7 @@ impl SubQueue {
         ensures ok { IfOk result (λ room. IsRoomFor room self.now) }
         ensures free { IsTrue (has_room self.now) → IsOk result }
     {
-        if self.items.len() < self.capacity as usize {
+        if self.has_room() {
             return Ok(Room::none(alloc));
         }
         let room = self.lost.reserve(alloc)?;
@@ -174,8 +174,27 @@ impl SubQueue {
             let content = Content::Notified { notification };
             self.items.push_reserved(Item { number, content });
         } else {
-            self.lost.push_reserved(mark_of(notification), room);
+            let mark = mark_of(&notification);
+            drop(notification);
+            self.lost.push_reserved(mark, room);
         }
+    }
+
+    /// Offers a notification that matches by its mark alone, where no place is free, into room that was made for the
+    /// queue as it is. It takes no memory.
+    pub fn lose_reserved(&mut self, mark: Lost, room: Room)
+        requires full { has_room self.old ≡ false }
+        requires room { IsRoomFor room self.old }
+        ensures { self.new ≡ with_lost mark self.old }
+    {
+        self.lost.push_reserved(mark, room);
+    }
+
+    /// Whether a place is free for the next item.
+    pub fn has_room(&self) -> bool
+        ensures { result ≡ has_room self.now }
+    {
+        self.items.len() < self.capacity as usize
     }
 
     /// Whether a receipt is new: its number is that of an item that is held.
