@@ -16,7 +16,7 @@ table_with_parts number parts windows = record {
   number = number;
   log = parts.log;
   ntf = parts.ntf;
-  alarms = parts.alarms;
+  alarms = parts.alarms.kept;
   readers = parts.readers.items;
   windows = windows;
 }

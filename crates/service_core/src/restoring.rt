@@ -101,7 +101,7 @@ fn restored_ntf(alloc: Global, saved: &Saved) -> Result<NtfState, AllocError>
 /// The stored alarms.
 fn restored_alarms(alloc: Global, alarms: &[SavedAlarm]) -> Result<AlarmView, AllocError>
     requires { CanAddEach alarms.now }
-    ensures { IfOk result (λ view. view ≡ map kept_alarm_of alarms.now) }
+    ensures { IfOk result (λ view. view.kept ≡ map kept_alarm_of alarms.now) }
 {
     let mut view = AlarmView::new(alloc);
     for alarm in alarms {

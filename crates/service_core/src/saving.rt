@@ -115,7 +115,7 @@ fn push_alarm(
     place: u32,
 ) -> Result<(), AllocError>
     ensures { OnOk result (saved.new ≡ saved.old
-        ++ option_to_list (option_map saved_alarm (slice_get alarms.now place))) }
+        ++ option_to_list (option_map saved_alarm (slice_get alarms.now.kept place))) }
 {
     match alarms.alarm_at(place) {
         None => Ok(()),
@@ -129,7 +129,7 @@ fn push_alarm(
 
 /// The stored alarms.
 fn alarms_of(alloc: Global, alarms: &AlarmView) -> Result<Seq<SavedAlarm>, AllocError>
-    ensures { IfOk result (λ saved. saved ≡ map saved_alarm alarms.now) }
+    ensures { IfOk result (λ saved. saved ≡ map saved_alarm alarms.now.kept) }
 {
     let mut saved = Seq::new(alloc);
     for place in 0..alarms.count() {

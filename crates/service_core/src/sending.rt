@@ -1,5 +1,5 @@
 //! Notifications that clients send.
-ghost use Rattle.std.specs.Prelude.{◌≡◌, ◌+◌, true, false, ℕ, Some, IfOk, OnOk, OnErr};
+ghost use Rattle.std.specs.Prelude.{◌≡◌, ◌≤◌, ◌+◌, true, false, ℕ, Some, IfOk, OnOk, OnErr};
 ghost use Rattle.std.specs.Int.{is_negative};
 ghost use Rattle.std.specs.List.{AllByRecursion};
 ghost use Rattle.alarm_view.specs.Alarms.{CanAdd};
@@ -26,7 +26,7 @@ use crate::deeds::deeds_of_all;
 use crate::parts::{Acted, Parts, act_of};
 use crate::writing::keep_standing;
 use ais_values::{Duplicate, Seq, Status, StreamKind};
-use alarm_view::{AlarmView, ReservedAlarms};
+use alarm_view::AlarmView;
 use log_service::{LogPlan, LogState};
 use ntf_service::NtfState;
 use ntf_types::{Notification, check_notification};
@@ -63,20 +63,18 @@ fn alarm_number(log: &LogState) -> u32
     }
 }
 
-/// The kept alarms, taken out with room for one more, and a copy of the alarm that they are to get. On an error nothing
-/// changes.
+/// A copy of the alarm that is to be kept, for which there is room among those kept then; these stay as they are.
 fn reserve_alarm(
     alarms: &mut AlarmView,
     alloc: Global,
     sent: &Notification,
-) -> Result<(ReservedAlarms, Notification), AllocError>
-    ensures taken { IfOk result (λ reserved. reserved.0 ≡ alarms.old) }
-    ensures alarm { IfOk result (λ reserved. reserved.1 ≡ sent.now) }
-    ensures err { OnErr result (alarms.new ≡ alarms.old) }
+) -> Result<Notification, AllocError>
+    ensures alarm { IfOk result (λ alarm. alarm ≡ sent.now) }
+    ensures room { OnOk result (1 ≤ alarms.new.spare) }
+    ensures kept { alarms.new.kept ≡ alarms.old.kept }
 {
-    let alarm = sent.copy(alloc)?;
-    let room = alarms.reserve(alloc)?;
-    Ok((room, alarm))
+    alarms.reserve(alloc)?;
+    sent.copy(alloc)
 }
 
 /// Offers a notification, and keeps it where it is an alarm, of which the record has this number. The answer is its
@@ -89,13 +87,13 @@ fn offer_and_keep(
     sent: &Notification,
 ) -> Result<u64, AllocError>
     requires sending { CanSendMore ntf.old }
-    requires add { is_alarm sent.now.body ≡ true → CanAdd number sent.now alarms.old }
+    requires add { is_alarm sent.now.body ≡ true → CanAdd number sent.now alarms.old.kept }
     requires id { with_id (ntf.old.last_id + 1) sent.now ≡ sent.now }
     ensures id { IfOk result (λ id. id ≡ ntf.old.last_id + 1) }
     ensures ntf { OnOk result (ntf.new ≡ after_send sent.now ntf.old) }
     ensures alarms { OnOk result
-        (alarms.new ≡ alarms_with (Some (Sent sent.now number)) alarms.old) }
-    ensures err { OnErr result ((ntf.new ≡ ntf.old) × (alarms.new ≡ alarms.old)) }
+        (alarms.new.kept ≡ alarms_with (Some (Sent sent.now number)) alarms.old.kept) }
+    ensures err { OnErr result ((ntf.new ≡ ntf.old) × (alarms.new.kept ≡ alarms.old.kept)) }
 {
     let copy = sent.copy(alloc)?;
     let plan = ntf.plan_send(alloc, copy)?;
@@ -103,9 +101,9 @@ fn offer_and_keep(
         return Ok(ntf.commit_send(plan));
     }
     match reserve_alarm(alarms, alloc, sent) {
-        Ok((room, alarm)) => {
+        Ok(alarm) => {
             let id = ntf.commit_send(plan);
-            *alarms = room.add_reserved(number, alarm);
+            alarms.add_reserved(number, alarm);
             Ok(id)
         }
         Err(error) => {
@@ -128,7 +126,7 @@ fn send_planned(
     requires stands { IsAlarmFirst (planned plan parts.old.log).streams }
     requires sending { CanSendMore parts.old.ntf }
     requires add { is_alarm sent.now.body ≡ true
-        → CanAdd (alarm_count parts.old.log.streams) sent.now parts.old.alarms }
+        → CanAdd (alarm_count parts.old.log.streams) sent.now parts.old.alarms.kept }
     requires id { with_id (parts.old.ntf.last_id + 1) sent.now ≡ sent.now }
     ensures id { IfOk result (λ id. id ≡ parts.old.ntf.last_id + 1) }
     ensures ok { OnOk result (table_of parts.new
@@ -162,7 +160,7 @@ fn send_stored(
     requires stands { IsAlarmFirst (planned plan parts.old.log).streams }
     requires sending { CanSendMore parts.old.ntf }
     requires add { is_alarm sent.now.body ≡ true
-        → CanAdd (alarm_count parts.old.log.streams) sent.now parts.old.alarms }
+        → CanAdd (alarm_count parts.old.log.streams) sent.now parts.old.alarms.kept }
     requires id { with_id (parts.old.ntf.last_id + 1) sent.now ≡ sent.now }
     ensures reply { IfOk result (λ acted.
         acted.told.reply ≡ reply.Sent (parts.old.ntf.last_id + 1)) }
@@ -199,7 +197,8 @@ fn send_accepted(
     requires log { CanCallLog parts.old.log now }
     requires sending { CanSendMore parts.old.ntf }
     requires alarms { AllByRecursion
-        (WasStored (alarm_count parts.old.log.streams) parts.old.ntf.last_id) parts.old.alarms }
+        (WasStored (alarm_count parts.old.log.streams) parts.old.ntf.last_id)
+        parts.old.alarms.kept }
     requires id { sent.now.id ≡ parts.old.ntf.last_id + 1 }
     requires time { is_negative sent.now.event_time ≡ false }
     ensures ok { IfOk result (HasSent (table_of parts.old) now sent.now (table_of parts.new)) }

@@ -20,7 +20,7 @@ use stream_config::StreamName;
 /// Drops the alarms whose records stand no more.
 pub(crate) fn keep_standing(alarms: &mut AlarmView, log: &LogState)
     requires { IsAlarmFirst log.now.streams }
-    ensures { alarms.new ≡ from_record (standing_from log.now.streams) alarms.old }
+    ensures { alarms.new.kept ≡ from_record (standing_from log.now.streams) alarms.old.kept }
 {
     match log.stream_at(0) {
         Some(state) => alarms.keep_from(first_standing(state)),
@@ -31,8 +31,8 @@ pub(crate) fn keep_standing(alarms: &mut AlarmView, log: &LogState)
 /// Drops them where a record was stored.
 fn keep_after(alarms: &mut AlarmView, log: &LogState, status: Status)
     requires { IsAlarmFirst log.now.streams }
-    ensures { alarms.new ≡ where_ok status
-        (from_record (standing_from log.now.streams) alarms.old) alarms.old }
+    ensures { alarms.new.kept ≡ where_ok status
+        (from_record (standing_from log.now.streams) alarms.old.kept) alarms.old.kept }
 {
     if status == Status::Ok {
         keep_standing(alarms, log);

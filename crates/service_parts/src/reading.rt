@@ -65,7 +65,7 @@ fn has_reader(readers: &[SavedReader], client: u16) -> bool
 /// The cursor at the alarm where a search starts.
 fn start_in(alarms: &AlarmView, mode: SearchMode, value: i64, filters: &FilterSet) -> Option<Cursor>
     ensures { result ≡ option_map cursor_before
-        (starting mode value filters.now (reverse (notifications alarms.now))) }
+        (starting mode value filters.now (reverse (notifications alarms.now.kept))) }
 {
     alarms.start(mode, value, filters)
 }
@@ -73,7 +73,7 @@ fn start_in(alarms: &AlarmView, mode: SearchMode, value: i64, filters: &FilterSe
 /// The cursor at the alarm where a search by the code of a mode starts.
 fn start_at(alarms: &AlarmView, code: u32, value: i64, filters: &FilterSet) -> Option<Cursor>
     ensures { result ≡ option_map cursor_before
-        (start_by (mode_of code) value filters.now alarms.now) }
+        (start_by (mode_of code) value filters.now alarms.now.kept) }
 {
     match SearchMode::of(code) {
         None => None,
@@ -153,10 +153,10 @@ pub fn start_reading(
     filters: &FilterSet,
 ) -> Result<Status, AllocError>
     ensures status { IfOk result (λ status. status
-        ≡ start_answer is_user client readers.old.items alarms.now code value filters.now) }
+        ≡ start_answer is_user client readers.old.items alarms.now.kept code value filters.now) }
     ensures readers { IfOk result (λ status. readers.new.items ≡ where_ok status
-        (readers_after alarms.now client (ReaderStart code value filters.now) readers.old.items)
-        readers.old.items) }
+        (readers_after alarms.now.kept client (ReaderStart code value filters.now)
+        readers.old.items) readers.old.items) }
     ensures err { OnErr result (readers.new.items ≡ readers.old.items) }
 {
     let found = start_at(alarms, code, value, filters);
@@ -187,7 +187,7 @@ fn next_in<'a>(
     filters: &FilterSet,
 ) -> Option<&'a Notification>
     ensures { option_copied result
-        ≡ next_alarm cursor way filters.now (reverse (notifications alarms.now)) }
+        ≡ next_alarm cursor way filters.now (reverse (notifications alarms.now.kept)) }
 {
     match alarms.next(cursor, way, filters) {
         None => None,
@@ -202,7 +202,7 @@ fn next_read<'a>(
     client: u16,
     code: u32,
 ) -> Option<&'a Notification>
-    ensures { option_copied result ≡ read_in (reader_for client readers.now) code alarms.now }
+    ensures { option_copied result ≡ read_in (reader_for client readers.now) code alarms.now.kept }
 {
     let Some(reader) = reader_of(readers, client) else {
         return None;
@@ -269,11 +269,11 @@ pub fn read_on(
     code: u32,
 ) -> Result<Told, AllocError>
     ensures told { IfOk result (IsTold (read_answer is_user (reader_for client readers.old.items)
-        code alarms.now)
-        (found_reply (read_in (reader_for client readers.old.items) code alarms.now))) }
-    ensures readers { OnOk result (readers.new.items ≡ where_ok
-        (read_answer is_user (reader_for client readers.old.items) code alarms.now)
-        (readers_after alarms.now client (ReaderRead code) readers.old.items) readers.old.items) }
+        code alarms.now.kept)
+        (found_reply (read_in (reader_for client readers.old.items) code alarms.now.kept))) }
+    ensures readers { OnOk result (readers.new.items ≡ where_ok (read_answer is_user
+        (reader_for client readers.old.items) code alarms.now.kept) (readers_after
+        alarms.now.kept client (ReaderRead code) readers.old.items) readers.old.items) }
     ensures err { OnErr result (readers.new.items ≡ readers.old.items) }
 {
     let found = next_read(alarms, readers.as_slice(), client, code);

@@ -25,7 +25,7 @@ fn time_of(number: u64) -> i64
 
 /// Adds alarms of the ids 1 to 1,000, each in the record of its id, at times of the generator; the times.
 fn add_thousand(alloc: Global, view: &mut AlarmView) -> Result<Vec<i64>, Fail>
-    requires { view.old ≡ [] }
+    requires { view.old.kept ≡ [] }
 {
     let mut times = Vec::new(alloc);
     let mut number = 1;

@@ -63,8 +63,8 @@ pub(crate) fn add(
     time: i64,
 ) -> Result<(), Fail>
     requires bound { number < 2000 }
-    requires above { IsAboveAll number id view.old }
-    ensures { OnOk result (IsAboveAll (number + 1) (id + 1) view.new) }
+    requires above { IsAboveAll number id view.old.kept }
+    ensures { OnOk result (IsAboveAll (number + 1) (id + 1) view.new.kept) }
 {
     let alarm = alarm(alloc, id, time)?;
     view.add(number, alarm)?;

@@ -3,4 +3,4 @@ use Rattle.service_table.specs.Tables.{kept_alarm_of}
 use Rattle.service_core.proofs.restoring.restored_alarms.Given as goal
 
 abbrev pub invariant-loop-alarm : goal.invariant-loop-alarm
-invariant-loop-alarm l = l.view ≡ map kept_alarm_of (take l.alarm-index l.alarms)
+invariant-loop-alarm l = l.view.kept ≡ map kept_alarm_of (take l.alarm-index l.alarms)

@@ -8,7 +8,7 @@ use Rattle.service_core.proofs.saving.alarms_of.Goals as goal
 
 pub loop-place-preserved : goal.loop-place-preserved
 loop-place-preserved c =
-    let alarms = c.args.alarms.now in
+    let alarms = c.args.alarms.now.kept in
     let place = c.loop-place.place in
     c.in_ok-push_alarm.ensures
     ∙ ap (λ (front : List SavedAlarm). front ++ option_to_list (option_map saved_alarm (slice_get alarms place))) c.loop-place.invariant

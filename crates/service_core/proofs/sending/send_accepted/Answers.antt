@@ -48,7 +48,7 @@ send_stored-requires-clause-add c =
     let parts = c.args.parts.now in
     let few = c.requires.log.few in
     let id = c.requires.id in
-    λ alarm. can-add parts.log.last c.requires.log.number parts.ntf.last_id parts.log.streams c.args.sent.now parts.alarms (omega (arith, few)) alarm (omega (arith, id)) (inside c.requires.log.number parts.log c.requires.log.fit).each c.requires.alarms
+    λ alarm. can-add parts.log.last c.requires.log.number parts.ntf.last_id parts.log.streams c.args.sent.now parts.alarms.kept (omega (arith, few)) alarm (omega (arith, id)) (inside c.requires.log.number parts.log c.requires.log.fit).each c.requires.alarms
 
 pub returns-clause-ok : goal.returns-clause-ok
 returns-clause-ok c =

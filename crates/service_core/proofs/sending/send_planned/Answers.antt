@@ -7,7 +7,7 @@ use Rattle.service_core.proofs.sending.send_planned.Goals as goal
 
 pub offer_and_keep-requires-clause-add : goal.offer_and_keep-requires-clause-add
 offer_and_keep-requires-clause-add c =
-    subst (λ n. is_alarm c.args.sent.now.body ≡ true → CanAdd n c.args.sent.now c.args.parts.now.alarms) (sym c.alarm_number-number.ensures) c.requires.add
+    subst (λ n. is_alarm c.args.sent.now.body ≡ true → CanAdd n c.args.sent.now c.args.parts.now.alarms.kept) (sym c.alarm_number-number.ensures) c.requires.add
 
 pub keep_standing-requires : goal.keep_standing-requires
 keep_standing-requires c =

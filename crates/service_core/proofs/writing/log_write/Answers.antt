@@ -41,4 +41,4 @@ returns-clause-ok c =
     let times = c.ranges.time in
     let plans = simp to_z-of_z at c.in_ok-plan.ensures in
     let acted = c.in_ok-acted.ensures in
-    λ seq invocation. write-acted (table_of c.args.parts.now) c.args.client seq invocation c.args.flags c.args.now c.args.time c.args.name.now c.args.header.now c.args.body.now c.in_ok-plan.plan c.step.result.now.status c.make_planned.new.log c.keep_after.new.alarms c.in_ok-acted.acted plans (ap (λ (s : Step). s.status) c.step.ensures) acted.now c.keep_after.ensures acted.told acted.deeds
+    λ seq invocation. write-acted (table_of c.args.parts.now) c.args.client seq invocation c.args.flags c.args.now c.args.time c.args.name.now c.args.header.now c.args.body.now c.in_ok-plan.plan c.step.result.now.status c.make_planned.new.log c.keep_after.new.alarms.kept c.in_ok-acted.acted plans (ap (λ (s : Step). s.status) c.step.ensures) acted.now c.keep_after.ensures acted.told acted.deeds

@@ -9,5 +9,5 @@ use Rattle.service_parts.proofs.reading.start_in.Goals as goal
 
 pub returns : goal.returns
 returns c =
-    subst (λ (v : ℤ). c.start.result ≡ option_map cursor_before (starting c.args.mode v c.args.filters.now (reverse (notifications c.args.alarms.now)))) (to_z-of_z w64 c.args.value c.ranges.value)
-    (start-value c.args.mode _ c.args.filters.now c.args.alarms.now c.start.result c.start.ensures.order c.start.ensures.found c.start.ensures.none)
+    subst (λ (v : ℤ). c.start.result ≡ option_map cursor_before (starting c.args.mode v c.args.filters.now (reverse (notifications c.args.alarms.now.kept)))) (to_z-of_z w64 c.args.value c.ranges.value)
+    (start-value c.args.mode _ c.args.filters.now c.args.alarms.now.kept c.start.result c.start.ensures.order c.start.ensures.found c.start.ensures.none)
