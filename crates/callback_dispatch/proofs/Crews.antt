@@ -1,35 +1,34 @@
 -- What workers took together.
 use Rattle.std.proofs.Common.{◌≡◌, ℕ, ◌+◌, ◌≤◌, IsPermutation, true, false, cond, ltb, List, [], ◌∷◌, ◌++◌, length, take, drop, take_all, take-append-drop, length-append, sym, ap, subst, ◌∙◌, append-nil, append_assoc, arith}
 use Rattle.std.proofs.lemmas.Grind.{flat_map-append}
-use Rattle.std.proofs.lemmas.List.Sorted.{length_permutation, IsPermutation-refl, IsPermutation-trans, IsPermutation-append_left}
+use Rattle.std.proofs.lemmas.List.Sorted.{length_permutation, IsPermutation-refl, IsPermutation-sym, IsPermutation-trans, IsPermutation-append_left, IsPermutation-append_right}
 use mathlib.Core.List.{IsPrefix}
-use Rattle.std.specs.Global.{Vec}
 use Rattle.callback_dispatch.specs.declared.numbered.Numbered.{Numbered}
 use Rattle.calls.specs.declared.reply.Callback.{Callback}
 use Rattle.callback_dispatch.specs.Seen.{numbered, union, longer_of}
-use Rattle.callback_dispatch.specs.Crew.{gathered, TookMore}
+use Rattle.callback_dispatch.specs.Crew.{Room, gathered, TookMore}
 use Rattle.callback_dispatch.proofs.Elements.{length-numbered, length-prefix}
 use Rattle.callback_dispatch.proofs.Unions.{union-permutes}
 
 pub same_permutes : (xs ys : List Numbered) → ys ≡ xs → IsPermutation xs ys
 same_permutes xs ys same = subst (IsPermutation xs) (sym same) (IsPermutation-refl xs)
 
-gathered-more : (rooms more : List (Vec Numbered)) (room : Vec Numbered) → more ≡ rooms ++ room ∷ [] → gathered more ≡ gathered rooms ++ room.items
+gathered-more : (rooms more : List Room) (room : Room) → more ≡ rooms ++ room ∷ [] → gathered more ≡ gathered rooms ++ room.items
 gathered-more rooms more room is =
-    ap gathered is ∙ flat_map-append (λ (r : Vec Numbered). r.items) rooms (room ∷ []) ∙ ap (λ l. gathered rooms ++ l) (append-nil room.items)
+    ap gathered is ∙ flat_map-append (λ (r : Room). r.items) rooms (room ∷ []) ∙ ap (λ l. gathered rooms ++ l) (append-nil room.items)
 
 -- no worker
-pub none_took : (list : List Numbered) (rooms : List (Vec Numbered)) → rooms ≡ [] → IsPermutation (list ++ gathered rooms) list
-none_took list rooms none = same_permutes (list ++ gathered rooms) list (sym (ap (λ (r : List (Vec Numbered)). list ++ gathered r) none ∙ append-nil list))
+pub none_took : (list : List Numbered) (rooms : List Room) → rooms ≡ [] → IsPermutation (list ++ gathered rooms) list
+none_took list rooms none = same_permutes (list ++ gathered rooms) list (sym (ap (λ (r : List Room). list ++ gathered r) none ∙ append-nil list))
 
 -- a worker alone
-pub one_took : (list new : List Numbered) (rooms more : List (Vec Numbered)) (room : Vec Numbered) → rooms ≡ [] → more ≡ rooms ++ room ∷ [] → new ≡ list ++ room.items → IsPermutation (list ++ gathered more) new
+pub one_took : (list new : List Numbered) (rooms more : List Room) (room : Room) → rooms ≡ [] → more ≡ rooms ++ room ∷ [] → new ≡ list ++ room.items → IsPermutation (list ++ gathered more) new
 one_took list new rooms more room none is took =
-    let all : gathered more ≡ room.items = gathered-more rooms more room is ∙ ap (λ (r : List (Vec Numbered)). gathered r ++ room.items) none in
+    let all : gathered more ≡ room.items = gathered-more rooms more room is ∙ ap (λ (r : List Room). gathered r ++ room.items) none in
     same_permutes (list ++ gathered more) new (took ∙ sym (ap (λ (l : List Numbered). list ++ l) all))
 
 -- a worker beside others
-pub both_took : (list old other mine theirs new : List Numbered) (rooms more : List (Vec Numbered)) (room : Vec Numbered) → more ≡ rooms ++ room ∷ [] → other ≡ [] → mine ≡ other ++ room.items → old ≡ list → IsPermutation (old ++ gathered rooms) theirs → new ≡ union theirs mine → IsPermutation (list ++ gathered more) new
+pub both_took : (list old other mine theirs new : List Numbered) (rooms more : List Room) (room : Room) → more ≡ rooms ++ room ∷ [] → other ≡ [] → mine ≡ other ++ room.items → old ≡ list → IsPermutation (old ++ gathered rooms) theirs → new ≡ union theirs mine → IsPermutation (list ++ gathered more) new
 both_took list old other mine theirs new rooms more room is empty took same others joined =
     let own : mine ≡ room.items = took ∙ ap (λ (l : List Numbered). l ++ room.items) empty in
     let all : list ++ gathered more ≡ (old ++ gathered rooms) ++ mine = ap (λ (l : List Numbered). list ++ l) (gathered-more rooms more room is) ∙ sym (append_assoc list (gathered rooms) room.items) ∙ ap (λ (l : List Numbered). (l ++ gathered rooms) ++ room.items) (sym same) ∙ ap (λ (l : List Numbered). (old ++ gathered rooms) ++ l) (sym own) in
@@ -41,14 +40,6 @@ both_took list old other mine theirs new rooms more room is empty took same othe
 pub joined_known : (one two known new : List Callback) → new ≡ longer_of one two → one ≡ known → two ≡ known → new ≡ known
 joined_known one two known new joined first second =
     joined ∙ elim (ltb (length one) (length two)) as (λ b. cond b two one ≡ known) [ true ↦ second | false ↦ first ]
-
--- a room fits into what all rooms fit into
-pub room_fits : (answer all : List Numbered) (rooms rest : List (Vec Numbered)) (room : Vec Numbered) → rooms ≡ room ∷ rest → answer ++ gathered rooms ≡ all → length answer + length room.items ≤ length all
-room_fits answer all rooms rest room is so_far =
-    let parts = ap length (ap (λ (r : List (Vec Numbered)). answer ++ gathered r) (sym is) ∙ so_far) in
-    let long = length-append answer (room.items ++ gathered rest) in
-    let longer = length-append room.items (gathered rest) in
-    omega arith
 
 pub took_nothing : (list answer : List Numbered) → TookMore list answer list answer
 took_nothing list answer = ([], sym (append-nil list), sym (append-nil answer))
@@ -98,9 +89,10 @@ length_together before taken list new count shuffled counted same =
     let parts = length-append before taken in
     omega arith
 
-pub took_same : (before taken given list new : List Numbered) → IsPermutation (before ++ taken) list → given ≡ taken → new ≡ list → IsPermutation (before ++ given) new
-took_same before taken given list new shuffled handed same =
-    subst (λ (y : List Numbered × List Numbered). IsPermutation (before ++ y.0) y.1) (λ i. (sym handed i, sym same i)) shuffled
+pub took_same : (before taken given list new : List Numbered) → IsPermutation (before ++ taken) list → IsPermutation taken given → new ≡ list → IsPermutation (before ++ given) new
+took_same before taken given list new shuffled merged same =
+    let back = IsPermutation-append_right before given taken (IsPermutation-sym taken given merged) in
+    subst (IsPermutation (before ++ given)) (sym same) (IsPermutation-trans (before ++ given) (before ++ taken) list back shuffled)
 
 -- the rest that one taker takes comes behind what the workers took
 pub took_rest : (fed told known : List Callback) (before taken list left new more : List Numbered) → IsPermutation (before ++ taken) list → TookMore list taken left more → new ≡ numbered 1 (take (length new) told) → new ≡ left → known ≡ told → told ≡ fed → length known ≤ length left → IsPermutation (before ++ more) (numbered 1 fed)

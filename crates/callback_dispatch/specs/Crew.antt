@@ -1,16 +1,21 @@
 -- Words of bodies alone: the rooms into which workers put what they take.
-use Rattle.std.specs.Prelude.{◌≡◌, ℕ, ◌≤◌, All, vec_capacity, List, [], ◌++◌}
+use Rattle.std.specs.Prelude.{◌≡◌, ℕ, ◌≤◌, All, List, [], ◌++◌}
 use Rattle.std.specs.List.{flat_map}
-use Rattle.std.specs.Global.{Vec}
+use Rattle.std.specs.Global.{Global}
+use Rattle.std.specs.VecDeque.{deque_capacity}
+use Rattle.std_alloc.specs.declared.vec.deque.VecDeque.{VecDeque}
 use Rattle.callback_dispatch.specs.declared.numbered.Numbered.{Numbered}
 
-abbrev pub gathered : List (Vec Numbered) → List Numbered
+abbrev pub Room : Type 0
+Room = VecDeque Numbered Global
+
+abbrev pub gathered : List Room → List Numbered
 gathered rooms = flat_map (λ room. room.items) rooms
 
-abbrev pub IsFree : ℕ → Vec Numbered → Type 0
-IsFree places room = (room.items ≡ []) × (places ≤ vec_capacity room)
+abbrev pub IsFree : ℕ → Room → Type 0
+IsFree places room = (room.items ≡ []) × (places ≤ deque_capacity room)
 
-abbrev pub AreFree : ℕ → List (Vec Numbered) → Type 0
+abbrev pub AreFree : ℕ → List Room → Type 0
 AreFree places rooms = All (IsFree places) rooms
 
 -- the same elements come to both lists

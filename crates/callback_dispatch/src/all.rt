@@ -4,7 +4,8 @@ ghost use Rattle.std.specs.List.Sorted.{IsNonDecreasingBy};
 ghost use Rattle.callback_dispatch.specs.Seen.{numbered};
 ghost use Rattle.callback_dispatch.specs.Crew.{AreFree};
 
-use crate::workers::{free_rooms, gather, pour, take_left};
+use crate::rooms::{Room, free_rooms, merge};
+use crate::workers::{gather, take_left};
 use crate::{CallbackQueue, Feeder, Gate, Numbered, Taker};
 use ais_values::Seq;
 use std::alloc::{AllocError, Global};
@@ -17,7 +18,7 @@ fn free_memory(
     workers: u32,
     places: usize,
     waiting: usize,
-) -> Result<(Vec<Vec<Numbered>>, Vec<Numbered>), AllocError>
+) -> Result<(Vec<Room>, Vec<Numbered>), AllocError>
     ensures rooms { IfOk result (λ free. (vec_len free.0 ≡ workers) × AreFree places free.0.items) }
     ensures answer { IfOk result (λ free. (free.1.items ≡ []) × (waiting ≤ vec_capacity free.1)) }
 {
@@ -57,7 +58,7 @@ fn take_by_workers<R: Threads + Wait + Sync, G: Gate>(
     feeder: &mut Feeder,
     taker: Taker,
     waiting: usize,
-    free: (Vec<Vec<Numbered>>, Vec<Numbered>),
+    free: (Vec<Room>, Vec<Numbered>),
     gate: &G,
 ) -> (Taker, Vec<Numbered>)
     requires feeder { feeder.old.queue ≡ queue.now.name }
@@ -77,7 +78,7 @@ fn take_by_workers<R: Threads + Wait + Sync, G: Gate>(
     let (rooms, answer) = free;
     let (mut taker, rooms) = gather(rt, queue, taker, 0, queue.capacity(), rooms, gate);
     settle(queue, feeder, &mut taker);
-    let answer = pour(rooms, answer);
+    let answer = merge(rooms, answer);
     (taker, answer)
 }
 
@@ -89,7 +90,7 @@ fn take_all<R: Threads + Wait + Sync, G: Gate>(
     feeder: &mut Feeder,
     taker: Taker,
     waiting: usize,
-    free: (Vec<Vec<Numbered>>, Vec<Numbered>),
+    free: (Vec<Room>, Vec<Numbered>),
     gate: &G,
 ) -> (Taker, Vec<Numbered>)
     requires feeder { feeder.old.queue ≡ queue.now.name }

@@ -6,6 +6,7 @@ mod gate;
 mod law;
 mod numbered;
 mod queue;
+mod rooms;
 mod rule;
 mod workers;
 

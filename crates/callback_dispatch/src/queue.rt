@@ -1,5 +1,5 @@
 //! The queue, its feeder and its takers.
-ghost use Rattle.std.specs.Prelude.{◌≡◌, suc, ◌+◌, ◌-◌, ◌^◌, ◌<◌, ◌≤◌, Some, [], ◌∷◌, ◌++◌, length, IfOk, IfErr, OnOk, IfSome, IfNone};
+ghost use Rattle.std.specs.Prelude.{◌≡◌, suc, ◌+◌, ◌-◌, ◌^◌, ◌<◌, ◌≤◌, Some, [], ◌∷◌, ◌++◌, length, IfOk, IfErr, OnOk, IfSome, IfNone, option_to_list};
 ghost use mathlib.Core.List.{IsPrefix};
 ghost use Rattle.callback_dispatch.specs.Seen.{numbered, AllBelow, union, longer_of, IsBeginningOf, IsMade};
 ghost use Rattle.callback_dispatch.specs.Rule.{IsNext};
@@ -197,6 +197,16 @@ impl CallbackQueue {
         let mut one = one;
         self.ring.absorb::<Parts>(&mut one.pass, two.pass);
         one
+    }
+
+    // One attempt at `dispatch_one`, which also fails where another taker is in the way.
+    pub(crate) fn attempt(&self, taker: &mut Taker) -> Option<Numbered>
+        requires { taker.old.queue ≡ self.now.name }
+        ensures same { (taker.new.queue ≡ taker.old.queue) × (taker.new.share ≡ taker.old.share)
+            × (taker.new.known ≡ taker.old.known) }
+        ensures list { taker.new.list ≡ taker.old.list ++ option_to_list result }
+    {
+        self.ring.try_pop_as::<Pop>(&mut taker.pass)
     }
 
     // What `meet` does, which cannot fail.

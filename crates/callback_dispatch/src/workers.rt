@@ -1,40 +1,43 @@
 //! The workers of a dispatch, each in a thread of its own.
-ghost use Rattle.std.specs.Prelude.{◌≡◌, ◌+◌, ◌^◌, ◌<◌, ◌≤◌, [], ◌∷◌, ◌++◌, length, IsPermutation, IfOk, IfSome, IfNone, vec_len, vec_capacity};
+ghost use Rattle.std.specs.Prelude.{◌≡◌, ◌+◌, ◌^◌, ◌<◌, ◌≤◌, [], ◌∷◌, ◌++◌, length, IsPermutation, option_to_list, vec_len, vec_capacity};
 ghost use Rattle.std.specs.Thread.{IsSync};
 ghost use Rattle.callback_dispatch.specs.Crew.{gathered, IsFree, AreFree, TookMore};
 
+use crate::rooms::{Room, next_room};
 use crate::{CallbackQueue, Gate, Numbered, Taker};
-use std::alloc::{AllocError, Global};
 use std::sync::Wait;
-use std::thread;
 use std::thread::Threads;
+use std::{hint, thread};
 
-// An empty room of so many places for each worker.
-pub fn free_rooms(
-    alloc: Global,
-    workers: u32,
-    places: usize,
-) -> Result<Vec<Vec<Numbered>>, AllocError>
-    ensures { IfOk result (λ rooms. (vec_len rooms ≡ workers) × AreFree places rooms.items) }
-{
-    let mut rooms = Vec::with_capacity(alloc, workers as usize)?;
-    for made in 0..workers {
-        let room = Vec::with_capacity(alloc, places)?;
-        rooms.push_reserved(room);
+// How often a worker's time aside doubles.
+const LONGEST: u32 = 10;
+
+// Lets a moment pass: the longer, the more often the worker met another one.
+fn step_aside(met: u32) {
+    for _ in 0..1u32 << met.min(LONGEST) {
+        hint::spin_loop();
     }
-    Ok(rooms)
 }
 
-// The last room, if there is one.
-fn next_room(rooms: &mut Vec<Vec<Numbered>>, places: usize) -> Option<Vec<Numbered>>
-    requires { AreFree places rooms.old.items }
-    ensures some { IfSome result (λ room. IsFree places room × AreFree places rooms.new.items
-        × (vec_len rooms.new + 1 ≡ vec_len rooms.old)) }
-    ensures none { IfNone result ((rooms.new.items ≡ [])
-        × (vec_len rooms.new ≡ vec_len rooms.old)) }
-    ensures capacity { vec_capacity rooms.new ≡ vec_capacity rooms.old }
+// Takes the oldest element. A worker that finds another one in its way steps aside first, each time for longer, so that
+// they take whole runs and do not hold each other up.
+fn take<R: Wait>(
+    rt: &R,
+    queue: &CallbackQueue,
+    taker: &mut Taker,
+    met: &mut u32,
+) -> Option<Numbered>
+    requires { taker.old.queue ≡ queue.now.name }
+    ensures same { (taker.new.queue ≡ taker.old.queue) × (taker.new.share ≡ taker.old.share)
+        × (taker.new.known ≡ taker.old.known) }
+    ensures list { taker.new.list ≡ taker.old.list ++ option_to_list result }
 {
-    rooms.pop()
+    if let Some(element) = queue.attempt(taker) {
+        return Some(element);
+    }
+    step_aside(*met);
+    *met = met.saturating_add(1);
+    queue.dispatch_one(rt, taker)
 }
 
 // One worker takes until it finds nothing, or has taken as many elements as the queue has places.
@@ -44,9 +47,9 @@ fn work<R: Wait, G: Gate>(
     taker: Taker,
     worker: u32,
     places: usize,
-    room: Vec<Numbered>,
+    room: Room,
     gate: &G,
-) -> (Taker, Vec<Numbered>)
+) -> (Taker, Room)
     requires queue { taker.queue ≡ queue.now.name }
     requires free { IsFree places room }
     ensures same { (result.0.queue ≡ taker.queue) × (result.0.share ≡ taker.share)
@@ -56,11 +59,12 @@ fn work<R: Wait, G: Gate>(
     gate.hold(worker);
     let mut taker = taker;
     let mut room = room;
+    let mut met = 0;
     while room.len() < places {
-        let Some(element) = queue.dispatch_one(rt, &mut taker) else {
+        let Some(element) = take(rt, queue, &mut taker, &mut met) else {
             return (taker, room);
         };
-        room.push_reserved(element);
+        room.push_back_reserved(element);
     }
     (taker, room)
 }
@@ -74,9 +78,9 @@ pub fn gather<R: Threads + Wait + Sync, G: Gate>(
     mut taker: Taker,
     worker: u32,
     places: usize,
-    mut rooms: Vec<Vec<Numbered>>,
+    mut rooms: Vec<Room>,
     gate: &G,
-) -> (Taker, Vec<Vec<Numbered>>)
+) -> (Taker, Vec<Room>)
     requires queue { taker.queue ≡ queue.now.name }
     requires share { vec_len rooms ≤ taker.share }
     requires workers { worker + vec_len rooms < 2 ^ 32 }
@@ -98,13 +102,13 @@ pub fn gather<R: Threads + Wait + Sync, G: Gate>(
     let other = queue.cut(&mut taker);
     let ((one, room), (two, mut rooms)) = thread::join(
         rt,
-        move || -> (Taker, Vec<Numbered>)
+        move || -> (Taker, Room)
             requires { IsSync R.row × IsSync G.row × (other.queue ≡ queue.now.name)
                 × IsFree places room }
             ensures { (result.0.queue ≡ other.queue) × (result.0.share ≡ other.share)
                 × (result.0.known ≡ other.known) × (result.0.list ≡ other.list ++ result.1.items) }
         { work(rt, queue, other, worker, places, room, gate) },
-        move || -> (Taker, Vec<Vec<Numbered>>)
+        move || -> (Taker, Vec<Room>)
             requires { IsSync R.row × IsSync G.row × (taker.queue ≡ queue.now.name)
                 × (vec_len rooms ≤ taker.share) × (worker + 1 + vec_len rooms < 2 ^ 32)
                 × AreFree places rooms.items }
@@ -117,24 +121,6 @@ pub fn gather<R: Threads + Wait + Sync, G: Gate>(
     );
     rooms.push_reserved(room);
     (queue.join_takers(rt, two, one), rooms)
-}
-
-// What the workers took, in an empty vector that has room for it.
-pub fn pour(rooms: Vec<Vec<Numbered>>, answer: Vec<Numbered>) -> Vec<Numbered>
-    requires empty { answer.items ≡ [] }
-    requires fits { length (gathered rooms.items) ≤ vec_capacity answer }
-    ensures items { result.items ≡ gathered rooms.items }
-    ensures len { vec_len result ≡ length (gathered rooms.items) }
-    ensures capacity { vec_capacity answer ≤ vec_capacity result }
-{
-    let mut answer = answer;
-    for mut room in rooms {
-        let Ok(()) = answer.append(&mut room) else {
-            unreachable!()
-        };
-        drop(room);
-    }
-    answer
 }
 
 // Takes what is left, at most so many elements.
