@@ -6,6 +6,7 @@ ghost use Rattle.disk_model.specs.declared.answers.DiskAnswer.{DiskAnswer};
 ghost use Rattle.disk_model.specs.declared.answers.DiskFault.{DiskFault};
 
 use crate::folders::{self, PATH_BYTES, path_of};
+use crate::kept_files::KeptFiles;
 use crate::tally::Tally;
 use crate::walk::all_names;
 use crate::{DiskAnswer, DiskFault, SharedDisk};
@@ -27,19 +28,23 @@ use std::rt::Files;
 /// cannot sync a folder, the change of the name is as durable as the system makes it by itself. What a
 /// device does behind the system's back is not known.
 ///
+/// The files that were changed last stay open, at most 8, so that a file that is written again is not looked for
+/// again. So another program may read the files, but what it does to the names and lengths of these is not seen.
+///
 /// Where it was armed to stop in a `write_at`, it writes half of the bytes, rounded down, if it can, and stops; in
-/// another call it does nothing and stops. A crash leaves the files as they are.
+/// another call it does nothing and stops. A crash leaves the files as they are. Both close all files.
 ///
 /// Contracts see what it counts.
 #[derive(Drop)]
-pub struct DirDisk<R: Drop> {
+pub struct DirDisk<R: Files + Drop> {
     rt: R,
+    kept: KeptFiles<R>,
     tally: Tally,
     faults: u64,
     stops: u64,
 }
 
-impl<R: Drop> Model for DirDisk<R> {
+impl<R: Files + Drop> Model for DirDisk<R> {
     ghost use Rattle.disk_model.specs.Counts.{Counters};
 
     ghost Value = { Counters };
@@ -47,13 +52,15 @@ impl<R: Drop> Model for DirDisk<R> {
     ghost view = { λ disk. record { faults = disk.faults; stops = disk.stops; tally = disk.tally } };
 }
 
-impl<R: Drop> DirDisk<R> {
+impl<R: Files + AllocGlobal + Drop> DirDisk<R> {
     /// The disk of this runtime's file system, not armed.
     pub fn new(rt: R) -> DirDisk<R>
         ensures { result ≡ record { faults = 0; stops = 0; tally = no_calls } }
     {
+        let kept = KeptFiles::new(rt.alloc());
         DirDisk {
             rt,
+            kept,
             tally: Tally::new(),
             faults: 0,
             stops: 0,
@@ -73,13 +80,14 @@ impl<R: Drop> DirDisk<R> {
         self.faults = self.faults.saturating_add(1);
     }
 
-    // The answer of a changing call at which the disk stops.
+    // The answer of a changing call at which the disk stops. No file is open then.
     fn stop(&mut self) -> Result<(), DiskAnswer>
         requires { reaches 1 self.old.tally.armed ≡ true }
         ensures cause { RoseExactlyOn self.old.faults self.new.faults result DiskAnswer.Failed }
         ensures stop { RoseExactlyOn self.old.stops self.new.stops result DiskAnswer.Stopped }
         ensures counted { Counts result self.old.tally self.new.tally }
     {
+        self.kept.close_all();
         self.tally.stop();
         self.stops = self.stops.saturating_add(1);
         Err(DiskAnswer::Stopped)
@@ -161,27 +169,19 @@ impl<R: Files + AllocGlobal + Clone + Drop> SharedDisk for DirDisk<R> {
         if self.tally.stops_next() {
             return self.stop();
         }
-        let mut buffer = [0; PATH_BYTES];
-        let said = match path_of(name, &mut buffer) {
-            Some(path) => folders::create(&self.rt, path),
-            None => Err(io::Error::from(io::ErrorKind::InvalidFilename)),
-        };
+        let said = self.kept.create(&self.rt, self.rt.alloc(), name);
         self.told(said)
     }
 
     fn write_at(&mut self, name: &[u8], at: u64, bytes: &[u8]) -> Result<(), DiskAnswer> {
-        let mut buffer = [0; PATH_BYTES];
-        let path = path_of(name, &mut buffer);
+        let alloc = self.rt.alloc();
         if self.tally.stops_next() {
-            if let Some(path) = path {
-                let _ = folders::write_at(&self.rt, path, at, &bytes[..bytes.len() / 2]);
-            }
+            let _ = self
+                .kept
+                .write_at(&self.rt, alloc, name, at, &bytes[..bytes.len() / 2]);
             return self.stop();
         }
-        let said = match path {
-            Some(path) => folders::write_at(&self.rt, path, at, bytes),
-            None => Err(io::Error::from(io::ErrorKind::InvalidFilename)),
-        };
+        let said = self.kept.write_at(&self.rt, alloc, name, at, bytes);
         self.told(said)
     }
 
@@ -189,11 +189,7 @@ impl<R: Files + AllocGlobal + Clone + Drop> SharedDisk for DirDisk<R> {
         if self.tally.stops_next() {
             return self.stop();
         }
-        let mut buffer = [0; PATH_BYTES];
-        let said = match path_of(name, &mut buffer) {
-            Some(path) => folders::cut(&self.rt, path, len),
-            None => Err(io::Error::from(io::ErrorKind::InvalidFilename)),
-        };
+        let said = self.kept.cut(&self.rt, self.rt.alloc(), name, len);
         self.told(said)
     }
 
@@ -201,11 +197,7 @@ impl<R: Files + AllocGlobal + Clone + Drop> SharedDisk for DirDisk<R> {
         if self.tally.stops_next() {
             return self.stop();
         }
-        let mut buffer = [0; PATH_BYTES];
-        let said = match path_of(name, &mut buffer) {
-            Some(path) => folders::sync(&self.rt, path),
-            None => Err(io::Error::from(io::ErrorKind::InvalidFilename)),
-        };
+        let said = self.kept.sync(&self.rt, self.rt.alloc(), name);
         self.told(said)
     }
 
@@ -213,6 +205,8 @@ impl<R: Files + AllocGlobal + Clone + Drop> SharedDisk for DirDisk<R> {
         if self.tally.stops_next() {
             return self.stop();
         }
+        self.kept.close(from);
+        self.kept.close(to);
         let mut before = [0; PATH_BYTES];
         let mut after = [0; PATH_BYTES];
         let said = match (path_of(from, &mut before), path_of(to, &mut after)) {
@@ -226,6 +220,7 @@ impl<R: Files + AllocGlobal + Clone + Drop> SharedDisk for DirDisk<R> {
         if self.tally.stops_next() {
             return self.stop();
         }
+        self.kept.close(name);
         let mut buffer = [0; PATH_BYTES];
         let said = match path_of(name, &mut buffer) {
             Some(path) => folders::remove(&self.rt, path),
@@ -234,7 +229,9 @@ impl<R: Files + AllocGlobal + Clone + Drop> SharedDisk for DirDisk<R> {
         self.told(said)
     }
 
-    fn crash(&mut self) {}
+    fn crash(&mut self) {
+        self.kept.close_all();
+    }
 
     fn arm(&mut self, left: u64) {
         self.tally.arm(left);

@@ -3,7 +3,7 @@ ghost use Rattle.std.specs.Prelude.{◌≤◌, length, IfOk};
 
 use std::alloc::Global;
 use std::fs::{Metadata, OpenFile, OpenOptions};
-use std::io::{ErrorKind, Read, Seek, SeekFrom, Write};
+use std::io::{ErrorKind, Read, Seek, SeekFrom};
 use std::rt::Files;
 use std::{fs, io};
 
@@ -103,8 +103,8 @@ pub fn make_folders<R: Files>(rt: &R, folder: &str) -> io::Result<()> {
     Ok(())
 }
 
-/// Makes an empty file, durably; an old one is replaced.
-pub fn create<R: Files>(rt: &R, path: &str) -> io::Result<()> {
+/// Makes an empty file, durably, and opens it for writing; an old one is replaced.
+pub fn create<R: Files>(rt: &R, path: &str) -> io::Result<R::File> {
     let folder = folder_of(path);
     make_folders(rt, folder)?;
     let file = OpenOptions::new()
@@ -113,41 +113,8 @@ pub fn create<R: Files>(rt: &R, path: &str) -> io::Result<()> {
         .truncate(true)
         .open(rt, path)?;
     file.sync_all()?;
-    sync_folder(rt, folder)
-}
-
-/// Writes into a file. Past its end nothing is written; an absent file is a fault.
-pub fn write_at<R: Files>(rt: &R, path: &str, at: u64, bytes: &[u8]) -> io::Result<()> {
-    let Some(found) = look(rt, path)? else {
-        return Err(io::Error::from(ErrorKind::NotFound));
-    };
-    if at > found.len() {
-        return Ok(());
-    }
-    let mut file = OpenOptions::new().write(true).open(rt, path)?;
-    file.seek(SeekFrom::Start(at))?;
-    file.write_all(bytes)
-}
-
-/// Keeps at most so many bytes of a file. An absent file is none to cut.
-pub fn cut<R: Files>(rt: &R, path: &str, len: u64) -> io::Result<()> {
-    let Some(found) = look(rt, path)? else {
-        return Ok(());
-    };
-    if len >= found.len() {
-        return Ok(());
-    }
-    let file = OpenOptions::new().write(true).open(rt, path)?;
-    file.set_len(len)
-}
-
-/// Makes a file's bytes durable. An absent file is none to sync.
-pub fn sync<R: Files>(rt: &R, path: &str) -> io::Result<()> {
-    if look(rt, path)?.is_none() {
-        return Ok(());
-    }
-    let file = OpenOptions::new().write(true).open(rt, path)?;
-    file.sync_all()
+    sync_folder(rt, folder)?;
+    Ok(file)
 }
 
 /// Gives a file another name, durably. An absent file is none to rename.

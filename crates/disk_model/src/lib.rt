@@ -6,6 +6,7 @@ mod bytes;
 mod dir_disk;
 mod entries;
 mod folders;
+mod kept_files;
 mod mem_disk;
 mod shared_disk;
 mod shelf;

@@ -3,6 +3,7 @@ use disk_model::*;
 use std::alloc::Global;
 use std::fs;
 use std::process::Abort;
+use std::rt::Files;
 use std::test::Fail;
 
 const ROOT: &str = "ais_log_root";
@@ -121,6 +122,57 @@ fn stops_in_a_write<D: SharedDisk>(
     disk.remove(b"stop/f")
 }
 
+// What another program finds in a file below the root.
+fn stands(rt: &(impl Abort + Files + AllocGlobal), path: &str, want: &[u8]) -> Result<(), Fail> {
+    let found = fs::read(rt, path)?;
+    assert_eq!(rt; found.as_slice(), want, "bytes of {path}");
+    Ok(())
+}
+
+// Of more files than a disk on folders keeps open each is written rightly, under its name and under another's.
+fn follows_names<D: SharedDisk>(
+    rt: &(impl Abort + Files + AllocGlobal),
+    disk: &mut D,
+) -> Result<(), Fail> {
+    for name in [
+        "k/a", "k/b", "k/c", "k/d", "k/e", "k/f", "k/g", "k/h", "k/i",
+    ] {
+        disk.create(name.as_bytes())?;
+        disk.write_at(name.as_bytes(), 0, name.as_bytes())?;
+    }
+    disk.write_at(b"k/a", 3, b"+")?;
+    disk.sync(b"k/a")?;
+    stands(rt, "ais_log_root/k/a", b"k/a+")?;
+    disk.rename(b"k/a", b"k/b")?;
+    assert_eq!(rt; disk.write_at(b"k/a", 0, b"x"), Err(DiskAnswer::Failed));
+    disk.sync(b"k/a")?;
+    disk.write_at(b"k/b", 4, b"new")?;
+    stands(rt, "ais_log_root/k/b", b"k/a+new")
+}
+
+// A file that stays open is made anew, cut and removed, and its length is known then; a crash closes it.
+fn follows_lengths<D: SharedDisk>(
+    rt: &(impl Abort + Files + AllocGlobal),
+    disk: &mut D,
+) -> Result<(), Fail> {
+    disk.write_at(b"k/b", 7, b"er")?;
+    disk.create(b"k/b")?;
+    disk.write_at(b"k/b", 1, b"past the end")?;
+    stands(rt, "ais_log_root/k/b", b"")?;
+    disk.remove(b"k/b")?;
+    assert_eq!(rt; disk.write_at(b"k/b", 0, b"x"), Err(DiskAnswer::Failed));
+    disk.cut(b"k/b", 0)?;
+    disk.create(b"k/b")?;
+    disk.write_at(b"k/b", 0, b"anew")?;
+    disk.cut(b"k/b", 2)?;
+    disk.write_at(b"k/b", 3, b"past the end")?;
+    disk.write_at(b"k/b", 2, b"!")?;
+    disk.crash();
+    disk.write_at(b"k/b", 3, b"?")?;
+    disk.sync(b"k/b")?;
+    stands(rt, "ais_log_root/k/b", b"an!?")
+}
+
 #[test]
 fn a_disk_on_folders_changes_its_files(rt: HostRuntime) -> Result<(), Fail> {
     let alloc = rt.alloc();
@@ -130,6 +182,8 @@ fn a_disk_on_folders_changes_its_files(rt: HostRuntime) -> Result<(), Fail> {
     );
     let mut disk = DirDisk::new(rt.clone()?);
     changes_files(&rt, &mut disk, alloc)?;
+    follows_names(&rt, &mut disk)?;
+    follows_lengths(&rt, &mut disk)?;
     assert_eq!(rt;
         disk.read(b"absent", 0, &mut [0; 2]),
         Err(DiskFault::Failed)
