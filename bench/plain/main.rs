@@ -1,0 +1,42 @@
+//! The scripts of `bench/play` and `bench/load`, played by plain Rust: what the proved program is measured against. It prints the
+//! same bytes and leaves the same files, keeps the net as spelled messages with an index, and the history, and keeps files open.
+//! It takes only the lines that these scripts have, and stops at any other.
+//!
+//! Words: none plays the script of the standard input on one server; `load COUNT SEED` the script of a large run on two servers,
+//! and prints one line; `writes COUNT` makes the writes and syncs of that run and nothing else.
+mod disk;
+mod lines;
+mod load;
+mod messages;
+mod service;
+mod world;
+
+use std::io::{self, Read, Write};
+use world::World;
+
+fn play_input() -> io::Result<()> {
+    let mut script = String::new();
+    io::stdin().read_to_string(&mut script)?;
+    let mut lines = script.lines();
+    let mut world = World::begin(lines.next().expect("a cluster line"), false, true)?;
+    let mut stdout = io::stdout().lock();
+    for line in lines {
+        world.play(line)?;
+        stdout.write_all(&world.take_lines())?;
+    }
+    Ok(())
+}
+
+fn main() -> io::Result<()> {
+    let words: Vec<String> = std::env::args().skip(1).collect();
+    let words: Vec<&str> = words.iter().map(String::as_str).collect();
+    match words[..] {
+        [] => play_input(),
+        ["load", count, seed] => {
+            println!("{}", load::load(lines::number(count), lines::number(seed))?);
+            Ok(())
+        }
+        ["writes", count] => load::writes(lines::number(count)),
+        _ => panic!("words: none, load COUNT SEED, or writes COUNT"),
+    }
+}
