@@ -1,5 +1,5 @@
 //! What is shown of the files of a disk.
-ghost use Rattle.std.specs.Prelude.{◌≡◌, ◌≤◌, length, IfOk, IfSome, OnOk};
+ghost use Rattle.std.specs.Prelude.{◌≡◌, ◌≤◌, length, IfOk, IfSome, IsErrOf, OnOk};
 ghost use Rattle.ais_values.specs.Causes.{RoseExactlyOn};
 ghost use Rattle.disk_model.specs.Disk.{bytes_at};
 ghost use Rattle.disk_model.specs.declared.answers.DiskAnswer.{DiskAnswer};
@@ -22,6 +22,8 @@ fn put_file_of<D: SharedDisk>(
         lines.new.items) }
     ensures same { D.files disk.new ≡ D.files disk.old }
     ensures cause { RoseExactlyOn (D.faults disk.old) (D.faults disk.new) result DiskAnswer.Failed }
+    ensures never_stopped { IsErrOf result DiskAnswer.Stopped → ⊥ }
+    ensures armed { (D.tally disk.new).armed ≡ (D.tally disk.old).armed }
 {
     match disk.len(name) {
         Ok(Some(len)) => match put_file(alloc, lines, name, len) {
@@ -35,11 +37,13 @@ fn put_file_of<D: SharedDisk>(
 
 /// The lines of the files, in byte order of their names. A name without a length is left out.
 ///
-/// The disk is only read. `Failed` comes exactly where its count of faults rose.
+/// The disk is only read, so it never stops. `Failed` comes exactly where its count of faults rose.
 pub fn list_files<D: SharedDisk>(alloc: Global, disk: &mut D) -> Result<Vec<Seq<u8>>, DiskAnswer>
     ensures listed { IfOk result (λ lines. ListsFiles (D.files disk.old) lines.items) }
     ensures same { D.files disk.new ≡ D.files disk.old }
     ensures cause { RoseExactlyOn (D.faults disk.old) (D.faults disk.new) result DiskAnswer.Failed }
+    ensures never_stopped { IsErrOf result DiskAnswer.Stopped → ⊥ }
+    ensures armed { (D.tally disk.new).armed ≡ (D.tally disk.old).armed }
 {
     let names = match disk.names(alloc) {
         Ok(names) => names,
@@ -69,6 +73,8 @@ fn read_front<D: SharedDisk>(
     ensures unread { size ≡ 0 → disk.new ≡ disk.old }
     ensures same { D.files disk.new ≡ D.files disk.old }
     ensures cause { RoseExactlyOn (D.faults disk.old) (D.faults disk.new) result DiskAnswer.Failed }
+    ensures never_stopped { IsErrOf result DiskAnswer.Stopped → ⊥ }
+    ensures armed { (D.tally disk.new).armed ≡ (D.tally disk.old).armed }
 {
     if size == 0 {
         return Ok(Seq::new(alloc));
@@ -86,8 +92,9 @@ fn read_front<D: SharedDisk>(
     }
 }
 
-/// The bytes of a file; `None` where there is no file of that name. `Failed` comes exactly where the disk's count of faults
-/// rose.
+/// The bytes of a file; `None` where there is no file of that name.
+///
+/// The disk is only read, so it never stops. `Failed` comes exactly where its count of faults rose.
 pub fn read_file<D: SharedDisk>(
     alloc: Global,
     disk: &mut D,
@@ -97,6 +104,8 @@ pub fn read_file<D: SharedDisk>(
         bytes ≡ bytes_of files name.now)) }
     ensures same { D.files disk.new ≡ D.files disk.old }
     ensures cause { RoseExactlyOn (D.faults disk.old) (D.faults disk.new) result DiskAnswer.Failed }
+    ensures never_stopped { IsErrOf result DiskAnswer.Stopped → ⊥ }
+    ensures armed { (D.tally disk.new).armed ≡ (D.tally disk.old).armed }
 {
     let size = match disk.len(name) {
         Ok(Some(size)) => size,

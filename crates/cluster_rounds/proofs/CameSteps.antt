@@ -12,7 +12,7 @@ use Rattle.cluster_events.specs.Servers.{State}
 use Rattle.cluster_events.specs.Stopping.{behind}
 use Rattle.cluster_events.specs.Devices.{EventBy, answered_in, spliced}
 use Rattle.cluster_events.proofs.Telling.{Says-both}
-use Rattle.cluster_events.proofs.Devices.{after_by, comes-alone, comes-both, comes-as, comes-once, ends-behind, caused-both, rose-later}
+use Rattle.cluster_events.proofs.Devices.{after_by, comes-alone, comes-both, comes-as, comes-once, ends-behind, caused-both}
 use Rattle.cluster_rounds.specs.declared.cluster.Cluster.{Cluster}
 use Rattle.cluster_clients.specs.Taken.{kept_lines}
 use Rattle.cluster_clients.proofs.ToldLines.{kept-append}
@@ -21,8 +21,10 @@ use Rattle.cluster_rounds.specs.Came.{Came, Comes, ComesOff, DiskSeen}
 use Rattle.cluster_rounds.specs.Kits.{IsKit, Kit}
 use Rattle.cluster_rounds.specs.PartlyDone.{SaysUnasked}
 use Rattle.cluster_rounds.specs.Rounds.{EndOver, EventOver, Plays}
-use Rattle.cluster_rounds.specs.Worlds.{Event, HasStateOf, IsGood, Shows}
+use Rattle.cluster_rounds.specs.Worlds.{Event, HasStateOn, IsGood, Shows}
+use Rattle.cluster_rounds.proofs.ArmedSteps.{Keeps}
 use Rattle.cluster_rounds.proofs.BrokenSteps.{files-after, happened-broken}
+use Rattle.cluster_rounds.proofs.DownSteps.{down-both, down-none}
 use Rattle.cluster_rounds.proofs.RoundSteps.{played-both}
 
 -- a list that ends in another is no shorter
@@ -58,7 +60,9 @@ module _ {Peers Group : Type 0} (kit : Kit Peers Group) (laws : IsKit kit) where
     comes = comes-both first second one.happened two.happened state one.outcome two.outcome one.comes two.comes;
     caused = caused-both held.faults told.faults left.faults (answered_in one.outcome.state) one.happened two.happened (laws.least held.faults told.faults one.outlives) (laws.least told.faults left.faults two.outlives) one.caused two.caused;
     outlives = laws.further held.faults told.faults left.faults one.outlives two.outlives;
+    felled = down-both held.faults told.faults left.faults one.outcome.told two.outcome.told (laws.least told.faults left.faults two.outlives) one.felled two.felled;
     played = (played-both kit laws) setup state one.outcome (λ now. two.outcome) middle new before between after a b held.files told.files left.files one.played two.played;
+    count = two.count;
   }
 
   -- the same event, said in another way
@@ -69,12 +73,14 @@ module _ {Peers Group : Type 0} (kit : Kit Peers Group) (laws : IsKit kit) where
     comes = comes-as first second came.happened state came.outcome same came.comes;
     caused = came.caused;
     outlives = came.outlives;
+    felled = came.felled;
     played = came.played;
+    count = came.count;
   }
 
   -- an event that works nothing
-  pub plays-come : (P Q : State Peers → Type 0) (event : (Event kit)) (old new : Cluster Group) (before after : List (List ℕ)) (loud : Bool) (disk : DiskSeen) → Leads P Q event → (Plays kit) P event old new before after loud → (Comes kit) P (λ setup fails. event setup) old new before after loud disk disk
-  plays-come P Q event old new before after loud disk leads plays setup state good shows so =
+  pub plays-come : (P Q : State Peers → Type 0) (event : (Event kit)) (old new : Cluster Group) (before after : List (List ℕ)) (loud : Bool) (disk : DiskSeen) → Leads P Q event → (Keeps kit laws) event → (Plays kit) P event old new before after loud → (Comes kit) P (λ setup fails. event setup) old new before after loud disk disk
+  plays-come P Q event old new before after loud disk leads keeps plays setup state good shows counted so =
       let says = (leads setup state good so).1 in
       record {
         happened = λ number. false;
@@ -82,7 +88,9 @@ module _ {Peers Group : Type 0} (kit : Kit Peers Group) (laws : IsKit kit) where
         comes = comes-alone (event setup) (λ number. false) state (ends-longer (event setup state).state.world.core.answered state.world.core.answered says.says.answers);
         caused = λ never number. refl;
         outlives = laws.stands disk.faults;
+        felled = down-none disk.faults (event setup state).told;
         played = plays disk.files setup state good shows so;
+        count = keeps setup state disk.armed counted;
       }
 
   -- one event after another is a third
@@ -91,18 +99,18 @@ module _ {Peers Group : Type 0} (kit : Kit Peers Group) (laws : IsKit kit) where
       (setup : Setup) (fails : ℕ → Bool) (state : State Peers) → (IsGood kit) setup state → P state → after_by (first setup) (second setup) fails state ≡ both setup fails state
 
   pub comes-after : (P Q : State Peers → Type 0) (first second both : (EventOver kit)) (old middle new : Cluster Group) (before between after : List (List ℕ)) (a b : Bool) (held told left : DiskSeen) → Joins P first second both → LeadsBy P Q first → (Comes kit) P first old middle before between a held told → (Comes kit) Q second middle new between after b told left → (Comes kit) P both old new before after (a || b) held left
-  comes-after P Q first second both old middle new before between after a b held told left joins leads one two setup state good shows so =
-      let came = one setup state good shows so in
+  comes-after P Q first second both old middle new before between after a b held told left joins leads one two setup state good shows counted so =
+      let came = one setup state good shows counted so in
       let next = came-leads P Q first setup state middle before between a held told leads good so came in
-      let more = two setup came.outcome.state came.played.good came.played.shows next.0 in
+      let more = two setup came.outcome.state came.played.good came.played.shows came.count next.0 in
       came-as setup state (after_by (first setup) (second setup)) (both setup) new before after (a || b) held left (λ fails. joins setup fails state good so) (came-both setup state (first setup) (second setup) middle new before between after a b held told left came more)
 
   -- the state for what follows
-  pub on-after : (P Q : State Peers → Type 0) (event : (EventOver kit)) (old new : Cluster Group) (before after : List (List ℕ)) (loud : Bool) (held left : DiskSeen) → LeadsBy P Q event → (HasStateOf kit) P old → (Comes kit) P event old new before after loud held left → (HasStateOf kit) Q new
+  pub on-after : (P Q : State Peers → Type 0) (event : (EventOver kit)) (old new : Cluster Group) (before after : List (List ℕ)) (loud : Bool) (held left : DiskSeen) → LeadsBy P Q event → (HasStateOn kit) P old held.armed → (Comes kit) P event old new before after loud held left → (HasStateOn kit) Q new left.armed
   on-after P Q event old new before after loud held left leads has comes =
-      let came = comes has.setup has.state has.good has.shows has.so in
+      let came = comes has.setup has.state has.good has.shows has.count has.so in
       let next = came-leads P Q event has.setup has.state new before after loud held left leads has.good has.so came in
-      record { setup = has.setup; state = came.outcome.state; good = came.played.good; shows = came.played.shows; so = next.0 }
+      record { setup = has.setup; state = came.outcome.state; good = came.played.good; shows = came.played.shows; count = came.count; so = next.0 }
 
   -- what holds of states of which more is so
   abbrev pub Follows : (P Q : State Peers → Type 0) → Cluster Group → Type 0
@@ -115,7 +123,7 @@ module _ {Peers Group : Type 0} (kit : Kit Peers Group) (laws : IsKit kit) where
 
   -- an event without a disk lacks memory
   pub alone-off : (P : State Peers → Type 0) (Ends : (EndOver kit)) (old new : Cluster Group) (before after : List (List ℕ)) (disk : DiskSeen) → (BreaksAloneIf kit) P old new → (ComesOff kit) P Ends Memory old new before after disk disk
-  alone-off P Ends old new before after disk breaks setup state good shows so = (breaks disk.files setup state good shows so, laws.stands disk.faults)
+  alone-off P Ends old new before after disk breaks setup state good shows counted so = (breaks disk.files setup state good shows so, laws.stands disk.faults)
 
   -- what is played alone, and then memory runs out
   pub plays-lack : (P Q : State Peers → Type 0) (event : (Event kit)) (old middle new : Cluster Group) (before between : List (List ℕ)) (loud : Bool) → Leads P Q event → (Plays kit) P event old middle before between loud → (BreaksAloneIf kit) Q middle new → (BreaksAloneIf kit) P old new
@@ -132,25 +140,28 @@ module _ {Peers Group : Type 0} (kit : Kit Peers Group) (laws : IsKit kit) where
       → Inner setup fails (first setup fails state).state stop → Outer setup fails state (behind (first setup fails state) stop)
 
   lacks-after : (P Q : State Peers → Type 0) (Inner Outer : (EndOver kit)) (first : (EventOver kit)) (old middle new : Cluster Group) (before between after : List (List ℕ)) (a : Bool) (held told left : DiskSeen) → LeadsBy P Q first → (Comes kit) P first old middle before between a held told → (ComesOff kit) Q Inner Memory middle new between after told left → (ComesOff kit) P Outer Memory old new before after held left
-  lacks-after P Q Inner Outer first old middle new before between after a held told left leads comes breaks setup state good shows so =
-      let came = comes setup state good shows so in
+  lacks-after P Q Inner Outer first old middle new before between after a held told left leads comes breaks setup state good shows counted so =
+      let came = comes setup state good shows counted so in
       let next = came-leads P Q first setup state middle before between a held told leads good so came in
-      let broken = breaks setup came.outcome.state came.played.good came.played.shows next.0 in
+      let broken = breaks setup came.outcome.state came.played.good came.played.shows came.count next.0 in
       ((happened-broken kit laws) setup state came.outcome.state came.outcome.told held.files told.files left.files new next.1 came.played.files broken.0, laws.further held.faults told.faults left.faults came.outlives broken.1)
 
   ended-after : (P Q : State Peers → Type 0) (Inner Outer : (EndOver kit)) (first : (EventOver kit)) (old middle new : Cluster Group) (before between after : List (List ℕ)) (a : Bool) (held told left : DiskSeen) → EndsBy P first Inner Outer → LeadsBy P Q first → (Comes kit) P first old middle before between a held told → (ComesOff kit) Q Inner Failed middle new between after told left → (ComesOff kit) P Outer Failed old new before after held left
-  ended-after P Q Inner Outer first old middle new before between after a held told left stops leads comes ends setup state good shows so =
-      let came = comes setup state good shows so in
+  ended-after P Q Inner Outer first old middle new before between after a held told left stops leads comes ends setup state good shows counted so =
+      let came = comes setup state good shows counted so in
       let next = came-leads P Q first setup state middle before between a held told leads good so came in
-      let ended = ends setup came.outcome.state came.played.good came.played.shows next.0 in
+      let ended = ends setup came.outcome.state came.played.good came.played.shows came.count next.0 in
       let least = laws.least held.faults told.faults came.outlives in
-      let later = ended.later in
+      let early = ended.before_it in
       record {
         happened = spliced (answered_in came.outcome.state) came.happened ended.happened;
         end = behind came.outcome ended.end;
         ends = ends-behind (first setup) (Inner setup) (Outer setup) came.happened ended.happened state came.outcome ended.end (λ fails stop. stops setup fails state good so stop) came.comes ended.ends;
-        later = omega arith;
-        rose = rose-later held.faults told.faults left.faults least ended.rose;
+        between = ended.between;
+        before_it = omega arith;
+        caused = caused-both held.faults told.faults ended.between (answered_in came.outcome.state) came.happened ended.happened least early came.caused ended.caused;
+        behind_it = ended.behind_it;
+        rose = ended.rose;
         good = ended.good;
         says = Says-both (plain_of setup) state.world came.outcome.state.world ended.end.state.world came.outcome.told ended.end.told next.1.says ended.says;
         fell = ended.fell;
@@ -169,8 +180,10 @@ module _ {Peers Group : Type 0} (kit : Kit Peers Group) (laws : IsKit kit) where
   pub off-after : (P Q : State Peers → Type 0) (Inner Outer : (EndOver kit)) (first : (EventOver kit)) (answer : DiskAnswer) (old middle new : Cluster Group) (before between after : List (List ℕ)) (a : Bool) (held told left : DiskSeen) → EndsBy P first Inner Outer → LeadsBy P Q first → (Comes kit) P first old middle before between a held told → (ComesOff kit) Q Inner answer middle new between after told left → (ComesOff kit) P Outer answer old new before after held left
   off-after P Q Inner Outer first Memory old middle new before between after a held told left stops =
       lacks-after P Q Inner Outer first old middle new before between after a held told left
-  off-after P Q Inner Outer first Stopped old middle new before between after a held told left stops =
-      lacks-after P Q Inner Outer first old middle new before between after a held told left
+  off-after P Q Inner Outer first Stopped old middle new before between after a held told left stops = λ leads comes off setup state good shows counted so.
+      let came = comes setup state good shows counted so in
+      let next = came-leads P Q first setup state middle before between a held told leads good so came in
+      off setup came.outcome.state came.played.good came.played.shows came.count next.0
   off-after P Q Inner Outer first Failed old middle new before between after a held told left stops =
       ended-after P Q Inner Outer first old middle new before between after a held told left stops
 
@@ -179,21 +192,29 @@ module _ {Peers Group : Type 0} (kit : Kit Peers Group) (laws : IsKit kit) where
   alone-after P Q Outer first old middle new before between after a held left leads comes breaks =
       lacks-after P Q Outer Outer first old middle new before between after a held left left leads comes (alone-off Q Outer middle new between after left breaks)
 
+  -- and none ends as the disk stops
+  pub never-stops : (P : State Peers → Type 0) (Ends : (EndOver kit)) (answer : DiskAnswer) (old new : Cluster Group) (before after : List (List ℕ)) (held left : DiskSeen) → (HasStateOn kit) P old held.armed → answer ≡ Stopped → (ComesOff kit) P Ends answer old new before after held left → ⊥
+  never-stops P Ends answer old new before after held left has is off =
+      subst (λ (a : DiskAnswer). (ComesOff kit) P Ends a old new before after held left) is off has.setup has.state has.good has.shows has.count has.so
+
   -- what ends in one sense ends in another, from all states of the cluster
   abbrev pub EndsAs : (Inner Outer : (EndOver kit)) → Cluster Group → Type 0
   EndsAs Inner Outer world =
       (setup : Setup) (fails : ℕ → Bool) (state : State Peers) → (Shows kit) setup state world → (stop : Outcome (State Peers)) → Inner setup fails state stop → Outer setup fails state stop
 
   pub off-as : (P Q : State Peers → Type 0) (Inner Outer : (EndOver kit)) (answer : DiskAnswer) (old new : Cluster Group) (before after : List (List ℕ)) (held left : DiskSeen) → EndsAs Inner Outer old → Follows P Q old → (ComesOff kit) Q Inner answer old new before after held left → (ComesOff kit) P Outer answer old new before after held left
-  off-as P Q Inner Outer Memory old new before after held left as_outer follows breaks setup state good shows so = breaks setup state good shows (follows setup state good shows so)
-  off-as P Q Inner Outer Stopped old new before after held left as_outer follows breaks setup state good shows so = breaks setup state good shows (follows setup state good shows so)
-  off-as P Q Inner Outer Failed old new before after held left as_outer follows ends setup state good shows so =
-      let ended = ends setup state good shows (follows setup state good shows so) in
+  off-as P Q Inner Outer Memory old new before after held left as_outer follows breaks setup state good shows counted so = breaks setup state good shows counted (follows setup state good shows so)
+  off-as P Q Inner Outer Stopped old new before after held left as_outer follows breaks setup state good shows counted so = breaks setup state good shows counted (follows setup state good shows so)
+  off-as P Q Inner Outer Failed old new before after held left as_outer follows ends setup state good shows counted so =
+      let ended = ends setup state good shows counted (follows setup state good shows so) in
       record {
         happened = ended.happened;
         end = ended.end;
         ends = record { later = ended.ends.later; is = λ fails agrees. as_outer setup fails state shows ended.end (ended.ends.is fails agrees) };
-        later = ended.later;
+        between = ended.between;
+        before_it = ended.before_it;
+        caused = ended.caused;
+        behind_it = ended.behind_it;
         rose = ended.rose;
         good = ended.good;
         says = ended.says;

@@ -1,3 +1,4 @@
+pub mod ArmedSteps
 pub mod FilesSteps
 pub mod UnaskedSteps
 pub mod KitSteps
@@ -8,6 +9,7 @@ pub mod ChainSteps
 mod FetchSteps
 pub mod BrokenClients
 pub mod RoundSteps
+pub mod DownSteps
 pub mod CameSteps
 mod TurnSteps
 mod MeasureSteps

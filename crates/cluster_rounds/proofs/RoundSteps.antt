@@ -36,7 +36,8 @@ use Rattle.cluster_clients.proofs.ToldLines.{SameButPlace, kept-append, loud-app
 use Rattle.cluster_rounds.specs.Kits.{IsKit, Kit, calm_servers, device_by, servers_at}
 use Rattle.cluster_rounds.specs.PartlyDone.{SaysUnasked}
 use Rattle.cluster_rounds.specs.Rounds.{IsIdleWithItems, IsItem, Played, Plays, answer_taken, clients_by, drain_by, heard_so, item_taken, items_taken, message_taken, reply_taken, round_pushed, turns_by}
-use Rattle.cluster_rounds.specs.Worlds.{DoesIf, Event, Happened, HasState, HasStateOf, IsGood, IsIdle, LeavesFiles, Pushes, Shows, StandsIn, TellsFiles, any_state, heard_by, pushed}
+use Rattle.cluster_rounds.specs.Worlds.{DoesIf, Event, Happened, HasState, HasStateOf, HasStateOn, IsGood, IsIdle, LeavesFiles, Pushes, Shows, StandsIn, TellsFiles, any_state, heard_by, pushed}
+use Rattle.cluster_rounds.proofs.ArmedSteps.{hear-keeps}
 use Rattle.cluster_rounds.proofs.FilesSteps.{files-same, left-both, left-same, left-told}
 use Rattle.cluster_rounds.proofs.HearSteps.{IsQuiet, hear-answered, hear-measured, hear-places, push-quiet, push_by-answered}
 use Rattle.cluster_rounds.proofs.KitSteps.{at-serves, at-unasked, calm-serves, calm-unasked}
@@ -208,12 +209,23 @@ module _ {Peers Group : Type 0} (kit : Kit Peers Group) (laws : IsKit kit) where
         push-stands plain (is_plain setup) (calm_servers kit setup) kit.Good ((calm-serves kit laws) setup) (SaysUnasked kit.Within plain) ((calm-unasked kit laws) setup) state rest
 
   -- a message that is heard stands in the net afterwards
-  pub heard-ready : (message : Message) (old new : Cluster Group) (before after : List (List ℕ)) (loud : Bool) → (HasStateOf kit) (StandsIn message) old → (Plays kit) (StandsIn message) ((heard_so kit) message) old new before after loud → (HasStateOf kit) (StandsIn message) new
-  heard-ready message old new before after loud has plays =
-      state-so (StandsIn message) (StandsIn message) ((heard_so kit) message) old new before after loud (λ setup state good stands. (hear-go setup message state good stands).stays.net message stands) has plays
+  pub heard-ready : (message : Message) (old new : Cluster Group) (before after : List (List ℕ)) (loud : Bool) (armed : Option ℕ) → (HasStateOn kit) (StandsIn message) old armed → (Plays kit) (StandsIn message) ((heard_so kit) message) old new before after loud → (HasStateOn kit) (StandsIn message) new armed
+  heard-ready message old new before after loud armed has plays =
+      let played = plays None has.setup has.state has.good has.shows has.so in
+      record {
+        setup = has.setup;
+        state = ((heard_so kit) message has.setup has.state).state;
+        good = played.good;
+        shows = played.shows;
+        count = (hear-keeps kit laws) message has.setup has.state armed has.count;
+        so = (hear-go has.setup message has.state has.good has.so).stays.net message has.so;
+      }
 
   pub state-of : (P : State Peers → Type 0) (world : Cluster Group) → (HasStateOf kit) P world → (HasState kit) world
   state-of P world has = record { setup = has.setup; state = has.state; good = has.good; shows = has.shows; so = tt }
+
+  pub state-on : (P : State Peers → Type 0) (world : Cluster Group) (armed : Option ℕ) → (HasStateOn kit) P world armed → (HasStateOn kit) any_state world armed
+  state-on P world armed has = record { setup = has.setup; state = has.state; good = has.good; shows = has.shows; count = has.count; so = tt }
 
   -- Items.
 

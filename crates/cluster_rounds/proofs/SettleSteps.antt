@@ -18,7 +18,7 @@ use Rattle.cluster_events.specs.Devices.{answered_in, spliced}
 use Rattle.cluster_events.proofs.Telling.{Says-both}
 use Rattle.cluster_events.proofs.Carrying.{round-carries, rounds-carry}
 use Rattle.cluster_events.proofs.Measuring.{loud-progress}
-use Rattle.cluster_events.proofs.Devices.{agrees-first, agrees-second, comes-once, caused-both, rose-later}
+use Rattle.cluster_events.proofs.Devices.{agrees-first, agrees-second, comes-once, caused-both}
 use Rattle.cluster_rounds.specs.declared.cluster.Cluster.{Cluster}
 use Rattle.cluster_clients.specs.Taken.{kept_lines}
 use Rattle.cluster_clients.proofs.ToldLines.{kept-append}
@@ -27,8 +27,9 @@ use Rattle.cluster_rounds.specs.Kits.{IsKit, Kit, servers_at}
 use Rattle.cluster_rounds.specs.PartlyDone.{SaysUnasked}
 use Rattle.cluster_rounds.specs.Rounds.{EndsRound, EndsSettle, round_by}
 use Rattle.cluster_rounds.specs.Settling.{DoesSettle, SettlesSo, Settling}
-use Rattle.cluster_rounds.specs.Worlds.{HasState, IsGood, any_state}
+use Rattle.cluster_rounds.specs.Worlds.{HasStateOn, IsGood, any_state}
 use Rattle.cluster_rounds.proofs.BrokenSteps.{files-after, happened-broken}
+use Rattle.cluster_rounds.proofs.DownSteps.{down-both, down-kept, down-none}
 use Rattle.cluster_rounds.proofs.FilesSteps.{left-both, left-same, left-told}
 use Rattle.cluster_rounds.proofs.KitSteps.{at-serves, at-spends, at-unasked}
 use Rattle.cluster_rounds.proofs.MeasureSteps.{left, left-is}
@@ -39,7 +40,7 @@ by-loud false told is first second paid = omega arith
 
 module _ {Peers Group : Type 0} (kit : Kit Peers Group) (laws : IsKit kit) where
   pub settling-begins : (world : Cluster Group) (lines : List (List ℕ)) (disk : DiskSeen) → (SettlesSo kit) world world lines lines true disk disk
-  settling-begins world lines disk setup start good shows = record {
+  settling-begins world lines disk setup start good shows counted = record {
     happened = λ number. false;
     state = start;
     told = [];
@@ -47,23 +48,25 @@ module _ {Peers Group : Type 0} (kit : Kit Peers Group) (laws : IsKit kit) where
     rounds = λ fails agrees. Begun;
     caused = λ never number. refl;
     outlives = laws.stands disk.faults;
+    felled = down-none disk.faults [];
     shows = shows;
     good = good;
+    count = counted;
     lines = sym (append-nil lines);
     files = left-same setup start disk.files;
   }
 
   -- the state for the next round
-  pub settling-on : (old now : Cluster Group) (before between : List (List ℕ)) (loud : Bool) (held told : DiskSeen) → (HasState kit) old → (SettlesSo kit) old now before between loud held told → (HasState kit) now
+  pub settling-on : (old now : Cluster Group) (before between : List (List ℕ)) (loud : Bool) (held told : DiskSeen) → (HasStateOn kit) any_state old held.armed → (SettlesSo kit) old now before between loud held told → (HasStateOn kit) any_state now told.armed
   settling-on old now before between loud held told has settles =
-      let so_far = settles has.setup has.state has.good has.shows in
-      record { setup = has.setup; state = so_far.state; good = so_far.good; shows = so_far.shows; so = tt }
+      let so_far = settles has.setup has.state has.good has.shows has.count in
+      record { setup = has.setup; state = so_far.state; good = so_far.good; shows = so_far.shows; count = so_far.count; so = tt }
 
   pub settling-next : (old now new : Cluster Group) (before between after : List (List ℕ)) (loud : Bool) (held told left : DiskSeen) → (SettlesSo kit) old now before between true held told → (Comes kit) any_state (round_by kit) now new between after loud told left → (SettlesSo kit) old new before after loud held left
-  settling-next old now new before between after loud held told left settles comes setup start good shows =
+  settling-next old now new before between after loud held told left settles comes setup start good shows counted =
       let plain = plain_of setup in
-      let so_far = settles setup start good shows in
-      let came = comes setup so_far.state so_far.good so_far.shows tt in
+      let so_far = settles setup start good shows counted in
+      let came = comes setup so_far.state so_far.good so_far.shows so_far.count tt in
       let outcome = came.outcome in
       let next = came.played in
       let early = so_far.later in
@@ -82,8 +85,10 @@ module _ {Peers Group : Type 0} (kit : Kit Peers Group) (laws : IsKit kit) where
             subst (λ (b : Bool). Rounds plain servers start outcome.state (outcome.told ++ so_far.told) b) (sym next.loudness) (subst R same further);
         caused = caused-both held.faults told.faults left.faults (answered_in so_far.state) so_far.happened came.happened (laws.least held.faults told.faults so_far.outlives) (laws.least told.faults left.faults came.outlives) so_far.caused came.caused;
         outlives = laws.further held.faults told.faults left.faults so_far.outlives came.outlives;
+        felled = down-both held.faults told.faults left.faults so_far.told outcome.told (laws.least told.faults left.faults came.outlives) so_far.felled came.felled;
         shows = next.shows;
         good = next.good;
+        count = came.count;
         lines =
             next.lines ∙ ap (λ l. l ++ kept_lines outcome.told) so_far.lines
             ∙ append_assoc before (kept_lines so_far.told) (kept_lines outcome.told)
@@ -94,12 +99,12 @@ module _ {Peers Group : Type 0} (kit : Kit Peers Group) (laws : IsKit kit) where
       }
 
   -- a round leaves less to do, but for the last
-  pub round-less : (old now new : Cluster Group) (before between after : List (List ℕ)) (loud : Bool) (held told last : DiskSeen) → (HasState kit) old → (SettlesSo kit) old now before between true held told → (Comes kit) any_state (round_by kit) now new between after loud told last → left new + (if loud then 1 else 0) < left now + 1
+  pub round-less : (old now new : Cluster Group) (before between after : List (List ℕ)) (loud : Bool) (held told last : DiskSeen) → (HasStateOn kit) any_state old held.armed → (SettlesSo kit) old now before between true held told → (Comes kit) any_state (round_by kit) now new between after loud told last → left new + (if loud then 1 else 0) < left now + 1
   round-less old now new before between after loud held told last has settles comes =
       let setup = has.setup in
       let plain = plain_of setup in
-      let so_far = settles setup has.state has.good has.shows in
-      let came = comes setup so_far.state so_far.good so_far.shows tt in
+      let so_far = settles setup has.state has.good has.shows has.count in
+      let came = comes setup so_far.state so_far.good so_far.shows so_far.count tt in
       let first = (left-is kit laws) setup so_far.state now so_far.shows in
       let second = (left-is kit laws) setup came.outcome.state new came.played.shows in
       let S : Outcome (State Peers) → Type 0 = λ o. potential o.state.world + progress o.told ≤ potential so_far.state.world in
@@ -108,8 +113,8 @@ module _ {Peers Group : Type 0} (kit : Kit Peers Group) (laws : IsKit kit) where
       by-loud loud came.outcome.told came.played.loudness first second paid
 
   pub settling-ends : (old new : Cluster Group) (before after : List (List ℕ)) (loud : Bool) (held last : DiskSeen) → loud ≡ false → (SettlesSo kit) old new before after loud held last → (DoesSettle kit) old new before after held last
-  settling-ends old new before after loud held last quiet settles setup state good shows =
-      let done = settles setup state good shows in
+  settling-ends old new before after loud held last quiet settles setup state good shows counted =
+      let done = settles setup state good shows counted in
       let R : Bool → Type 0 = λ b. Rounds (plain_of setup) (servers_at kit setup done.happened) state done.state done.told b in
       record {
         happened = done.happened;
@@ -117,7 +122,9 @@ module _ {Peers Group : Type 0} (kit : Kit Peers Group) (laws : IsKit kit) where
         settles = record { lines = done.told; rounds = subst R quiet (done.rounds done.happened (λ number above within. refl)); printed = refl };
         caused = done.caused;
         outlives = done.outlives;
+        felled = λ less. down-kept done.told ∙ done.felled less;
         is = (done.shows, done.good, done.lines);
+        count = done.count;
         files = done.files;
       }
 
@@ -130,19 +137,18 @@ module _ {Peers Group : Type 0} (kit : Kit Peers Group) (laws : IsKit kit) where
       (rounds-carry plain (is_plain setup) (servers_at kit setup so_far.happened) kit.Good ((at-serves kit laws) setup so_far.happened) (SaysUnasked kit.Within plain) ((at-unasked kit laws) setup so_far.happened) start good.steady rounds).carried
 
   pub settling-off : (answer : DiskAnswer) (old now new : Cluster Group) (before between after : List (List ℕ)) (held told left : DiskSeen) → (SettlesSo kit) old now before between true held told → (ComesOff kit) any_state (EndsRound kit) answer now new between after told left → (ComesOff kit) any_state (EndsSettle kit) answer old new before after held left
-  settling-off Memory old now new before between after held told left settles off setup state good shows so =
-      let so_far = settles setup state good shows in
-      let broken = off setup so_far.state so_far.good so_far.shows tt in
+  settling-off Memory old now new before between after held told left settles off setup state good shows counted so =
+      let so_far = settles setup state good shows counted in
+      let broken = off setup so_far.state so_far.good so_far.shows so_far.count tt in
       ((happened-broken kit laws) setup state so_far.state so_far.told held.files told.files left.files new (settling-says setup state now before between held told good so_far) so_far.files broken.0, laws.further held.faults told.faults left.faults so_far.outlives broken.1)
-  settling-off Stopped old now new before between after held told left settles off setup state good shows so =
-      let so_far = settles setup state good shows in
-      let broken = off setup so_far.state so_far.good so_far.shows tt in
-      ((happened-broken kit laws) setup state so_far.state so_far.told held.files told.files left.files new (settling-says setup state now before between held told good so_far) so_far.files broken.0, laws.further held.faults told.faults left.faults so_far.outlives broken.1)
-  settling-off Failed old now new before between after held told left settles off setup state good shows so =
-      let so_far = settles setup state good shows in
-      let ended = off setup so_far.state so_far.good so_far.shows tt in
+  settling-off Stopped old now new before between after held told left settles off setup state good shows counted so =
+      let so_far = settles setup state good shows counted in
+      off setup so_far.state so_far.good so_far.shows so_far.count tt
+  settling-off Failed old now new before between after held told left settles off setup state good shows counted so =
+      let so_far = settles setup state good shows counted in
+      let ended = off setup so_far.state so_far.good so_far.shows so_far.count tt in
       let least = laws.least held.faults told.faults so_far.outlives in
-      let later = ended.later in
+      let first = ended.before_it in
       let early = so_far.later in
       let late = ended.ends.later in
       let end = behind (record { state = so_far.state; told = so_far.told }) ended.end in
@@ -160,8 +166,11 @@ module _ {Peers Group : Type 0} (kit : Kit Peers Group) (laws : IsKit kit) where
             is = refl;
           };
         };
-        later = omega arith;
-        rose = rose-later held.faults told.faults left.faults least ended.rose;
+        between = ended.between;
+        before_it = omega arith;
+        caused = caused-both held.faults told.faults ended.between (answered_in so_far.state) so_far.happened ended.happened least first so_far.caused ended.caused;
+        behind_it = ended.behind_it;
+        rose = ended.rose;
         good = ended.good;
         says = Says-both (plain_of setup) state.world so_far.state.world ended.end.state.world so_far.told ended.end.told (settling-says setup state now before between held told good so_far).says ended.says;
         fell = ended.fell;

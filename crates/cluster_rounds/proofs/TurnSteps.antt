@@ -29,9 +29,11 @@ use Rattle.cluster_rounds.specs.Came.{Advances, Comes, ComesOff, DiskSeen}
 use Rattle.cluster_rounds.specs.Kits.{IsKit, Kit, calm_servers, device_by, servers_at}
 use Rattle.cluster_rounds.specs.PartlyDone.{SaysUnasked}
 use Rattle.cluster_rounds.specs.Rounds.{EndsClient, EndsClients, EndsDrain, EndsEach, EndsRound, EndsStep, EndsTurn, EndsTurns, EventOver, IsIdleWithAll, IsIdleWithItems, Plays, advances_by, answer_taken, client_by, clients_by, drain_by, each_by, heard_so, items_taken, round_by, round_pushed, turn_by, turns_by}
-use Rattle.cluster_rounds.specs.Worlds.{pushed, DoesIf, HasState, HasStateOf, IsGood, IsIdle, Pushes, Shows, StandsIn, any_state, heard_by}
+use Rattle.cluster_rounds.specs.Worlds.{pushed, DoesIf, HasStateOn, IsGood, IsIdle, Pushes, Shows, StandsIn, any_state, heard_by}
+use Rattle.cluster_rounds.proofs.ArmedSteps.{hear-keeps, pushes-keep, takes-keep}
 use Rattle.cluster_rounds.proofs.BrokenSteps.{happened-broken, left-between, whole-broken}
 use Rattle.cluster_rounds.proofs.CameSteps.{EndsBy, Follows, Joins, Leads, LeadsBy, alone-after, came-as, comes-after, off-after, off-as, on-after, plays-come}
+use Rattle.cluster_rounds.proofs.DownSteps.{down-none}
 use Rattle.cluster_rounds.proofs.KitSteps.{at-steps, at-unasked, calm-serves, calm-unasked}
 use Rattle.cluster_rounds.proofs.RoundSteps.{All-at, at-rest, clients-go, drain-go, for_each-more, hear-go, hear-plays, items-go, played-nothing, push-go, pushed-items, pushed-plays, turns-go}
 
@@ -141,13 +143,15 @@ module _ {Peers Group : Type 0} (kit : Kit Peers Group) (laws : IsKit kit) where
 
   -- no step was made yet
   pub steps-begin : (world : Cluster Group) (lines : List (List ℕ)) (disk : DiskSeen) → (Comes kit) any_state ((advances_by kit) 0) world world lines lines false disk disk
-  steps-begin world lines disk setup state good shows so = record {
+  steps-begin world lines disk setup state good shows counted so = record {
     happened = λ number. false;
     outcome = quietly state;
     comes = comes-alone quietly (λ number. false) state (omega arith);
     caused = λ never number. refl;
     outlives = laws.stands disk.faults;
+    felled = down-none disk.faults [];
     played = (played-nothing kit laws) setup state world lines disk.files good shows;
+    count = counted;
   }
 
   -- one more step
@@ -157,19 +161,19 @@ module _ {Peers Group : Type 0} (kit : Kit Peers Group) (laws : IsKit kit) where
       (comes-after kit laws) any_state any_state ((advances_by kit) steps) ((advances_by kit) 1) ((advances_by kit) next) old now new before between after a (nat_lt (length now.history.entries) (length new.history.entries)) held told left joins (steps-lead steps) so_far more
 
   -- the state for one more
-  pub steps-on : (steps : ℕ) (old now : Cluster Group) (before between : List (List ℕ)) (a : Bool) (held told : DiskSeen) → (HasState kit) old → (Comes kit) any_state ((advances_by kit) steps) old now before between a held told → (HasState kit) now
+  pub steps-on : (steps : ℕ) (old now : Cluster Group) (before between : List (List ℕ)) (a : Bool) (held told : DiskSeen) → (HasStateOn kit) any_state old held.armed → (Comes kit) any_state ((advances_by kit) steps) old now before between a held told → (HasStateOn kit) any_state now told.armed
   steps-on steps old now before between a held told has comes =
       (on-after kit laws) any_state any_state ((advances_by kit) steps) old now before between a held told (steps-lead steps) has comes
 
   -- all steps are a drain
   pub steps-drain : (steps : ℕ) (old now : Cluster Group) (before between : List (List ℕ)) (a : Bool) (held told : DiskSeen) → steps ≡ kit.steps → (Comes kit) any_state ((advances_by kit) steps) old now before between a held told → (Comes kit) any_state (drain_by kit) old now before between a held told
-  steps-drain steps old now before between a held told is comes setup state good shows so =
-      (came-as kit laws) setup state ((advances_by kit) steps setup) ((drain_by kit) setup) now before between a held told (λ fails. ap (λ count. advances (servers_at kit setup fails) count state) (is ∙ sym (laws.steps (plain_of setup) (device_by setup fails)))) (comes setup state good shows so)
+  steps-drain steps old now before between a held told is comes setup state good shows counted so =
+      (came-as kit laws) setup state ((advances_by kit) steps setup) ((drain_by kit) setup) now before between a held told (λ fails. ap (λ count. advances (servers_at kit setup fails) count state) (is ∙ sym (laws.steps (plain_of setup) (device_by setup fails)))) (comes setup state good shows counted so)
 
   -- so are fewer where no step is left
   steps-stuck : (steps : ℕ) (old now : Cluster Group) (before between : List (List ℕ)) (a : Bool) (held told : DiskSeen) → steps ≤ kit.steps → ((setup : Setup) (fails : ℕ → Bool) (state : State Peers) → (IsGood kit) setup state → (Shows kit) setup state now → advance (servers_at kit setup fails) state ≡ None) → (Comes kit) any_state ((advances_by kit) steps) old now before between a held told → (Comes kit) any_state (drain_by kit) old now before between a held told
-  steps-stuck steps old now before between a held told within none comes setup state good shows so =
-      let came = comes setup state good shows so in
+  steps-stuck steps old now before between a held told within none comes setup state good shows counted so =
+      let came = comes setup state good shows counted so in
       record {
         happened = came.happened;
         outcome = came.outcome;
@@ -185,7 +189,9 @@ module _ {Peers Group : Type 0} (kit : Kit Peers Group) (laws : IsKit kit) where
         };
         caused = came.caused;
         outlives = came.outlives;
+        felled = came.felled;
         played = came.played;
+        count = came.count;
       }
 
   pub steps-over : (steps : ℕ) (old now new : Cluster Group) (before between after : List (List ℕ)) (a : Bool) (held told left : DiskSeen) → steps ≤ kit.steps → (Comes kit) any_state ((advances_by kit) steps) old now before between a held told → (Advances kit) false now new between after told left → (Comes kit) any_state (drain_by kit) old new before after a held left
@@ -219,18 +225,18 @@ module _ {Peers Group : Type 0} (kit : Kit Peers Group) (laws : IsKit kit) where
 
   pub turn-comes : (message : Message) (old one two new : Cluster Group) (before first second after : List (List ℕ)) (a b c : Bool) (held left : DiskSeen) → (Plays kit) (StandsIn message) ((heard_so kit) message) old one before first a → (Comes kit) any_state (drain_by kit) one two first second b held left → (Plays kit) any_state ((answer_taken kit) message) two new second after c → (Comes kit) (StandsIn message) ((turn_by kit) message) old new before after ((a || b) || c) held left
   turn-comes message old one two new before first second after a b c held left hears drains takes =
-      let heard = (plays-come kit laws) (StandsIn message) (StandsIn message) ((heard_so kit) message) old one before first a held (hear-leads message) hears in
+      let heard = (plays-come kit laws) (StandsIn message) (StandsIn message) ((heard_so kit) message) old one before first a held (hear-leads message) ((hear-keeps kit laws) message) hears in
       let both = (comes-after kit laws) (StandsIn message) any_state (λ setup fails. (heard_so kit) message setup) (drain_by kit) (hear_drain message) old one two before first second a b held held left (λ setup fails state good so. refl) (λ setup fails state good so. (tt, (hear-leads message setup state good so).1)) heard drains in
-      let taken = (plays-come kit laws) any_state any_state ((answer_taken kit) message) two new second after c left (takes-lead message) takes in
+      let taken = (plays-come kit laws) any_state any_state ((answer_taken kit) message) two new second after c left (takes-lead message) ((takes-keep kit laws) message) takes in
       let joins : (Joins kit laws) (StandsIn message) (hear_drain message) (λ setup fails. (answer_taken kit) message setup) ((turn_by kit) message) = λ setup fails state good so.
       ap (λ (o : Outcome (State Peers)). and_then (and_then o (drain (servers_at kit setup fails))) (in_world (take_answer (plain_of setup) message))) (heard-alike message setup fails state)
       in
       (comes-after kit laws) (StandsIn message) any_state (hear_drain message) (λ setup fails. (answer_taken kit) message setup) ((turn_by kit) message) old two new before second after (a || b) c held left left joins (hear_drain-leads message) both taken
 
   -- the state for the drain, and for the reply
-  pub turn-on : (message : Message) (one two : Cluster Group) (first second : List (List ℕ)) (b : Bool) (held left : DiskSeen) → (HasStateOf kit) (StandsIn message) one → (Comes kit) any_state (drain_by kit) one two first second b held left → (HasStateOf kit) (StandsIn message) two
+  pub turn-on : (message : Message) (one two : Cluster Group) (first second : List (List ℕ)) (b : Bool) (held left : DiskSeen) → (HasStateOn kit) (StandsIn message) one held.armed → (Comes kit) any_state (drain_by kit) one two first second b held left → (HasStateOn kit) (StandsIn message) two left.armed
   turn-on message one two first second b held left has drains =
-      (on-after kit laws) (StandsIn message) (StandsIn message) (drain_by kit) one two first second b held left (drain-keeps message) has (λ setup state good shows so. drains setup state good shows tt)
+      (on-after kit laws) (StandsIn message) (StandsIn message) (drain_by kit) one two first second b held left (drain-keeps message) has (λ setup state good shows counted so. drains setup state good shows counted tt)
 
   turn-ends : (message : Message) → (EndsBy kit laws) (StandsIn message) (λ setup fails. (heard_so kit) message setup) (EndsDrain kit) ((EndsTurn kit) message)
   turn-ends message setup fails state good so stop inner =
@@ -240,11 +246,11 @@ module _ {Peers Group : Type 0} (kit : Kit Peers Group) (laws : IsKit kit) where
 
   pub turn-drain-off : (message : Message) (answer : DiskAnswer) (old one new : Cluster Group) (before first after : List (List ℕ)) (a : Bool) (held left : DiskSeen) → (Plays kit) (StandsIn message) ((heard_so kit) message) old one before first a → (ComesOff kit) any_state (EndsDrain kit) answer one new first after held left → (ComesOff kit) (StandsIn message) ((EndsTurn kit) message) answer old new before after held left
   turn-drain-off message answer old one new before first after a held left hears off =
-      (off-after kit laws) (StandsIn message) any_state (EndsDrain kit) ((EndsTurn kit) message) (λ setup fails. (heard_so kit) message setup) answer old one new before first after a held held left (turn-ends message) (λ setup fails state good so. (tt, (hear-leads message setup state good so).1)) ((plays-come kit laws) (StandsIn message) (StandsIn message) ((heard_so kit) message) old one before first a held (hear-leads message) hears) off
+      (off-after kit laws) (StandsIn message) any_state (EndsDrain kit) ((EndsTurn kit) message) (λ setup fails. (heard_so kit) message setup) answer old one new before first after a held held left (turn-ends message) (λ setup fails state good so. (tt, (hear-leads message setup state good so).1)) ((plays-come kit laws) (StandsIn message) (StandsIn message) ((heard_so kit) message) old one before first a held (hear-leads message) ((hear-keeps kit laws) message) hears) off
 
   pub turn-take-lacks : (message : Message) (old one two new : Cluster Group) (before first second after : List (List ℕ)) (a b : Bool) (held left : DiskSeen) → (Plays kit) (StandsIn message) ((heard_so kit) message) old one before first a → (Comes kit) any_state (drain_by kit) one two first second b held left → (BreaksAloneIf kit) any_state two new → (ComesOff kit) (StandsIn message) ((EndsTurn kit) message) Memory old new before after held left
   turn-take-lacks message old one two new before first second after a b held left hears drains breaks =
-      let heard = (plays-come kit laws) (StandsIn message) (StandsIn message) ((heard_so kit) message) old one before first a held (hear-leads message) hears in
+      let heard = (plays-come kit laws) (StandsIn message) (StandsIn message) ((heard_so kit) message) old one before first a held (hear-leads message) ((hear-keeps kit laws) message) hears in
       let both = (comes-after kit laws) (StandsIn message) any_state (λ setup fails. (heard_so kit) message setup) (drain_by kit) (hear_drain message) old one two before first second a b held held left (λ setup fails state good so. refl) (λ setup fails state good so. (tt, (hear-leads message setup state good so).1)) heard drains in
       (alone-after kit laws) (StandsIn message) any_state ((EndsTurn kit) message) (hear_drain message) old two new before second after (a || b) held left (hear_drain-leads message) both breaks
 
@@ -257,7 +263,7 @@ module _ {Peers Group : Type 0} (kit : Kit Peers Group) (laws : IsKit kit) where
 
   -- nothing was played yet
   pub loop-begins : {X : Type 0} (P : State Peers → Type 0) (event : X → (EventOver kit)) (world : Cluster Group) (lines : List (List ℕ)) (disk : DiskSeen) → (Comes kit) P (λ setup fails. for_each (λ y. event y setup fails) []) world world lines lines false disk disk
-  loop-begins P event world lines disk setup state good shows so = steps-begin world lines disk setup state good shows tt
+  loop-begins P event world lines disk setup state good shows counted so = steps-begin world lines disk setup state good shows counted tt
 
   pub turns-end : (messages : List Message) (index : ℕ) (message : Message) → index < length messages → message ≡ get_or messages index message → (EndsBy kit laws) (IsIdleWithAll messages) ((turns_by kit) (take index messages)) ((EndsTurn kit) message) ((EndsTurns kit) messages)
   turns-end messages index message below is setup fails state good so stop inner =
@@ -281,13 +287,13 @@ module _ {Peers Group : Type 0} (kit : Kit Peers Group) (laws : IsKit kit) where
   client-follows client messages world are setup state good shows idle =
       (idle, subst (λ (l : List Message). AllByRecursion (λ m. Stands m state.world.net) l) (sym (are setup state shows)) (resent-posted (plain_of setup) client state.world good.steady.sound))
 
-  pub client-ready : (client : ℕ) (messages : List Message) (world : Cluster Group) → AreResent client messages world → (HasStateOf kit) IsIdle world → (HasStateOf kit) (IsIdleWithAll messages) world
-  client-ready client messages world are has =
-      record { setup = has.setup; state = has.state; good = has.good; shows = has.shows; so = client-follows client messages world are has.setup has.state has.good has.shows has.so }
+  pub client-ready : (client : ℕ) (messages : List Message) (world : Cluster Group) (armed : Option ℕ) → AreResent client messages world → (HasStateOn kit) IsIdle world armed → (HasStateOn kit) (IsIdleWithAll messages) world armed
+  client-ready client messages world armed are has =
+      record { setup = has.setup; state = has.state; good = has.good; shows = has.shows; count = has.count; so = client-follows client messages world are has.setup has.state has.good has.shows has.so }
 
   pub client-comes : (client : ℕ) (messages : List Message) (old new : Cluster Group) (before after : List (List ℕ)) (loud : Bool) (held left : DiskSeen) → AreResent client messages old → (Comes kit) (IsIdleWithAll messages) ((turns_by kit) messages) old new before after loud held left → (Comes kit) IsIdle ((client_by kit) client) old new before after loud held left
-  client-comes client messages old new before after loud held left are comes setup state good shows idle =
-      (came-as kit laws) setup state ((turns_by kit) messages setup) ((client_by kit) client setup) new before after loud held left (λ fails. ap (λ l. (turns_by kit) l setup fails state) (are setup state shows)) (comes setup state good shows (client-follows client messages old are setup state good shows idle))
+  client-comes client messages old new before after loud held left are comes setup state good shows counted idle =
+      (came-as kit laws) setup state ((turns_by kit) messages setup) ((client_by kit) client setup) new before after loud held left (λ fails. ap (λ l. (turns_by kit) l setup fails state) (are setup state shows)) (comes setup state good shows counted (client-follows client messages old are setup state good shows idle))
 
   pub client-off : (client : ℕ) (messages : List Message) (answer : DiskAnswer) (old new : Cluster Group) (before after : List (List ℕ)) (held left : DiskSeen) → AreResent client messages old → (ComesOff kit) (IsIdleWithAll messages) ((EndsTurns kit) messages) answer old new before after held left → (ComesOff kit) IsIdle ((EndsClient kit) client) answer old new before after held left
   client-off client messages answer old new before after held left are off =
@@ -309,8 +315,8 @@ module _ {Peers Group : Type 0} (kit : Kit Peers Group) (laws : IsKit kit) where
   AreClients clients world = (setup : Setup) (state : State Peers) → (Shows kit) setup state world → clients ≡ state.world.clients
 
   pub each-comes : (clients : List ℕ) (old new : Cluster Group) (before after : List (List ℕ)) (loud : Bool) (held left : DiskSeen) → AreClients clients old → (Comes kit) IsIdle ((clients_by kit) clients) old new before after loud held left → (Comes kit) IsIdle (each_by kit) old new before after loud held left
-  each-comes clients old new before after loud held left are comes setup state good shows idle =
-      (came-as kit laws) setup state ((clients_by kit) clients setup) ((each_by kit) setup) new before after loud held left (λ fails. ap (λ l. (clients_by kit) l setup fails state) (are setup state shows)) (comes setup state good shows idle)
+  each-comes clients old new before after loud held left are comes setup state good shows counted idle =
+      (came-as kit laws) setup state ((clients_by kit) clients setup) ((each_by kit) setup) new before after loud held left (λ fails. ap (λ l. (clients_by kit) l setup fails state) (are setup state shows)) (comes setup state good shows counted idle)
 
   pub each-off : (clients : List ℕ) (answer : DiskAnswer) (old new : Cluster Group) (before after : List (List ℕ)) (held left : DiskSeen) → AreClients clients old → (ComesOff kit) IsIdle ((EndsClients kit) clients) answer old new before after held left → (ComesOff kit) IsIdle (EndsEach kit) answer old new before after held left
   each-off clients answer old new before after held left are off =
@@ -343,13 +349,13 @@ module _ {Peers Group : Type 0} (kit : Kit Peers Group) (laws : IsKit kit) where
       let idle : IsIdle done.state = (drain_turn-leads setup fails state good so).0 in
       ap (λ (o : Outcome (State Peers)). behind done (and_then o (for_each (λ item. in_world (take_pushed plain item)) (plain.held done.state.world.core.answered)))) (push-same plain (calm_servers kit setup) (servers_at kit setup fails) done.state idle)
       in
-      (comes-after kit laws) any_state IsIdle drain_turn (λ setup fails. (round_pushed kit) setup) (round_by kit) old two new before second after (a || b) c held left left joins drain_turn-leads (turned old one two before first second a b held told left drains turns) ((plays-come kit laws) IsIdle any_state (round_pushed kit) two new second after c left pushes-lead pushes)
+      (comes-after kit laws) any_state IsIdle drain_turn (λ setup fails. (round_pushed kit) setup) (round_by kit) old two new before second after (a || b) c held left left joins drain_turn-leads (turned old one two before first second a b held told left drains turns) ((plays-come kit laws) IsIdle any_state (round_pushed kit) two new second after c left pushes-lead (pushes-keep kit laws) pushes)
 
   -- the state for the turns, and for the push
-  pub round-on : (old one : Cluster Group) (before first : List (List ℕ)) (a : Bool) (held told : DiskSeen) → (HasState kit) old → (Comes kit) any_state (drain_by kit) old one before first a held told → (HasStateOf kit) IsIdle one
+  pub round-on : (old one : Cluster Group) (before first : List (List ℕ)) (a : Bool) (held told : DiskSeen) → (HasStateOn kit) any_state old held.armed → (Comes kit) any_state (drain_by kit) old one before first a held told → (HasStateOn kit) IsIdle one told.armed
   round-on old one before first a held told has drains = (on-after kit laws) any_state IsIdle (drain_by kit) old one before first a held told drain-leads has drains
 
-  pub round-push-on : (one two : Cluster Group) (first second : List (List ℕ)) (b : Bool) (told left : DiskSeen) → (HasStateOf kit) IsIdle one → (Comes kit) IsIdle (each_by kit) one two first second b told left → (HasStateOf kit) IsIdle two
+  pub round-push-on : (one two : Cluster Group) (first second : List (List ℕ)) (b : Bool) (told left : DiskSeen) → (HasStateOn kit) IsIdle one told.armed → (Comes kit) IsIdle (each_by kit) one two first second b told left → (HasStateOn kit) IsIdle two left.armed
   round-push-on one two first second b told left has turns = (on-after kit laws) IsIdle IsIdle (each_by kit) one two first second b told left each-leads has turns
 
   pub round-start-off : (answer : DiskAnswer) (old new : Cluster Group) (before after : List (List ℕ)) (held left : DiskSeen) → (ComesOff kit) any_state (EndsDrain kit) answer old new before after held left → (ComesOff kit) any_state (EndsRound kit) answer old new before after held left

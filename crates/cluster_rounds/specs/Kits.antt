@@ -1,5 +1,5 @@
 -- Words of public clauses: what the cluster's code is told of servers, and what is asked of them.
-use Rattle.std.specs.Prelude.{◌≡◌, ℕ, ℤ, ◌≤◌, Bool, false, List, length}
+use Rattle.std.specs.Prelude.{◌≡◌, ℕ, ℤ, ◌≤◌, Bool, false, Option, List, length}
 use Rattle.stream_layout.specs.Deeds.{calls_of_all}
 use Rattle.plain_service.specs.Setups.{Setup}
 use Rattle.plain_service.specs.Storing.{deeds_of}
@@ -24,9 +24,11 @@ pub record Kit (P S : Type 0) : Type 1 where
   pub Good : State P → Type 0
   -- servers of the code stand for what is kept, by the setup, the answered history and the hand
   pub Own : Setup → List Entry → Hand → P → S → Type 0
-  -- where an event ends as an entry is to be worked, by the device, and what servers of the code are then
+  -- the disk's armed count is that of what is kept
+  pub Armed : P → Option ℕ → Type 0
+  -- where an event ends as an entry is to be worked, by the device, and what servers of the code and the disk's armed count are then
   pub EndsAtWork : Device → EndAt P
-  pub Fell : Setup → State P → S → Type 0
+  pub Fell : Setup → State P → S → Option ℕ → Type 0
   -- how the time at which an entry was accepted may stand to the time in force when it comes to the history
   pub Within : ℤ → ℤ → Type 0
   -- how the disk's count of faults may go from a number to another where an event is done
@@ -40,10 +42,12 @@ pub record IsKit {P S : Type 0} (kit : Kit P S) : Type 0 where
   pub steps : (plain : Plain) (device : Device) → (kit.servers plain device).steps ≡ kit.steps
   -- each step of theirs keeps what holds, and says what happened
   pub stepped : (plain : Plain) (device : Device) → IsPlain plain → AreStepped plain (kit.servers plain device) kit.Good (SaysUnasked kit.Within plain)
-  -- they accept alike whatever the device, leave what was answered, and their lines tell what grew
+  -- they accept alike whatever the device, leave what was answered and the armed count, and their lines tell what grew
   pub alike : (plain : Plain) (one other : Device) → (kit.servers plain one).accept ≡ (kit.servers plain other).accept
   pub keeps : (plain : Plain) (device : Device) (entry : Entry) (state : State P)
       → ((kit.servers plain device).accept entry state).state.world.core.answered ≡ state.world.core.answered
+  pub armed : (plain : Plain) (device : Device) (entry : Entry) (state : State P) (count : Option ℕ)
+      → kit.Armed state.peers count → kit.Armed ((kit.servers plain device).accept entry state).state.peers count
   pub measured : (plain : Plain) (device : Device) (entry : Entry) (state : State P) → state.world.core.hand ≡ Empty → kit.Good state
       → IsMeasured state.world ((kit.servers plain device).accept entry state)
   -- the count of faults may stand, does not fall, and goes on

@@ -9,7 +9,7 @@ use Rattle.cluster_events.specs.Settling.{Settles, Rounds}
 use Rattle.cluster_events.specs.Devices.{answered_in, AgreesIn, IsCaused}
 use Rattle.cluster_rounds.specs.declared.cluster.Cluster.{Cluster}
 use Rattle.cluster_clients.specs.Taken.{kept_lines}
-use Rattle.cluster_rounds.specs.Came.{DiskSeen}
+use Rattle.cluster_rounds.specs.Came.{DiskSeen, TellsDown}
 use Rattle.cluster_rounds.specs.Kits.{Kit, servers_at}
 use Rattle.cluster_rounds.specs.Worlds.{Happened, IsGood, LeavesFiles, Shows, TellsFiles}
 
@@ -21,13 +21,17 @@ module _ {Peers Group : Type 0} (kit : Kit Peers Group) where
     pub settles : Settles (plain_of setup) (servers_at kit setup happened) state outcome.state outcome.told
     pub caused : IsCaused held.faults left.faults happened
     pub outlives : kit.Outlives held.faults left.faults
+    pub felled : TellsDown held.faults left.faults outcome.told
     pub is : Happened kit setup outcome new before after
+    pub count : kit.Armed outcome.state.peers left.armed
     pub files : TellsFiles setup state held.files → LeavesFiles setup outcome.state held.files left.files
 
-  -- rounds were played up to the first that was not loud, over each good state that the cluster stood for
+  -- rounds were played up to the first that was not loud, over each good state that the cluster stood for and that tells of the disk's
+  -- armed count
   abbrev pub DoesSettle : Cluster Group → Cluster Group → List (List ℕ) → List (List ℕ) → DiskSeen → DiskSeen → Type 0
   DoesSettle old new before after held left =
-      (setup : Setup) (state : State Peers) → IsGood kit setup state → Shows kit setup state old → Settled setup state new before after held left
+      (setup : Setup) (state : State Peers) → IsGood kit setup state → Shows kit setup state old → kit.Armed state.peers held.armed
+      → Settled setup state new before after held left
 
   -- Words of bodies alone: rounds were played from a start, over each device that agrees with what happened.
   pub record Settling (setup : Setup) (start : State Peers) (now : Cluster Group) (before after : List (List ℕ)) (loud : Bool)
@@ -40,11 +44,14 @@ module _ {Peers Group : Type 0} (kit : Kit Peers Group) where
         → Rounds (plain_of setup) (servers_at kit setup fails) start state told loud
     pub caused : IsCaused held.faults left.faults happened
     pub outlives : kit.Outlives held.faults left.faults
+    pub felled : TellsDown held.faults left.faults told
     pub shows : Shows kit setup state now
     pub good : IsGood kit setup state
+    pub count : kit.Armed state.peers left.armed
     pub lines : after ≡ before ++ kept_lines told
     pub files : TellsFiles setup start held.files → LeavesFiles setup state held.files left.files
 
   abbrev pub SettlesSo : Cluster Group → Cluster Group → List (List ℕ) → List (List ℕ) → Bool → DiskSeen → DiskSeen → Type 0
   SettlesSo old now before after loud held left =
-      (setup : Setup) (start : State Peers) → IsGood kit setup start → Shows kit setup start old → Settling setup start now before after loud held left
+      (setup : Setup) (start : State Peers) → IsGood kit setup start → Shows kit setup start old → kit.Armed start.peers held.armed
+      → Settling setup start now before after loud held left

@@ -62,6 +62,15 @@ module _ {Peers Group : Type 0} (kit : Kit Peers Group) where
     pub shows : Shows setup state world
     pub so : P state
 
+  -- the same over a disk of this armed count, of which the state tells
+  pub record HasStateOn (P : State Peers → Type 0) (world : Cluster Group) (armed : Option ℕ) : Type 0 where
+    pub setup : Setup
+    pub state : State Peers
+    pub good : IsGood setup state
+    pub shows : Shows setup state world
+    pub count : kit.Armed state.peers armed
+    pub so : P state
+
   -- for any good state
   abbrev pub HasState : Cluster Group → Type 0
   HasState world = HasStateOf any_state world

@@ -1,6 +1,6 @@
 //! What the servers do of themselves.
 ghost use Rattle.std.specs.Prelude.{IfOk, IfErr};
-ghost use Rattle.cluster_rounds.specs.Worlds.{HasState, any_state};
+ghost use Rattle.cluster_rounds.specs.Worlds.{HasStateOn, any_state};
 ghost use Rattle.cluster_rounds.specs.Rounds.{drain_by, EndsDrain};
 ghost use Rattle.cluster_rounds.specs.Came.{seen, Comes, ComesOff};
 
@@ -17,13 +17,14 @@ pub(crate) fn drain<S: Serving, D: SharedDisk>(
     lines: &mut Vec<Seq<u8>>,
     disk: &mut D,
 ) -> Result<bool, DiskAnswer>
-    requires { HasState S.kit world.old }
+    requires { HasStateOn S.kit any_state world.old (D.tally disk.old).armed }
     ensures ok { IfOk result (λ loud. Comes S.kit any_state (drain_by S.kit) world.old world.new
-        lines.old.items lines.new.items loud (seen (D.files disk.old) (D.faults disk.old))
-        (seen (D.files disk.new) (D.faults disk.new))) }
+        lines.old.items lines.new.items loud (seen (D.files disk.old) (D.tally disk.old)
+        (D.faults disk.old)) (seen (D.files disk.new) (D.tally disk.new) (D.faults disk.new))) }
     ensures err { IfErr result (λ answer. ComesOff S.kit any_state (EndsDrain S.kit) answer
-        world.old world.new lines.old.items lines.new.items (seen (D.files disk.old) (D.faults
-        disk.old)) (seen (D.files disk.new) (D.faults disk.new))) }
+        world.old world.new lines.old.items lines.new.items (seen (D.files disk.old)
+        (D.tally disk.old) (D.faults disk.old)) (seen (D.files disk.new) (D.tally disk.new)
+        (D.faults disk.new))) }
 {
     let mut loud = false;
     for _step in 0..S::steps() {

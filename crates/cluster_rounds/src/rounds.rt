@@ -2,7 +2,7 @@
 //! pushed and taken. Lines on messages without effect are left out.
 ghost use Rattle.std.specs.Prelude.{◌≡◌, ◌++◌, if◌then◌else◌, IfOk, IfErr, OnOk, OnErr};
 ghost use Rattle.wire_code.specs.Spelling.{IsClient, IsCount};
-ghost use Rattle.cluster_rounds.specs.Worlds.{HasState, HasStateOf, IsIdle, StandsIn, any_state};
+ghost use Rattle.cluster_rounds.specs.Worlds.{HasState, HasStateOf, HasStateOn, IsIdle, StandsIn, any_state};
 ghost use Rattle.cluster_rounds.specs.Broken.{BreaksAloneIf};
 ghost use Rattle.cluster_rounds.specs.Rounds.{Plays, IsIdleWithAll, IsIdleWithItems, heard_so, answer_taken, reply_taken, message_taken, items_taken, round_pushed, turn_by, turns_by, client_by, clients_by, each_by, round_by, EndsTurn, EndsTurns, EndsClient, EndsClients, EndsEach, EndsRound};
 ghost use Rattle.cluster_rounds.specs.Came.{seen, Comes, ComesOff};
@@ -154,13 +154,15 @@ fn turn<R: Wait, S: Serving, D: SharedDisk>(
     disk: &mut D,
     message: &Message,
 ) -> Result<bool, DiskAnswer>
-    requires { HasStateOf S.kit (StandsIn message.now) world.old }
+    requires { HasStateOn S.kit (StandsIn message.now) world.old (D.tally disk.old).armed }
     ensures ok { IfOk result (λ loud. Comes S.kit (StandsIn message.now) (turn_by S.kit message.now)
-        world.old world.new lines.old.items lines.new.items loud (seen (D.files disk.old) (D.faults
-        disk.old)) (seen (D.files disk.new) (D.faults disk.new))) }
+        world.old world.new lines.old.items lines.new.items loud (seen (D.files disk.old)
+        (D.tally disk.old) (D.faults disk.old)) (seen (D.files disk.new) (D.tally disk.new)
+        (D.faults disk.new))) }
     ensures err { IfErr result (λ answer. ComesOff S.kit (StandsIn message.now) (EndsTurn S.kit
-        message.now) answer world.old world.new lines.old.items lines.new.items (seen (D.files
-        disk.old) (D.faults disk.old)) (seen (D.files disk.new) (D.faults disk.new))) }
+        message.now) answer world.old world.new lines.old.items lines.new.items (seen
+        (D.files disk.old) (D.tally disk.old) (D.faults disk.old)) (seen (D.files disk.new)
+        (D.tally disk.new) (D.faults disk.new))) }
 {
     let heard = match hear_so(alloc, world, lines, message) {
         Ok(heard) => heard,
@@ -185,13 +187,15 @@ fn turn_all<R: Wait, S: Serving, D: SharedDisk>(
     disk: &mut D,
     messages: &[Message],
 ) -> Result<bool, DiskAnswer>
-    requires { HasStateOf S.kit (IsIdleWithAll messages.now) world.old }
+    requires { HasStateOn S.kit (IsIdleWithAll messages.now) world.old (D.tally disk.old).armed }
     ensures ok { IfOk result (λ loud. Comes S.kit (IsIdleWithAll messages.now) (turns_by S.kit
-        messages.now) world.old world.new lines.old.items lines.new.items loud (seen (D.files
-        disk.old) (D.faults disk.old)) (seen (D.files disk.new) (D.faults disk.new))) }
+        messages.now) world.old world.new lines.old.items lines.new.items loud (seen
+        (D.files disk.old) (D.tally disk.old) (D.faults disk.old)) (seen (D.files disk.new)
+        (D.tally disk.new) (D.faults disk.new))) }
     ensures err { IfErr result (λ answer. ComesOff S.kit (IsIdleWithAll messages.now) (EndsTurns
         S.kit messages.now) answer world.old world.new lines.old.items lines.new.items (seen
-        (D.files disk.old) (D.faults disk.old)) (seen (D.files disk.new) (D.faults disk.new))) }
+        (D.files disk.old) (D.tally disk.old) (D.faults disk.old)) (seen (D.files disk.new)
+        (D.tally disk.new) (D.faults disk.new))) }
 {
     let mut loud = false;
     for message in messages {
@@ -212,13 +216,14 @@ fn turn_client<R: Wait, S: Serving, D: SharedDisk>(
     disk: &mut D,
     client: u16,
 ) -> Result<bool, DiskAnswer>
-    requires { HasStateOf S.kit IsIdle world.old }
+    requires { HasStateOn S.kit IsIdle world.old (D.tally disk.old).armed }
     ensures ok { IfOk result (λ loud. Comes S.kit IsIdle (client_by S.kit client) world.old
-        world.new lines.old.items lines.new.items loud (seen (D.files disk.old) (D.faults disk.old))
-        (seen (D.files disk.new) (D.faults disk.new))) }
+        world.new lines.old.items lines.new.items loud (seen (D.files disk.old) (D.tally disk.old)
+        (D.faults disk.old)) (seen (D.files disk.new) (D.tally disk.new) (D.faults disk.new))) }
     ensures err { IfErr result (λ answer. ComesOff S.kit IsIdle (EndsClient S.kit client) answer
-        world.old world.new lines.old.items lines.new.items (seen (D.files disk.old) (D.faults
-        disk.old)) (seen (D.files disk.new) (D.faults disk.new))) }
+        world.old world.new lines.old.items lines.new.items (seen (D.files disk.old)
+        (D.tally disk.old) (D.faults disk.old)) (seen (D.files disk.new) (D.tally disk.new)
+        (D.faults disk.new))) }
 {
     let at = match place_of(world.agents.as_slice(), client) {
         Some(at) => at,
@@ -243,13 +248,14 @@ fn turn_clients<R: Wait, S: Serving, D: SharedDisk>(
     disk: &mut D,
     clients: &[u16],
 ) -> Result<bool, DiskAnswer>
-    requires { HasStateOf S.kit IsIdle world.old }
+    requires { HasStateOn S.kit IsIdle world.old (D.tally disk.old).armed }
     ensures ok { IfOk result (λ loud. Comes S.kit IsIdle (clients_by S.kit clients.now) world.old
-        world.new lines.old.items lines.new.items loud (seen (D.files disk.old) (D.faults disk.old))
-        (seen (D.files disk.new) (D.faults disk.new))) }
+        world.new lines.old.items lines.new.items loud (seen (D.files disk.old) (D.tally disk.old)
+        (D.faults disk.old)) (seen (D.files disk.new) (D.tally disk.new) (D.faults disk.new))) }
     ensures err { IfErr result (λ answer. ComesOff S.kit IsIdle (EndsClients S.kit clients.now)
         answer world.old world.new lines.old.items lines.new.items (seen (D.files disk.old)
-        (D.faults disk.old)) (seen (D.files disk.new) (D.faults disk.new))) }
+        (D.tally disk.old) (D.faults disk.old)) (seen (D.files disk.new) (D.tally disk.new)
+        (D.faults disk.new))) }
 {
     let mut loud = false;
     for client in clients {
@@ -269,13 +275,13 @@ fn turn_each<R: Wait, S: Serving, D: SharedDisk>(
     lines: &mut Vec<Seq<u8>>,
     disk: &mut D,
 ) -> Result<bool, DiskAnswer>
-    requires { HasStateOf S.kit IsIdle world.old }
+    requires { HasStateOn S.kit IsIdle world.old (D.tally disk.old).armed }
     ensures ok { IfOk result (λ loud. Comes S.kit IsIdle (each_by S.kit) world.old world.new
-        lines.old.items lines.new.items loud (seen (D.files disk.old) (D.faults disk.old))
-        (seen (D.files disk.new) (D.faults disk.new))) }
+        lines.old.items lines.new.items loud (seen (D.files disk.old) (D.tally disk.old)
+        (D.faults disk.old)) (seen (D.files disk.new) (D.tally disk.new) (D.faults disk.new))) }
     ensures err { IfErr result (λ answer. ComesOff S.kit IsIdle (EndsEach S.kit) answer world.old
-        world.new lines.old.items lines.new.items (seen (D.files disk.old) (D.faults disk.old))
-        (seen (D.files disk.new) (D.faults disk.new))) }
+        world.new lines.old.items lines.new.items (seen (D.files disk.old) (D.tally disk.old)
+        (D.faults disk.old)) (seen (D.files disk.new) (D.tally disk.new) (D.faults disk.new))) }
 {
     match clients_of(alloc, world.agents.as_slice()) {
         Ok(clients) => turn_clients(rt, alloc, world, lines, disk, clients.as_slice()),
@@ -337,13 +343,14 @@ pub(crate) fn round<R: Wait, S: Serving, D: SharedDisk>(
     lines: &mut Vec<Seq<u8>>,
     disk: &mut D,
 ) -> Result<bool, DiskAnswer>
-    requires { HasState S.kit world.old }
+    requires { HasStateOn S.kit any_state world.old (D.tally disk.old).armed }
     ensures ok { IfOk result (λ loud. Comes S.kit any_state (round_by S.kit) world.old world.new
-        lines.old.items lines.new.items loud (seen (D.files disk.old) (D.faults disk.old))
-        (seen (D.files disk.new) (D.faults disk.new))) }
+        lines.old.items lines.new.items loud (seen (D.files disk.old) (D.tally disk.old)
+        (D.faults disk.old)) (seen (D.files disk.new) (D.tally disk.new) (D.faults disk.new))) }
     ensures err { IfErr result (λ answer. ComesOff S.kit any_state (EndsRound S.kit) answer
-        world.old world.new lines.old.items lines.new.items (seen (D.files disk.old) (D.faults
-        disk.old)) (seen (D.files disk.new) (D.faults disk.new))) }
+        world.old world.new lines.old.items lines.new.items (seen (D.files disk.old)
+        (D.tally disk.old) (D.faults disk.old)) (seen (D.files disk.new) (D.tally disk.new)
+        (D.faults disk.new))) }
 {
     let drained = match drain(alloc, world, lines, disk) {
         Ok(drained) => drained,

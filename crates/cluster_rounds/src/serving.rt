@@ -3,7 +3,8 @@ ghost use Rattle.std.specs.Prelude.{◌≡◌, IfOk, IfErr, OnOk, OnErr};
 ghost use Rattle.disk_model.specs.declared.answers.DiskAnswer.{DiskAnswer};
 ghost use Rattle.wire.specs.MessageSpelling.{MessageInRange};
 ghost use Rattle.cluster_rounds.specs.Kits.{Kit, IsKit};
-ghost use Rattle.cluster_rounds.specs.Worlds.{HasState, HasStateOf, IsIdle, StandsIn, DoesIf, heard_by, Pushes, any_state};
+ghost use Rattle.cluster_rounds.specs.Scripts.{Script};
+ghost use Rattle.cluster_rounds.specs.Worlds.{HasState, HasStateOf, HasStateOn, IsIdle, StandsIn, DoesIf, heard_by, Pushes, any_state};
 ghost use Rattle.cluster_rounds.specs.Broken.{BreaksAloneIf};
 ghost use Rattle.cluster_rounds.specs.Rounds.{EndsStep};
 ghost use Rattle.cluster_rounds.specs.Came.{seen, Advances, ComesOff};
@@ -21,6 +22,9 @@ pub trait Serving {
 
     /// What is told of them.
     ghost kit: { Kit Peers Self };
+
+    /// What is told of the lines of a script over them.
+    ghost script: { Script Peers };
 
     /// Delivers a request or a receipt of this place in the net to the active server.
     fn hear(
@@ -52,22 +56,23 @@ pub trait Serving {
         ensures { result ≡ kit.steps };
 
     /// Makes one step of a drain: a message between servers is delivered, or the entry in hand is worked. Answers whether there was
-    /// one to make.
+    /// one to make. What the servers keep tells of the disk's armed count, before and after.
     ///
-    /// `Failed` comes where the disk had a fault that no server survives; its count of faults rose then.
+    /// `Failed` comes where the disk had a fault that no server survives; its count of faults rose then. `Memory` comes where memory
+    /// ran out. `Stopped` never comes: servers that are not armed meet no stop, and of those that are another one takes over.
     fn advance<D: SharedDisk>(
         alloc: Global,
         world: &mut Cluster<Self>,
         lines: &mut Vec<Seq<u8>>,
         disk: &mut D,
     ) -> Result<bool, DiskAnswer>
-        requires { HasState kit world.old }
+        requires { HasStateOn kit any_state world.old (D.tally disk.old).armed }
         ensures ok { IfOk result (λ went. Advances kit went world.old world.new lines.old.items
-            lines.new.items (seen (D.files disk.old) (D.faults disk.old))
-            (seen (D.files disk.new) (D.faults disk.new))) }
+            lines.new.items (seen (D.files disk.old) (D.tally disk.old) (D.faults disk.old))
+            (seen (D.files disk.new) (D.tally disk.new) (D.faults disk.new))) }
         ensures err { IfErr result (λ answer. ComesOff kit any_state (EndsStep kit) answer world.old
-            world.new lines.old.items lines.new.items (seen (D.files disk.old) (D.faults disk.old))
-            (seen (D.files disk.new) (D.faults disk.new))) };
+            world.new lines.old.items lines.new.items (seen (D.files disk.old) (D.tally disk.old)
+            (D.faults disk.old)) (seen (D.files disk.new) (D.tally disk.new) (D.faults disk.new))) };
 
     /// What is asked of them holds.
     ghost laws: { IsKit kit };

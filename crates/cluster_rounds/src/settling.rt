@@ -1,6 +1,7 @@
 //! `settle`: rounds up to the first in which nothing goes on.
-ghost use Rattle.std.specs.Prelude.{IfErr, OnOk};
-ghost use Rattle.cluster_rounds.specs.Worlds.{HasState, any_state};
+ghost use Rattle.std.specs.Prelude.{IfErr, IsErrOf, OnOk};
+ghost use Rattle.disk_model.specs.declared.answers.DiskAnswer.{DiskAnswer};
+ghost use Rattle.cluster_rounds.specs.Worlds.{HasStateOn, any_state};
 ghost use Rattle.cluster_rounds.specs.Rounds.{EndsSettle};
 ghost use Rattle.cluster_rounds.specs.Came.{seen, ComesOff};
 ghost use Rattle.cluster_rounds.specs.Settling.{DoesSettle};
@@ -15,7 +16,8 @@ use std::sync::Wait;
 /// Plays rounds up to the first that is not loud, and adds the lines of all of them, but for those on messages without effect.
 ///
 /// `Failed` comes where the disk had a fault that no server survives: its count of faults rose, and the lines are those of all that
-/// was done until then. `Memory` comes where memory ran out; some of it was done.
+/// was done until then. `Memory` comes where memory ran out; some of it was done. `Stopped` never comes: the servers answer for a
+/// disk that stops.
 pub fn settle<R: Wait, S: Serving, D: SharedDisk>(
     rt: &R,
     alloc: Global,
@@ -23,13 +25,15 @@ pub fn settle<R: Wait, S: Serving, D: SharedDisk>(
     lines: &mut Vec<Seq<u8>>,
     disk: &mut D,
 ) -> Result<(), DiskAnswer>
-    requires { HasState S.kit world.old }
-    ensures ok { OnOk result (DoesSettle S.kit world.old world.new lines.old.items
-        lines.new.items (seen (D.files disk.old) (D.faults disk.old)) (seen (D.files disk.new)
-        (D.faults disk.new))) }
+    requires { HasStateOn S.kit any_state world.old (D.tally disk.old).armed }
+    ensures ok { OnOk result (DoesSettle S.kit world.old world.new lines.old.items lines.new.items
+        (seen (D.files disk.old) (D.tally disk.old) (D.faults disk.old)) (seen (D.files disk.new)
+        (D.tally disk.new) (D.faults disk.new))) }
     ensures err { IfErr result (λ answer. ComesOff S.kit any_state (EndsSettle S.kit) answer
-        world.old world.new lines.old.items lines.new.items (seen (D.files disk.old) (D.faults
-        disk.old)) (seen (D.files disk.new) (D.faults disk.new))) }
+        world.old world.new lines.old.items lines.new.items (seen (D.files disk.old)
+        (D.tally disk.old) (D.faults disk.old)) (seen (D.files disk.new) (D.tally disk.new)
+        (D.faults disk.new))) }
+    ensures never_stopped { IsErrOf result DiskAnswer.Stopped → ⊥ }
 {
     let mut loud = true;
     while loud {

@@ -9,4 +9,5 @@ loop-name-preserved g c =
     record {
       listed = listing_next _ _ _ _ _ _ _ _ c.loop-name-test.true is c.loop-name.invariant.listed now.added now.same;
       stands = now.cause.stands ∙ c.loop-name.invariant.stands;
+      armed = now.armed ∙ c.loop-name.invariant.armed;
     }

@@ -6,4 +6,5 @@ abbrev pub invariant-loop-name : goal.invariant-loop-name
 invariant-loop-name g l = record {
   listed : Listing l.name-items l.name-index (g.D.SharedDisk.files l.fn.disk) (g.D.SharedDisk.files l.disk) l.lines.items;
   stands : g.D.SharedDisk.faults l.disk ≡ g.D.SharedDisk.faults l.fn.disk;
+  armed : (g.D.SharedDisk.tally l.disk).armed ≡ (g.D.SharedDisk.tally l.fn.disk).armed;
 }
