@@ -1,8 +1,11 @@
-//! Tests of a node of the cluster and of values that are handed to it, and the laws over whole histories called once.
+//! Tests of a node of the cluster, of lines of a script over one server and of values that are handed to it, and the laws over whole
+//! histories called once.
 #![tactic(auto)]
 
 #[cfg(test)]
 mod laws_tests;
+#[cfg(test)]
+mod lines_tests;
 #[cfg(test)]
 mod mirror_tests;
 #[cfg(test)]

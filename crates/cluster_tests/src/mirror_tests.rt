@@ -1,9 +1,10 @@
 //! What no clause says: that each call succeeds while there is memory.
-ghost use Rattle.std.specs.Prelude.{◌≡◌, ◌≢◌, ◌<◌, ◌≤◌, pos, ◌∷◌, []};
+ghost use Rattle.std.specs.Prelude.{◌≡◌, ◌≢◌, ◌<◌, ◌≤◌, pos, None, ◌∷◌, []};
 ghost use Rattle.calls.specs.declared.call.Call.TheVariants.{NtfInit};
 ghost use Rattle.calls.specs.declared.entry.Entry.TheVariants.{Called};
 ghost use Rattle.wire.specs.declared.message.Message.TheVariants.{Request, Receipt};
 ghost use Rattle.stream_config.specs.WellKnown.{default_attrs};
+ghost use Rattle.service_core.specs.Beginning.{CanBeginAs};
 ghost use Rattle.mirror.specs.Hearing.{CanHear};
 
 use ais_values::{Seq, StreamKind};
@@ -17,7 +18,7 @@ use stream_config::{StreamAttrs, well_known};
 use wire::Message;
 
 /// 2024-01-01 00:00:00.
-const START: i64 = 1_704_067_200_000_000_000;
+pub(crate) const START: i64 = 1_704_067_200_000_000_000;
 
 /// The attributes of the three streams.
 fn wells(
@@ -44,12 +45,19 @@ fn given(rt: &impl Abort, alloc: Global, kind: StreamKind) -> StreamAttrs
     well_known(alloc, kind).expect(rt, "memory")
 }
 
-/// A service that nobody has used.
-fn service(rt: &impl Abort, alloc: Global) -> Service {
+/// The attributes of the three streams unless other ones are given.
+pub(crate) fn default_wells(rt: &impl Abort, alloc: Global) -> Seq<StreamAttrs>
+    ensures { CanBeginAs (pos 1704067200000000000) 4 result }
+{
     let alarm = given(rt, alloc, StreamKind::Alarm);
     let notification = given(rt, alloc, StreamKind::Notification);
     let system = given(rt, alloc, StreamKind::System);
-    let wells = wells(rt, alloc, alarm, notification, system);
+    wells(rt, alloc, alarm, notification, system)
+}
+
+/// A service that nobody has used.
+fn service(rt: &impl Abort, alloc: Global) -> Service {
+    let wells = default_wells(rt, alloc);
     let (service, deeds) = Service::new(alloc, START, 4, wells).expect(rt, "memory");
     drop(deeds);
     service
@@ -184,7 +192,9 @@ fn forgets(rt: &impl Abort, alloc: Global, node: &mut Node, disk: &mut MemDisk) 
     asks(rt, alloc, node, 7, 2, REPEATED);
 }
 
-fn new_disk(alloc: Global) -> MemDisk {
+pub(crate) fn new_disk(alloc: Global) -> MemDisk
+    ensures { result.tally.armed ≡ None }
+{
     MemDisk::new(alloc, Vec::new(alloc), Vec::new(alloc), Vec::new(alloc))
 }
 

@@ -5,7 +5,7 @@ use Rattle.stream_config.specs.WellKnown.{default_attrs}
 use Rattle.stream_config.proofs.AttributeLaws.{default_attrs-pass}
 use Rattle.plain_service.specs.Setups.{Setup}
 use Rattle.service_core.specs.Beginning.{CanBeginAs}
-use Rattle.cluster_tests.proofs.mirror_tests.service.Goals as goal
+use Rattle.cluster_tests.proofs.mirror_tests.default_wells.Goals as goal
 
 -- the setup of the attributes that streams have unless other ones are given
 plain : Setup
@@ -34,6 +34,6 @@ begins wells is = (
   },
 )
 
-pub new-requires : goal.new-requires
-new-requires g c =
-    begins c.wells-wells.result (cc (c.wells-wells.ensures, c.given-alarm.ensures, c.given-notification.ensures, c.given-system.ensures))
+pub returns : goal.returns
+returns g c =
+    begins c.wells.result (cc (c.wells.ensures, c.given-alarm.ensures, c.given-notification.ensures, c.given-system.ensures))

@@ -1,0 +1,6 @@
+pub mod KeepSteps
+pub mod LineSteps
+pub mod LineBroken
+pub mod LineSpelled
+pub mod OwnLines
+mod ShowSteps

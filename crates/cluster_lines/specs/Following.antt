@@ -1,0 +1,31 @@
+-- Words of laws: what is asked of the lines of a script over servers.
+use Rattle.std.specs.Prelude.{◌≡◌, ℕ, Option, Some, None}
+use Rattle.script_lines.specs.declared.line.Line.{Line}
+use Rattle.script_lines.specs.declared.line.Line.TheVariants.{Settle}
+use Rattle.cluster_facts.specs.Lists.{without}
+use Rattle.cluster_facts.specs.Service.{Plain}
+use Rattle.cluster_facts.specs.History.{Hand, Empty}
+use Rattle.cluster_events.specs.Lines.{is_ignored}
+use Rattle.cluster_events.specs.Outcomes.{Outcome}
+use Rattle.cluster_events.specs.Servers.{State}
+use Rattle.cluster_events.specs.Devices.{Device}
+use Rattle.cluster_events.specs.Ending.{SettleEnds}
+use Rattle.cluster_events.specs.Running.{Shelf, Happens}
+use Rattle.cluster_rounds.specs.Kits.{Kit}
+use Rattle.cluster_rounds.specs.Scripts.{Script}
+
+-- an entry has a number in hand exactly where one is in hand
+abbrev pub IsInHand : Option ℕ → Hand → Type 0
+IsInHand None hand = hand ≡ Empty
+IsInHand (Some number) hand = (hand ≡ Empty) → ⊥
+
+-- what happens over any servers is what lines lead to; `settle` ends in one of its rounds, and tells no line on a message without
+-- effect; how the servers stand tells whether an entry is in hand
+pub record IsScript {P S : Type 0} (kit : Kit P S) (script : Script P) : Type 0 where
+  pub shares : (plain : Plain) (shelf : Shelf) (device : Device) (next : Line) (state : State P) (outcome : Outcome (State P))
+      → Happens plain shelf (kit.servers plain device) next state outcome → script.Leads plain shelf device next state outcome
+  pub settles : (plain : Plain) (device : Device) (state : State P) (whole : Outcome (State P))
+      → SettleEnds plain (kit.servers plain device) (kit.EndsAtWork device) state whole
+      → script.Ends plain device Settle state (record { state = whole.state; told = without is_ignored whole.told })
+  pub in_hand : (plain : Plain) (device : Device) (state : State P)
+      → IsInHand ((kit.servers plain device).standing state).in_hand state.world.core.hand

@@ -1,0 +1,200 @@
+//! What each line of a script does to a cluster.
+ghost use Rattle.std.specs.Prelude.{◌≡◌, OnOk, OnErr, IfErr};
+ghost use Rattle.script_lines.specs.declared.line.Line.TheVariants.{Deliver, Push};
+ghost use Rattle.cluster_rounds.specs.Worlds.{HasState, HasStateOn, Does, any_state, pushed};
+ghost use Rattle.cluster_rounds.specs.Broken.{BreaksAlone};
+ghost use Rattle.cluster_rounds.specs.Came.{seen};
+ghost use Rattle.cluster_lines.specs.Lines.{IsInRange, CanPlay, is_own};
+ghost use Rattle.cluster_lines.specs.Playing.{Plays, BreaksOff, GoesOn};
+ghost use Rattle.cluster_lines.specs.Answers.{EndsAs};
+ghost use Rattle.cluster_lines.specs.Steps.{deliver_at, PlaysAlone};
+
+use crate::Scripted;
+use crate::showing::{refused, show_file, show_files, show_servers};
+use ais_values::Seq;
+use callback_dispatch::Gate;
+use client_agent::How;
+use cluster_rounds::{Cluster, deliver, dispatch, resend, settle};
+use disk_model::{DiskAnswer, SharedDisk};
+use script_lines::Line;
+use std::alloc::{AllocError, Global};
+use std::mem;
+use std::sync::Wait;
+use std::thread::Threads;
+
+/// The message of a line's number is delivered. The line is refused where the net has none of that number.
+fn deliver_line<R: Wait, S: Scripted>(
+    rt: &R,
+    alloc: Global,
+    world: &mut Cluster<S>,
+    lines: &mut Vec<Seq<u8>>,
+    line: &Line,
+    place: u64,
+) -> Result<(), AllocError>
+    requires state { HasState S.kit world.old }
+    requires line { line.now ≡ Deliver place }
+    ensures ok { OnOk result (Does S.kit (deliver_at S.kit place) world.old world.new
+        lines.old.items lines.new.items) }
+    ensures err { OnErr result (BreaksAlone S.kit world.old world.new) }
+{
+    match deliver(rt, alloc, world, lines, place) {
+        Ok(done) => {
+            if done {
+                return Ok(());
+            }
+            refused(alloc, world, lines, line)
+        }
+        Err(error) => Err(error),
+    }
+}
+
+/// All items without receipt are posted. The line is refused while an entry is in hand.
+fn push_line<S: Scripted>(
+    alloc: Global,
+    world: &mut Cluster<S>,
+    lines: &mut Vec<Seq<u8>>,
+    line: &Line,
+) -> Result<(), AllocError>
+    requires state { HasState S.kit world.old }
+    requires line { line.now ≡ Push }
+    ensures ok { OnOk result (Does S.kit (pushed S.kit) world.old world.new lines.old.items
+        lines.new.items) }
+    ensures err { OnErr result (BreaksAlone S.kit world.old world.new) }
+{
+    if S::standing(world).in_hand.is_some() {
+        return refused(alloc, world, lines, line);
+    }
+    match S::push(alloc, world, lines) {
+        Ok(items) => {
+            mem::drop(items);
+            Ok(())
+        }
+        Err(error) => Err(error),
+    }
+}
+
+/// What a line does that leaves the disk alone. Other lines are no part of it, and answer as if memory ran out.
+fn play_alone<R: Threads + Wait + Sync, S: Scripted, G: Gate>(
+    rt: &R,
+    alloc: Global,
+    world: &mut Cluster<S>,
+    lines: &mut Vec<Seq<u8>>,
+    line: &Line,
+    gate: &G,
+) -> Result<(), AllocError>
+    requires state { HasState S.kit world.old }
+    requires range { IsInRange line.now }
+    requires can { CanPlay S.script world.old.now line.now }
+    ensures ok { OnOk result (PlaysAlone S.kit line.now world.old world.new lines.old.items
+        lines.new.items) }
+    ensures err { OnErr result (BreaksAlone S.kit world.old world.new) }
+{
+    match line {
+        Line::Time { now } => {
+            world.now = *now;
+            Ok(())
+        }
+        Line::Log { client, ask } => cluster_rounds::ask(rt, alloc, world, lines, *client, ask),
+        Line::Ntf { client, ask } => cluster_rounds::ask(rt, alloc, world, lines, *client, ask),
+        Line::Deliver { place } => deliver_line(rt, alloc, world, lines, line, *place),
+        Line::Resend { client } => resend(alloc, world, lines, *client),
+        Line::Push => push_line(alloc, world, lines, line),
+        Line::DispatchOne { client } => dispatch(rt, alloc, world, lines, *client, How::One, gate),
+        Line::DispatchAll { client, workers } => {
+            let how = How::All { workers: *workers };
+            dispatch(rt, alloc, world, lines, *client, how, gate)
+        }
+        Line::Servers => show_servers(alloc, world, lines),
+        _ => Err(AllocError),
+    }
+}
+
+/// The same end, as a disk's answer.
+pub fn as_answer(done: Result<(), AllocError>) -> Result<(), DiskAnswer>
+    ensures { EndsAs done result }
+{
+    match done {
+        Ok(()) => Ok(()),
+        Err(_) => Err(DiskAnswer::Memory),
+    }
+}
+
+/// Whether a line asks something of the servers alone.
+fn is_own(line: &Line) -> bool
+    ensures { result ≡ is_own line.now }
+{
+    matches!(
+        line,
+        Line::Mirror
+            | Line::Ack
+            | Line::Work
+            | Line::Crash { .. }
+            | Line::Arm { .. }
+            | Line::Disarm
+            | Line::Restart { .. }
+    )
+}
+
+/// What a line does that is not the servers' own.
+fn play_shared<R: Threads + Wait + Sync, S: Scripted, D: SharedDisk, G: Gate>(
+    rt: &R,
+    alloc: Global,
+    world: &mut Cluster<S>,
+    lines: &mut Vec<Seq<u8>>,
+    line: &Line,
+    disk: &mut D,
+    gate: &G,
+) -> Result<(), DiskAnswer>
+    requires state { HasStateOn S.kit any_state world.old (D.tally disk.old).armed }
+    requires range { IsInRange line.now }
+    requires can { CanPlay S.script world.old.now line.now }
+    ensures ok { OnOk result (Plays S.kit S.script line.now world.old world.new lines.old.items
+        lines.new.items (seen (D.files disk.old) (D.tally disk.old) (D.faults disk.old))
+        (seen (D.files disk.new) (D.tally disk.new) (D.faults disk.new))) }
+    ensures stands { OnOk result (HasStateOn S.kit any_state world.new (D.tally disk.new).armed) }
+    ensures broken { IfErr result (λ answer. BreaksOff S.kit S.script answer line.now world.old
+        world.new lines.old.items lines.new.items
+        (seen (D.files disk.old) (D.tally disk.old) (D.faults disk.old))
+        (seen (D.files disk.new) (D.tally disk.new) (D.faults disk.new))) }
+    ensures counts { GoesOn S.kit.Outlives (D.faults disk.old) (D.faults disk.new) result }
+{
+    match line {
+        Line::Settle => settle(rt, alloc, world, lines, disk),
+        Line::Files => show_files(alloc, world, lines, disk),
+        Line::Cat { name } => show_file(alloc, world, lines, disk, line, name),
+        _ => as_answer(play_alone(rt, alloc, world, lines, line, gate)),
+    }
+}
+
+/// What a line does.
+///
+/// `Failed` comes exactly where the disk had a fault that it did not outlive: its count of faults rose. A line that shows files
+/// leaves all as it was then. Any other ended at an entry that was worked, and its lines are those of all that was done until then.
+/// `Memory` comes where memory ran out; some of the line was done. `Stopped` never comes.
+pub fn play<R: Threads + Wait + Sync, S: Scripted, D: SharedDisk, G: Gate>(
+    rt: &R,
+    alloc: Global,
+    world: &mut Cluster<S>,
+    lines: &mut Vec<Seq<u8>>,
+    line: &Line,
+    disk: &mut D,
+    gate: &G,
+) -> Result<(), DiskAnswer>
+    requires state { HasStateOn S.kit any_state world.old (D.tally disk.old).armed }
+    requires range { IsInRange line.now }
+    requires can { CanPlay S.script world.old.now line.now }
+    ensures ok { OnOk result (Plays S.kit S.script line.now world.old world.new lines.old.items
+        lines.new.items (seen (D.files disk.old) (D.tally disk.old) (D.faults disk.old))
+        (seen (D.files disk.new) (D.tally disk.new) (D.faults disk.new))) }
+    ensures stands { OnOk result (HasStateOn S.kit any_state world.new (D.tally disk.new).armed) }
+    ensures broken { IfErr result (λ answer. BreaksOff S.kit S.script answer line.now world.old
+        world.new lines.old.items lines.new.items
+        (seen (D.files disk.old) (D.tally disk.old) (D.faults disk.old))
+        (seen (D.files disk.new) (D.tally disk.new) (D.faults disk.new))) }
+    ensures counts { GoesOn S.kit.Outlives (D.faults disk.old) (D.faults disk.new) result }
+{
+    if is_own(line) {
+        return S::play_own(alloc, world, lines, line, disk);
+    }
+    play_shared(rt, alloc, world, lines, line, disk, gate)
+}

@@ -1,0 +1,51 @@
+//! What the lines of a script ask of servers.
+ghost use Rattle.std.specs.Prelude.{OnOk, IfErr};
+ghost use Rattle.cluster_rounds.specs.Worlds.{HasStateOn, any_state};
+ghost use Rattle.cluster_rounds.specs.Came.{seen};
+ghost use Rattle.cluster_lines.specs.Lines.{IsInRange, IsOwn};
+ghost use Rattle.cluster_lines.specs.Showing.{StandsAs};
+ghost use Rattle.cluster_lines.specs.Playing.{Plays, BreaksOff, GoesOn};
+ghost use Rattle.cluster_lines.specs.Following.{IsScript};
+
+use ais_values::Seq;
+use cluster_events::Standing;
+use cluster_rounds::{Cluster, Serving};
+use disk_model::{DiskAnswer, SharedDisk};
+use script_lines::Line;
+use std::alloc::Global;
+
+/// Servers whose cluster plays the lines of scripts.
+pub trait Scripted: Serving {
+    /// The servers' roles, the lengths of the net and of their lists of messages, and the number of the entry in hand.
+    fn standing(world: &Cluster<Self>) -> Standing
+        ensures { StandsAs Self.kit world.entry.now result };
+
+    /// Does what a line asks of the servers alone: `mirror`, `ack`, `work`, and of the lines on failing servers those that they allow.
+    ///
+    /// `Failed` comes where the disk had a fault that no server survives: its count of faults rose, and the lines are those of all
+    /// that was done until then. `Memory` comes where memory ran out; some of the line was done. `Stopped` never comes.
+    fn play_own<D: SharedDisk>(
+        alloc: Global,
+        world: &mut Cluster<Self>,
+        lines: &mut Vec<Seq<u8>>,
+        line: &Line,
+        disk: &mut D,
+    ) -> Result<(), DiskAnswer>
+        requires state { HasStateOn Self.kit any_state world.old (D.tally disk.old).armed }
+        requires range { IsInRange line.now }
+        requires own { IsOwn Self.script line.now }
+        ensures ok { OnOk result (Plays Self.kit Self.script line.now world.old world.new
+            lines.old.items lines.new.items
+            (seen (D.files disk.old) (D.tally disk.old) (D.faults disk.old))
+            (seen (D.files disk.new) (D.tally disk.new) (D.faults disk.new))) }
+        ensures stands { OnOk result (HasStateOn Self.kit any_state world.new
+            (D.tally disk.new).armed) }
+        ensures broken { IfErr result (λ answer. BreaksOff Self.kit Self.script answer line.now
+            world.old world.new lines.old.items lines.new.items
+            (seen (D.files disk.old) (D.tally disk.old) (D.faults disk.old))
+            (seen (D.files disk.new) (D.tally disk.new) (D.faults disk.new))) }
+        ensures counts { GoesOn Self.kit.Outlives (D.faults disk.old) (D.faults disk.new) result };
+
+    /// What is asked of their lines holds.
+    ghost follows: { IsScript Self.kit Self.script };
+}

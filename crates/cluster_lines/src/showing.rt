@@ -1,0 +1,132 @@
+//! What is shown of servers and files, and refusals.
+ghost use Rattle.std.specs.Prelude.{◌≡◌, OnOk, IsErrOf};
+ghost use Rattle.ais_values.specs.Causes.{RoseExactlyOn};
+ghost use Rattle.disk_model.specs.declared.answers.DiskAnswer.{DiskAnswer};
+ghost use Rattle.script_lines.specs.declared.line.Line.TheVariants.{Cat};
+ghost use Rattle.cluster_rounds.specs.Worlds.{Does};
+ghost use Rattle.cluster_lines.specs.Showing.{StandsAs, refused, servers_listed};
+ghost use Rattle.cluster_lines.specs.Steps.{files_listed, file_shown, ShowsOn, TellsRead};
+
+use crate::Scripted;
+use ais_values::{Seq, Text};
+use cluster_clients::{list_files, read_file};
+use cluster_events::Standing;
+use cluster_rounds::{Cluster, Serving};
+use disk_model::{DiskAnswer, SharedDisk};
+use event_text::{put_refused, put_server, put_shown};
+use script_lines::{Line, Server};
+use std::alloc::{AllocError, Global};
+
+/// Adds the line of a refused event, by how the servers stand. Where memory runs out the lines stay.
+pub fn put_refusal<S: Serving>(
+    alloc: Global,
+    world: &Cluster<S>,
+    lines: &mut Vec<Seq<u8>>,
+    line: &Line,
+    standing: &Standing,
+) -> Result<(), AllocError>
+    requires { StandsAs S.kit world.now standing.now }
+    ensures { OnOk result (Does S.kit (refused S.kit line.now) world.entry.now world.entry.now
+        lines.old.items lines.new.items) }
+{
+    put_refused(alloc, lines, line, standing)
+}
+
+/// The same by what the servers tell.
+pub(crate) fn refused<S: Scripted>(
+    alloc: Global,
+    world: &Cluster<S>,
+    lines: &mut Vec<Seq<u8>>,
+    line: &Line,
+) -> Result<(), AllocError>
+    ensures { OnOk result (Does S.kit (refused S.kit line.now) world.entry.now world.entry.now
+        lines.old.items lines.new.items) }
+{
+    let standing = S::standing(world);
+    put_refusal(alloc, world, lines, line, &standing)
+}
+
+/// Adds the lines of both servers with their roles.
+pub(crate) fn show_servers<S: Scripted>(
+    alloc: Global,
+    world: &Cluster<S>,
+    lines: &mut Vec<Seq<u8>>,
+) -> Result<(), AllocError>
+    ensures { OnOk result (Does S.kit (servers_listed S.kit) world.entry.now world.entry.now
+        lines.old.items lines.new.items) }
+{
+    let standing = S::standing(world);
+    put_server(alloc, lines, Server::A, standing.role_of_a)?;
+    put_server(alloc, lines, Server::B, standing.role_of_b)
+}
+
+/// Adds the lines of all files with their lengths. `Failed` comes exactly where the disk's count of faults rose.
+pub(crate) fn show_files<S: Scripted, D: SharedDisk>(
+    alloc: Global,
+    world: &Cluster<S>,
+    lines: &mut Vec<Seq<u8>>,
+    disk: &mut D,
+) -> Result<(), DiskAnswer>
+    ensures ok { OnOk result (ShowsOn S.kit (files_listed S.kit) world.entry.now lines.old.items
+        lines.new.items (D.files disk.old)) }
+    ensures stays { IsErrOf result DiskAnswer.Failed → lines.new.items ≡ lines.old.items }
+    ensures same { D.files disk.new ≡ D.files disk.old }
+    ensures cause { RoseExactlyOn (D.faults disk.old) (D.faults disk.new) result DiskAnswer.Failed }
+    ensures never_stopped { IsErrOf result DiskAnswer.Stopped → ⊥ }
+    ensures armed { (D.tally disk.new).armed ≡ (D.tally disk.old).armed }
+{
+    let mut listed = match list_files(alloc, disk) {
+        Ok(listed) => listed,
+        Err(answer) => return Err(answer),
+    };
+    match lines.append(&mut listed) {
+        Ok(()) => Ok(()),
+        Err(_) => Err(DiskAnswer::Memory),
+    }
+}
+
+/// Adds the lines of what was read of a file. Where nothing was, the line that asked for it is refused.
+fn tell_read<S: Scripted>(
+    alloc: Global,
+    world: &Cluster<S>,
+    lines: &mut Vec<Seq<u8>>,
+    line: &Line,
+    read: Option<Seq<u8>>,
+) -> Result<(), AllocError>
+    ensures { OnOk result (TellsRead S.kit line.now read world.entry.now lines.old.items
+        lines.new.items) }
+{
+    match read {
+        Some(bytes) => put_shown(alloc, lines, bytes.as_slice()),
+        None => refused(alloc, world, lines, line),
+    }
+}
+
+/// Adds the lines of the file that a `cat` line names. Where there is no file of that name, the line is refused. `Failed` comes
+/// exactly where the disk's count of faults rose.
+pub(crate) fn show_file<S: Scripted, D: SharedDisk>(
+    alloc: Global,
+    world: &Cluster<S>,
+    lines: &mut Vec<Seq<u8>>,
+    disk: &mut D,
+    line: &Line,
+    name: &Text,
+) -> Result<(), DiskAnswer>
+    requires { line.now ≡ Cat name.now }
+    ensures ok { OnOk result (ShowsOn S.kit (file_shown S.kit name.now) world.entry.now
+        lines.old.items lines.new.items (D.files disk.old)) }
+    ensures stays { IsErrOf result DiskAnswer.Failed → lines.new.items ≡ lines.old.items }
+    ensures same { D.files disk.new ≡ D.files disk.old }
+    ensures cause { RoseExactlyOn (D.faults disk.old) (D.faults disk.new) result DiskAnswer.Failed }
+    ensures never_stopped { IsErrOf result DiskAnswer.Stopped → ⊥ }
+    ensures armed { (D.tally disk.new).armed ≡ (D.tally disk.old).armed }
+{
+    let read = match read_file(alloc, disk, name.as_slice()) {
+        Ok(read) => read,
+        Err(answer) => return Err(answer),
+    };
+    match tell_read(alloc, world, lines, line, read) {
+        Ok(()) => Ok(()),
+        Err(_) => Err(DiskAnswer::Memory),
+    }
+}

@@ -1,0 +1,8 @@
+pub mod ServerSteps
+pub mod WorkSteps
+mod HeldSteps
+mod PartlySteps
+mod BrokenServers
+mod OwnSteps
+mod StandSteps
+mod BeginSteps

@@ -1,0 +1,6 @@
+pub mod LoneKit
+pub mod LoneLaws
+pub mod Standing
+pub mod Heard
+pub mod PartlyDone
+pub mod Starting
