@@ -51,44 +51,51 @@ module _ {P : Type 0} (plain : Plain) (is_plain : IsPlain plain) (servers : Serv
 
   -- Ends behind what went before.
 
-  module _ (AtWork : EndAt P) (works : (state : State P) (end : Outcome (State P)) → IsSteady plain Good state → AtWork state end → Tells state end) where
-    behind-tells : (Ends : EndAt P) (state : State P) (first end : Outcome (State P)) → Tells state first → EndsBehind first Ends end → ((last : Outcome (State P)) → Ends first.state last → Tells first.state last) → Tells state end
-    behind-tells Ends state first end tells ends deeper =
-        subst (Tells state) (sym ends.is) (tells-behind state first ends.last tells (deeper ends.last ends.ends))
+  -- what holds where a work ends holds where the event does: it is the same state
+  module _ (Q : State P → Type 0) (AtWork : EndAt P) (works : (state : State P) (end : Outcome (State P)) → IsSteady plain Good state → AtWork state end → Tells state end × Q end.state) where
+    abbrev pub TellsOf : State P → Outcome (State P) → Type 0
+    TellsOf state end = Tells state end × Q end.state
 
-    drain-tells : (state : State P) (end : Outcome (State P)) → IsSteady plain Good state → DrainEnds servers AtWork state end → Tells state end
+    of-behind : (state : State P) (first last : Outcome (State P)) → Tells state first → TellsOf first.state last → TellsOf state (behind first last)
+    of-behind state first last one two = (tells-behind state first last one two.0, two.1)
+
+    behind-tells : (Ends : EndAt P) (state : State P) (first end : Outcome (State P)) → Tells state first → EndsBehind first Ends end → ((last : Outcome (State P)) → Ends first.state last → TellsOf first.state last) → TellsOf state end
+    behind-tells Ends state first end tells ends deeper =
+        subst (TellsOf state) (sym ends.is) (of-behind state first ends.last tells (deeper ends.last ends.ends))
+
+    drain-tells : (state : State P) (end : Outcome (State P)) → IsSteady plain Good state → DrainEnds servers AtWork state end → TellsOf state end
     drain-tells state end steady ends =
         let before = advances-tell ends.steps state steady in
         behind-tells (StepEnds servers AtWork) state (advances servers ends.steps state) end before ends.ends
         (λ last stops. works (advances servers ends.steps state).state last before.0 stops.works)
 
-    turn-tells : (message : Message) (state : State P) (end : Outcome (State P)) → IsAtRest plain Good state → Stands message state.world.net → TurnEnds plain servers AtWork message state end → Tells state end
+    turn-tells : (message : Message) (state : State P) (end : Outcome (State P)) → IsAtRest plain Good state → Stands message state.world.net → TurnEnds plain servers AtWork message state end → TellsOf state end
     turn-tells message state end rest stands ends =
         let heard = hear plain servers (number_of plain message state.world.net) message state in
         let hears = hear-goes plain is_plain servers Good serving R carried (number_of plain message state.world.net) message state stands rest.steady in
         behind-tells (DrainEnds servers AtWork) state heard end (hears.holds, hears.carried) ends (λ last stops. drain-tells heard.state last hears.holds stops)
 
     -- a row of events ends in one of them
-    each-tells : {X : Type 0} (C : X → World → Type 0) (event : X → State P → Outcome (State P)) (Ends : X → EndAt P) → ((x : X) (state : State P) → IsAtRest plain Good state → C x state.world → Goes R (IsAtRest plain Good) state (event x state)) → ((x : X) (old new : World) → Stays old new → C x old → C x new) → ((x : X) (state : State P) (end : Outcome (State P)) → IsAtRest plain Good state → C x state.world → Ends x state end → Tells state end) → {xs : List X} {state : State P} {end : Outcome (State P)} → IsAtRest plain Good state → AllByRecursion (λ x. C x state.world) xs → EachStops event Ends xs state end → Tells state end
+    each-tells : {X : Type 0} (C : X → World → Type 0) (event : X → State P → Outcome (State P)) (Ends : X → EndAt P) → ((x : X) (state : State P) → IsAtRest plain Good state → C x state.world → Goes R (IsAtRest plain Good) state (event x state)) → ((x : X) (old new : World) → Stays old new → C x old → C x new) → ((x : X) (state : State P) (end : Outcome (State P)) → IsAtRest plain Good state → C x state.world → Ends x state end → TellsOf state end) → {xs : List X} {state : State P} {end : Outcome (State P)} → IsAtRest plain Good state → AllByRecursion (λ x. C x state.world) xs → EachStops event Ends xs state end → TellsOf state end
     each-tells C event Ends goes keep tells rest all (Here {x = x} {state = state} {stop = end} ends) = tells x state end rest all.0 ends
     each-tells C event Ends goes keep tells rest all (Later {x = x} {xs = xs} {state = state} {stop = end} ends) =
         let first = goes x state rest all.0 in
         let others = All-map (λ y. C y state.world) (λ y. C y (event x state).state.world) xs (λ y. keep y state.world (event x state).state.world first.stays) all.1 in
-        tells-behind state (event x state) end (first.holds.steady, first.carried) (each-tells C event Ends goes keep tells first.holds others ends)
+        of-behind state (event x state) end (first.holds.steady, first.carried) (each-tells C event Ends goes keep tells first.holds others ends)
 
-    client-tells : (client : ℕ) (state : State P) (end : Outcome (State P)) → IsAtRest plain Good state → ClientEnds plain servers AtWork client state end → Tells state end
+    client-tells : (client : ℕ) (state : State P) (end : Outcome (State P)) → IsAtRest plain Good state → ClientEnds plain servers AtWork client state end → TellsOf state end
     client-tells client state end rest ends =
         each-tells (λ message world. Stands message world.net) (turn plain servers) (TurnEnds plain servers AtWork)
         (turn-goes plain is_plain servers Good serving R carried) (λ message old new stays stands. stays.net message stands) turn-tells rest
         (resent-posted plain client state.world rest.steady.sound) ends
 
-    clients-tell : (clients : List ℕ) (state : State P) (end : Outcome (State P)) → IsAtRest plain Good state → ClientsEnd plain servers AtWork clients state end → Tells state end
+    clients-tell : (clients : List ℕ) (state : State P) (end : Outcome (State P)) → IsAtRest plain Good state → ClientsEnd plain servers AtWork clients state end → TellsOf state end
     clients-tell clients state end rest ends =
         each-tells (λ client world. Unit {0}) (client_turns plain servers) (ClientEnds plain servers AtWork)
         (λ client now resting it. client_turns-goes plain is_plain servers Good serving R carried client now resting) (λ client old new stays it. it)
         (λ client now last resting it stops. client-tells client now last resting stops) rest (All-of (λ client. Unit {0}) clients (λ client stands. tt)) ends
 
-    round-tells : (state : State P) (end : Outcome (State P)) → IsSteady plain Good state → RoundEnds plain servers AtWork state end → Tells state end
+    round-tells : (state : State P) (end : Outcome (State P)) → IsSteady plain Good state → RoundEnds plain servers AtWork state end → TellsOf state end
     round-tells state end steady (inl ends) = drain-tells state end steady ends
     round-tells state end steady (inr ends) =
         let drains = drain-goes plain is_plain servers Good serving R carried state steady in
@@ -97,8 +104,8 @@ module _ {P : Type 0} (plain : Plain) (is_plain : IsPlain plain) (servers : Serv
         (λ last stops. clients-tell done.state.world.clients done.state last drains.holds stops)
 
     -- **`settle` that ends by a fault**
-    pub settle-tells : (state : State P) (end : Outcome (State P)) → IsSteady plain Good state → SettleEnds plain servers AtWork state end → Tells state end
+    pub settle-tells : (state : State P) (end : Outcome (State P)) → IsSteady plain Good state → SettleEnds plain servers AtWork state end → TellsOf state end
     settle-tells state end steady ends =
         let rounds = rounds-carry plain is_plain servers Good serving R carried state steady ends.rounds in
         let before : Outcome (State P) = record { state = ends.between; told = ends.lines } in
-        subst (Tells state) (sym ends.is) (tells-behind state before ends.last (rounds.holds, rounds.carried) (round-tells ends.between ends.last rounds.holds ends.ends))
+        subst (TellsOf state) (sym ends.is) (of-behind state before ends.last (rounds.holds, rounds.carried) (round-tells ends.between ends.last rounds.holds ends.ends))

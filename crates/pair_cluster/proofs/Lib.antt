@@ -6,6 +6,8 @@ pub mod Lines
 pub mod Running
 pub mod Also
 pub mod Standing
+pub mod Staying
+pub mod Walking
 pub mod Rows
 pub mod Ends
 pub mod Ended

@@ -27,13 +27,13 @@ down-agrees (Waiting entry) = tt
 down-agrees (Applied entry) = tt
 down-agrees (Ready entry) = tt
 
-joining-agrees : (hand : Hand) (keeps : Bool) → Agree Down hand keeps → Agree (joining_by hand) hand false
+pub joining-agrees : (hand : Hand) (keeps : Bool) → Agree Down hand keeps → Agree (joining_by hand) hand false
 joining-agrees Empty keeps agree = tt
 joining-agrees (Waiting entry) keeps agree = elim agree [ ]
 joining-agrees (Applied entry) keeps agree = elim agree [ ]
 joining-agrees (Ready entry) keeps agree = tt
 
-joining-armed : (armed : Option ℕ) (hand : Hand) → IsArmed armed Down → IsArmed armed (joining_by hand)
+pub joining-armed : (armed : Option ℕ) (hand : Hand) → IsArmed armed Down → IsArmed armed (joining_by hand)
 joining-armed None hand is = tt
 joining-armed (Some left) hand is = elim is [ ]
 
@@ -45,7 +45,7 @@ module _ (plain : Plain) (is_plain : IsPlain plain) (device : Device) (R : World
   refused-keeps : (state : State Peers) (next : Line) → IsSteady plain IsPair state → Keeps state (refused next state)
   refused-keeps state next steady = (steady, bears.refused state.world next (standing_pair state))
 
-  over-keeps : (state : State Peers) → IsSteady plain IsPair state → Keeps state (taken_over state)
+  pub over-keeps : (state : State Peers) → IsSteady plain IsPair state → Keeps state (taken_over state)
   over-keeps state steady =
       let sound = sound-over plain is_plain state.world.core.answered state.world.core.hand state.world steady.sound in
       (record { sound = sound; good = record { agree = tt; armed = tt } }, over-goes plain is_plain device R bears state state.world.core.hand)
@@ -66,7 +66,7 @@ module _ (plain : Plain) (is_plain : IsPlain plain) (device : Device) (R : World
       bears.both (with_core past (Applied entry) state.world) ready ready [] (Stood (other_server state.peers.acting) role.Down ∷ []) (bears.confirmed state.world past entry) (bears.stood ready (other_server state.peers.acting) role.Down)
   down-goes state (Ready entry) sound = bears.stood (with_core state.world.core.answered (Ready entry) state.world) (other_server state.peers.acting) role.Down
 
-  down-keeps : (state : State Peers) → IsSteady plain IsPair state → Keeps state (partner_down state)
+  pub down-keeps : (state : State Peers) → IsSteady plain IsPair state → Keeps state (partner_down state)
   down-keeps state steady =
       let past = state.world.core.answered in
       let hand = state.world.core.hand in
@@ -82,11 +82,11 @@ module _ (plain : Plain) (is_plain : IsPlain plain) (device : Device) (R : World
   partner-keeps server None Down state steady = refused-keeps state (line.Crash server) steady
   partner-keeps server None _ state steady = down-keeps state steady
 
-  crash-keeps : (server : Server) (active : Bool) (state : State Peers) → IsSteady plain IsPair state → Keeps state (crash_by server active state)
+  pub crash-keeps : (server : Server) (active : Bool) (state : State Peers) → IsSteady plain IsPair state → Keeps state (crash_by server active state)
   crash-keeps server true state steady = active-keeps server state.peers.partner state steady
   crash-keeps server false state steady = partner-keeps server state.peers.armed state.peers.partner state steady
 
-  arm-keeps : (server : Server) (count : ℕ) (active : Bool) (partner : Partner) (state : State Peers) → 1 ≤ count → IsSteady plain IsPair (pair_at partner state.world.core.hand state) → Keeps (pair_at partner state.world.core.hand state) (arm_by server count active partner (pair_at partner state.world.core.hand state))
+  pub arm-keeps : (server : Server) (count : ℕ) (active : Bool) (partner : Partner) (state : State Peers) → 1 ≤ count → IsSteady plain IsPair (pair_at partner state.world.core.hand state) → Keeps (pair_at partner state.world.core.hand state) (arm_by server count active partner (pair_at partner state.world.core.hand state))
   arm-keeps server count true (Standby on_way) state some steady =
       (record { sound = steady.sound; good = record { agree = steady.good.agree; armed = some } }, bears.same state.world)
   arm-keeps server count true Down state some steady = refused-keeps (pair_at Down state.world.core.hand state) (line.Arm server count) steady
@@ -94,10 +94,10 @@ module _ (plain : Plain) (is_plain : IsPlain plain) (device : Device) (R : World
   arm-keeps server count true Linking state some steady = refused-keeps (pair_at Linking state.world.core.hand state) (line.Arm server count) steady
   arm-keeps server count false partner state some steady = refused-keeps (pair_at partner state.world.core.hand state) (line.Arm server count) steady
 
-  disarm-keeps : (state : State Peers) → IsSteady plain IsPair state → Keeps state (disarm state)
+  pub disarm-keeps : (state : State Peers) → IsSteady plain IsPair state → Keeps state (disarm state)
   disarm-keeps state steady = (record { sound = steady.sound; good = record { agree = steady.good.agree; armed = tt } }, bears.same state.world)
 
-  restart-keeps : (server : Server) (active : Bool) (partner : Partner) (state : State Peers) → IsSteady plain IsPair (pair_at partner state.world.core.hand state) → Keeps (pair_at partner state.world.core.hand state) (restart_by server active partner (pair_at partner state.world.core.hand state))
+  pub restart-keeps : (server : Server) (active : Bool) (partner : Partner) (state : State Peers) → IsSteady plain IsPair (pair_at partner state.world.core.hand state) → Keeps (pair_at partner state.world.core.hand state) (restart_by server active partner (pair_at partner state.world.core.hand state))
   restart-keeps server true partner state steady = refused-keeps (pair_at partner state.world.core.hand state) (line.Restart server) steady
   restart-keeps server false Down state steady =
       let hand = state.world.core.hand in

@@ -81,7 +81,7 @@ says-borne plain = record {
   both = λ one two three first second says more. Says-both plain one two three first second says more;
   stood = says-stood plain;
   refused = says-refused plain;
-  taken = λ world past entry. says-hand plain world past Empty (Waiting entry) refl;
+  taken = λ world past entry at. says-hand plain world past Empty (Waiting entry) refl;
   applied = λ world past entry sound. says-applied plain world past entry;
   confirmed = λ world past entry. says-hand plain world past (Applied entry) (Ready entry) refl;
   worked = λ world past entry. answer-says plain (record { world = with_core past (Ready entry) world; peers = alone }) entry;
@@ -112,7 +112,7 @@ spends-borne plain is_plain = record {
   both = Spends-both;
   stood = λ world server role. record { paid = omega arith };
   refused = λ world line standing. record { paid = omega arith };
-  taken = λ world past entry. record { paid = omega arith };
+  taken = λ world past entry at. record { paid = omega arith };
   applied = spends-applied plain is_plain;
   confirmed = λ world past entry. record { paid = omega arith };
   worked = λ world past entry. answer-spends plain (record { world = with_core past (Ready entry) world; peers = alone }) entry;

@@ -103,29 +103,29 @@ module _ (plain : Plain) (is_plain : IsPlain plain) (device : Device) (R : World
 
   -- An entry that is accepted waits, or is committed at once.
 
-  committed-goes : (world : World) (past : List Entry) (entry : Entry) → IsSound plain (with_core past (Waiting entry) world) → R (with_core past Empty world) (with_core past (Ready entry) world) (Committed (suc (length past)) entry ∷ [])
-  committed-goes world past entry sound =
+  committed-goes : (world : World) (past : List Entry) (entry : Entry) → time_of entry ≡ world.now → IsSound plain (with_core past (Waiting entry) world) → R (with_core past Empty world) (with_core past (Ready entry) world) (Committed (suc (length past)) entry ∷ [])
+  committed-goes world past entry at sound =
       let at_rest = with_core past Empty world in
       let waits = with_core past (Waiting entry) world in
       let applied = with_core past (Applied entry) world in
       let line = Committed (suc (length past)) entry ∷ [] in
-      bears.both at_rest applied (with_core past (Ready entry) world) line [] (bears.both at_rest waits applied [] line (bears.taken world past entry) (bears.applied world past entry sound)) (bears.confirmed world past entry)
+      bears.both at_rest applied (with_core past (Ready entry) world) line [] (bears.both at_rest waits applied [] line (bears.taken world past entry at) (bears.applied world past entry sound)) (bears.confirmed world past entry)
 
-  accept-goes : (entry : Entry) (state : State Peers) (partner : Partner) → IsSound plain (with_core state.world.core.answered (Waiting entry) state.world) → R (with_core state.world.core.answered Empty state.world) (accept_by (is_linked partner) entry (pair_at partner Empty state)).state.world (accept_by (is_linked partner) entry (pair_at partner Empty state)).told
-  accept-goes entry state Down sound = committed-goes state.world state.world.core.answered entry sound
-  accept-goes entry state Owed sound = committed-goes state.world state.world.core.answered entry sound
-  accept-goes entry state Linking sound = bears.taken state.world state.world.core.answered entry
-  accept-goes entry state (Standby on_way) sound = bears.taken state.world state.world.core.answered entry
+  accept-goes : (entry : Entry) (state : State Peers) (partner : Partner) → time_of entry ≡ state.world.now → IsSound plain (with_core state.world.core.answered (Waiting entry) state.world) → R (with_core state.world.core.answered Empty state.world) (accept_by (is_linked partner) entry (pair_at partner Empty state)).state.world (accept_by (is_linked partner) entry (pair_at partner Empty state)).told
+  accept-goes entry state Down at sound = committed-goes state.world state.world.core.answered entry at sound
+  accept-goes entry state Owed at sound = committed-goes state.world state.world.core.answered entry at sound
+  accept-goes entry state Linking at sound = bears.taken state.world state.world.core.answered entry at
+  accept-goes entry state (Standby on_way) at sound = bears.taken state.world state.world.core.answered entry at
 
-  accept-hand : (entry : Entry) (state : State Peers) (hand : Hand) → hand ≡ Empty → IsSound plain (with_core state.world.core.answered (Waiting entry) state.world) → R (with_core state.world.core.answered hand state.world) (accept_pair entry (pair_at state.peers.partner hand state)).state.world (accept_pair entry (pair_at state.peers.partner hand state)).told
-  accept-hand entry state Empty empty sound = accept-goes entry state state.peers.partner sound
-  accept-hand entry state (Waiting other) empty sound = cc
-  accept-hand entry state (Applied other) empty sound = cc
-  accept-hand entry state (Ready other) empty sound = cc
+  accept-hand : (entry : Entry) (state : State Peers) (hand : Hand) → hand ≡ Empty → time_of entry ≡ state.world.now → IsSound plain (with_core state.world.core.answered (Waiting entry) state.world) → R (with_core state.world.core.answered hand state.world) (accept_pair entry (pair_at state.peers.partner hand state)).state.world (accept_pair entry (pair_at state.peers.partner hand state)).told
+  accept-hand entry state Empty empty at sound = accept-goes entry state state.peers.partner at sound
+  accept-hand entry state (Waiting other) empty at sound = cc
+  accept-hand entry state (Applied other) empty at sound = cc
+  accept-hand entry state (Ready other) empty at sound = cc
 
-  accept-kept : (entry : Entry) (state : State Peers) → IsSteady plain IsPair state → state.world.core.hand ≡ Empty → MayFollow plain state.world.core.answered entry → time_of entry ≡ state.world.now → Stands (message_of entry) state.world.net → R state.world (accept_pair entry state).state.world (accept_pair entry state).told
+  pub accept-kept : (entry : Entry) (state : State Peers) → IsSteady plain IsPair state → state.world.core.hand ≡ Empty → MayFollow plain state.world.core.answered entry → time_of entry ≡ state.world.now → Stands (message_of entry) state.world.net → R state.world (accept_pair entry state).state.world (accept_pair entry state).told
   accept-kept entry state steady empty may at stands =
-      accept-hand entry state state.world.core.hand empty (accept-sound plain entry (Waiting entry) state.world empty refl may at stands steady.sound)
+      accept-hand entry state state.world.core.hand empty at (accept-sound plain entry (Waiting entry) state.world empty refl may at stands steady.sound)
 
   -- a relation that any servers carry is carried by the pair
   pub pair-carries : {Q : Type 0} {servers : Servers Q} {Fine : State Q → Type 0} → IsCarried plain servers Fine R → IsCarried plain (pair plain device) IsPair R

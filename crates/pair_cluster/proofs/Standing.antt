@@ -17,6 +17,17 @@ use Rattle.pair_cluster.proofs.Serving.{pair-stepped}
 use Rattle.pair_cluster.proofs.Saying.{says-borne, pair-serves, pair-says}
 use Rattle.pair_cluster.proofs.Also.{IsLasting, Both, serving-also, carried-also, stepped-also}
 
+-- what a work leaves of a partner that is up, and of a server that is not armed
+pub linked-up : (partner : Partner) → IsUp partner → IsUp (linked partner)
+linked-up Down up = elim up [ ]
+linked-up Owed up = tt
+linked-up Linking up = tt
+linked-up (Standby on_way) up = tt
+
+pub lowered-none : (armed : Option ℕ) (calls : ℕ) → armed ≡ None → lowered armed calls ≡ None
+lowered-none None calls none = refl
+lowered-none (Some left) calls none = cc
+
 module _ (plain : Plain) (device : Device) (never : (number : ℕ) → device.fails number ≡ false) (acting : Server) where
   accept-stands : (linked : Bool) (entry : Entry) (state : State Peers) → BothStand acting state.peers → BothStand acting (accept_by linked entry state).state.peers
   accept-stands true entry state stands = stands
@@ -35,16 +46,6 @@ module _ (plain : Plain) (device : Device) (never : (number : ℕ) → device.fa
   ack-stands state (Standby (Some number)) hand stands = record { active = stands.active; unarmed = stands.unarmed; partner = tt }
   ack-stands state (Standby None) (Applied entry) stands = stands
   ack-stands state _ _ stands = tt
-
-  linked-up : (partner : Partner) → IsUp partner → IsUp (linked partner)
-  linked-up Down up = elim up [ ]
-  linked-up Owed up = tt
-  linked-up Linking up = tt
-  linked-up (Standby on_way) up = tt
-
-  lowered-none : (armed : Option ℕ) (calls : ℕ) → armed ≡ None → lowered armed calls ≡ None
-  lowered-none None calls none = refl
-  lowered-none (Some left) calls none = cc
 
   never-falls : (armed : Option ℕ) (partner : Bool) (fails : Bool) (calls : ℕ) → armed ≡ None → fails ≡ false → (partner && (fails || reaches armed calls)) ≡ false
   never-falls None true false calls none calm = refl

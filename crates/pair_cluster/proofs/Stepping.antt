@@ -5,7 +5,7 @@ use Rattle.script_lines.specs.declared.line.Line.{Line}
 use Rattle.script_lines.specs.declared.line.Server.{Server}
 use Rattle.cluster_facts.specs.Types.{Entry}
 use Rattle.cluster_facts.specs.Service.{Plain, IsPlain}
-use Rattle.cluster_facts.specs.History.{Hand, Empty, Waiting, Applied, Ready, accepted, committed_by}
+use Rattle.cluster_facts.specs.History.{Hand, Empty, Waiting, Applied, Ready, accepted, committed_by, time_of}
 use Rattle.cluster_facts.specs.World.{World}
 use Rattle.cluster_facts.specs.Facts.{IsSound}
 use Rattle.cluster_facts.proofs.Words.{EndsIn-same}
@@ -31,8 +31,8 @@ pub record Bears (plain : Plain) (R : World → World → List Told → Type 0) 
   pub both : (one two three : World) (first second : List Told) → R one two first → R two three second → R one three (second ++ first)
   pub stood : (world : World) (server : Server) (stands_as : ServerRole) → R world world (Stood server stands_as ∷ [])
   pub refused : (world : World) (line : Line) (standing : Standing) → R world world (Refused line standing ∷ [])
-  -- an entry is accepted, applied by the partner and so committed, and confirmed
-  pub taken : (world : World) (past : List Entry) (entry : Entry) → R (with_core past Empty world) (with_core past (Waiting entry) world) []
+  -- an entry of the time in force is accepted, applied by the partner and so committed, and confirmed
+  pub taken : (world : World) (past : List Entry) (entry : Entry) → time_of entry ≡ world.now → R (with_core past Empty world) (with_core past (Waiting entry) world) []
   pub applied : (world : World) (past : List Entry) (entry : Entry) → IsSound plain (with_core past (Waiting entry) world) → R (with_core past (Waiting entry) world) (with_core past (Applied entry) world) (Committed (suc (length past)) entry ∷ [])
   pub confirmed : (world : World) (past : List Entry) (entry : Entry) → R (with_core past (Applied entry) world) (with_core past (Ready entry) world) []
   -- it is worked, or the standby takes over

@@ -3,7 +3,7 @@ use Rattle.std.specs.Prelude.{◌≡◌, ℕ, ℤ, true, false, None, List, [], 
 use Rattle.script_lines.specs.declared.line.Line.{Line}
 use Rattle.script_lines.specs.declared.line.Line.TheVariants as line
 use Rattle.script_lines.specs.declared.line.Server.{Server}
-use Rattle.cluster_facts.specs.Types.{Call, Reply, Entry, Called, Answer}
+use Rattle.cluster_facts.specs.Types.{Reply, Entry, Called, Message, Answer}
 use Rattle.cluster_facts.specs.Lists.{Stands, without}
 use Rattle.cluster_facts.specs.Service.{Plain, IsPlain}
 use Rattle.cluster_facts.specs.History.{Empty, Ready, committed}
@@ -17,22 +17,29 @@ use Rattle.cluster_events.specs.Serving.{IsSteady}
 use Rattle.cluster_events.specs.Running.{Shelf}
 use Rattle.cluster_events.specs.Runs.{RunBy}
 use Rattle.cluster_events.specs.Promises.{AtEnd}
-use Rattle.pair_cluster.specs.Peers.{Partner, Down, Standby, Peers, IsPair, other_server}
+use Rattle.pair_cluster.specs.Peers.{Partner, Down, Owed, Linking, Standby, Peers, IsPair, other_server}
 use Rattle.pair_cluster.specs.Falling.{with_core}
 use Rattle.pair_cluster.specs.Pair.{is_standby, falls, pair, pair_start}
 use Rattle.pair_cluster.specs.Running.{PairStepBy}
+use Rattle.pair_cluster.specs.Standing.{is_crash}
 
 -- the line of a standby that fails as it takes over
 abbrev pub failed_takeover : Partner → Server → List Told
 failed_takeover (Standby on_way) server = Stood server role.Down ∷ []
 failed_takeover _ server = []
 
+-- the partner that is left: one that joins goes on joining, though nothing comes to it any more, and a standby failed
+abbrev pub left_partner : Partner → Partner
+left_partner Owed = Linking
+left_partner Linking = Linking
+left_partner _ = Down
+
 -- the active server is down, and so is its standby, if there was one: what was committed is left, an entry that waited is gone
 abbrev pub ended : State Peers → Outcome (State Peers)
 ended state = record {
   state = record {
     world = with_core (committed state.world.core) Empty state.world;
-    peers = record { acting = state.peers.acting; partner = Down; keeps = false; armed = None };
+    peers = record { acting = state.peers.acting; partner = left_partner state.peers.partner; keeps = false; armed = None };
   };
   told = failed_takeover state.peers.partner (other_server state.peers.acting) ++ Stood state.peers.acting role.Down ∷ [];
 }
@@ -71,9 +78,13 @@ EndKeepsPromises =
     → RunBy (PairStepBy plain shelf calls) (pair_start now places) first lines state told mark → PairEnds plain device next state end
     → AtEnd plain end.state.world (end.told ++ told)
 
--- and no reply is posted to a call whose work fails so
+-- the net has no reply to the last of these entries
+abbrev pub LacksLast : List Entry → List Message → Type 0
+LacksLast (Called client number time call ∷ past) net = (reply : Reply) → Stands (Answer client number reply) net → ⊥
+LacksLast _ net = Unit {0}
+
+-- and no reply is posted to the last call, whose work failed, but behind a crash
 abbrev pub EndLacksReply : Type 0
 EndLacksReply =
-    (plain : Plain) (device : Device) (state : State Peers) (end : Outcome (State Peers)) → IsSteady plain IsPair state
-    → (ends : EndsPair device state end) (client number : ℕ) (time : ℤ) (call : Call) (reply : Reply)
-    → ends.entry ≡ Called client number time call → Stands (Answer client number reply) end.state.world.net → ⊥
+    (plain : Plain) → IsPlain plain → (device : Device) (next : Line) (state : State Peers) (end : Outcome (State Peers)) → IsSteady plain IsPair state
+    → is_crash next ≡ false → PairEnds plain device next state end → LacksLast end.state.world.core.answered end.state.world.net

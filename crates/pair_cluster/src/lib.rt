@@ -2,7 +2,7 @@
 #![tactic(auto)]
 
 ghost use Rattle.pair_cluster.specs.Laws.{PairKeepsPromises, PairSettleEnds, PairSettleSettles};
-ghost use Rattle.pair_cluster.specs.Standing.{ServersStand};
+ghost use Rattle.pair_cluster.specs.Standing.{ServersStand, ServersStayUp};
 ghost use Rattle.pair_cluster.specs.Ended.{EndKeepsPromises, EndLacksReply};
 
 /// Whatever servers are crashed, armed and restarted, and whatever works the disk fails in: at the end of each line of a
@@ -16,13 +16,16 @@ pub fn law_of_pairs()
 {}
 
 /// Where no work fails and none is armed, every line that is not one on failing servers leaves the active server active
-/// and the other one up.
+/// and the other one up. Where no work fails and an armed count does not come to its end, every line but `crash` leaves the
+/// active server active, and the other one up where it is up.
 pub fn law_of_standing()
-    ensures { ServersStand }
+    ensures stand { ServersStand }
+    ensures stay { ServersStayUp }
 {}
 
 /// Where a fault of the disk leaves no server that could go on, in `work`, in `settle` or in the takeover behind a `crash`,
-/// the history, replies and callbacks are as at the end of a line, and no reply is posted to a call whose work failed.
+/// the history, replies and callbacks are as at the end of a line, and no reply is posted to the last call, whose work failed,
+/// but behind a crash.
 pub fn law_of_ends()
     ensures promises { EndKeepsPromises }
     ensures lacks { EndLacksReply }
