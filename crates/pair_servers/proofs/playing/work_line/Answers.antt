@@ -1,0 +1,30 @@
+use Rattle.std.specs.Prelude.{◌≡◌, None, IsSome}
+use Rattle.std.proofs.Common.{refl}
+use Rattle.cluster_clients.proofs.DispatchSteps.{on-err}
+use Rattle.cluster_rounds.specs.Came.{seen}
+use Rattle.cluster_rounds.proofs.BrokenClients.{same-breaks}
+use Rattle.pair_servers.specs.PairKit.{pair_kit}
+use Rattle.pair_servers.specs.PairLaws.{pair_laws}
+use Rattle.pair_servers.specs.Steps.{grew}
+use Rattle.pair_servers.proofs.OwnSteps.{idle-line, work-line}
+use Rattle.pair_servers.proofs.playing.work_line.Goals as goal
+
+pub work-requires : goal.work-requires
+work-requires g c =
+    let ready = c.if-ready.ensures.0 refl in
+    record { state = c.requires.state; hand = ready.0; ready = ready.1 }
+
+pub returns-then-ready : goal.returns-then-ready
+returns-then-ready g c =
+    let held = seen (g.D.SharedDisk.files c.args.disk.now) (g.D.SharedDisk.tally c.args.disk.now) (g.D.SharedDisk.faults c.args.disk.now) in
+    let left = seen (g.D.SharedDisk.files c.work.new.disk) (g.D.SharedDisk.tally c.work.new.disk) (g.D.SharedDisk.faults c.work.new.disk) in
+    work-line c.work.result c.args.line.now c.args.world.now c.work.new.world c.args.lines.now.items c.work.new.lines.items (grew c.args.world.now c.work.new.world) held left c.requires.line c.requires.state c.work.ensures.ok c.work.ensures.err
+
+pub returns : goal.returns
+returns g c =
+    let old = c.args.world.now in
+    let idle : IsSome old.servers.active.node.owed × (old.servers.active.waits ≡ None) → ⊥ = λ ready.
+    let is = c.ready.ensures.1 ready in let no = c.if-ready.false in cc
+    in
+    let held = seen (g.D.SharedDisk.files c.args.disk.now) (g.D.SharedDisk.tally c.args.disk.now) (g.D.SharedDisk.faults c.args.disk.now) in
+    idle-line c.refused.result c.as_answer.result c.args.line.now old old c.args.lines.now.items c.refused.new.lines.items held c.requires.line idle c.as_answer.ensures c.requires.state c.refused.ensures (on-err c.refused.result ((same-breaks pair_kit pair_laws) old))

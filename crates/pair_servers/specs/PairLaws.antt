@@ -1,0 +1,177 @@
+-- An active server and its partner are such servers as a cluster may have.
+use Rattle.std.specs.Prelude.{◌≡◌, ℕ, ℤ, ◌≤ℤ◌, suc, Bool, true, false, ◌||◌, if◌then◌else◌, List, [], ◌∷◌, length}
+use Rattle.std.proofs.Common.{refl, sym, subst, le_refl, le_trans}
+use Rattle.std.specs.List.{AllByRecursion}
+use lib.Signed.{≤ℤ_refl}
+use Rattle.cluster_facts.specs.Types.{Entry, Called, Receipted, Message, Answer}
+use Rattle.cluster_facts.specs.Service.{Plain, IsPlain}
+use Rattle.cluster_facts.specs.History.{Hand, Empty, committed_by, time_of}
+use Rattle.cluster_facts.specs.World.{World, knows}
+use Rattle.cluster_events.specs.Lines.{Told, Posted, Committed}
+use Rattle.cluster_events.specs.Servers.{State}
+use Rattle.cluster_events.specs.Devices.{Device}
+use Rattle.cluster_events.specs.Saying.{entries_told}
+use Rattle.cluster_events.specs.Serving.{IsCarried}
+use Rattle.event_text.specs.Texts.{printed}
+use Rattle.lone_cluster.specs.Lone.{lines_answering}
+use Rattle.lone_cluster.proofs.Serving.{posted-sent}
+use Rattle.pair_cluster.specs.Peers.{Peers, IsPair}
+use Rattle.pair_cluster.specs.Pair.{is_linked, accept_by, pair}
+use Rattle.pair_cluster.proofs.Stepping.{Bears, pair-rests}
+use Rattle.pair_cluster.proofs.Serving.{pair-stepped}
+use Rattle.pair_cluster.proofs.Saying.{says-borne, pair-serves, pair-says, pair-spends}
+use Rattle.cluster_rounds.specs.PartlyDone.{AsksNone, SaysUnasked}
+use Rattle.cluster_rounds.specs.Measured.{Measured, IsMeasured}
+use Rattle.cluster_rounds.specs.Kits.{IsKit}
+use Rattle.cluster_rounds.proofs.UnaskedSteps.{asks-none, asks-both}
+use Rattle.cluster_rounds.proofs.HearSteps.{measured-entry}
+use Rattle.cluster_clients.proofs.ToldLines.{not-less}
+use Rattle.pair_servers.specs.PairKit.{pair_kit}
+
+-- No step of the two asks anything.
+
+-- the entries that lines tell are none, or of a time that is not later than this one
+abbrev AreEarly : ℤ → List Told → Type 0
+AreEarly now told = AllByRecursion (λ (line : ℕ × Entry). pair_kit.Within (time_of line.1) now) (entries_told told)
+
+answer-times : (plain : Plain) (past : List Entry) (entry : Entry) (net : List Message) (now : ℤ) → AreEarly now (lines_answering plain past entry net)
+answer-times plain past (Called client number time call) net now =
+    let message = Answer client number (plain.reply past client number time call) in
+    elim (knows plain message net) as (λ b. AreEarly now (if b then [] else Posted (suc (length net)) message ∷ [])) [ true ↦ tt | false ↦ tt ]
+answer-times plain past (Receipted client key through time) net now = tt
+
+abbrev Unasked : Plain → World → World → List Told → Type 0
+Unasked plain old new told = SaysUnasked pair_kit.Within plain old new told
+
+abbrev Asks : World → World → List Told → Type 0
+Asks old new told = AsksNone pair_kit.Within old new told
+
+pub unasked-borne : (plain : Plain) → Bears plain (Unasked plain)
+unasked-borne plain =
+    let says = says-borne plain in
+    record {
+      same = λ world. record { says = says.same world; asks = asks-none world };
+      both = λ one two three first second before after. record {
+        says = says.both one two three first second before.says after.says;
+        asks = asks-both one two three first second before.asks after.asks;
+      };
+      stood = λ world server stands_as. record {
+        says = says.stood world server stands_as;
+        asks = record { sent = λ client. refl; now = refl; times = tt };
+      };
+      refused = λ world line standing. record {
+        says = says.refused world line standing;
+        asks = record { sent = λ client. refl; now = refl; times = tt };
+      };
+      taken = λ world past entry in_force. record {
+        says = says.taken world past entry in_force;
+        asks = record { sent = λ client. refl; now = refl; times = tt };
+      };
+      applied = λ world past entry sound. record {
+        says = says.applied world past entry sound;
+        asks = record { sent = λ client. refl; now = refl; times = (sound.facts.legal.times.0, tt) };
+      };
+      confirmed = λ world past entry. record {
+        says = says.confirmed world past entry;
+        asks = record { sent = λ client. refl; now = refl; times = tt };
+      };
+      worked = λ world past entry. record {
+        says = says.worked world past entry;
+        asks = record { sent = posted-sent plain past entry world.net; now = refl; times = answer-times plain past entry world.net world.now };
+      };
+      over = λ world past hand. record {
+        says = says.over world past hand;
+        asks = record { sent = λ client. refl; now = refl; times = tt };
+      };
+    }
+
+-- an entry is accepted at its own time
+accept-asks : (linked : Bool) (entry : Entry) (state : State Peers) → time_of entry ≡ state.world.now
+    → Asks state.world (accept_by linked entry state).state.world (accept_by linked entry state).told
+accept-asks true entry state at = record { sent = λ client. refl; now = refl; times = tt }
+accept-asks false entry state at = record {
+  sent = λ client. refl;
+  now = refl;
+  times = (subst (λ time. time ≤ℤ state.world.now) (sym at) (≤ℤ_refl state.world.now), tt);
+}
+
+-- each step that a round is made of says what happened, and asks nothing
+pub pair-unasked : (plain : Plain) (device : Device) → IsPlain plain → IsCarried plain (pair plain device) IsPair (Unasked plain)
+pair-unasked plain device is_plain =
+    let says = pair-says plain device is_plain in
+    record {
+      same = λ world. record { says = says.same world; asks = asks-none world };
+      both = λ one two three first second before after. record {
+        says = says.both one two three first second before.says after.says;
+        asks = asks-both one two three first second before.asks after.asks;
+      };
+      ignored = λ world place why. record {
+        says = says.ignored world place why;
+        asks = record { sent = λ client. refl; now = refl; times = tt };
+      };
+      answer = λ world client number reply sound stands. record {
+        says = says.answer world client number reply sound stands;
+        asks = record { sent = λ other. refl; now = refl; times = tt };
+      };
+      pushed = λ world client key item sound is. record {
+        says = says.pushed world client key item sound is;
+        asks = record { sent = λ other. refl; now = refl; times = tt };
+      };
+      reply = λ world client number call reply sound kept place stands. record {
+        says = says.reply world client number call reply sound kept place stands;
+        asks = record { sent = λ other. refl; now = refl; times = tt };
+      };
+      item = λ world client key item found sound here next place stands. record {
+        says = says.item world client key item found sound here next place stands;
+        asks = record { sent = λ other. refl; now = refl; times = tt };
+      };
+      accept = λ entry state steady empty may at stands. record {
+        says = says.accept entry state steady empty may at stands;
+        asks = accept-asks (is_linked state.peers.partner) entry state at;
+      };
+      drain = λ state steady. (pair-rests plain is_plain device (Unasked plain) (unasked-borne plain) state steady).steps.goes;
+    }
+
+-- What an acceptance leaves, and what its lines tell.
+
+accept-keeps : (linked : Bool) (entry : Entry) (state : State Peers) → (accept_by linked entry state).state.world.core.answered ≡ state.world.core.answered
+accept-keeps true entry state = refl
+accept-keeps false entry state = refl
+
+accept-armed : (linked : Bool) (entry : Entry) (state : State Peers) → state.peers.armed ≡ (accept_by linked entry state).state.peers.armed
+accept-armed true entry state = refl
+accept-armed false entry state = refl
+
+-- nothing was told, and nothing grew
+measured-none : (past net : ℕ) → Measured past past net net []
+measured-none past net = record {
+  loud = sym (not-less past);
+  lines = λ i. if sym (not-less past) i || sym (not-less net) i then printed [] else [];
+}
+
+accept-measured : (linked : Bool) (entry : Entry) (state : State Peers) → state.world.core.hand ≡ Empty → IsMeasured state.world (accept_by linked entry state)
+accept-measured true entry state empty =
+    let past = state.world.core.answered in
+    let net = length state.world.net in
+    subst (λ (hand : Hand). Measured (length (committed_by past hand)) (length past) net net []) (sym empty) (measured-none (length past) net)
+accept-measured false entry state empty =
+    let past = state.world.core.answered in
+    let net = length state.world.net in
+    let told = Committed (suc (length past)) entry ∷ [] in
+    subst (λ (hand : Hand). Measured (length (committed_by past hand)) (suc (length past)) net net told) (sym empty) (measured-entry (length past) net (suc (length past)) entry)
+
+pub pair_laws : IsKit pair_kit
+pair_laws = record {
+  serves = λ plain device is_plain. pair-serves plain device is_plain;
+  unasked = λ plain device is_plain. pair-unasked plain device is_plain;
+  spends = λ plain device is_plain. pair-spends plain device is_plain;
+  steps = λ plain device. refl;
+  stepped = λ plain device is_plain. pair-stepped plain is_plain device (Unasked plain) (unasked-borne plain);
+  alike = λ plain one other. refl;
+  keeps = λ plain device entry state. accept-keeps (is_linked state.peers.partner) entry state;
+  armed = λ plain device entry state count is. subst (λ armed. count ≡ armed) (accept-armed (is_linked state.peers.partner) entry state) is;
+  measured = λ plain device entry state empty good. accept-measured (is_linked state.peers.partner) entry state empty;
+  stands = λ count. le_refl count;
+  least = λ one two is. is;
+  further = λ one two three first second. le_trans first second;
+}

@@ -1,0 +1,38 @@
+-- The lines of a script over two servers lead to what they lead to over any.
+use Rattle.std.specs.Prelude.{◌≡◌, ℕ, length}
+use Rattle.std.proofs.Common.{refl}
+use Rattle.script_lines.specs.declared.line.Line.{Line}
+use Rattle.script_lines.specs.declared.line.Line.TheVariants as line
+use Rattle.cluster_facts.specs.Service.{Plain}
+use Rattle.cluster_facts.specs.History.{Hand, Empty, Waiting, Applied, Ready}
+use Rattle.cluster_events.specs.Outcomes.{Outcome}
+use Rattle.cluster_events.specs.Servers.{State}
+use Rattle.cluster_events.specs.Devices.{Device}
+use Rattle.cluster_events.specs.Running.{Shelf, Happens}
+use Rattle.lone_cluster.specs.Lone.{number_in_hand}
+use Rattle.pair_cluster.specs.Peers.{Peers}
+use Rattle.pair_cluster.specs.Pair.{pair}
+use Rattle.pair_cluster.specs.Running.{PairHappens}
+use Rattle.cluster_lines.specs.Following.{IsInHand, IsScript}
+use Rattle.pair_servers.specs.PairKit.{pair_kit, pair_script}
+
+shares : (plain : Plain) (shelf : Shelf) (device : Device) (next : Line) (state : State Peers) (outcome : Outcome (State Peers))
+    → Happens plain shelf (pair plain device) next state outcome → PairHappens plain shelf device next state outcome
+shares plain shelf device (line.Crash server) state outcome happens = absurd happens
+shares plain shelf device (line.Arm server count) state outcome happens = absurd happens
+shares plain shelf device line.Disarm state outcome happens = absurd happens
+shares plain shelf device (line.Restart server) state outcome happens = absurd happens
+shares plain shelf device _ state outcome happens = happens
+
+in-hand : (past : ℕ) (hand : Hand) → IsInHand (number_in_hand past hand) hand
+in-hand past Empty = refl
+in-hand past (Waiting entry) = λ none. cc
+in-hand past (Applied entry) = λ none. cc
+in-hand past (Ready entry) = λ none. cc
+
+pub pair_follows : IsScript pair_kit pair_script
+pair_follows = record {
+  shares = shares;
+  settles = λ plain device state whole ends. record { whole = whole; ends = ends; is = refl };
+  in_hand = λ plain device state. in-hand (length state.world.core.answered) state.world.core.hand;
+}
