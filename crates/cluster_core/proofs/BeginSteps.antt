@@ -3,7 +3,7 @@ use Rattle.std.proofs.Common.{◌≡◌, ℕ, suc, false, List, [], ◌∷◌, O
 use Rattle.std.specs.Prelude.{ℤ, option_map, Err}
 use Rattle.disk_model.specs.Disk.{Files}
 use Rattle.disk_model.specs.Failures.{WhereTold}
-use Rattle.disk_model.specs.Counts.{reaches}
+use Rattle.disk_model.specs.Counts.{lowered, passed, reaches}
 use Rattle.disk_model.specs.DeviceCalls.{DeviceCall, all_applied, DoesFront, FailsAfter, Breaks}
 use Rattle.disk_model.specs.declared.answers.DiskAnswer.{DiskAnswer}
 use Rattle.disk_model.specs.declared.answers.DiskAnswer.TheVariants.{Memory, Failed, Stopped}
@@ -21,26 +21,28 @@ use Rattle.plain_service.proofs.FilesLaws.{files-open}
 use Rattle.service_laws.specs.PlainOf.{plain_of}
 use Rattle.service_core.specs.Beginning.{BeginsAs}
 use Rattle.cluster_facts.proofs.Keeping.{IsSound-start}
-use Rattle.lone_cluster.specs.Lone.{lone_start}
-use Rattle.mirror.specs.Nodes.{Server, at_rest}
+use Rattle.pair_cluster.specs.Pair.{pair_start}
+use Rattle.pair_servers.specs.PairNodes.{standby_by}
+use Rattle.cluster_rounds.specs.Came.{seen}
+use Rattle.mirror.specs.declared.pair_node.PairNode.{PairNode}
 use Rattle.cluster_clients.specs.declared.answer.EventAnswer.{EventAnswer}
 use Rattle.cluster_core.specs.declared.world.World.{World}
 use Rattle.cluster_core.specs.Worlds.{Shows, IsGood, LeavesFiles}
 use Rattle.cluster_core.specs.Beginning.{Begins, HoldsNone, Begun, LeavesBroken}
-use Rattle.cluster_core.specs.Starting.{wells_of, world_of, broken_by, Starts, StartsWorld}
+use Rattle.cluster_core.specs.Starting.{active_at, wells_of, world_of, broken_by, StartsBoth, StartsWorld}
 use Rattle.cluster_core.proofs.BeginSpelled.{spelled-begins}
 
-good-start : (setup : Setup) (places : ℕ) → CanBegin setup → IsGood setup (lone_start setup.start places)
+good-start : (setup : Setup) (places : ℕ) → CanBegin setup → IsGood setup (pair_start setup.start places)
 good-start setup places begins = record {
   begins = begins;
-  steady = record { sound = IsSound-start (plain_of setup) setup.start places; good = tt };
+  steady = record { sound = IsSound-start (plain_of setup) setup.start places; good = record { agree = tt; armed = tt } };
   range = tt;
   moment = begins.start;
 }
 
-shows-start : (setup : Setup) (places : ℕ) → Shows setup (lone_start setup.start places) (world_of (at_rest setup []) setup.start places)
+shows-start : (setup : Setup) (places : ℕ) → Shows setup (pair_start setup.start places) (world_of (active_at setup) (standby_by setup [] false) setup.start places)
 shows-start setup places = record {
-  own = record { active = refl; rest = record { partner = refl; nothing = (refl, refl); unarmed = refl } };
+  own = refl;
   net = tt;
   agents = record { shown = refl; rising = tt; listed = λ client. inr refl };
   history = refl;
@@ -48,17 +50,22 @@ shows-start setup places = record {
   callbacks = refl;
 }
 
-files-start : (setup : Setup) (places : ℕ) (held left : Option Files) → CanBegin setup → HoldsNone held → left ≡ option_map (all_applied (calls_of_all (opening_of setup))) held → LeavesFiles setup (lone_start setup.start places) held left
+files-start : (setup : Setup) (places : ℕ) (held left : Option Files) → CanBegin setup → HoldsNone held → left ≡ option_map (all_applied (calls_of_all (opening_of setup))) held → LeavesFiles setup (pair_start setup.start places) held left
 files-start setup places None left begins none done = done
 files-start setup places (Some files) left begins none done =
     done ∙ ap Some (ap (all_applied (calls_of_all (opening_of setup))) none ∙ files-open setup begins)
 
+-- calls that are done leave a disk unarmed that was
+passed-unarmed : (count : ℕ) (before after : Tally) → after ≡ passed count before → before.armed ≡ None → after.armed ≡ None
+passed-unarmed count before after is unarmed = ap (λ (t : Tally). t.armed) is ∙ ap (lowered count) unarmed
+
 -- **the start was done**
-pub begun : (setup : Setup) (places : ℕ) (held left : Option Files) (world : World) → CanBegin setup → world ≡ world_of (at_rest setup []) setup.start places → HoldsNone held → left ≡ option_map (all_applied (calls_of_all (opening_of setup))) held → Begun setup places held left world
-begun setup places held left world begins is none done = record {
+pub begun : (setup : Setup) (places count : ℕ) (held left : Option Files) (before after : Tally) (stood now : ℕ) (world : World) → CanBegin setup → world ≡ world_of (active_at setup) (standby_by setup [] false) setup.start places → HoldsNone held → left ≡ option_map (all_applied (calls_of_all (opening_of setup))) held → after ≡ passed count before → before.armed ≡ None → Begun setup places held (seen left after now) world
+begun setup places count held left before after stood now world begins is none done counted unarmed = record {
   good = good-start setup places begins;
-  shows = subst (λ w. Shows setup (lone_start setup.start places) w) (sym is) (shows-start setup places);
+  shows = subst (λ w. Shows setup (pair_start setup.start places) w) (sym is) (shows-start setup places);
   files = files-start setup places held left begins none done;
+  armed = passed-unarmed count before after counted unarmed;
 }
 
 -- the start was not done
@@ -98,13 +105,15 @@ begins-as one start queue callbacks alarm ntf sys wells is attributes raw spelle
     }
 
 -- and the world at the start
-pub starts-world : (one : Line) (start : ℤ) (queue callbacks : ℕ) (alarm ntf sys : WellOptions) (active : Server) (deeds : List Deed) (world : World) → one ≡ Cluster start queue callbacks alarm ntf sys → world ≡ world_of active start callbacks
-    → (setup : Setup) (places : ℕ) → Begins one setup places → Starts setup active deeds → StartsWorld setup places world deeds
-starts-world one start queue callbacks alarm ntf sys active deeds world is made setup places begins starts =
-    let tells : Begins (Cluster start queue callbacks alarm ntf sys) setup places = subst (λ l. Begins l setup places) is begins in (
+pub starts-world : (one : Line) (start : ℤ) (queue callbacks : ℕ) (alarm ntf sys : WellOptions) (active partner : PairNode) (deeds : List Deed) (world : World) → one ≡ Cluster start queue callbacks alarm ntf sys → world ≡ world_of active partner start callbacks
+    → (setup : Setup) (places : ℕ) → Begins one setup places → StartsBoth setup active partner deeds → StartsWorld setup places world deeds
+starts-world one start queue callbacks alarm ntf sys active partner deeds world is made setup places begins starts =
+    let tells : Begins (Cluster start queue callbacks alarm ntf sys) setup places = subst (λ l. Begins l setup places) is begins in
+    let standby = standby_by setup [] false in (
       made
-          ∙ ap (λ a. world_of a start callbacks) starts.0
-          ∙ ap (λ now. world_of (at_rest setup []) now callbacks) (sym (ap (λ (s : Setup). s.start) tells.0))
-          ∙ ap (λ n. world_of (at_rest setup []) setup.start n) (sym tells.1),
-      starts.1,
+          ∙ ap (λ a. world_of a partner start callbacks) starts.0
+          ∙ ap (λ b. world_of (active_at setup) b start callbacks) starts.1
+          ∙ ap (λ now. world_of (active_at setup) standby now callbacks) (sym (ap (λ (s : Setup). s.start) tells.0))
+          ∙ ap (λ n. world_of (active_at setup) standby setup.start n) (sym tells.1),
+      starts.2,
     )

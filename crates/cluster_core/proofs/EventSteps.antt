@@ -1,23 +1,181 @@
 -- An event of a world is one of its parts.
-use Rattle.std.proofs.Common.{◌≡◌, ℕ, Option, List, sym, subst}
+use Rattle.std.proofs.Common.{◌≡◌, ℕ, ◌≤◌, Bool, Option, List, [], ◌++◌, refl, ap, sym, ◌∙◌, subst}
+use Rattle.std.specs.Prelude.{Result, Ok, Err, OnOk, IfErr, ℤ}
 use Rattle.disk_model.specs.Disk.{Files}
 use Rattle.disk_model.specs.declared.answers.DiskAnswer.{DiskAnswer}
+use Rattle.disk_model.specs.declared.answers.DiskAnswer.TheVariants.{Memory, Failed, Stopped}
 use Rattle.script_lines.specs.declared.line.Line.{Line}
+use Rattle.script_lines.specs.declared.line.Line.TheVariants as line
+use Rattle.script_lines.specs.declared.line.Server.{Server}
+use Rattle.script_lines.specs.declared.line.Server.TheVariants.{A, B}
+use Rattle.plain_service.specs.Setups.{Setup}
+use Rattle.cluster_facts.specs.Types.{Entry}
+use Rattle.cluster_facts.specs.History.{Hand, Empty, Waiting, Applied, Ready, committed_by}
+use Rattle.cluster_events.specs.Servers.{State}
+use Rattle.event_text.specs.Texts.{printed}
+use Rattle.mirror.specs.declared.pair_node.PairNode.{PairNode}
+use Rattle.pair_cluster.specs.Peers.{Partner, Down, Owed, Linking, Standby, Peers}
 use Rattle.cluster_rounds.specs.declared.cluster.Cluster.{Cluster}
-use Rattle.cluster_core.specs.declared.lone.Lone.{Lone}
+use Rattle.cluster_rounds.specs.Broken as cluster
+use Rattle.cluster_rounds.specs.Came.{DiskSeen}
+use Rattle.cluster_rounds.specs.Worlds as clusters
+use Rattle.cluster_lines.specs.Lines.{CanPlay}
+use Rattle.cluster_lines.specs.Playing.{BreaksOff, FaultLeaves as FaultLeavesParts, GoesOn, LineEnded, Plays}
+use Rattle.pair_servers.specs.declared.pair.Pair.{Pair}
+use Rattle.pair_servers.specs.PairKit.{pair_kit, pair_script}
+use Rattle.pair_servers.specs.PairNodes.{active_by, partner_by}
 use Rattle.cluster_core.specs.declared.world.World.{World}
-use Rattle.cluster_core.specs.Worlds.{parts_of, whole_of}
-use Rattle.cluster_core.specs.Steps.{Plays, PlayBroken}
+use Rattle.cluster_core.specs.Worlds.{HasState, IsGood, Shows, named, parts_of, unnamed}
+use Rattle.cluster_core.specs.Broken.{Broken, BreaksOn}
+use Rattle.cluster_core.specs.Playing.{DoesEvent, EndsEvent, FaultLeaves, IsEventLine}
+use Rattle.cluster_core.specs.Parts.{BreaksWhole, PlaysWhole, acting_as, acting_in, whole_of}
 
--- what came of the parts came of the world
-pub whole-plays : (next : Line) (old world : World) (parts new : Cluster Lone) (before after : List (List ℕ)) (held left : Option Files) → parts ≡ parts_of old → world ≡ whole_of new → Plays next parts new before after held left → Plays next (parts_of old) (parts_of world) before after held left
-whole-plays next old world parts new before after held left taken put plays =
-    let P : Cluster Lone → Type 0 = λ from. Plays next from new before after held left in
-    let W : World → Type 0 = λ to. Plays next (parts_of old) (parts_of to) before after held left in
-    subst W (sym put) (subst P taken plays)
+-- Who is active.
 
-pub whole-broken : (answer : DiskAnswer) (next : Line) (old world : World) (parts new : Cluster Lone) (before after : List (List ℕ)) (held left : Option Files) → parts ≡ parts_of old → world ≡ whole_of new → PlayBroken answer next parts new before after held left → PlayBroken answer next (parts_of old) (parts_of world) before after held left
-whole-broken answer next old world parts new before after held left taken put broken =
-    let P : Cluster Lone → Type 0 = λ from. PlayBroken answer next from new before after held left in
-    let W : World → Type 0 = λ to. PlayBroken answer next (parts_of old) (parts_of to) before after held left in
-    subst W (sym put) (subst P taken broken)
+partner-acts : (setup : Setup) (history : List Entry) (keeps : Bool) (partner : Partner) → acting_as (partner_by setup history keeps partner).node.role ≡ A
+partner-acts setup history keeps Down = refl
+partner-acts setup history keeps Owed = refl
+partner-acts setup history keeps Linking = refl
+partner-acts setup history keeps (Standby on_way) = refl
+
+active-acts : (setup : Setup) (past : List Entry) (hand : Hand) (partner : Partner) → acting_as (active_by setup past hand partner).node.role ≡ B
+active-acts setup past Empty partner = refl
+active-acts setup past (Waiting entry) partner = refl
+active-acts setup past (Applied entry) partner = refl
+active-acts setup past (Ready entry) partner = refl
+
+acts-by : (acting : Server) (setup : Setup) (past : List Entry) (hand : Hand) (partner : Partner) (keeps : Bool) (a b : PairNode) → named acting a b ≡ active_by setup past hand partner → unnamed acting a b ≡ partner_by setup (committed_by past hand) keeps partner → acting_as b.node.role ≡ acting
+acts-by A setup past hand partner keeps a b active other = ap (λ (node : PairNode). acting_as node.node.role) other ∙ partner-acts setup (committed_by past hand) keeps partner
+acts-by B setup past hand partner keeps a b active other = ap (λ (node : PairNode). acting_as node.node.role) active ∙ active-acts setup past hand partner
+
+-- **the active server of a world is that of each state that it stands for**
+acts : (setup : Setup) (state : State Peers) (world : World) → Shows setup state world → acting_in world ≡ state.peers.acting
+acts setup state world shows =
+    acts-by state.peers.acting setup state.world.core.answered state.world.core.hand state.peers.partner state.peers.keeps world.a world.b
+    (ap (λ (servers : Pair). servers.active) shows.own) (ap (λ (servers : Pair). servers.partner) shows.own)
+
+parts-show : (setup : Setup) (state : State Peers) (world : World) → Shows setup state world → (clusters.Shows pair_kit) setup state (parts_of (acting_in world) world)
+parts-show setup state world shows =
+    subst (λ (acting : Server). (clusters.Shows pair_kit) setup state (parts_of acting world)) (sym (acts setup state world shows)) shows
+
+-- a world of parts, taken apart by who is active in them, is these parts
+parts-by : (acting : Server) (parts : Cluster Pair) → parts_of acting (whole_of (record parts { servers = record parts.servers { acting = acting } })) ≡ record parts { servers = record parts.servers { acting = acting } }
+parts-by A parts = refl
+parts-by B parts = refl
+
+parts-back : (parts : Cluster Pair) → parts_of parts.servers.acting (whole_of parts) ≡ parts
+parts-back parts = parts-by parts.servers.acting parts
+
+whole-shows : (setup : Setup) (state : State Peers) (parts : Cluster Pair) (world : World) → world ≡ whole_of parts → (clusters.Shows pair_kit) setup state parts → Shows setup state world
+whole-shows setup state parts world is shows =
+    let same : parts.servers.acting ≡ state.peers.acting = ap (λ (servers : Pair). servers.acting) shows.own in
+    let back : parts_of state.peers.acting (whole_of parts) ≡ parts = ap (λ acting. parts_of acting (whole_of parts)) (sym same) ∙ parts-back parts in
+    subst (λ (w : World). Shows setup state w) (sym is) (subst (λ (p : Cluster Pair). (clusters.Shows pair_kit) setup state p) (sym back) shows)
+
+-- What a call of the parts asks for.
+
+pub parts-stand : (old : World) (armed : Option ℕ) → HasState old armed → (clusters.HasStateOn pair_kit) clusters.any_state (parts_of (acting_in old) old) armed
+parts-stand old armed has = record { setup = has.setup; state = has.state; good = has.good; shows = parts-show has.setup has.state old has.shows; count = has.count; so = tt }
+
+pub can-play : (now : ℤ) (next : Line) → IsEventLine now next → CanPlay pair_script now next
+can-play now (line.Cluster start queue callbacks alarm ntf sys) can = can
+can-play now (line.Time later) can = can
+can-play now _ can = tt
+
+-- **what a line led the parts to it led the world to**
+pub does-event : (next : Line) (old new : World) (before after lines : List (List ℕ)) (held left : DiskSeen) → before ≡ [] → lines ≡ after → held.faults ≤ left.faults → PlaysWhole next old new before after held left → DoesEvent next lines old new held left
+does-event next old new before after lines held left none same later whole setup state good shows armed tells =
+    let parts = whole.0 in
+    let done = whole.2 setup state good (parts-show setup state old shows) armed tells in
+    record {
+      outcome = done.outcome;
+      done = record {
+        shelf = done.shelf;
+        shown = done.shelf_is;
+        step = record { fails = done.happened; happens = done.leads; caused = done.caused };
+        later = later;
+        felled = done.felled;
+      };
+      good = done.is.1;
+      shows = whole-shows setup done.outcome.state parts new whole.1 done.is.0;
+      armed = done.count;
+      text = same ∙ done.is.2 ∙ ap (λ (front : List (List ℕ)). front ++ printed done.outcome.told) none;
+      files = done.files;
+    }
+
+-- **what a line left the parts as it left the world as**
+
+parts-broken : (acting : Server) (setup : Setup) (state : State Peers) (held left : Option Files) (parts : Cluster Pair) → cluster.Broken pair_kit.Within setup state held left parts → cluster.Broken pair_kit.Within setup state held left (parts_of acting (whole_of parts))
+parts-broken acting setup state held left parts broken = record {
+  rest = broken.rest;
+  unseen = broken.unseen;
+  tells = broken.tells;
+  holds = broken.holds;
+  deals = broken.deals;
+  asked = broken.asked;
+  fed = broken.fed;
+  times = broken.times;
+  stays = broken.stays;
+  net = broken.net;
+  agents = broken.agents;
+  history = broken.history;
+  now = broken.now;
+  files = broken.files;
+}
+
+pub lacks-event : (next : Line) (old new : World) (before after : List (List ℕ)) (held left : DiskSeen) → BreaksWhole Memory next old new before after held left → BreaksOn old new held left
+lacks-event next old new before after held left whole setup state good shows armed =
+    let parts = whole.0 in
+    let broken = whole.2 setup state good (parts-show setup state old shows) armed in
+    subst (λ (w : World). Broken setup state held.files left.files w) (sym whole.1) (parts-broken state.peers.acting setup state held.files left.files parts broken)
+
+-- a line that ended
+ends-event : (next : Line) (old new : World) (parts : Cluster Pair) (before after : List (List ℕ)) (held left : DiskSeen) → new ≡ whole_of parts → ((setup : Setup) (state : State Peers) → (clusters.IsGood pair_kit) setup state → (clusters.Shows pair_kit) setup state (parts_of (acting_in old) old) → pair_kit.Armed state.peers held.armed → (LineEnded pair_kit pair_script) setup state next parts before after held left) → EndsEvent next old new before after held left
+ends-event next old new parts before after held left is ends setup state good shows armed =
+    let ended = ends setup state good (parts-show setup state old shows) armed in
+    let acting = ended.end.state.peers.acting in
+    let back : parts_of acting (whole_of parts) ≡ parts = ap (λ one. parts_of one (whole_of parts)) (sym ended.fell.acting) ∙ parts-back parts in
+    let E : World → Type 0 = λ world. Rattle.cluster_core.specs.Broken.EventEnded setup state next ended.end.told held left world in (
+      ended.end.told,
+      subst E (sym is) (record {
+        happened = ended.happened;
+        end = ended.end;
+        ends = ended.ends.is ended.happened (λ number above within. refl);
+        printed = refl;
+        between = ended.between;
+        before_it = ended.before_it;
+        caused = ended.caused;
+        behind_it = ended.behind_it;
+        rose = ended.rose;
+        good = ended.good;
+        shows = record {
+          fell = subst (λ (p : Cluster Pair). pair_kit.Fell setup ended.end.state p.servers left.armed) (sym back) ended.fell;
+          net = ended.net;
+          agents = ended.agents;
+          history = ended.history;
+          now = ended.now;
+          callbacks = ended.callbacks;
+        };
+        files = ended.files;
+      }),
+      ended.lines,
+    )
+
+-- a world that was taken apart and put together as it was
+same-whole : (old : World) → whole_of (parts_of (acting_in old) old) ≡ old
+same-whole old = by (acting_in old)
+  where
+    by : (acting : Server) → whole_of (parts_of acting old) ≡ old
+    by A = refl
+    by B = refl
+
+fault-leaves : (next : Line) (old new : World) (parts : Cluster Pair) (before after : List (List ℕ)) (held left : DiskSeen) → new ≡ whole_of parts → (FaultLeavesParts pair_kit pair_script) next (parts_of (acting_in old) old) parts before after held left → FaultLeaves next old new before after held left
+fault-leaves line.Files old new parts before after held left is same = (is ∙ ap whole_of same.0 ∙ same-whole old, same.1, same.2, same.3)
+fault-leaves (line.Cat name) old new parts before after held left is same = (is ∙ ap whole_of same.0 ∙ same-whole old, same.1, same.2, same.3)
+fault-leaves next old new parts before after held left is ends = ends-event next old new parts before after held left is ends
+
+pub faults-event : (next : Line) (old new : World) (before after lines : List (List ℕ)) (held left : DiskSeen) → before ≡ [] → lines ≡ after → BreaksWhole Failed next old new before after held left → FaultLeaves next old new [] lines held left
+faults-event next old new before after lines held left none same whole =
+    let own = fault-leaves next old new whole.0 before after held left whole.1 whole.2 in
+    subst (λ (l : List (List ℕ)). FaultLeaves next old new [] l held left) (sym same)
+    (subst (λ (front : List (List ℕ)). FaultLeaves next old new front after held left) none own)

@@ -1,5 +1,5 @@
 -- Words of public clauses: what a cluster line begins.
-use Rattle.std.specs.Prelude.{◌≡◌, ℕ, [], Option, IfSome, Result, Ok, Err}
+use Rattle.std.specs.Prelude.{◌≡◌, ℕ, [], Option, None, IfSome, Result, Ok, Err}
 use Rattle.ais_values.specs.declared.kind.StreamKind.TheVariants.{Alarm, Notification, System}
 use Rattle.disk_model.specs.Disk.{Files, no_files}
 use Rattle.disk_model.specs.DeviceCalls.{DoesFront, FailsAfter}
@@ -9,7 +9,8 @@ use Rattle.script_lines.specs.declared.line.Line.TheVariants.{Cluster}
 use Rattle.script_language.specs.Streams.{well_attrs}
 use Rattle.plain_service.specs.Setups.{Setup}
 use Rattle.plain_service.specs.Storing.{opening_of}
-use Rattle.lone_cluster.specs.Lone.{lone_start}
+use Rattle.pair_cluster.specs.Pair.{pair_start}
+use Rattle.cluster_rounds.specs.Came.{DiskSeen}
 use Rattle.cluster_core.specs.declared.world.World.{World}
 use Rattle.cluster_clients.specs.declared.answer.EventAnswer.{EventAnswer}
 use Rattle.cluster_clients.specs.declared.answer.EventAnswer.TheVariants.{Memory, DiskFault}
@@ -33,12 +34,13 @@ Begins _ setup places = ⊥
 abbrev pub HoldsNone : Option Files → Type 0
 HoldsNone held = IfSome held (λ files. files ≡ no_files)
 
--- the cluster of a setup stands at its start: its world is good, and a disk that told its files tells those
--- of the empty history
-pub record Begun (setup : Setup) (places : ℕ) (held left : Option Files) (world : World) : Type 0 where
-  pub good : IsGood setup (lone_start setup.start places)
-  pub shows : Shows setup (lone_start setup.start places) world
-  pub files : LeavesFiles setup (lone_start setup.start places) held left
+-- the cluster of a setup stands at its start: `a` is active, `b` standby, and nothing is on the way between them; the world is good, a disk
+-- that told its files tells those of the empty history, and it is not armed
+pub record Begun (setup : Setup) (places : ℕ) (held : Option Files) (left : DiskSeen) (world : World) : Type 0 where
+  pub good : IsGood setup (pair_start setup.start places)
+  pub shows : Shows setup (pair_start setup.start places) world
+  pub files : LeavesFiles setup (pair_start setup.start places) held left.files
+  pub armed : left.armed ≡ None
 
 -- what the start left of the files where it was not done: for want of memory some calls of its deeds from the front were done;
 -- where a call failed those before it were done, and nothing is printed

@@ -1,55 +1,61 @@
 -- Words of public clauses: what stands where an event breaks off, for want of memory or by a fault of the disk.
-use Rattle.std.specs.Prelude.{◌≡◌, Option, List, ◌∷◌}
+use Rattle.std.specs.Prelude.{◌≡◌, ℕ, ◌≤◌, Bool, Option, List}
+use Rattle.ais_values.specs.Causes.{Rose}
 use Rattle.disk_model.specs.Disk.{Files}
 use Rattle.plain_service.specs.Setups.{Setup}
 use Rattle.service_laws.specs.PlainOf.{plain_of}
 use Rattle.script_lines.specs.declared.line.Line.{Line}
-use Rattle.script_lines.specs.declared.line.Server.TheVariants.{A as ServerA}
-use Rattle.cluster_facts.specs.Types.{Entry}
-use Rattle.cluster_facts.specs.Lists.{without}
-use Rattle.cluster_facts.specs.History.{Ready, committed}
-use Rattle.cluster_events.specs.declared.lines.ServerRole.TheVariants.{Down}
-use Rattle.cluster_events.specs.Lines.{Told, Stood, is_ignored}
+use Rattle.cluster_facts.specs.History.{committed}
+use Rattle.cluster_events.specs.Lines.{Told}
 use Rattle.cluster_events.specs.Outcomes.{Outcome}
 use Rattle.cluster_events.specs.Servers.{State}
-use Rattle.cluster_events.specs.Saying.{Says}
-use Rattle.cluster_events.specs.Stopping.{EventStops}
-use Rattle.lone_cluster.specs.Lone.{Alone, lone}
-use Rattle.mirror.specs.Nodes.{down, at_work}
+use Rattle.cluster_events.specs.Devices.{IsCaused}
+use Rattle.pair_cluster.specs.Peers.{Peers}
+use Rattle.pair_cluster.specs.Ended.{PairEnds}
+use Rattle.cluster_clients.specs.Spelled.{AreSpelled}
+use Rattle.cluster_clients.specs.Clients.{ShowsAgents}
+use Rattle.cluster_rounds.specs.Kits.{device_by}
+use Rattle.cluster_rounds.specs.Came.{DiskSeen}
 use Rattle.cluster_rounds.specs.Broken as cluster
 pub use Rattle.cluster_rounds.specs.Broken.{LeavesBetween}
+use Rattle.pair_servers.specs.PairKit.{pair_kit}
 use Rattle.cluster_core.specs.declared.world.World.{World}
-use Rattle.cluster_core.specs.LoneKit.{lone_kit}
-use Rattle.cluster_core.specs.Worlds.{parts_of, IsGood, Shows, TellsFiles}
+use Rattle.cluster_core.specs.Worlds.{parts_of, IsArmedBy, IsGood, Shows, TellsFiles}
 
--- an event broke off for want of memory, and left the parts of the world so
-abbrev pub Broken : Setup → State Alone → Option Files → Option Files → World → Type 0
-Broken setup state held left world = cluster.Broken lone_kit.Within setup state held left (parts_of world)
+-- An event broke off for want of memory, and left the parts of the world so. An entry that waited for the partner may have come to the
+-- history at a later time than its own, and no other one.
+abbrev pub Broken : Setup → State Peers → Option Files → Option Files → World → Type 0
+Broken setup state held left world =
+    cluster.Broken pair_kit.Within setup state held left (parts_of state.peers.acting world)
 
--- so it is over each good state that the world stood for
-abbrev pub BreaksOn : World → World → Option Files → Option Files → Type 0
+-- so it is over each good state that the world and the disk stood for
+abbrev pub BreaksOn : World → World → DiskSeen → DiskSeen → Type 0
 BreaksOn old new held left =
-    (setup : Setup) (state : State Alone) → IsGood setup state → Shows setup state old → Broken setup state held left new
+    (setup : Setup) (state : State Peers) → IsGood setup state → Shows setup state old → IsArmedBy state held.armed
+    → Broken setup state held.files left.files new
 
--- The disk had a fault as an entry was worked: the event came to this whole state with the entry in hand, where it stops, and told
--- the lines of all that happened up to there; the active server is down now, which the last line tells, and the files are between
--- those of the history without the entry and those of the history. Lines on messages without effect are left out.
-pub record Faulted (setup : Setup) (Stops : State Alone → Outcome (State Alone) → Type 0) (state : State Alone) (told : List Told)
-    (held left : Option Files) (world : World) : Type 0 where
-  pub reached : State Alone
-  pub entry : Entry
-  pub lines : List Told
-  pub stops : Stops state (record { state = reached; told = lines })
-  pub printed : told ≡ Stood ServerA Down ∷ without is_ignored lines
-  pub says : Says (plain_of setup) state.world reached.world told
-  pub good : IsGood setup reached
-  pub in_hand : reached.world.core.hand ≡ Ready entry
-  pub fell : world.a ≡ down
-  -- with its server as it was before the fault it is the world of that state
-  pub shows : Shows setup reached (record world { a = at_work setup reached.world.core.answered entry })
-  pub files : TellsFiles setup state held → LeavesBetween setup (committed reached.world.core) held left
+-- what the world is once no server is active: the servers fell, and all else is that of the state
+pub record ShowsEnd (setup : Setup) (state : State Peers) (armed : Option ℕ) (world : World) : Type 0 where
+  pub fell : pair_kit.Fell setup state (parts_of state.peers.acting world).servers armed
+  pub net : AreSpelled state.world.net world.net
+  pub agents : ShowsAgents state.world world.agents
+  pub history : world.history.entries ≡ committed state.world.core
+  pub now : world.now ≡ state.world.now
+  pub callbacks : world.callbacks ≡ state.world.places
 
--- so it is of the event of a line, of which alone `work` and `settle` work an entry
-abbrev pub FaultedIn : Setup → Line → State Alone → List Told → Option Files → Option Files → World → Type 0
-FaultedIn setup next state told held left world =
-    Faulted setup (EventStops (plain_of setup) (lone (plain_of setup)) next) state told held left world
+-- The disk had a fault that left no server active: the event of the line ended there, and told the lines of all that happened up to it.
+-- The works that failed before that fault are those by which the count of faults rose between the event's start and it. The files are
+-- between those of the history without its last entry and those of the history.
+pub record EventEnded (setup : Setup) (state : State Peers) (next : Line) (told : List Told) (held left : DiskSeen) (world : World) : Type 0 where
+  pub happened : ℕ → Bool
+  pub end : Outcome (State Peers)
+  pub ends : PairEnds (plain_of setup) (device_by setup happened) next state end
+  pub printed : told ≡ end.told
+  pub between : ℕ
+  pub before_it : held.faults ≤ between
+  pub caused : IsCaused held.faults between happened
+  pub behind_it : between ≤ left.faults
+  pub rose : Rose between left.faults
+  pub good : IsGood setup end.state
+  pub shows : ShowsEnd setup end.state left.armed world
+  pub files : TellsFiles setup state held.files → LeavesBetween setup (committed end.state.world.core) held.files left.files

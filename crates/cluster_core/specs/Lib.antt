@@ -1,13 +1,6 @@
-pub mod LoneKit
-pub mod LoneLaws
 pub mod Worlds
-pub mod Shelves
-pub mod Heard
-pub mod PartlyDone
 pub mod Broken
 pub mod Playing
-pub mod Steps
+pub mod Parts
 pub mod Beginning
 pub mod Starting
-pub mod Showing
-pub mod Reading

@@ -1,5 +1,5 @@
 -- Words of bodies alone: the steps of a start.
-use Rattle.std.specs.Prelude.{◌≡◌, ℕ, ℤ, false, List, [], ◌∷◌}
+use Rattle.std.specs.Prelude.{◌≡◌, ℕ, ℤ, false, None, List, [], ◌∷◌}
 use Rattle.ais_values.specs.declared.kind.StreamKind.TheVariants.{Alarm, Notification, System}
 use Rattle.calls.specs.History.{empty_history}
 use Rattle.stream_config.specs.declared.attrs.StreamAttrs.{StreamAttrs}
@@ -8,7 +8,10 @@ use Rattle.script_lines.specs.declared.line.WellOptions.{WellOptions}
 use Rattle.script_language.specs.Streams.{well_attrs}
 use Rattle.plain_service.specs.Setups.{Setup}
 use Rattle.plain_service.specs.Storing.{opening_of}
-use Rattle.mirror.specs.Nodes.{Server, down, at_rest}
+use Rattle.mirror.specs.declared.pair_node.PairNode.{PairNode}
+use Rattle.cluster_facts.specs.History.{Empty}
+use Rattle.pair_cluster.specs.Peers.{Standby}
+use Rattle.pair_servers.specs.PairNodes.{active_by, standby_by}
 use Rattle.disk_model.specs.declared.answers.DiskAnswer.{DiskAnswer}
 use Rattle.disk_model.specs.declared.answers.DiskAnswer.TheVariants as answers
 use Rattle.cluster_core.specs.declared.world.World.{World}
@@ -19,11 +22,11 @@ use Rattle.cluster_clients.specs.declared.answer.EventAnswer.TheVariants.{Memory
 abbrev pub wells_of : WellOptions → WellOptions → WellOptions → List StreamAttrs
 wells_of alarm ntf sys = well_attrs Alarm alarm ∷ well_attrs Notification ntf ∷ well_attrs System sys ∷ []
 
--- a world in which nothing was posted, with this active server
-abbrev pub world_of : Server → ℤ → ℕ → World
-world_of active start callbacks = record {
+-- a world in which nothing was posted, with these servers
+abbrev pub world_of : PairNode → PairNode → ℤ → ℕ → World
+world_of active partner start callbacks = record {
   a = active;
-  b = down;
+  b = partner;
   link = [];
   back = [];
   net = [];
@@ -34,13 +37,22 @@ world_of active start callbacks = record {
   callbacks = callbacks;
 }
 
--- the active server at the start of a setup, and the deeds of the start
-abbrev pub Starts : Setup → Server → List Deed → Type 0
-Starts setup active deeds = (active ≡ at_rest setup []) × (deeds ≡ opening_of setup)
+-- the active server at the start of a setup, tied to its partner
+abbrev pub active_at : Setup → PairNode
+active_at setup = active_by setup [] Empty (Standby None)
+
+-- it, and the deeds of the start
+abbrev pub Starts : Setup → PairNode → List Deed → Type 0
+Starts setup active deeds = (active ≡ active_at setup) × (deeds ≡ opening_of setup)
+
+-- both servers, and the deeds of the start
+abbrev pub StartsBoth : Setup → PairNode → PairNode → List Deed → Type 0
+StartsBoth setup active partner deeds = (active ≡ active_at setup) × (partner ≡ standby_by setup [] false) × (deeds ≡ opening_of setup)
 
 -- the world at the start of a setup, and the deeds of the start
 abbrev pub StartsWorld : Setup → ℕ → World → List Deed → Type 0
-StartsWorld setup places world deeds = (world ≡ world_of (at_rest setup []) setup.start places) × (deeds ≡ opening_of setup)
+StartsWorld setup places world deeds =
+    (world ≡ world_of (active_at setup) (standby_by setup [] false) setup.start places) × (deeds ≡ opening_of setup)
 
 -- why the start was not done
 abbrev pub broken_by : DiskAnswer → EventAnswer

@@ -1,21 +1,40 @@
--- Words of public clauses: how a world of the code is a state of the definitions: its parts are a cluster of one server.
-use Rattle.std.specs.Prelude.{pos, false, []}
+-- Words of public clauses: how a world of the code is a state of the definitions: its parts are a cluster of two servers.
+use Rattle.std.specs.Prelude.{◌≡◌, ℕ, pos, false, [], Option}
 use Rattle.calls.specs.History.{empty_history}
+use Rattle.script_lines.specs.declared.line.Server.{Server}
+use Rattle.script_lines.specs.declared.line.Server.TheVariants.{A, B}
 use Rattle.plain_service.specs.Setups.{Setup}
 use Rattle.cluster_events.specs.Servers.{State}
-use Rattle.lone_cluster.specs.Lone.{Alone}
+use Rattle.pair_cluster.specs.Peers.{Peers}
 use Rattle.mirror.specs.Nodes.{down}
+use Rattle.mirror.specs.Pairing.{alone}
 use Rattle.cluster_rounds.specs.declared.cluster.Cluster.{Cluster}
 use Rattle.cluster_rounds.specs.Worlds as cluster
 pub use Rattle.cluster_rounds.specs.Worlds.{TellsFiles, LeavesFiles}
-use Rattle.cluster_core.specs.declared.lone.Lone.{Lone}
+use Rattle.pair_servers.specs.declared.pair.Pair.{Pair}
+use Rattle.pair_servers.specs.PairKit.{pair_kit}
 use Rattle.cluster_core.specs.declared.world.World.{World}
-use Rattle.cluster_core.specs.LoneKit.{lone_kit}
 
--- a world taken apart, and put together again
-abbrev pub parts_of : World → Cluster Lone
-parts_of world = record {
-  servers = record { a = world.a; b = world.b; link = world.link; back = world.back; armed = world.armed };
+-- of `a` and `b` the one with this name, and the other one
+abbrev pub named : {T : Type 0} → Server → T → T → T
+named A a b = a
+named B a b = b
+
+abbrev pub unnamed : {T : Type 0} → Server → T → T → T
+unnamed A a b = b
+unnamed B a b = a
+
+-- a world taken apart, with this server as the active one
+abbrev pub parts_of : Server → World → Cluster Pair
+parts_of acting world = record {
+  servers = record {
+    acting = acting;
+    active = named acting world.a world.b;
+    partner = unnamed acting world.a world.b;
+    link = world.link;
+    back = world.back;
+    armed = world.armed;
+  };
   net = world.net;
   agents = world.agents;
   history = world.history;
@@ -23,37 +42,33 @@ parts_of world = record {
   callbacks = world.callbacks;
 }
 
-abbrev pub whole_of : Cluster Lone → World
-whole_of parts = record {
-  a = parts.servers.a;
-  b = parts.servers.b;
-  link = parts.servers.link;
-  back = parts.servers.back;
-  net = parts.net;
-  agents = parts.agents;
-  history = parts.history;
-  now = parts.now;
-  armed = parts.servers.armed;
-  callbacks = parts.callbacks;
-}
+-- the world of the code stands for a state of the definitions: which server is active, what its partner is, what is on the way between
+-- them, and that the active one is armed are those of the state
+abbrev pub Shows : Setup → State Peers → World → Type 0
+Shows setup state world = cluster.Shows pair_kit setup state (parts_of state.peers.acting world)
 
--- the world of the code stands for a state of the definitions: `a` is active alone, `b` is down
-abbrev pub Shows : Setup → State Alone → World → Type 0
-Shows setup state world = cluster.Shows lone_kit setup state (parts_of world)
+-- what holds of the state at all times: the facts of agents, net and history, those of two servers, and that clients, times and numbers
+-- are in range
+abbrev pub IsGood : Setup → State Peers → Type 0
+IsGood setup state = cluster.IsGood pair_kit setup state
 
--- what holds of the state at all times: the facts of agents, net and history, and that clients, times and numbers are in range
-abbrev pub IsGood : Setup → State Alone → Type 0
-IsGood setup state = cluster.IsGood lone_kit setup state
+-- the disk's armed count is the active server's
+abbrev pub IsArmedBy : State Peers → Option ℕ → Type 0
+IsArmedBy state armed = armed ≡ state.peers.armed
 
--- the world stands for a good state
-abbrev pub HasState : World → Type 0
-HasState world = cluster.HasState lone_kit (parts_of world)
+-- the world stands for a good state, of which a disk of this armed count tells
+pub record HasState (world : World) (armed : Option ℕ) : Type 0 where
+  pub setup : Setup
+  pub state : State Peers
+  pub good : IsGood setup state
+  pub shows : Shows setup state world
+  pub count : IsArmedBy state armed
 
 -- A world before its first line.
 abbrev pub empty_world : World
 empty_world = record {
-  a = down;
-  b = down;
+  a = alone down;
+  b = alone down;
   link = [];
   back = [];
   net = [];

@@ -1,5 +1,5 @@
 //! How a cluster begins.
-ghost use Rattle.std.specs.Prelude.{◌≡◌, ℕ, List, [], IfOk, OnOk, OnErr};
+ghost use Rattle.std.specs.Prelude.{◌≡◌, ℕ, false, List, [], None, IfOk, OnOk, OnErr};
 ghost use Rattle.ais_values.specs.declared.kind.StreamKind.TheVariants.{Alarm, Notification, System};
 ghost use Rattle.plain_service.specs.Setups.{Setup};
 ghost use Rattle.script_language.specs.Lines.{Spells};
@@ -7,7 +7,9 @@ ghost use Rattle.service_core.specs.Beginning.{BeginsAs, CanBeginAs};
 ghost use Rattle.cluster_core.specs.Worlds.{empty_world};
 ghost use Rattle.cluster_clients.specs.Answers.{RisesAtFault};
 ghost use Rattle.cluster_core.specs.Beginning.{Begins, HoldsNone, Begun, LeavesBroken};
-ghost use Rattle.cluster_core.specs.Starting.{wells_of, world_of, Starts, StartsWorld, broken_by};
+ghost use Rattle.cluster_rounds.specs.Came.{seen};
+ghost use Rattle.pair_servers.specs.PairNodes.{standby_by};
+ghost use Rattle.cluster_core.specs.Starting.{wells_of, world_of, Starts, StartsBoth, StartsWorld, broken_by};
 
 use crate::World;
 use ais_values::{Seq, StreamKind};
@@ -15,7 +17,7 @@ use calls::History;
 use cluster_clients::EventAnswer;
 use disk_model::{DiskAnswer, SharedDisk};
 use message_net::Net;
-use mirror::{Node, Role};
+use mirror::{PairNode, Role};
 use script::well_attrs;
 use script_lines::{Line, WellOptions};
 use service_core::Service;
@@ -41,30 +43,93 @@ fn wells_of(
     Ok(wells)
 }
 
-/// The active server at the start, and the deeds of the start.
-fn start(
+/// The active server at the start, tied to its partner, and the deeds of the start. What it would send the partner is left out, since
+/// that one begins with the same.
+fn start_active(
     alloc: Global,
     start: i64,
     queue: u32,
     wells: Seq<StreamAttrs>,
-) -> Result<(Node, Seq<Deed>), AllocError>
+) -> Result<(PairNode, Seq<Deed>), AllocError>
     requires { CanBeginAs start queue wells }
     ensures { IfOk result (λ made. (setup : Setup) → BeginsAs setup start queue wells →
         Starts setup made.0 made.1) }
 {
     match Service::new(alloc, start, queue, wells) {
-        Ok((service, deeds)) => Ok((Node::start(Role::Active, service), deeds)),
+        Ok((service, deeds)) => {
+            let mut node = PairNode::start(alloc, Role::Active, service);
+            match node.begin_join(alloc) {
+                Ok(heard) => {
+                    mem::drop(heard);
+                    Ok((node, deeds))
+                }
+                Err(error) => {
+                    mem::drop(node);
+                    mem::drop(deeds);
+                    Err(error)
+                }
+            }
+        }
         Err(error) => Err(error),
     }
 }
 
-/// A world in which nothing was posted, with this active server.
-fn world_of(alloc: Global, active: Node, start: i64, callbacks: u32) -> World
-    ensures { result ≡ world_of active start callbacks }
+/// The standby at the start.
+fn start_standby(
+    alloc: Global,
+    start: i64,
+    queue: u32,
+    wells: Seq<StreamAttrs>,
+) -> Result<PairNode, AllocError>
+    requires { CanBeginAs start queue wells }
+    ensures { IfOk result (λ node. (setup : Setup) → BeginsAs setup start queue wells →
+        node ≡ standby_by setup [] false) }
+{
+    match Service::new(alloc, start, queue, wells) {
+        Ok((service, deeds)) => {
+            mem::drop(deeds);
+            Ok(PairNode::start(alloc, Role::Standby, service))
+        }
+        Err(error) => Err(error),
+    }
+}
+
+/// Both servers at the start, with the deeds of the start, each by attributes of its own.
+fn start_both(
+    alloc: Global,
+    start: i64,
+    queue: u32,
+    wells: Seq<StreamAttrs>,
+    same: Seq<StreamAttrs>,
+) -> Result<(PairNode, PairNode, Seq<Deed>), AllocError>
+    requires one { CanBeginAs start queue wells }
+    requires other { same ≡ wells }
+    ensures { IfOk result (λ made. (setup : Setup) → BeginsAs setup start queue wells →
+        StartsBoth setup made.0 made.1 made.2) }
+{
+    match start_active(alloc, start, queue, wells) {
+        Ok((active, deeds)) => match start_standby(alloc, start, queue, same) {
+            Ok(partner) => Ok((active, partner, deeds)),
+            Err(error) => {
+                mem::drop(active);
+                mem::drop(deeds);
+                Err(error)
+            }
+        },
+        Err(error) => {
+            mem::drop(same);
+            Err(error)
+        }
+    }
+}
+
+/// A world in which nothing was posted, with these servers.
+fn world_of(alloc: Global, active: PairNode, partner: PairNode, start: i64, callbacks: u32) -> World
+    ensures { result ≡ world_of active partner start callbacks }
 {
     World {
         a: active,
-        b: Node::down(),
+        b: partner,
         link: Seq::new(alloc),
         back: Seq::new(alloc),
         net: Net::new(alloc),
@@ -93,8 +158,9 @@ fn started(alloc: Global, line: &Line) -> Result<(World, Seq<Deed>), AllocError>
             sys,
         } => {
             let wells = wells_of(alloc, alarm, ntf, sys)?;
-            let (active, deeds) = start(alloc, *time, *queue, wells)?;
-            Ok((world_of(alloc, active, *time, *callbacks), deeds))
+            let same = wells_of(alloc, alarm, ntf, sys)?;
+            let (active, partner, deeds) = start_both(alloc, *time, *queue, wells, same)?;
+            Ok((world_of(alloc, active, partner, *time, *callbacks), deeds))
         }
         _ => Err(AllocError),
     }
@@ -113,11 +179,11 @@ fn broken(alloc: Global, answer: DiskAnswer) -> EventAnswer
 }
 
 impl World {
-    /// Begins the cluster of a script's first line: the active server's service is that of a history without entries, and the
-    /// well-known streams are made on the disk.
+    /// Begins the cluster of a script's first line: `a` is active and `b` standby, the service of each is that of a history without
+    /// entries, and the well-known streams are made on the disk.
     ///
-    /// The world is an empty one, and the line a cluster line as it can stand in a script. Where the disk tells its files, it
-    /// holds none before, and those of the empty history after.
+    /// The world is an empty one, the line a cluster line as it can stand in a script, and the disk is not armed. Where the disk tells
+    /// its files, it holds none before, and those of the empty history after. It is not armed then either.
     ///
     /// On an error the world stays empty. `Memory` comes only for want of memory; some device calls of the start may be done.
     /// `DiskFault` comes exactly where the disk's count of faults rose: a device call failed, those before it were done, and
@@ -133,9 +199,10 @@ impl World {
         requires line { (setup : Setup) × (places : ℕ) × Begins line.now setup places }
         requires spelled { (raw : List ℕ) × Spells line.now raw }
         requires empty { self.old ≡ empty_world }
+        requires unarmed { (D.tally disk.old).armed ≡ None }
         ensures ok { (setup : Setup) (places : ℕ) → Begins line.now setup places →
-            HoldsNone (D.files disk.old) →
-            OnOk result (Begun setup places (D.files disk.old) (D.files disk.new) self.new) }
+            HoldsNone (D.files disk.old) → OnOk result (Begun setup places (D.files disk.old)
+            (seen (D.files disk.new) (D.tally disk.new) (D.faults disk.new)) self.new) }
         ensures same { OnErr result (self.new ≡ self.old) }
         ensures broken { (setup : Setup) (places : ℕ) → Begins line.now setup places →
             LeavesBroken setup (D.files disk.old) (D.files disk.new) result }
@@ -145,8 +212,6 @@ impl World {
             Ok(made) => made,
             Err(_) => return Err(EventAnswer::Memory),
         };
-        // The start is not to stop.
-        disk.disarm();
         match perform(disk, &deeds) {
             Ok(()) => {
                 mem::drop(mem::replace(self, world));

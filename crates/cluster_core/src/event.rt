@@ -1,6 +1,7 @@
 //! A line of a script happens to the world.
 ghost use Rattle.std.specs.Prelude.{ℕ, List, IfOk, IfErr};
 ghost use Rattle.script_language.specs.Lines.{Spells};
+ghost use Rattle.cluster_rounds.specs.Came.{seen};
 
 use crate::World;
 use crate::parts::play_whole;
@@ -16,25 +17,23 @@ use std::thread::Threads;
 
 impl World {
     ghost use Rattle.cluster_core.specs.Worlds.{HasState};
-    ghost use Rattle.cluster_core.specs.Playing.{IsLoneLine, DoesEvent, EventBroken};
-    ghost use Rattle.cluster_clients.specs.Answers.{RisesAtFault};
+    ghost use Rattle.cluster_core.specs.Playing.{IsEventLine, DoesEvent, EventBroken, RisesInEvent};
 
-    /// Does what a line of a script asks for while no server fails, and answers with the lines that it prints, each with its line
-    /// feed. A cluster line, the lines on failures of servers and a time below that in force are no part of it. A dispatch of all is
-    /// by as many workers as the line says, each of which passes the gate before it takes anything; what is printed does not rest
-    /// on their number.
+    /// Does what a line of a script asks for, and answers with the lines that it prints, each with its line feed. A cluster line and a
+    /// time below that in force are no part of it. A dispatch of all is by as many workers as the line says, each of which passes the
+    /// gate before it takes anything; what is printed does not rest on their number.
     ///
-    /// `DiskFault` comes exactly where the disk's count of faults rose in the call: on `Ok` and on `Memory` the count stands. A
-    /// line that shows files leaves all as it was then, and has no lines. Otherwise the line is `work` or `settle`: it came to an
-    /// entry whose deeds were not done, the active server is down, and the lines are those of all that was done before, the last
-    /// one telling that the server is down.
+    /// A server that stops or has a fault in the work of an entry goes down, and its standby takes over: the line goes on with that one.
+    /// The disk's count of faults does not fall in the call. `DiskFault` comes where the disk had a fault that left no server active, or
+    /// one as files were shown: the count rose then. A line that shows files leaves all as it was, and has no lines. Otherwise the line
+    /// is `work`, `settle` or a `crash` of the active server: its lines are those of all that was done before, and of the servers that
+    /// went down.
     ///
-    /// `Memory` comes where memory ran out: some of the line was done, without its lines. The history is legal; each client's
-    /// calls in it are the first of those that it had sent before, and what came to it is of the time in force, which stays.
-    /// Each client was fed the beginning of its items, each reply that it took is the history's, and the files are between.
-    /// The same is answered where the history has 4,000,000,000 entries, where a client's agent has numbered 4,294,967,294
-    /// calls, where a string of the net has more than 4,294,967,294 bytes, and where the disk stopped, which one that is not
-    /// armed never does.
+    /// `Memory` comes where memory ran out: some of the line was done, without its lines. The history is legal; each client's calls in it
+    /// are the first of those that it had sent before, and what came to it is of a time not above that in force, which stays. Each client
+    /// was fed the beginning of its items, each reply that it took is the history's, and the files are between. The same is answered
+    /// where the history has 4,000,000,000 entries, where a client's agent has numbered 4,294,967,294 calls, and where a string of the
+    /// net has more than 4,294,967,294 bytes.
     pub fn event<R: Threads + Wait + Sync, D: SharedDisk, G: Gate>(
         &mut self,
         rt: &R,
@@ -44,13 +43,15 @@ impl World {
         gate: &G,
     ) -> Result<Seq<Seq<u8>>, EventAnswer>
         requires spelled { (raw : List ℕ) × Spells line.now raw }
-        requires lone { IsLoneLine self.old.now line.now }
-        requires state { HasState self.old }
+        requires line { IsEventLine self.old.now line.now }
+        requires state { HasState self.old (D.tally disk.old).armed }
         ensures ok { IfOk result (λ lines. DoesEvent line.now lines self.old self.new
-            (D.files disk.old) (D.files disk.new)) }
+            (seen (D.files disk.old) (D.tally disk.old) (D.faults disk.old))
+            (seen (D.files disk.new) (D.tally disk.new) (D.faults disk.new))) }
         ensures broken { IfErr result (λ answer. EventBroken answer line.now self.old self.new
-            (D.files disk.old) (D.files disk.new)) }
-        ensures cause { RisesAtFault (D.faults disk.old) (D.faults disk.new) result }
+            (seen (D.files disk.old) (D.tally disk.old) (D.faults disk.old))
+            (seen (D.files disk.new) (D.tally disk.new) (D.faults disk.new))) }
+        ensures cause { RisesInEvent (D.faults disk.old) (D.faults disk.new) result }
     {
         let mut lines = Vec::new(alloc);
         match play_whole(rt, alloc, self, &mut lines, line, disk, gate) {
@@ -59,7 +60,7 @@ impl World {
                 mem::drop(lines);
                 Err(EventAnswer::Memory)
             }
-            // No line arms the disk yet, and the start disarms it.
+            // The servers answer for a disk that stops, and hand no stop on.
             Err(DiskAnswer::Stopped) => {
                 mem::drop(lines);
                 Err(EventAnswer::Memory)

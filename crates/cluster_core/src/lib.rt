@@ -3,14 +3,7 @@
 
 mod beginning;
 mod event;
-mod hearing;
-mod lone;
 mod parts;
-mod playing;
-mod pushing;
-mod serving;
-mod showing;
-mod working;
 mod world;
 
 pub use world::World;

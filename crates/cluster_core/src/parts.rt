@@ -1,34 +1,61 @@
-//! A world that is taken apart for an event and put together again, without memory.
+//! A world that is taken apart for an event, by who is active, and put together again, without memory.
 ghost use Rattle.std.specs.Prelude.{◌≡◌, OnOk, IfErr};
-ghost use Rattle.ais_values.specs.Causes.{RoseExactlyOn};
-ghost use Rattle.disk_model.specs.declared.answers.DiskAnswer.{DiskAnswer};
-ghost use Rattle.cluster_core.specs.Worlds.{parts_of, whole_of, HasState};
-ghost use Rattle.cluster_core.specs.Playing.{IsLoneLine};
-ghost use Rattle.cluster_core.specs.Steps.{IsInRange, Plays, PlayBroken};
+ghost use Rattle.cluster_rounds.specs.Came.{seen};
+ghost use Rattle.cluster_lines.specs.Lines.{IsInRange};
+ghost use Rattle.cluster_lines.specs.Playing.{GoesOn};
+ghost use Rattle.pair_servers.specs.PairKit.{pair_kit};
+ghost use Rattle.cluster_core.specs.Worlds.{named, unnamed, parts_of, HasState};
+ghost use Rattle.cluster_core.specs.Playing.{IsEventLine};
+ghost use Rattle.cluster_core.specs.Parts.{acting_in, whole_of, PlaysWhole, BreaksWhole};
 
 use crate::World;
-use crate::lone::Lone;
-use crate::playing::play;
 use ais_values::Seq;
 use callback_dispatch::Gate;
 use calls::History;
+use cluster_lines::play;
 use cluster_rounds::Cluster;
 use disk_model::{DiskAnswer, SharedDisk};
 use message_net::Net;
-use mirror::Node;
-use script_lines::Line;
+use mirror::{PairNode, Role};
+use pair_servers::Pair;
+use script_lines::{Line, Server};
 use std::alloc::Global;
 use std::mem;
 use std::sync::Wait;
 use std::thread::Threads;
 
-/// Takes the parts out of a world.
-fn take_parts(alloc: Global, world: &mut World) -> Cluster<Lone>
-    ensures { result ≡ parts_of world.old }
+/// Which server is active: `b` where it has that role, and `a` otherwise.
+fn acting_in(world: &World) -> Server
+    ensures { result ≡ acting_in world.entry.now }
 {
-    let servers = Lone {
-        a: mem::replace(&mut world.a, Node::down()),
-        b: mem::replace(&mut world.b, Node::down()),
+    match world.b.role() {
+        Role::Active => Server::B,
+        _ => Server::A,
+    }
+}
+
+/// Of two the one that this name has among `a` and `b`, and the other one.
+fn in_order(acting: Server, a: PairNode, b: PairNode) -> (PairNode, PairNode)
+    ensures { result ≡ (named acting a b, unnamed acting a b) }
+{
+    match acting {
+        Server::A => (a, b),
+        Server::B => (b, a),
+    }
+}
+
+/// Takes the parts out of a world.
+fn take_parts(alloc: Global, world: &mut World) -> Cluster<Pair>
+    ensures { result ≡ parts_of (acting_in world.old) world.old }
+{
+    let acting = acting_in(world);
+    let a = mem::replace(&mut world.a, PairNode::down(alloc));
+    let b = mem::replace(&mut world.b, PairNode::down(alloc));
+    let (active, partner) = in_order(acting, a, b);
+    let servers = Pair {
+        acting,
+        active,
+        partner,
         link: mem::replace(&mut world.link, Seq::new(alloc)),
         back: mem::replace(&mut world.back, Seq::new(alloc)),
         armed: world.armed,
@@ -44,7 +71,7 @@ fn take_parts(alloc: Global, world: &mut World) -> Cluster<Lone>
 }
 
 /// The world of these parts.
-fn put_parts(parts: Cluster<Lone>) -> World
+fn put_parts(parts: Cluster<Pair>) -> World
     ensures { result ≡ whole_of parts }
 {
     let Cluster {
@@ -55,13 +82,15 @@ fn put_parts(parts: Cluster<Lone>) -> World
         now,
         callbacks,
     } = parts;
-    let Lone {
-        a,
-        b,
+    let Pair {
+        acting,
+        active,
+        partner,
         link,
         back,
         armed,
     } = servers;
+    let (a, b) = in_order(acting, active, partner);
     World {
         a,
         b,
@@ -86,15 +115,17 @@ pub(crate) fn play_whole<R: Threads + Wait + Sync, D: SharedDisk, G: Gate>(
     disk: &mut D,
     gate: &G,
 ) -> Result<(), DiskAnswer>
-    requires state { HasState world.old }
+    requires state { HasState world.old (D.tally disk.old).armed }
     requires range { IsInRange line.now }
-    requires lone { IsLoneLine world.old.now line.now }
-    ensures ok { OnOk result (Plays line.now (parts_of world.old) (parts_of world.new)
-        lines.old.items lines.new.items (D.files disk.old) (D.files disk.new)) }
-    ensures broken { IfErr result (λ answer. PlayBroken answer line.now (parts_of world.old)
-        (parts_of world.new) lines.old.items lines.new.items (D.files disk.old)
-        (D.files disk.new)) }
-    ensures cause { RoseExactlyOn (D.faults disk.old) (D.faults disk.new) result DiskAnswer.Failed }
+    requires line { IsEventLine world.old.now line.now }
+    ensures ok { OnOk result (PlaysWhole line.now world.old world.new lines.old.items
+        lines.new.items (seen (D.files disk.old) (D.tally disk.old) (D.faults disk.old))
+        (seen (D.files disk.new) (D.tally disk.new) (D.faults disk.new))) }
+    ensures broken { IfErr result (λ answer. BreaksWhole answer line.now world.old world.new
+        lines.old.items lines.new.items
+        (seen (D.files disk.old) (D.tally disk.old) (D.faults disk.old))
+        (seen (D.files disk.new) (D.tally disk.new) (D.faults disk.new))) }
+    ensures counts { GoesOn pair_kit.Outlives (D.faults disk.old) (D.faults disk.new) result }
 {
     let mut parts = take_parts(alloc, world);
     let played = play(rt, alloc, &mut parts, lines, line, disk, gate);

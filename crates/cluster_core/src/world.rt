@@ -6,7 +6,7 @@ use ais_values::Seq;
 use calls::History;
 use client_agent::Agent;
 use message_net::Net;
-use mirror::Node;
+use mirror::PairNode;
 use std::alloc::Global;
 use wire::Message;
 
@@ -16,8 +16,8 @@ use wire::Message;
 /// agent's queue holds.
 #[derive(Drop)]
 pub struct World {
-    pub a: Node,
-    pub b: Node,
+    pub a: PairNode,
+    pub b: PairNode,
     pub link: Seq<Message>,
     pub back: Seq<Message>,
     pub net: Net,
@@ -34,8 +34,8 @@ impl World {
         ensures { result ≡ empty_world }
     {
         World {
-            a: Node::down(),
-            b: Node::down(),
+            a: PairNode::down(alloc),
+            b: PairNode::down(alloc),
             link: Seq::new(alloc),
             back: Seq::new(alloc),
             net: Net::new(alloc),

@@ -1,25 +1,38 @@
 use Rattle.std.proofs.Common.{sym, subst, ◌∙◌}
 use Rattle.std.proofs.lemmas.Result.{on_ok_weaker, IfErr-weaker}
 use Rattle.cluster_rounds.specs.declared.cluster.Cluster.{Cluster}
-use Rattle.cluster_rounds.specs.Worlds.{HasState}
-use Rattle.cluster_core.specs.declared.lone.Lone.{Lone}
-use Rattle.cluster_core.specs.LoneKit.{lone_kit}
-use Rattle.cluster_core.specs.Playing.{IsLoneLine}
-use Rattle.cluster_core.proofs.EventSteps.{whole-plays, whole-broken}
+use Rattle.cluster_rounds.specs.Came.{seen}
+use Rattle.cluster_rounds.specs.Worlds.{HasStateOn, any_state}
+use Rattle.cluster_lines.specs.Lines.{CanPlay}
+use Rattle.cluster_lines.specs.Playing.{BreaksOff, Plays}
+use Rattle.pair_servers.specs.declared.pair.Pair.{Pair}
+use Rattle.pair_servers.specs.PairKit.{pair_kit, pair_script}
+use Rattle.cluster_core.proofs.EventSteps.{can-play, parts-stand}
 use Rattle.cluster_core.proofs.parts.play_whole.Goals as goal
 
 pub play-played-requires-clause-state : goal.play-played-requires-clause-state
 play-played-requires-clause-state g c κs within =
-    subst (λ (parts : Cluster Lone). (HasState lone_kit) parts) (sym c.take_parts-parts.ensures) c.requires.state
+    let armed = (g.D.SharedDisk.tally c.args.disk.now).armed in
+    subst (λ (parts : Cluster Pair). (HasStateOn pair_kit) any_state parts armed) (sym c.take_parts-parts.ensures) (parts-stand c.args.world.now armed c.requires.state)
 
-pub play-played-requires-clause-lone : goal.play-played-requires-clause-lone
-play-played-requires-clause-lone g c κs within =
-    subst (λ (parts : Cluster Lone). IsLoneLine parts.now c.args.line.now) (sym c.take_parts-parts.ensures) c.requires.lone
+pub play-played-requires-clause-range : goal.play-played-requires-clause-range
+play-played-requires-clause-range g c κs within = c.requires.range
+
+pub play-played-requires-clause-can : goal.play-played-requires-clause-can
+play-played-requires-clause-can g c κs within =
+    subst (λ (parts : Cluster Pair). CanPlay pair_script parts.now c.args.line.now) (sym c.take_parts-parts.ensures) (can-play c.args.world.now.now c.args.line.now c.requires.line)
 
 pub returns-clause-ok : goal.returns-clause-ok
 returns-clause-ok g c =
-    on_ok_weaker c.play-played.result (λ plays. whole-plays _ _ _ _ _ _ _ _ _ c.take_parts-parts.ensures (c.replace.ensures.after ∙ c.put_parts.ensures) plays) c.play-played.ensures.ok
+    let held = seen (g.D.SharedDisk.files c.args.disk.now) (g.D.SharedDisk.tally c.args.disk.now) (g.D.SharedDisk.faults c.args.disk.now) in
+    let left = seen (g.D.SharedDisk.files c.play-played.new.disk) (g.D.SharedDisk.tally c.play-played.new.disk) (g.D.SharedDisk.faults c.play-played.new.disk) in
+    let parts = c.play-played.new.world in
+    let P : Cluster Pair → Type 0 = λ from. (Plays pair_kit pair_script) c.args.line.now from parts c.args.lines.now.items c.play-played.new.lines.items held left in
+    on_ok_weaker c.play-played.result (λ plays. (parts, c.replace.ensures.after ∙ c.put_parts.ensures, subst P c.take_parts-parts.ensures plays)) c.play-played.ensures.ok
 
 pub returns-clause-broken : goal.returns-clause-broken
 returns-clause-broken g c =
-    IfErr-weaker c.play-played.result _ _ (λ answer broken. whole-broken answer _ _ _ _ _ _ _ _ _ c.take_parts-parts.ensures (c.replace.ensures.after ∙ c.put_parts.ensures) broken) c.play-played.ensures.broken
+    let held = seen (g.D.SharedDisk.files c.args.disk.now) (g.D.SharedDisk.tally c.args.disk.now) (g.D.SharedDisk.faults c.args.disk.now) in
+    let left = seen (g.D.SharedDisk.files c.play-played.new.disk) (g.D.SharedDisk.tally c.play-played.new.disk) (g.D.SharedDisk.faults c.play-played.new.disk) in
+    let parts = c.play-played.new.world in
+    IfErr-weaker c.play-played.result _ _ (λ answer broken. (parts, c.replace.ensures.after ∙ c.put_parts.ensures, subst (λ (from : Cluster Pair). (BreaksOff pair_kit pair_script) answer c.args.line.now from parts c.args.lines.now.items c.play-played.new.lines.items held left) c.take_parts-parts.ensures broken)) c.play-played.ensures.broken

@@ -1,7 +1,6 @@
-use Rattle.std.proofs.Common.{ap, ◌∙◌}
+use Rattle.std.proofs.Common.{length, refl, ap, ◌∙◌}
 use Rattle.std.specs.Prelude.{option_map}
 use Rattle.disk_model.specs.DeviceCalls.{all_applied}
-use Rattle.disk_model.specs.declared.tally.Tally.{Tally}
 use Rattle.stream_layout.specs.Deeds.{calls_of_all}
 use Rattle.cluster_core.proofs.BeginSpelled.{spelled-begins}
 use Rattle.cluster_core.proofs.BeginSteps.{begun, start-broken}
@@ -11,12 +10,11 @@ pub returns-in-Ok-perform-clause-ok : goal.returns-in-Ok-perform-clause-ok
 returns-in-Ok-perform-clause-ok g c setup places begins none =
     let starts = c.in-Ok.ensures setup places begins in
     let held = g.D.SharedDisk.files c.args.disk.now in
-    begun setup places held (g.D.SharedDisk.files c.perform.new.disk) c.replace.new.dest (spelled-begins c.args.line.now c.requires.spelled.0 setup places c.requires.spelled.1 begins) (c.replace.ensures.after ∙ starts.0) none
-    (c.in-Ok-perform.ensures.performs.0 ∙ ap (option_map (all_applied (calls_of_all c.in-Ok.made.1))) c.disarm.ensures.same
-    ∙ ap (λ deeds. option_map (all_applied (calls_of_all deeds)) held) starts.1)
+    begun setup places (length (calls_of_all c.in-Ok.made.1)) held (g.D.SharedDisk.files c.perform.new.disk) (g.D.SharedDisk.tally c.args.disk.now) (g.D.SharedDisk.tally c.perform.new.disk) (g.D.SharedDisk.faults c.args.disk.now) (g.D.SharedDisk.faults c.perform.new.disk) c.replace.new.dest (spelled-begins c.args.line.now c.requires.spelled.0 setup places c.requires.spelled.1 begins) (c.replace.ensures.after ∙ starts.0) none
+    (c.in-Ok-perform.ensures.performs.0 ∙ ap (λ deeds. option_map (all_applied (calls_of_all deeds)) held) starts.1) c.in-Ok-perform.ensures.performs.1.1 c.requires.unarmed
 
 pub returns-clause-broken : goal.returns-clause-broken
 returns-clause-broken g c setup places begins =
     let starts = c.in-Ok.ensures setup places begins in
-    start-broken (Unit {0}) setup c.in-Err-perform.answer _ _ (g.D.SharedDisk.files c.args.disk.now) (g.D.SharedDisk.files c.disarm.new.self) (g.D.SharedDisk.files c.perform.new.disk)
-    _ _ starts.1 c.broken.ensures c.disarm.ensures.same (ap (λ (t : Tally). t.armed) c.disarm.ensures.counted) c.in-Err-perform.ensures.performs
+    start-broken (Unit {0}) setup c.in-Err-perform.answer _ _ (g.D.SharedDisk.files c.args.disk.now) (g.D.SharedDisk.files c.args.disk.now) (g.D.SharedDisk.files c.perform.new.disk)
+    _ _ starts.1 c.broken.ensures refl c.requires.unarmed c.in-Err-perform.ensures.performs

@@ -1,25 +1,53 @@
-use Rattle.std.proofs.Common.{ℕ, List, sym, subst}
+use Rattle.std.proofs.Common.{subst}
+use Rattle.std.specs.Prelude.{Result, Err}
 use Rattle.disk_model.specs.declared.answers.DiskAnswer.{DiskAnswer}
-use Rattle.cluster_core.specs.Worlds.{parts_of}
-use Rattle.cluster_core.specs.Playing.{FaultLeaves}
-use Rattle.cluster_core.specs.Steps.{PlayBroken}
-use Rattle.cluster_core.proofs.LineSpelled.{spelled-fits}
+use Rattle.cluster_rounds.specs.Came.{seen}
+use Rattle.cluster_lines.specs.Playing.{GoesOn}
+use Rattle.cluster_lines.proofs.LineSpelled.{spelled-fits}
+use Rattle.pair_servers.specs.PairKit.{pair_kit}
+use Rattle.cluster_core.specs.Parts.{BreaksWhole}
+use Rattle.cluster_core.proofs.EventSteps.{does-event, faults-event, lacks-event}
 use Rattle.cluster_core.proofs.world.World.event.Goals as goal
 
 pub play_whole-requires-clause-range : goal.play_whole-requires-clause-range
 play_whole-requires-clause-range g c κs within = (spelled-fits c.args.line.now c.requires.spelled.0 c.requires.spelled.1).0
 
--- the lines of an event that the disk broke off are those that it put
+pub returns-in-Ok-clause-ok : goal.returns-in-Ok-clause-ok
+returns-in-Ok-clause-ok g c =
+    let held = seen (g.D.SharedDisk.files c.args.disk.now) (g.D.SharedDisk.tally c.args.disk.now) (g.D.SharedDisk.faults c.args.disk.now) in
+    let left = seen (g.D.SharedDisk.files c.play_whole.new.disk) (g.D.SharedDisk.tally c.play_whole.new.disk) (g.D.SharedDisk.faults c.play_whole.new.disk) in
+    does-event c.args.line.now c.args.self.now c.play_whole.new.world c.new-lines.result.items c.play_whole.new.lines.items c.from_vec.result held left c.new-lines.ensures.items c.from_vec.ensures c.in-Ok.ensures.counts c.in-Ok.ensures.ok
+
+pub returns-in-Err-Memory-clause-broken : goal.returns-in-Err-Memory-clause-broken
+returns-in-Err-Memory-clause-broken g c =
+    let held = seen (g.D.SharedDisk.files c.args.disk.now) (g.D.SharedDisk.tally c.args.disk.now) (g.D.SharedDisk.faults c.args.disk.now) in
+    let left = seen (g.D.SharedDisk.files c.play_whole.new.disk) (g.D.SharedDisk.tally c.play_whole.new.disk) (g.D.SharedDisk.faults c.play_whole.new.disk) in
+    let B : DiskAnswer → Type 0 = λ answer. BreaksWhole answer c.args.line.now c.args.self.now c.play_whole.new.world c.new-lines.result.items c.play_whole.new.lines.items held left in
+    lacks-event c.args.line.now c.args.self.now c.play_whole.new.world c.new-lines.result.items c.play_whole.new.lines.items held left (subst B c.in-Err-Memory.field-0-is c.in-Err-Memory.ensures.broken)
+
+pub returns-in-Err-Stopped-clause-broken : goal.returns-in-Err-Stopped-clause-broken
+returns-in-Err-Stopped-clause-broken g c =
+    let held = seen (g.D.SharedDisk.files c.args.disk.now) (g.D.SharedDisk.tally c.args.disk.now) (g.D.SharedDisk.faults c.args.disk.now) in
+    let left = seen (g.D.SharedDisk.files c.play_whole.new.disk) (g.D.SharedDisk.tally c.play_whole.new.disk) (g.D.SharedDisk.faults c.play_whole.new.disk) in
+    let B : DiskAnswer → Type 0 = λ answer. BreaksWhole answer c.args.line.now c.args.self.now c.play_whole.new.world c.new-lines.result.items c.play_whole.new.lines.items held left in
+    absurd (subst B c.in-Err-Stopped.field-0-is c.in-Err-Stopped.ensures.broken).2
+
+-- the lines of an event that a fault ended are those that it put
 pub returns-in-Err-Failed-clause-broken : goal.returns-in-Err-Failed-clause-broken
 returns-in-Err-Failed-clause-broken g c =
-    let next = c.args.line.now in
-    let old = c.args.self.now in
-    let new = c.play_whole.new.world in
-    let held = g.D.SharedDisk.files c.args.disk.now in
-    let left = g.D.SharedDisk.files c.play_whole.new.disk in
-    let before = c.new-lines.result.items in
-    let after = c.play_whole.new.lines.items in
-    let B : DiskAnswer → Type 0 = λ answer. PlayBroken answer next (parts_of old) (parts_of new) before after held left in
-    let own : FaultLeaves next old new before after held left = subst B c.in-Err-Failed.field-0-is c.in-Err-Failed.ensures.broken in
-    let printed : FaultLeaves next old new before c.from_vec-printed.result held left = subst (λ (l : List (List ℕ)). FaultLeaves next old new before l held left) (sym c.from_vec-printed.ensures) own in
-    subst (λ (l : List (List ℕ)). FaultLeaves next old new l c.from_vec-printed.result held left) c.new-lines.ensures.items printed
+    let held = seen (g.D.SharedDisk.files c.args.disk.now) (g.D.SharedDisk.tally c.args.disk.now) (g.D.SharedDisk.faults c.args.disk.now) in
+    let left = seen (g.D.SharedDisk.files c.play_whole.new.disk) (g.D.SharedDisk.tally c.play_whole.new.disk) (g.D.SharedDisk.faults c.play_whole.new.disk) in
+    let B : DiskAnswer → Type 0 = λ answer. BreaksWhole answer c.args.line.now c.args.self.now c.play_whole.new.world c.new-lines.result.items c.play_whole.new.lines.items held left in
+    faults-event c.args.line.now c.args.self.now c.play_whole.new.world c.new-lines.result.items c.play_whole.new.lines.items c.from_vec-printed.result held left c.new-lines.ensures.items c.from_vec-printed.ensures (subst B c.in-Err-Failed.field-0-is c.in-Err-Failed.ensures.broken)
+
+pub returns-in-Err-Memory-clause-cause : goal.returns-in-Err-Memory-clause-cause
+returns-in-Err-Memory-clause-cause g c =
+    subst (λ (answer : DiskAnswer). GoesOn {T = Unit {0}} pair_kit.Outlives (g.D.SharedDisk.faults c.args.disk.now) (g.D.SharedDisk.faults c.play_whole.new.disk) (Err answer)) c.in-Err-Memory.field-0-is c.in-Err-Memory.ensures.counts
+
+pub returns-in-Err-Stopped-clause-cause : goal.returns-in-Err-Stopped-clause-cause
+returns-in-Err-Stopped-clause-cause g c =
+    absurd (subst (λ (answer : DiskAnswer). GoesOn {T = Unit {0}} pair_kit.Outlives (g.D.SharedDisk.faults c.args.disk.now) (g.D.SharedDisk.faults c.play_whole.new.disk) (Err answer)) c.in-Err-Stopped.field-0-is c.in-Err-Stopped.ensures.counts)
+
+pub returns-in-Err-Failed-clause-cause : goal.returns-in-Err-Failed-clause-cause
+returns-in-Err-Failed-clause-cause g c =
+    subst (λ (answer : DiskAnswer). GoesOn {T = Unit {0}} pair_kit.Outlives (g.D.SharedDisk.faults c.args.disk.now) (g.D.SharedDisk.faults c.play_whole.new.disk) (Err answer)) c.in-Err-Failed.field-0-is c.in-Err-Failed.ensures.counts

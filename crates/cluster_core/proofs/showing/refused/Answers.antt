@@ -1,9 +1,0 @@
-use Rattle.std.proofs.Common.{ap, ◌∷◌, [], ◌++◌, ◌∙◌}
-use Rattle.std.proofs.lemmas.Result.{on_ok_weaker}
-use Rattle.event_text.specs.Texts.{refused_line}
-use Rattle.cluster_core.proofs.ShowSteps.{refused-does}
-use Rattle.cluster_core.proofs.showing.refused.Goals as goal
-
-pub returns : goal.returns
-returns c =
-    on_ok_weaker c.put_refused.result (λ told. refused-does c.args.line.now c.args.world.now c.args.lines.now.items c.put_refused.new.lines.items (told ∙ ap (λ standing. c.args.lines.now.items ++ refused_line c.args.line.now standing ∷ []) c.standing_of-standing.ensures)) c.put_refused.ensures.ok

@@ -1,6 +1,0 @@
-use Rattle.cluster_core.proofs.ShowSteps.{files-shown}
-use Rattle.cluster_core.proofs.showing.show_files.Goals as goal
-
-pub returns-in-Ok-append-clause-ok : goal.returns-in-Ok-append-clause-ok
-returns-in-Ok-append-clause-ok g c =
-    files-shown c.args.world.now c.args.lines.now.items c.append.new.self.items c.in-Ok.listed.items (g.D.SharedDisk.files c.args.disk.now) c.in-Ok.ensures.listed c.in-Ok-append.ensures.items

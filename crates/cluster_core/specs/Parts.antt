@@ -1,0 +1,48 @@
+-- Words of bodies alone: a world that is taken apart by who is active, and put together again.
+use Rattle.std.specs.Prelude.{◌≡◌, ℕ, List}
+use Rattle.disk_model.specs.declared.answers.DiskAnswer.{DiskAnswer}
+use Rattle.script_lines.specs.declared.line.Line.{Line}
+use Rattle.script_lines.specs.declared.line.Server.{Server}
+use Rattle.script_lines.specs.declared.line.Server.TheVariants.{A, B}
+use Rattle.mirror.specs.declared.heard.Role.{Role}
+use Rattle.mirror.specs.declared.heard.Role.TheVariants.{Active}
+use Rattle.cluster_rounds.specs.declared.cluster.Cluster.{Cluster}
+use Rattle.cluster_rounds.specs.Came.{DiskSeen}
+use Rattle.cluster_lines.specs.Playing.{BreaksOff, Plays}
+use Rattle.pair_servers.specs.declared.pair.Pair.{Pair}
+use Rattle.pair_servers.specs.PairKit.{pair_kit, pair_script}
+use Rattle.cluster_core.specs.declared.world.World.{World}
+use Rattle.cluster_core.specs.Worlds.{named, parts_of, unnamed}
+
+-- `b` is active where it has that role, and `a` otherwise
+abbrev pub acting_as : Role → Server
+acting_as Active = B
+acting_as _ = A
+
+abbrev pub acting_in : World → Server
+acting_in world = acting_as world.b.node.role
+
+-- the world of these parts
+abbrev pub whole_of : Cluster Pair → World
+whole_of parts = record {
+  a = named parts.servers.acting parts.servers.active parts.servers.partner;
+  b = unnamed parts.servers.acting parts.servers.active parts.servers.partner;
+  link = parts.servers.link;
+  back = parts.servers.back;
+  net = parts.net;
+  agents = parts.agents;
+  history = parts.history;
+  now = parts.now;
+  armed = parts.servers.armed;
+  callbacks = parts.callbacks;
+}
+
+-- what a line led to, or left that was not done, by the parts that the world was and is made of
+abbrev pub PlaysWhole : Line → World → World → List (List ℕ) → List (List ℕ) → DiskSeen → DiskSeen → Type 0
+PlaysWhole next old new before after held left =
+    (parts : Cluster Pair) × (new ≡ whole_of parts) × Plays pair_kit pair_script next (parts_of (acting_in old) old) parts before after held left
+
+abbrev pub BreaksWhole : DiskAnswer → Line → World → World → List (List ℕ) → List (List ℕ) → DiskSeen → DiskSeen → Type 0
+BreaksWhole answer next old new before after held left =
+    (parts : Cluster Pair) × (new ≡ whole_of parts)
+    × BreaksOff pair_kit pair_script answer next (parts_of (acting_in old) old) parts before after held left
