@@ -1,5 +1,5 @@
 -- Where nothing fails, and the input is what was asked for, a run ends well or lacks memory.
-use Rattle.std.proofs.Common.{◌≡◌, ℕ, ◌+◌, ◌≤◌, inl, inr, List, ◌∷◌, ◌++◌, length, true, false, Option, Some, None, refl, ap, sym, ◌∙◌, subst, arith, append-nil}
+use Rattle.std.proofs.Common.{◌≡◌, ℕ, ◌+◌, ◌≤◌, inl, inr, List, ◌∷◌, ◌++◌, length, Option, Some, None, refl, ap, sym, ◌∙◌, subst, arith, append-nil}
 use Rattle.std.specs.Prelude.{IfSome}
 use Rattle.std.specs.FinMap.{keys, entries, len-entries, len-empty}
 use Rattle.std.specs.Ordering.{nat_cmp}
@@ -24,8 +24,7 @@ use Rattle.aisrun.specs.Commands.{command_of, text_of}
 use Rattle.aisrun.specs.Completing.{CanCheck, CanParse, CanRun, HoldsRecords, IsDoneOrMemory}
 use Rattle.aisrun.specs.Counts.{HasRisen, RisesBefore}
 use Rattle.aisrun.specs.Edges.{Edge, before, after, fault_count, Around}
-use Rattle.aisrun.specs.Endings.{input_limit, ReadsWhole, InputTooLong, Ends, Reads, ReadsSource, NoScript, NotBuilt, NoExpression}
-use Rattle.aisrun.specs.Playing.{has_failures}
+use Rattle.aisrun.specs.Endings.{input_limit, ReadsWhole, InputTooLong, Ends, Reads, ReadsSource, NoScript, NoExpression}
 use Rattle.aisrun.specs.RunSteps.{WordsLack}
 use Rattle.aisrun.specs.Scanning.{CanScan, CannotPart, TakesText}
 use Rattle.aisrun.specs.Steps.{Ended, Whole, SinkFailed, SinkLacked, Lacked}
@@ -101,28 +100,24 @@ module _ {S K D : Type 0} (run : Around S K D) where
       sym scans.2 ∙ ap (λ (one : RecordQuery). one.kind) queries
 
   -- a script that can be played
-  played : (lines : List Line) (bytes : List ℕ) → command_of run.words ≡ Some Run → before run.source ≡ Some bytes → length bytes ≤ 16777216 → IsScriptOf lines bytes → has_failures lines ≡ false → before run.stage.disk ≡ Some no_files → (HasRisen (fault_count run.source) → ⊥) → (HasRisen (fault_count run.stage.disk) → ⊥) → (status : Status8) (text : List ℕ) → RisesBefore (Some status) (fault_count run.source) (fault_count run.stage.disk) → Ends run (Some status) text → status ≡ Done
-  played lines bytes words left short script well empty reads disk Done text rises end = refl
-  played lines bytes words left short script well empty reads disk ScriptRefused text rises (NoScript asks all taken read fails) =
+  played : (lines : List Line) (bytes : List ℕ) → command_of run.words ≡ Some Run → before run.source ≡ Some bytes → length bytes ≤ 16777216 → IsScriptOf lines bytes → before run.stage.disk ≡ Some no_files → (HasRisen (fault_count run.source) → ⊥) → (HasRisen (fault_count run.stage.disk) → ⊥) → (status : Status8) (text : List ℕ) → RisesBefore (Some status) (fault_count run.source) (fault_count run.stage.disk) → Ends run (Some status) text → status ≡ Done
+  played lines bytes words left short script empty reads disk Done text rises end = refl
+  played lines bytes words left short script empty reads disk ScriptRefused text rises (NoScript asks all taken read fails) =
       absurd (fails.none lines (subst (λ (one : List ℕ). IsScriptOf lines one) (sym (read-all run.source bytes taken left read)) script))
-  played lines bytes words left short script well empty reads disk ScriptRefused text rises (NotBuilt asks all taken read built) =
-      let same : lines ≡ built.lines = built.one lines (subst (λ (one : List ℕ). IsScriptOf lines one) (sym (read-all run.source bytes taken left read)) script) in
-      let no : false ≡ true = sym well ∙ ap has_failures same ∙ built.fails in
-      absurd cc
-  played lines bytes words left short script well empty reads disk ScriptRefused text rises (NoExpression kind asks all source fails) = absurd (no-text kind (inl words) asks)
-  played lines bytes words left short script well empty reads disk Usage text rises end =
+  played lines bytes words left short script empty reads disk ScriptRefused text rises (NoExpression kind asks all source fails) = absurd (no-text kind (inl words) asks)
+  played lines bytes words left short script empty reads disk Usage text rises end =
       let no : None ≡ Some Run = sym end.unknown ∙ words in
       absurd cc
-  played lines bytes words left short script well empty reads disk Memory text rises end = absurd end
-  played lines bytes words left short script well empty reads disk ReadFault text rises end = absurd (reads rises.0)
-  played lines bytes words left short script well empty reads disk WriteFault text rises end = absurd end
-  played lines bytes words left short script well empty reads disk DiskFault text rises end = absurd (disk rises.1)
-  played lines bytes words left short script well empty reads disk RootNotEmpty text rises end =
+  played lines bytes words left short script empty reads disk Memory text rises end = absurd end
+  played lines bytes words left short script empty reads disk ReadFault text rises end = absurd (reads rises.0)
+  played lines bytes words left short script empty reads disk WriteFault text rises end = absurd end
+  played lines bytes words left short script empty reads disk DiskFault text rises end = absurd (disk rises.1)
+  played lines bytes words left short script empty reads disk RootNotEmpty text rises end =
       let holds = end.2 in
       let found : (others : List (List ℕ)) × (keys no_files ≡ holds.name ∷ others) = subst (λ o. IfSome o (λ f. (others : List (List ℕ)) × (keys f ≡ holds.name ∷ others))) empty holds.least in
       absurd (no-name holds.name found.0 found.1)
-  played lines bytes words left short script well empty reads disk TooLong text rises end = absurd (not-too-long run.source bytes text left short end.why)
-  played lines bytes words left short script well empty reads disk Inseparable text rises end =
+  played lines bytes words left short script empty reads disk TooLong text rises end = absurd (not-too-long run.source bytes text left short end.why)
+  played lines bytes words left short script empty reads disk Inseparable text rises end =
       absurd (not-scripts end.cannot.query end.cannot.asked (inl words))
 
   -- a script that is checked
@@ -130,9 +125,6 @@ module _ {S K D : Type 0} (run : Around S K D) where
   checked lines bytes words left short script reads Done text rises end = refl
   checked lines bytes words left short script reads ScriptRefused text rises (NoScript asks all taken read fails) =
       absurd (fails.none lines (subst (λ (one : List ℕ). IsScriptOf lines one) (sym (read-all run.source bytes taken left read)) script))
-  checked lines bytes words left short script reads ScriptRefused text rises (NotBuilt asks all taken read built) =
-      let no : Check ≡ Run = asked Check Run words asks in
-      absurd cc
   checked lines bytes words left short script reads ScriptRefused text rises (NoExpression kind asks all source fails) = absurd (no-text kind (inr words) asks)
   checked lines bytes words left short script reads Usage text rises end =
       let no : None ≡ Some Check = sym end.unknown ∙ words in
@@ -154,7 +146,6 @@ module _ {S K D : Type 0} (run : Around S K D) where
   parsed : (kind : StreamKind) → command_of run.words ≡ Some (Expr kind) → ((fault : ExprFault) → IsFault kind (text_of run.words) fault → ⊥) → (status : Status8) (text : List ℕ) → Ends run (Some status) text → status ≡ Done
   parsed kind words faultless Done text end = refl
   parsed kind words faultless ScriptRefused text (NoScript asks all taken read fails) = absurd (not-reading kind words asks)
-  parsed kind words faultless ScriptRefused text (NotBuilt asks all taken read built) = absurd (not-reading kind words (inl asks))
   parsed kind words faultless ScriptRefused text (NoExpression other asks all source fails) =
       absurd (faultless fails.fault (subst (λ (one : StreamKind). IsFault one (text_of run.words) fails.fault) (same-kind kind other words asks) fails.found))
   parsed kind words faultless Usage text end =
@@ -174,8 +165,6 @@ module _ {S K D : Type 0} (run : Around S K D) where
   scanned : (can : CanScan run.words) (bytes : List ℕ) → before run.source ≡ Some bytes → length bytes ≤ 16777216 → (HasRisen (fault_count run.source) → ⊥) → (status : Status8) (text : List ℕ) → RisesBefore (Some status) (fault_count run.source) (fault_count run.stage.disk) → Ends run (Some status) text → status ≡ Done
   scanned can bytes left short reads Done text rises end = refl
   scanned can bytes left short reads ScriptRefused text rises (NoScript asks all taken read fails) = absurd (not-scripts can.query can.asked asks)
-  scanned can bytes left short reads ScriptRefused text rises (NotBuilt asks all taken read built) =
-      absurd (not-scripts can.query can.asked (inl asks))
   scanned can bytes left short reads ScriptRefused text rises (NoExpression kind asks all source fails) =
       absurd (can.parted.expr.faultless fails.fault (subst (λ (one : StreamKind). IsFault one (text_of run.words) fails.fault) (query-kind can.query kind can.asked asks) fails.found))
   scanned can bytes left short reads Usage text rises end =
@@ -205,7 +194,7 @@ module _ {S K D : Type 0} (run : Around S K D) where
   pub completes : (status : Status8) → Ended (fault_count run.source) (fault_count run.stage.disk) (Ends run) (WordsLack run) run.stage.sink status → CanRun run.words (before run.source) (before run.stage.disk) → (HasRisen (fault_count run.source) → ⊥) → (HasRisen (fault_count run.stage.sink) → ⊥) → (HasRisen (fault_count run.stage.disk) → ⊥) → IsDoneOrMemory status
   completes status ended can reads sink disk =
       let script = can.script in
-      well status sink (λ text rises end. played can.lines script.bytes (ap command_of can.asked) script.told script.short script.script can.built can.empty reads disk status text rises end) ended
+      well status sink (λ text rises end. played can.lines script.bytes (ap command_of can.asked) script.told script.short script.script can.empty reads disk status text rises end) ended
 
   pub checks : (status : Status8) → Ended (fault_count run.source) (fault_count run.stage.disk) (Ends run) (WordsLack run) run.stage.sink status → CanCheck run.words (before run.source) → (HasRisen (fault_count run.source) → ⊥) → (HasRisen (fault_count run.stage.sink) → ⊥) → IsDoneOrMemory status
   checks status ended can reads sink =

@@ -1,5 +1,5 @@
 -- Ends of parts are ends of the whole.
-use Rattle.std.proofs.Common.{◌≡◌, ℕ, inl, inr, List, [], ◌∷◌, ◌++◌, false, Option, Some, None, Result, Ok, Err, refl, ap, sym, ◌∙◌, subst, append-nil}
+use Rattle.std.proofs.Common.{◌≡◌, ℕ, inl, inr, List, [], ◌∷◌, ◌++◌, Option, Some, None, Result, Ok, Err, refl, ap, sym, ◌∙◌, subst, append-nil}
 use Rattle.std.specs.Prelude.{IfOk, IfSome, Vec, codes}
 use Rattle.std.specs.declared.alloc.Global.{Global}
 use Rattle.std.specs.FinMap as files
@@ -14,6 +14,7 @@ use Rattle.io_edge.specs.declared.answers.ReadAnswer.TheVariants as read
 use Rattle.script_lines.specs.declared.line.Line.{Line}
 use Rattle.script_language.specs.Scripts.{IsScriptOf}
 use Rattle.plain_service.specs.Setups.{Setup}
+use Rattle.cluster_rounds.specs.Came.{DiskSeen}
 use Rattle.cluster_core.specs.declared.world.World.{World}
 use Rattle.plain_service.specs.Storing.{opening_of}
 use Rattle.stream_layout.specs.Deeds.{calls_of_all}
@@ -29,14 +30,14 @@ use Rattle.aisrun.specs.Commands.{command_of, text_of}
 use Rattle.aisrun.specs.Checking.{CheckEnds, Judged, IsScript, IsNoScript, ExprEnds, IsExpression, IsNoExpression}
 use Rattle.aisrun.specs.Counts.{HasStood}
 use Rattle.aisrun.specs.Edges.{Edge, edge, before, after, fault_count, IsUntouched, Stage, stage, Around, LeavesAll}
-use Rattle.aisrun.specs.Endings.{input_limit, ReadsWhole, SourceFailed, InputTooLong, PlayEnds, PlayedTo, PlayLacks, Unopened, Opening, InEvent, Opens, FaultLeft, StoodUpTo, HasScript, DiskFails, AtNames, AtOpening, AtEvent, LacksBy, Unjudged, RunLacks, Unread as Unknown, Unplayed, Ends, Checked, Parsed, Ran, NoScript, NotBuilt, NoExpression}
+use Rattle.aisrun.specs.Endings.{input_limit, ReadsWhole, SourceFailed, InputTooLong, PlayEnds, PlayedTo, PlayLacks, Unopened, Opening, InEvent, Opens, FaultLeft, StoodUpTo, HasScript, DiskFails, AtNames, AtOpening, AtEvent, LacksBy, Unjudged, RunLacks, Unread as Unknown, Unplayed, Ends, Checked, Parsed, Ran, NoScript, NoExpression}
 use Rattle.aisrun.specs.Inputs.{UnreadEnds, UnreadLacks}
-use Rattle.aisrun.specs.Playing.{files_told, has_failures, Goes, PlaysFront, StandsAt}
+use Rattle.aisrun.specs.Playing.{files_told, Goes, PlaysFront, seen_behind, StandsAt}
 use Rattle.aisrun.specs.RunSteps.{EndWritten, InputEnds, InputLacks}
 use Rattle.aisrun.specs.Scripting.{BytesEnd, BytesLack}
 use Rattle.aisrun.specs.Usage.{usage_line}
 use Rattle.aisrun.specs.Steps.{EventsEnd, LacksBehind, IsNever, IsText, Reaching, Written, Lacked, Counting, Standing, Ended, unasked}
-use Rattle.aisrun.proofs.CountSteps.{other-stood, untouched-stood}
+use Rattle.aisrun.proofs.CountSteps.{on-same, other-stood, stood-on, untouched-on, untouched-stood}
 use Rattle.aisrun.proofs.WritingSteps.{written-as}
 
 -- the end of a text
@@ -66,8 +67,8 @@ end-written E L (Err e) sink status written ends lacks =
 -- Lines behind the opening, and the whole script.
 
 -- the beginning of a script that was played
-abbrev front-of : (held : Option Files) (opening : Line) (events done rest : List Line) (setup : Setup) (places : ℕ) (text : List ℕ) → Begins opening setup places → HoldsNone held → events ≡ done ++ rest → Goes setup places held done text → PlaysFront held (opening ∷ events) done rest text
-front-of held opening events done rest setup places text begins empty parts goes = record {
+abbrev front-of : (held : Option Files) (first : ℕ) (opening : Line) (events done rest : List Line) (setup : Setup) (places : ℕ) (text : List ℕ) → Begins opening setup places → HoldsNone held → events ≡ done ++ rest → Goes setup places held first done text → PlaysFront held first (opening ∷ events) done rest text
+front-of held first opening events done rest setup places text begins empty parts goes = record {
   opening = opening;
   parts = ap (λ (behind : List Line). opening ∷ behind) parts;
   empty = empty;
@@ -77,68 +78,86 @@ front-of held opening events done rest setup places text begins empty parts goes
   goes = goes;
 }
 
-module _ {K D : Type 0} (told : K → Option (List ℕ)) (sink_faults : K → ℕ) (out out_after : K) (held : D → Option Files) (disk_faults : D → ℕ) (world world_after : World) where
-  -- the count stood before
-  stood-earlier : (old mid new : D) (files : Option Files) → disk_faults mid ≡ disk_faults old → StoodUpTo (edge held disk_faults mid new) files → StoodUpTo (edge held disk_faults old new) files
-  stood-earlier old mid new files stood since = record { mid = since.mid; told = since.told; stood = since.stood ∙ stood }
+module _ {K D : Type 0} (told : K → Option (List ℕ)) (sink_faults : K → ℕ) (out out_after : K) (held : D → Option Files) (disk_faults : D → ℕ) (armed : Option ℕ) (world world_after : World) where
+  -- where a script is played between these values of the disk, and what the last one tells
+  abbrev Played : D → D → Stage K D
+  Played old new = stage (edge told sink_faults out out_after) (edge held disk_faults old new) armed world world_after
 
-  pub events-play : (old mid new : D) (opening : Line) (events : List Line) (setup : Setup) (places : ℕ) → Begins opening setup places → HoldsNone (held old) → disk_faults mid ≡ disk_faults old → (reached : Option Status8) (text : List ℕ) → EventsEnd setup places (held old) (held new) (StoodUpTo (edge held disk_faults mid new)) world_after events reached text → PlayEnds (opening ∷ events) (stage (edge told sink_faults out out_after) (edge held disk_faults old new) world world_after) reached text
-  events-play old mid new opening events setup places begins empty stood None text ends = (
+  abbrev Left : D → DiskSeen
+  Left new = record { files = held new; armed = armed; faults = disk_faults new }
+
+  -- a value of the disk is one, whichever came before
+  stood-earlier : (old mid new : D) (files : Option Files) (faults : ℕ) → StoodUpTo (edge held disk_faults mid new) files faults → StoodUpTo (edge held disk_faults old new) files faults
+  stood-earlier old mid new files faults since = record { mid = since.mid; told = since.told; count = since.count }
+
+  events-of : (old mid new : D) (opening : Line) (events : List Line) (setup : Setup) (places : ℕ) → Begins opening setup places → HoldsNone (held old) → (reached : Option Status8) (text : List ℕ) → EventsEnd setup places (held old) (disk_faults old) (Left new) (StoodUpTo (edge held disk_faults mid new)) world_after events reached text → PlayEnds (opening ∷ events) (Played old new) reached text
+  events-of old mid new opening events setup places begins empty None text ends = (
     ends.0,
     ends.1,
     record {
-      front = front-of (held old) opening events ends.0 ends.1 setup places text begins empty ends.2 ends.3.goes;
+      front = front-of (held old) (disk_faults old) opening events ends.0 ends.1 setup places text begins empty ends.2 ends.3.goes;
       now = ends.3.now;
     },
   )
-  events-play old mid new opening events setup places begins empty stood (Some Done) text ends = (
+  events-of old mid new opening events setup places begins empty (Some Done) text ends = (
     events,
     record {
-      front = front-of (held old) opening events events [] setup places text begins empty (sym (append-nil events)) ends.goes;
+      front = front-of (held old) (disk_faults old) opening events events [] setup places text begins empty (sym (append-nil events)) ends.goes;
       now = ends.now;
     },
   )
-  events-play old mid new opening events setup places begins empty stood (Some DiskFault) text ends =
+  events-of old mid new opening events setup places begins empty (Some DiskFault) text ends =
       let behind = ends.behind in
-      let since = stood-earlier old mid new (files_told behind.goes.files (held old)) stood ends.since in
-      let front = front-of (held old) opening events behind.done (behind.next ∷ behind.rest) setup places ends.front begins empty behind.parts behind.goes in
+      let since = stood-earlier old mid new (files_told behind.goes.files (held old)) behind.goes.faults ends.since in
+      let front = front-of (held old) (disk_faults old) opening events behind.done (behind.next ∷ behind.rest) setup places ends.front begins empty behind.parts behind.goes in
       AtEvent behind.done behind.next behind.rest ends.front front ends.lines ends.fault since ends.written
-  events-play old mid new opening events setup places begins empty stood (Some ScriptRefused) text ends = absurd ends
-  events-play old mid new opening events setup places begins empty stood (Some Usage) text ends = absurd ends
-  events-play old mid new opening events setup places begins empty stood (Some Memory) text ends = absurd ends
-  events-play old mid new opening events setup places begins empty stood (Some ReadFault) text ends = absurd ends
-  events-play old mid new opening events setup places begins empty stood (Some WriteFault) text ends = absurd ends
-  events-play old mid new opening events setup places begins empty stood (Some RootNotEmpty) text ends = absurd ends
-  events-play old mid new opening events setup places begins empty stood (Some TooLong) text ends = absurd ends
-  events-play old mid new opening events setup places begins empty stood (Some Inseparable) text ends = absurd ends
+  events-of old mid new opening events setup places begins empty (Some ScriptRefused) text ends = absurd ends
+  events-of old mid new opening events setup places begins empty (Some Usage) text ends = absurd ends
+  events-of old mid new opening events setup places begins empty (Some Memory) text ends = absurd ends
+  events-of old mid new opening events setup places begins empty (Some ReadFault) text ends = absurd ends
+  events-of old mid new opening events setup places begins empty (Some WriteFault) text ends = absurd ends
+  events-of old mid new opening events setup places begins empty (Some RootNotEmpty) text ends = absurd ends
+  events-of old mid new opening events setup places begins empty (Some TooLong) text ends = absurd ends
+  events-of old mid new opening events setup places begins empty (Some Inseparable) text ends = absurd ends
 
-  pub events-lack : (old new : D) (opening : Line) (events : List Line) (setup : Setup) (places : ℕ) → Begins opening setup places → HoldsNone (held old) → (text : List ℕ) → LacksBehind setup places (held old) (held new) world_after events text → PlayLacks (opening ∷ events) (stage (edge told sink_faults out out_after) (edge held disk_faults old new) world world_after) text
-  events-lack old new opening events setup places begins empty text broke =
-      let behind = broke.behind in
-      InEvent behind.done behind.next behind.rest (front-of (held old) opening events behind.done (behind.next ∷ behind.rest) setup places text begins empty behind.parts behind.goes) broke.broken
+  -- the cluster was begun before, and the count stood
+  pub events-play : (old mid new : D) (opening : Line) (events : List Line) (setup : Setup) (places : ℕ) → Begins opening setup places → HoldsNone (held old) → disk_faults mid ≡ disk_faults old → (reached : Option Status8) (text : List ℕ) → EventsEnd setup places (held old) (disk_faults mid) (Left new) (StoodUpTo (edge held disk_faults mid new)) world_after events reached text → PlayEnds (opening ∷ events) (Played old new) reached text
+  events-play old mid new opening events setup places begins empty stood reached text ends =
+      let E : ℕ → Type 0 = λ first. EventsEnd setup places (held old) first (Left new) (StoodUpTo (edge held disk_faults mid new)) world_after events reached text in
+      events-of old mid new opening events setup places begins empty reached text (subst E stood ends)
 
-  -- the disk was asked before, and has the same files
-  played-earlier : (old mid new : D) (script done rest : List Line) (text : List ℕ) → held mid ≡ held old → PlayedTo (stage (edge told sink_faults out out_after) (edge held disk_faults mid new) world world_after) script done rest text → PlayedTo (stage (edge told sink_faults out out_after) (edge held disk_faults old new) world world_after) script done rest text
-  played-earlier old mid new script done rest text same played =
-      let F : Option Files → Type 0 = λ one. (front : PlaysFront one script done rest text) × StandsAt front.setup front.goes.state front.goes.files one (held new) world_after in
-      let moved = subst F same (played.front, played.now) in
-      record { front = moved.0; now = moved.1 }
+  pub events-lack : (old mid new : D) (opening : Line) (events : List Line) (setup : Setup) (places : ℕ) → Begins opening setup places → HoldsNone (held old) → disk_faults mid ≡ disk_faults old → (text : List ℕ) → LacksBehind setup places (held old) (disk_faults mid) (held new) world_after events text → PlayLacks (opening ∷ events) (Played old new) text
+  events-lack old mid new opening events setup places begins empty stood text broke =
+      let L : ℕ → Type 0 = λ first. LacksBehind setup places (held old) first (held new) world_after events text in
+      let moved = subst L stood broke in
+      let behind = moved.behind in
+      InEvent behind.done behind.next behind.rest (front-of (held old) (disk_faults old) opening events behind.done (behind.next ∷ behind.rest) setup places text begins empty behind.parts behind.goes) moved.broken
 
-  fails-earlier : (old mid new : D) (lines : List Line) → held mid ≡ held old → disk_faults mid ≡ disk_faults old → (text : List ℕ) → DiskFails lines (stage (edge told sink_faults out out_after) (edge held disk_faults mid new) world world_after) text → DiskFails lines (stage (edge told sink_faults out out_after) (edge held disk_faults old new) world world_after) text
+  -- The disk was asked before, and has the same files and the same count.
+
+  moved : (old mid : D) → held mid ≡ held old → disk_faults mid ≡ disk_faults old → (P : Option Files → ℕ → Type 0) → P (held mid) (disk_faults mid) → P (held old) (disk_faults old)
+  moved old mid same stood P holds =
+      subst (λ (first : ℕ). P (held old) first) stood (subst (λ (files : Option Files). P files (disk_faults mid)) same holds)
+
+  played-earlier : (old mid new : D) (script done rest : List Line) (text : List ℕ) → held mid ≡ held old → disk_faults mid ≡ disk_faults old → PlayedTo (Played mid new) script done rest text → PlayedTo (Played old new) script done rest text
+  played-earlier old mid new script done rest text same stood played =
+      let both = moved old mid same stood (λ one first. (front : PlaysFront one first script done rest text) × StandsAt front.setup front.goes.state front.goes.files front.goes.faults one (Left new) world_after) (played.front, played.now) in
+      record { front = both.0; now = both.1 }
+
+  fails-earlier : (old mid new : D) (lines : List Line) → held mid ≡ held old → disk_faults mid ≡ disk_faults old → (text : List ℕ) → DiskFails lines (Played mid new) text → DiskFails lines (Played old new) text
   fails-earlier old mid new lines same stood text (AtNames stays still is) = AtNames (stays ∙ same) still is
   fails-earlier old mid new lines same stood text (AtOpening opens count fails still is) =
       let F : Option Files → Type 0 = λ one. (opened : Opens lines one) × FailsAfter (calls_of_all (opening_of opened.setup)) count one (held new) in
-      let moved = subst F same (opens, fails) in
-      AtOpening moved.0 count moved.1 still is
+      let both = subst F same (opens, fails) in
+      AtOpening both.0 count both.1 still is
   fails-earlier old mid new lines same stood text (AtEvent done next rest text_before front printed fault since is) =
-      let since_old = stood-earlier old mid new (files_told front.goes.files (held mid)) stood since in
-      let F : Option Files → Type 0 = λ one. (plays : PlaysFront one lines done (next ∷ rest) text_before) × FaultLeft plays.setup plays.goes.state next (files_told plays.goes.files one) (held new) world_after printed × StoodUpTo (edge held disk_faults old new) (files_told plays.goes.files one) in
-      let moved = subst F same (front, fault, since_old) in
-      AtEvent done next rest text_before moved.0 printed moved.1 moved.2 is
+      let since_old = stood-earlier old mid new (files_told front.goes.files (held mid)) front.goes.faults since in
+      let all = moved old mid same stood (λ one first. (plays : PlaysFront one first lines done (next ∷ rest) text_before) × FaultLeft plays.setup plays.goes.state next (seen_behind plays.goes) (Left new) world_after printed × StoodUpTo (edge held disk_faults old new) (files_told plays.goes.files one) plays.goes.faults) (front, fault, since_old) in
+      AtEvent done next rest text_before all.0 printed all.1 all.2 is
 
-  pub play-earlier : (old mid new : D) (lines : List Line) → held mid ≡ held old → disk_faults mid ≡ disk_faults old → (reached : Option Status8) (text : List ℕ) → PlayEnds lines (stage (edge told sink_faults out out_after) (edge held disk_faults mid new) world world_after) reached text → PlayEnds lines (stage (edge told sink_faults out out_after) (edge held disk_faults old new) world world_after) reached text
-  play-earlier old mid new lines same stood None text ends = (ends.0, ends.1, played-earlier old mid new lines ends.0 ends.1 text same ends.2)
-  play-earlier old mid new lines same stood (Some Done) text ends = (ends.0, played-earlier old mid new lines ends.0 [] text same ends.1)
+  pub play-earlier : (old mid new : D) (lines : List Line) → held mid ≡ held old → disk_faults mid ≡ disk_faults old → (reached : Option Status8) (text : List ℕ) → PlayEnds lines (Played mid new) reached text → PlayEnds lines (Played old new) reached text
+  play-earlier old mid new lines same stood None text ends = (ends.0, ends.1, played-earlier old mid new lines ends.0 ends.1 text same stood ends.2)
+  play-earlier old mid new lines same stood (Some Done) text ends = (ends.0, played-earlier old mid new lines ends.0 [] text same stood ends.1)
   play-earlier old mid new lines same stood (Some DiskFault) text ends = fails-earlier old mid new lines same stood text ends
   play-earlier old mid new lines same stood (Some RootNotEmpty) text ends =
       let L : Option Files → Type 0 = λ one. IfSome one (λ f. (others : List (List ℕ)) × (files.keys f ≡ ends.name ∷ others)) in
@@ -151,31 +170,30 @@ module _ {K D : Type 0} (told : K → Option (List ℕ)) (sink_faults : K → �
   play-earlier old mid new lines same stood (Some TooLong) text ends = absurd ends
   play-earlier old mid new lines same stood (Some Inseparable) text ends = absurd ends
 
-  pub lacks-earlier : (old mid new : D) (lines : List Line) → held mid ≡ held old → (text : List ℕ) → PlayLacks lines (stage (edge told sink_faults out out_after) (edge held disk_faults mid new) world world_after) text → PlayLacks lines (stage (edge told sink_faults out out_after) (edge held disk_faults old new) world world_after) text
-  lacks-earlier old mid new lines same text (Unopened none stays still) = Unopened none (stays ∙ same) still
-  lacks-earlier old mid new lines same text (Opening none opens front still) =
+  pub lacks-earlier : (old mid new : D) (lines : List Line) → held mid ≡ held old → disk_faults mid ≡ disk_faults old → (text : List ℕ) → PlayLacks lines (Played mid new) text → PlayLacks lines (Played old new) text
+  lacks-earlier old mid new lines same stood text (Unopened none stays still) = Unopened none (stays ∙ same) still
+  lacks-earlier old mid new lines same stood text (Opening none opens front still) =
       let F : Option Files → Type 0 = λ one. (opened : Opens lines one) × DoesFront (calls_of_all (opening_of opened.setup)) one (held new) in
-      let moved = subst F same (opens, front) in
-      Opening none moved.0 moved.1 still
-  lacks-earlier old mid new lines same text (InEvent done next rest front broken) =
-      let F : Option Files → Type 0 = λ one. (plays : PlaysFront one lines done (next ∷ rest) text) × Broken plays.setup plays.goes.state (files_told plays.goes.files one) (held new) world_after in
-      let moved = subst F same (front, broken) in
-      InEvent done next rest moved.0 moved.1
+      let both = subst F same (opens, front) in
+      Opening none both.0 both.1 still
+  lacks-earlier old mid new lines same stood text (InEvent done next rest front broken) =
+      let both = moved old mid same stood (λ one first. (plays : PlaysFront one first lines done (next ∷ rest) text) × Broken plays.setup plays.goes.state (files_told plays.goes.files one) (held new) world_after) (front, broken) in
+      InEvent done next rest both.0 both.1
 
 -- Bytes, input and words.
 
-pub play-bytes : {K D : Type 0} (scene : Stage K D) (bytes : List ℕ) (lines : List Line) → IsScriptOf lines bytes → has_failures lines ≡ false → (reached : Option Status8) (text : List ℕ) → PlayEnds lines scene reached text → BytesEnd bytes scene reached text
-play-bytes scene bytes lines script built None text ends = (lines, script, built, ends)
-play-bytes scene bytes lines script built (Some Done) text ends = (lines, script, built, ends)
-play-bytes scene bytes lines script built (Some DiskFault) text ends = (lines, script, built, ends)
-play-bytes scene bytes lines script built (Some RootNotEmpty) text ends = (lines, script, built, ends)
-play-bytes scene bytes lines script built (Some ScriptRefused) text ends = absurd ends
-play-bytes scene bytes lines script built (Some Usage) text ends = absurd ends
-play-bytes scene bytes lines script built (Some Memory) text ends = absurd ends
-play-bytes scene bytes lines script built (Some ReadFault) text ends = absurd ends
-play-bytes scene bytes lines script built (Some WriteFault) text ends = absurd ends
-play-bytes scene bytes lines script built (Some TooLong) text ends = absurd ends
-play-bytes scene bytes lines script built (Some Inseparable) text ends = absurd ends
+pub play-bytes : {K D : Type 0} (scene : Stage K D) (bytes : List ℕ) (lines : List Line) → IsScriptOf lines bytes → (reached : Option Status8) (text : List ℕ) → PlayEnds lines scene reached text → BytesEnd bytes scene reached text
+play-bytes scene bytes lines script None text ends = (lines, script, ends)
+play-bytes scene bytes lines script (Some Done) text ends = (lines, script, ends)
+play-bytes scene bytes lines script (Some DiskFault) text ends = (lines, script, ends)
+play-bytes scene bytes lines script (Some RootNotEmpty) text ends = (lines, script, ends)
+play-bytes scene bytes lines script (Some ScriptRefused) text ends = absurd ends
+play-bytes scene bytes lines script (Some Usage) text ends = absurd ends
+play-bytes scene bytes lines script (Some Memory) text ends = absurd ends
+play-bytes scene bytes lines script (Some ReadFault) text ends = absurd ends
+play-bytes scene bytes lines script (Some WriteFault) text ends = absurd ends
+play-bytes scene bytes lines script (Some TooLong) text ends = absurd ends
+play-bytes scene bytes lines script (Some Inseparable) text ends = absurd ends
 
 pub bytes-input : {S K D : Type 0} (source : Edge S (List ℕ)) (scene : Stage K D) (bytes : List ℕ) → ReadsWhole source bytes → (reached : Option Status8) (text : List ℕ) → BytesEnd bytes scene reached text → InputEnds source scene reached text
 bytes-input source scene bytes read None text ends = (bytes, read, ends)
@@ -183,19 +201,19 @@ bytes-input source scene bytes read (Some Done) text ends = (bytes, read, ends)
 bytes-input source scene bytes read (Some DiskFault) text ends = (bytes, read, ends)
 bytes-input source scene bytes read (Some RootNotEmpty) text ends = (bytes, read, ends)
 bytes-input source scene bytes read (Some ScriptRefused) text ends = (bytes, read, ends)
-bytes-input source scene bytes read (Some Usage) text ends = absurd ends.3
-bytes-input source scene bytes read (Some Memory) text ends = absurd ends.3
-bytes-input source scene bytes read (Some ReadFault) text ends = absurd ends.3
-bytes-input source scene bytes read (Some WriteFault) text ends = absurd ends.3
-bytes-input source scene bytes read (Some TooLong) text ends = absurd ends.3
-bytes-input source scene bytes read (Some Inseparable) text ends = absurd ends.3
+bytes-input source scene bytes read (Some Usage) text ends = absurd ends.2
+bytes-input source scene bytes read (Some Memory) text ends = absurd ends.2
+bytes-input source scene bytes read (Some ReadFault) text ends = absurd ends.2
+bytes-input source scene bytes read (Some WriteFault) text ends = absurd ends.2
+bytes-input source scene bytes read (Some TooLong) text ends = absurd ends.2
+bytes-input source scene bytes read (Some Inseparable) text ends = absurd ends.2
 
 -- the source was not read to its end
 pub unread-written : {S K : Type 0} (source : Edge S (List ℕ)) (disk : ℕ × ℕ) (E : Reaching) (L : List ℕ → Type 0) (answer : ReadAnswer) (sink : Edge K (List ℕ)) (status : Status8) → HasStood disk → ReadsAll (before source) (after source) input_limit (Err answer) → RoseExactlyOn {T = Vec ℕ Global} (source.faults source.old) (source.faults source.new) (Err answer) read.ReadFault → ((text : List ℕ) → SourceFailed source text → E (Some ReadFault) text) → ((text : List ℕ) → InputTooLong source text → E (Some TooLong) text) → L [] → Written (UnreadEnds answer) (UnreadLacks answer) sink status → Ended (fault_count source) disk E L sink status
 unread-written source disk E L read.Memory sink status still reads cause failed long lacks written =
     let stood = other-stood (source.faults source.old) (source.faults source.new) read.Memory read.ReadFault read.Memory cause refl (λ is. cc) in
     let S : List ℕ → Type 0 = Standing (fault_count source) disk L in
-    written-as (UnreadEnds read.Memory) (Counting (fault_count source) disk E) (UnreadLacks read.Memory) S sink status (λ reached text never. absurd never) (λ text none. subst S (sym none.1) (lacks, stood, still)) written
+    written-as (UnreadEnds read.Memory) (Counting (fault_count source) disk E) (UnreadLacks read.Memory) S sink status (λ reached text never. absurd never) (λ text none. subst S (sym none.1) (lacks, stood, stood-on disk still)) written
 unread-written source disk E L read.ReadFault sink status still reads cause failed long lacks written =
     let C = Counting (fault_count source) disk E in
     let text = codes "read fault\n" in
@@ -212,40 +230,34 @@ unread-written source disk E L read.TooLong sink status still reads cause failed
 pub judged-check : {S : Type 0} (source : Edge S (List ℕ)) (bytes : List ℕ) → ReadsWhole source bytes → HasStood (fault_count source) → (status : Status8) (text : List ℕ) → Judged bytes status text → Counting (fault_count source) unasked (CheckEnds source) (Some status) text
 judged-check source bytes read stood status text (IsScript is passes) =
     let C : Status8 → Type 0 = λ one. Counting (fault_count source) unasked (CheckEnds source) (Some one) text in
-    subst C (sym is) ((bytes, read, passes), (stood, refl))
+    subst C (sym is) ((bytes, read, passes), (stood, on-same 0))
 judged-check source bytes read stood status text (IsNoScript is fails) =
     let C : Status8 → Type 0 = λ one. Counting (fault_count source) unasked (CheckEnds source) (Some one) text in
     subst C (sym is) ((bytes, read, fails), (stood, refl))
 
 module _ {S K D : Type 0} (run : Around S K D) where
-  -- a script that was read and is built
-  has-script : command_of run.words ≡ Some Run → (bytes : List ℕ) → ReadsWhole run.source bytes → (lines : List Line) → IsScriptOf lines bytes → has_failures lines ≡ false → HasScript run lines
-  has-script asked bytes read lines script built =
-      record { words = asked; script = record { bytes = bytes; read = read; script = script }; built = built }
+  -- a script that was read
+  has-script : command_of run.words ≡ Some Run → (bytes : List ℕ) → ReadsWhole run.source bytes → (lines : List Line) → IsScriptOf lines bytes → HasScript run lines
+  has-script asked bytes read lines script =
+      record { words = asked; script = record { bytes = bytes; read = read; script = script } }
 
   pub input-run : command_of run.words ≡ Some Run → (reached : Option Status8) (text : List ℕ) → InputEnds run.source run.stage reached text → Ends run reached text
-  input-run asked None text ends = inl (ends.2.0, has-script asked ends.0 ends.1 ends.2.0 ends.2.1 ends.2.2, ends.2.3)
+  input-run asked None text ends = inl (ends.2.0, has-script asked ends.0 ends.1 ends.2.0 ends.2.1, ends.2.2)
   input-run asked (Some Done) text ends =
-      Ran ends.2.0 (has-script asked ends.0 ends.1 ends.2.0 ends.2.1 ends.2.2) ends.2.3.0 ends.2.3.1
-  input-run asked (Some DiskFault) text ends =
-      (ends.2.0, has-script asked ends.0 ends.1 ends.2.0 ends.2.1 ends.2.2, ends.2.3)
-  input-run asked (Some RootNotEmpty) text ends = (ends.2.0, has-script asked ends.0 ends.1 ends.2.0 ends.2.1 ends.2.2, ends.2.3)
-  input-run asked (Some ScriptRefused) text ends =
-      elim ends.2.1 [
-        | inl fails ↦ NoScript (inl asked) ends.2.0 ends.0 ends.1 fails
-        | inr built ↦ NotBuilt asked ends.2.0 ends.0 ends.1 built
-      ]
+      Ran ends.2.0 (has-script asked ends.0 ends.1 ends.2.0 ends.2.1) ends.2.2.0 ends.2.2.1
+  input-run asked (Some DiskFault) text ends = (ends.2.0, has-script asked ends.0 ends.1 ends.2.0 ends.2.1, ends.2.2)
+  input-run asked (Some RootNotEmpty) text ends = (ends.2.0, has-script asked ends.0 ends.1 ends.2.0 ends.2.1, ends.2.2)
+  input-run asked (Some ScriptRefused) text ends = NoScript (inl asked) ends.2.0 ends.0 ends.1 ends.2.1
   input-run asked (Some ReadFault) text ends = record { words = inl (inl asked); all = ends.0; why = ends.1 }
   input-run asked (Some TooLong) text ends = record { words = inl (inl asked); all = ends.0; why = ends.1 }
-  input-run asked (Some Usage) text ends = absurd ends.2.3
-  input-run asked (Some Memory) text ends = absurd ends.2.3
-  input-run asked (Some WriteFault) text ends = absurd ends.2.3
-  input-run asked (Some Inseparable) text ends = absurd ends.2.3
+  input-run asked (Some Usage) text ends = absurd ends.2.2
+  input-run asked (Some Memory) text ends = absurd ends.2.2
+  input-run asked (Some WriteFault) text ends = absurd ends.2.2
+  input-run asked (Some Inseparable) text ends = absurd ends.2.2
 
   bytes-lacks : command_of run.words ≡ Some Run → (text bytes : List ℕ) → ReadsWhole run.source bytes → BytesLack bytes run.stage text → RunLacks run text
   bytes-lacks asked text bytes read (inl early) = Unknown early.0 early.1
-  bytes-lacks asked text bytes read (inr later) =
-      Unplayed later.0 (has-script asked bytes read later.0 later.1 later.2) later.3
+  bytes-lacks asked text bytes read (inr later) = Unplayed later.0 (has-script asked bytes read later.0 later.1) later.2
 
   input-lacks : command_of run.words ≡ Some Run → (text : List ℕ) → InputLacks run.source run.stage text → RunLacks run text
   input-lacks asked text (inl early) = Unknown early.0 early.1
@@ -276,7 +288,7 @@ module _ {S K D : Type 0} (run : Around S K D) where
   pub expr-run : (kind : StreamKind) → command_of run.words ≡ Some (Expr kind) → LeavesAll run.stage → IsUntouched run.source → (status : Status8) (text : List ℕ) → ExprEnds kind (text_of run.words) status text → CountedEnd status text
   expr-run kind asked all source status text (IsExpression is passes) =
       let E : Status8 → Type 0 = λ one. CountedEnd one text in
-      subst E (sym is) (Parsed kind asked all source passes, (untouched-stood run.source source, untouched-stood run.stage.disk all.disk))
+      subst E (sym is) (Parsed kind asked all source passes, (untouched-stood run.source source, untouched-on run.stage.disk all.disk))
   expr-run kind asked all source status text (IsNoExpression is fails) =
       let E : Status8 → Type 0 = λ one. CountedEnd one text in
       subst E (sym is) (NoExpression kind (inl asked) all source fails, (untouched-stood run.source source, untouched-stood run.stage.disk all.disk))

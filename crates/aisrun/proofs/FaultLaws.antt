@@ -1,79 +1,111 @@
 -- What is promised where a fault of the disk ended a run holds.
-use Rattle.std.proofs.Common.{◌≡◌, ℕ, ℤ, List, ◌∷◌, ◌++◌, Option, Some, None, ap, sym, subst, arith}
+use Rattle.std.proofs.Common.{◌≡◌, ℕ, ℤ, inl, inr, Bool, false, if◌then◌else◌, List, [], ◌∷◌, ◌++◌, Option, Some, None, refl, ap, sym, subst}
 use Rattle.std.specs.Prelude.{IfSome}
-use Rattle.std.specs.List.{AllByRecursion}
 use Rattle.disk_model.specs.Disk.{Files}
 use Rattle.script_lines.specs.declared.line.Line.{Line}
+use Rattle.script_lines.specs.declared.line.Line.TheVariants as line
 use Rattle.plain_service.specs.Setups.{Setup, CanBegin}
 use Rattle.plain_service.specs.Storing.{files_of}
-use Rattle.cluster_facts.specs.Types.{Call, Reply, Entry, Called, Receipted, Message, Answer}
-use Rattle.cluster_facts.specs.Lists.{Stands}
-use Rattle.cluster_facts.specs.Messages.{calls_in}
-use Rattle.cluster_facts.specs.Service.{Plain, answers_in}
+use Rattle.cluster_facts.specs.Types.{Call, Reply, Entry, Called, Receipted, Answer}
+use Rattle.cluster_facts.specs.Lists.{Stands, EndsIn}
+use Rattle.cluster_facts.specs.Messages.{sent_by, calls_in}
+use Rattle.cluster_facts.specs.Service.{answers_in}
 use Rattle.cluster_facts.specs.Storage.{Between}
-use Rattle.cluster_facts.specs.History.{Hand, IsLegal, accepted_by, committed_by}
+use Rattle.cluster_facts.specs.Agents.{kept_call}
+use Rattle.cluster_facts.specs.History.{Hand, Empty, IsLegal, accepted_by, committed_by}
 use Rattle.cluster_facts.specs.Ranges.{AreInRange}
 use Rattle.cluster_facts.specs.World.{World as WorldOf, empty_world}
-use Rattle.cluster_facts.specs.Facts.{IsOfRun}
-use Rattle.cluster_facts.proofs.Words.{All-at, IsNumbered-bound}
+use Rattle.cluster_facts.specs.Facts.{IsOfRun, IsSound, Keeps}
+use Rattle.cluster_facts.specs.Facts.Keeps.{starts, waits, answered}
+use Rattle.cluster_facts.proofs.Words.{by_test, All-at, EndsIn-stands}
 use Rattle.cluster_facts.proofs.Growing.{IsLegal-before}
+use Rattle.cluster_facts.proofs.Posting.{answers_to-posted}
 use Rattle.cluster_events.specs.Lines.{Told}
-use Rattle.cluster_events.specs.Saying.{replies_told}
+use Rattle.cluster_events.specs.Saying.{Says, replies_told, IsDone}
 use Rattle.cluster_events.specs.Filing.{FilesStand, RecordsStay}
 use Rattle.cluster_events.proofs.Dealing.{answers-dealt}
 use Rattle.cluster_events.proofs.Telling.{Says-both}
+use Rattle.cluster_events.proofs.Quiet.{answers-called}
+use Rattle.cluster_events.proofs.Promised.{at-end}
+use Rattle.pair_cluster.specs.Ended.{LacksLast}
+use Rattle.pair_cluster.specs.Standing.{is_crash}
+use Rattle.pair_cluster.proofs.Ended.{line-tells, line-lacks}
 use Rattle.service_laws.specs.Disks.{service_disk}
 use Rattle.service_laws.specs.PlainOf.{plain_of}
 use Rattle.service_laws.specs.StorageOf.{storage_of}
+use Rattle.service_laws.proofs.ServiceLaws.{is_plain}
 use Rattle.service_laws.proofs.StorageLaws.{is_storage}
+use Rattle.cluster_rounds.specs.Kits.{device_by}
+use Rattle.cluster_rounds.specs.Came.{DiskSeen}
 use Rattle.cluster_core.specs.declared.world.World.{World}
-use Rattle.cluster_core.specs.Broken.{LeavesBetween}
+use Rattle.cluster_core.specs.Broken.{EventEnded, LeavesBetween}
 use Rattle.cluster_core.specs.Worlds.{TellsFiles}
-use Rattle.aisrun.specs.AfterFault.{RecordsKept, IsUnanswered, FaultKeeps, KeepsAtFault}
-use Rattle.aisrun.specs.Endings.{FaultLeft, Showing, Working}
-use Rattle.aisrun.specs.Playing.{files_told, Goes}
+use Rattle.aisrun.specs.AfterFault.{AnswersOnly, EndKeeps, FaultKeeps, IsUnanswered, KeepsAtFault, LeavesUnanswered, RecordsKept}
+use Rattle.aisrun.specs.Endings.{FaultLeft, Showing, Ending}
+use Rattle.aisrun.specs.Playing.{files_told, Goes, seen_behind}
 use Rattle.aisrun.proofs.GoingSteps.{told-same}
 use Rattle.aisrun.proofs.TellingLaws.{each-told}
 use Rattle.aisrun.proofs.PlayLaws.{answered-range, played-files, played-says, played-stays}
-use Rattle.cluster_core.proofs.WorkSteps.{own-number}
-use Rattle.cluster_events.proofs.Quiet.{answers-called}
-use Rattle.cluster_events.proofs.Promised.{at-end}
 
--- The entry in hand is unanswered.
+-- The last entry is unanswered.
 
--- so its history has no reply to it
-not-answered : (plain : Plain) (now : ℤ) (client number : ℕ) (time : ℤ) (call : Call) (past : List Entry) → IsLegal plain now (Called client number time call ∷ past) → (reply : Reply) → Stands (number, reply) (answers_in plain client past) → ⊥
-not-answered plain now client number time call past legal reply stands =
-    let before = IsLegal-before plain now (Called client number time call) past legal in
-    let next = own-number client number time call past (legal.numbered client) in
-    let called = answers-called plain client number reply past stands in
-    let bound = IsNumbered-bound (number, called.0) (calls_in client past) (before.numbered client) called.1 in
-    omega arith
+-- the reply to a call that an agent does not keep any more stands in the net
+done-heard : {heard : List (ℕ × Reply)} {sent kept : List (ℕ × Call)} (number : ℕ) (call : Call) → Keeps heard sent kept → Stands (number, call) sent → kept_call number kept ≡ None → (reply : Reply) × Stands (number, reply) heard
+done-heard number call starts stands none = absurd stands
+done-heard number call (waits {kept = kept} first keeps) (inl same) none =
+    let K : Bool → Type 0 = λ b. (if b then Some first.1 else kept_call number kept) ≡ None in
+    absurd (by_test (λ b. K b → ⊥) first.0 number (λ is e. cc) (λ different e. different (sym (ap (λ (p : ℕ × Call). p.0) same))) none)
+done-heard {heard} number call (waits {kept = kept} first keeps) (inr later) none =
+    let K : Bool → Type 0 = λ b. (if b then Some first.1 else kept_call number kept) ≡ None in
+    let rest = by_test (λ b. K b → kept_call number kept ≡ None) first.0 number (λ is e. cc) (λ different e. e) none in
+    done-heard number call keeps later rest
+done-heard {heard} number call (answered first reply heard_it keeps) (inl same) none =
+    (reply, subst (λ (n : ℕ). Stands (n, reply) heard) (sym (ap (λ (p : ℕ × Call). p.0) same)) heard_it)
+done-heard number call (answered first reply heard_it keeps) (inr later) none = done-heard number call keeps later none
 
-unanswered : (plain : Plain) (now : ℤ) (entry : Entry) (past : List Entry) (net : List Message) (told : List Told) → IsLegal plain now (entry ∷ past) → AllByRecursion (IsOfRun plain past) net → ((client : ℕ) → AllByRecursion (λ (reply : ℕ × Reply). Stands reply (answers_in plain client past)) (replies_told client told)) → IsUnanswered entry net told
-unanswered plain now (Called client number time call) past net told legal posted printed = λ reply. (
-  λ stands. not-answered plain now client number time call past legal reply (All-at (IsOfRun plain past) (Answer client number reply) net posted stands),
-  λ stands. not-answered plain now client number time call past legal reply (All-at (λ (one : ℕ × Reply). Stands one (answers_in plain client past)) (number, reply) (replies_told client told) (printed client) stands),
-)
-unanswered plain now (Receipted client key through time) past net told legal posted printed = tt
+-- a world with nothing in hand, and the lines that were told since the start
+module _ (setup : Setup) (start world : WorldOf) (told : List Told) (sound : IsSound (plain_of setup) world) (empty : world.core.hand ≡ Empty) (says : Says (plain_of setup) start world told) where
+  legal-now : IsLegal (plain_of setup) world.now world.core.answered
+  legal-now = subst (λ (hand : Hand). IsLegal (plain_of setup) world.now (accepted_by world.core.answered hand)) empty sound.facts.legal
+
+  -- where a reply was told, one to the same call stands in the net
+  told-posted : (client number : ℕ) (reply : Reply) → Stands (number, reply) (replies_told client told) → (other : Reply) × Stands (Answer client number other) world.net
+  told-posted client number reply stands =
+      let plain = plain_of setup in
+      let past = world.core.answered in
+      let tells = says.replies client in
+      let done = All-at (λ (one : ℕ × Reply). IsDone (world.agents client) one.0) (number, reply) (replies_told client told) tells.done stands in
+      let right = All-at (λ (one : ℕ × Reply). Stands one (answers_in plain client past)) (number, reply) (replies_told client told) tells.right stands in
+      let called = answers-called plain client number reply past right in
+      let facts = sound.facts.clients client in
+      let first = subst (λ (hand : Hand). EndsIn (sent_by client world.net) (calls_in client (accepted_by past hand))) empty facts.sends.first in
+      let sent = EndsIn-stands (number, called.0) (sent_by client world.net) (calls_in client past) first called.1 in
+      let heard = done-heard number called.0 facts.awaits.keeps sent done.taken in
+      (heard.0, answers_to-posted client number heard.0 world.net heard.1)
+
+  unanswered : (past : List Entry) → LacksLast past world.net → IsUnanswered past world.net told
+  unanswered [] lacks = tt
+  unanswered (Called client number time call ∷ past) lacks = λ reply. (
+    λ stands. lacks reply stands,
+    λ stands. let posted = told-posted client number reply stands in lacks posted.0 posted.1,
+  )
+  unanswered (Receipted client key through time ∷ past) lacks = tt
+
+  answers-only : AnswersOnly setup world
+  answers-only client number reply posted =
+      answers-dealt (plain_of setup) client number reply world.core.answered (All-at (IsOfRun (plain_of setup) world.core.answered) (Answer client number reply) world.net sound.facts.run posted)
 
 -- Records.
 
--- what was answered as stored is kept in files between
-records-kept : (setup : Setup) → CanBegin setup → (entry : Entry) (world : WorldOf) (files : Files) → IsLegal (plain_of setup) world.now (entry ∷ world.core.answered) → AreInRange (entry ∷ world.core.answered) → AllByRecursion (IsOfRun (plain_of setup) world.core.answered) world.net → Between service_disk (storage_of setup) (entry ∷ world.core.answered) files → RecordsKept setup entry world files
-records-kept setup can entry world files legal range of_run between client number reply posted =
+-- what was answered as stored before the last entry is kept in files between
+records-kept : (setup : Setup) → CanBegin setup → (now : ℤ) (past : List Entry) (files : Files) → IsLegal (plain_of setup) now past → AreInRange past → Between service_disk (storage_of setup) past files → RecordsKept setup past files
+records-kept setup can now [] files legal range between = tt
+records-kept setup can now (entry ∷ past) files legal range between = λ client number call reply dealt stored_is.
     let plain = plain_of setup in
-    let past = world.core.answered in
     let storage = is_storage setup can in
-    let earlier = IsLegal-before plain world.now entry past legal in
-    let dealt = answers-dealt plain client number reply past (All-at (IsOfRun plain past) (Answer client number reply) world.net of_run posted) in
-    record {
-      call = dealt.0;
-      dealt = dealt.1;
-      keeps = λ stored_is.
-          let found = storage.stores world.now past client number dealt.0 reply earlier range.1 dealt.1 stored_is in
-          (found.0, found.1, λ spot place. storage.keeps world.now entry past files client number found.0 spot legal range between found.1 place);
-    }
+    let earlier = IsLegal-before plain now entry past legal in
+    let found = storage.stores now past client number call reply earlier range.1 dealt stored_is in
+    (found.0, found.1, λ spot place. storage.keeps now entry past files client number found.0 spot legal range between found.1 place)
 
 -- a disk that told files tells some between
 left-between : (setup : Setup) (past : List Entry) (held left : Option Files) (P : Files → Type 0) → LeavesBetween setup past held left → ((files : Files) → Between service_disk (storage_of setup) past files → P files) → IfSome left (λ files. P files)
@@ -87,40 +119,55 @@ if-same (Some one) files P same holds = subst P (sym same) holds
 
 -- A fault behind lines that were played.
 
-module _ (setup : Setup) (places : ℕ) (told_first : Option Files) (played : List Line) (text_before : List ℕ) (goes : Goes setup places told_first played text_before) where
+module _ (setup : Setup) (places : ℕ) (held : Option Files) (first : ℕ) (played : List Line) (text_before : List ℕ) (goes : Goes setup places held first played text_before) where
   -- the files that the lines left are those of the history
   files-stand : goes.files ≡ files_of setup goes.state.world.core.answered
   files-stand =
       let core = goes.state.world.core in
-      played-files setup places told_first goes.good.begins goes.run (answered-range core.answered core.hand goes.good.range)
+      played-files setup places held first goes.good.begins goes.run (answered-range core.answered core.hand goes.good.range)
 
-  fault-keeps : (next : Line) (left : Option Files) (world : World) (lines : List ℕ) (fault : FaultLeft setup goes.state next (files_told goes.files told_first) left world lines) → FaultKeeps setup goes.state next (files_told goes.files told_first) left world lines goes.told fault
-  fault-keeps next left world lines (Showing shows_files shows same none) =
-      let core = goes.state.world.core in
-      let one = told-same told_first left goes.files same in
-      record {
-        stand = if-same left goes.files (λ files. FilesStand service_disk (storage_of setup) goes.state.world files) one files-stand;
-        stays = if-same left goes.files (λ files. RecordsStay (plain_of setup) service_disk (storage_of setup) goes.state.world files) one (played-stays setup places told_first goes.good.begins goes.run (answered-range core.answered core.hand goes.good.range));
-      }
-  fault-keeps next left world lines (Working told fault printed) =
+  -- the last entry is unanswered, but behind a crash
+  leaves-unanswered : (next : Line) (world : WorldOf) (told : List Told) → (is_crash next ≡ false → IsUnanswered world.core.answered world.net told) → LeavesUnanswered next world told
+  leaves-unanswered (line.Crash server) world told lacks = tt
+  leaves-unanswered next world told lacks = lacks refl
+
+  ended-keeps : (next : Line) (told : List Told) (left : DiskSeen) (world : World) → (ended : EventEnded setup goes.state next told (seen_behind goes) left world) → EndKeeps setup next ended.end.state.world (ended.end.told ++ goes.told) left.files
+  ended-keeps next told left world ended =
       let plain = plain_of setup in
+      let device = device_by setup ended.happened in
       let start = empty_world setup.start places in
-      let reached = fault.reached.world in
-      let past = reached.core.answered in
-      let facts = fault.good.steady.sound.facts in
-      let legal = subst (λ (hand : Hand). IsLegal plain reached.now (accepted_by past hand)) fault.in_hand facts.legal in
-      let range = subst (λ (hand : Hand). AreInRange (accepted_by past hand)) fault.in_hand fault.good.range in
-      let says = Says-both plain start goes.state.world reached goes.told told (played-says setup places told_first goes.run).1 fault.says in
-      let tells : TellsFiles setup goes.state (files_told goes.files told_first) = told-same told_first (files_told goes.files told_first) (files_of setup goes.state.world.core.answered) (ap (λ (files : Files). files_told files told_first) files-stand) in
-      let leaves = subst (λ (hand : Hand). LeavesBetween setup (committed_by past hand) (files_told goes.files told_first) left) fault.in_hand (fault.files tells) in
-      let promises = at-end plain reached (told ++ goes.told) setup.start places fault.good.steady.sound says in
+      let before = played-says setup places held first goes.run in
+      let last = line-tells plain (is_plain setup) device next goes.state ended.end before.0 ended.ends in
+      let end = ended.end.state.world in
+      let past = end.core.answered in
+      let lines = ended.end.told ++ goes.told in
+      let says = Says-both plain start goes.state.world end goes.told ended.end.told before.1 last.0.1 in
+      let sound = last.0.0.sound in
+      let empty = last.1 in
+      let tells : TellsFiles setup goes.state (files_told goes.files held) = told-same held (files_told goes.files held) (files_of setup goes.state.world.core.answered) (ap (λ (files : Files). files_told files held) files-stand) in
+      let leaves = subst (λ (hand : Hand). LeavesBetween setup (committed_by past hand) (files_told goes.files held) left.files) empty (ended.files tells) in
+      let range = subst (λ (hand : Hand). AreInRange (accepted_by past hand)) empty ended.good.range in
+      let promises = at-end plain end lines setup.start places sound says in
       record {
         promises = promises;
-        tells = each-told setup reached promises.items;
-        unanswered = unanswered plain reached.now fault.entry past reached.net (told ++ goes.told) legal facts.run (λ client. (says.replies client).right);
-        records = left-between setup (fault.entry ∷ past) (files_told goes.files told_first) left (RecordsKept setup fault.entry reached) leaves (λ files between. records-kept setup fault.good.begins fault.entry reached files legal range facts.run between);
+        tells = each-told setup end promises.items;
+        answers = answers-only setup start end lines sound empty says;
+        unanswered = leaves-unanswered next end lines (λ calm. unanswered setup start end lines sound empty says past (line-lacks plain (is_plain setup) device next goes.state ended.end before.0 calm ended.ends));
+        records = left-between setup past (files_told goes.files held) left.files (RecordsKept setup past) leaves (λ files between. records-kept setup ended.good.begins end.now past files (legal-now setup start end lines sound empty says) range between);
       }
 
-pub keeps-at-fault : (held left : Option Files) (world : World) → KeepsAtFault held left world
-keeps-at-fault held left world script done rest next text lines front fault =
-    fault-keeps front.setup front.places held done text front.goes next left world lines fault
+  fault-keeps : (next : Line) (left : DiskSeen) (world : World) (lines : List ℕ) (fault : FaultLeft setup goes.state next (seen_behind goes) left world lines) → FaultKeeps setup goes.state next (seen_behind goes) left world lines goes.told fault
+  fault-keeps next left world lines (Showing shows_files shows same armed rose none) =
+      let core = goes.state.world.core in
+      let one = told-same held left.files goes.files same in
+      record {
+        stand = if-same left.files goes.files (λ files. FilesStand service_disk (storage_of setup) goes.state.world files) one files-stand;
+        stays = if-same left.files goes.files (λ files. RecordsStay (plain_of setup) service_disk (storage_of setup) goes.state.world files) one (played-stays setup places held first goes.good.begins goes.run (answered-range core.answered core.hand goes.good.range));
+      }
+  fault-keeps next left world lines (Ending told ended printed) =
+      let K : List Told → Type 0 = λ one. EndKeeps setup next ended.end.state.world (one ++ goes.told) left.files in
+      subst K (sym ended.printed) (ended-keeps next told left world ended)
+
+pub keeps-at-fault : (held : Option Files) (left : DiskSeen) (world : World) → KeepsAtFault held left world
+keeps-at-fault held left world first script done rest next text lines front fault =
+    fault-keeps front.setup front.places held first done text front.goes next left world lines fault

@@ -10,18 +10,18 @@ use Rattle.aisrun.specs.Commands.{command_of}
 use Rattle.aisrun.specs.Completing.{CanGenerate, IsDoneOrMemory}
 use Rattle.aisrun.specs.Counts.{HasRisen}
 use Rattle.aisrun.specs.Edges.{fault_count, IsUntouched, Around, LeavesAll}
-use Rattle.aisrun.specs.Endings.{Ends, Generated, NoExpression, NoScript, NotBuilt, Reads, ReadsSource}
+use Rattle.aisrun.specs.Endings.{Ends, Generated, NoExpression, NoScript, Reads, ReadsSource}
 use Rattle.aisrun.specs.RunSteps.{WordsLack}
 use Rattle.aisrun.specs.Scanning.{TakesText}
 use Rattle.aisrun.specs.Steps.{Counting, Ended, IsNever, IsText, Standing, Written}
 use Rattle.aisrun.proofs.CompletenessLaws.{asked, well}
-use Rattle.aisrun.proofs.CountSteps.{untouched-stood}
+use Rattle.aisrun.proofs.CountSteps.{untouched-on, untouched-stood}
 use Rattle.aisrun.proofs.EndingSteps.{text-written}
 
 module _ {S K D : Type 0} (run : Around S K D) (count seed : ℕ) (words : command_of run.words ≡ Some (Gen count seed)) where
   pub gen-run : LeavesAll run.stage → IsUntouched run.source → (status : Status8) → Written (IsText Done (load_text count seed)) IsNever run.stage.sink status → Ended (fault_count run.source) (fault_count run.stage.disk) (Ends run) (WordsLack run) run.stage.sink status
   gen-run all source status written =
-      text-written (Counting (fault_count run.source) (fault_count run.stage.disk) (Ends run)) (Standing (fault_count run.source) (fault_count run.stage.disk) (WordsLack run)) Done (load_text count seed) run.stage.sink status (Generated count seed words all source refl, (untouched-stood run.source source, untouched-stood run.stage.disk all.disk)) written
+      text-written (Counting (fault_count run.source) (fault_count run.stage.disk) (Ends run)) (Standing (fault_count run.source) (fault_count run.stage.disk) (WordsLack run)) Done (load_text count seed) run.stage.sink status (Generated count seed words all source refl, (untouched-stood run.source source, untouched-on run.stage.disk all.disk)) written
 
   another : (other : Command) → command_of run.words ≡ Some other → Gen count seed ≡ other
   another other is = asked run (Gen count seed) other words is
@@ -42,7 +42,6 @@ module _ {S K D : Type 0} (run : Around S K D) (count seed : ℕ) (words : comma
   generated : (status : Status8) (text : List ℕ) → Ends run (Some status) text → status ≡ Done
   generated Done text end = refl
   generated ScriptRefused text (NoScript asks all taken read fails) = absurd (not-scripts asks)
-  generated ScriptRefused text (NotBuilt asks all taken read built) = absurd (not-scripts (inl asks))
   generated ScriptRefused text (NoExpression kind asks all source fails) = absurd (not-text kind asks)
   generated Usage text end =
       let no : None ≡ Some (Gen count seed) = sym end.unknown ∙ words in

@@ -1,5 +1,5 @@
 -- Lines that are played one after another.
-use Rattle.std.proofs.Common.{◌≡◌, ℕ, suc, ◌+◌, ◌<◌, ℤ, List, [], ◌∷◌, ◌++◌, length, drop, get_or, reverse, Option, Some, None, refl, ap, sym, ◌∙◌, subst, append_assoc, append-nil, add-one, drop-cons}
+use Rattle.std.proofs.Common.{◌≡◌, ℕ, suc, ◌+◌, ◌<◌, ◌≤◌, ℤ, List, [], ◌∷◌, ◌++◌, length, drop, get_or, reverse, Option, Some, None, refl, ap, sym, ◌∙◌, subst, append_assoc, append-nil, add-one, drop-cons}
 use Rattle.std.specs.Prelude.{IfSome, option_map}
 use Rattle.std.specs.Io.KnownBytes.{Appends}
 use Rattle.std.proofs.KnownBytes.{Appends-nil, Appends-trans}
@@ -14,25 +14,28 @@ use Rattle.cluster_events.specs.Lines.{Told}
 use Rattle.cluster_facts.specs.Storage.{all_applied}
 use Rattle.cluster_events.specs.OnDisk.{performed}
 use Rattle.cluster_events.specs.Servers.{State}
-use Rattle.lone_cluster.specs.Lone.{Alone, lone_start}
+use Rattle.pair_cluster.specs.Peers.{Peers}
+use Rattle.pair_cluster.specs.Pair.{pair_start}
+use Rattle.cluster_rounds.specs.Came.{DiskSeen}
 use Rattle.event_text.specs.Texts.{printed}
 use Rattle.service_laws.specs.Disks.{service_disk}
 use Rattle.service_laws.specs.StorageOf.{storage_of}
 use Rattle.cluster_core.specs.declared.world.World.{World}
 use Rattle.cluster_core.specs.Beginning.{Begun}
 use Rattle.cluster_core.specs.Broken.{Broken}
-use Rattle.cluster_core.specs.Playing.{EventDone, FaultLeaves}
-use Rattle.cluster_core.specs.Worlds.{HasState, IsGood, Shows, TellsFiles}
+use Rattle.cluster_core.specs.Playing.{EventDone, FaultLeaves, LineDone}
+use Rattle.cluster_core.specs.Worlds.{HasState, IsArmedBy, IsGood, Shows, TellsFiles}
 use Rattle.cluster_clients.proofs.ToldLines.{printed-append}
 use Rattle.cluster_events.specs.Runs.RunBy.{Started, Went}
-use Rattle.aisrun.specs.Playing.{files_told, Goes, LinePlayed, Played, text_of}
+use Rattle.aisrun.specs.Playing.{files_told, Goes, Played, seen_behind, text_of}
 use Rattle.aisrun.specs.declared.ending.Status8.{Status8}
 use Rattle.aisrun.specs.declared.ending.Status8.TheVariants.{Done, ScriptRefused, Usage, Memory, ReadFault, WriteFault, DiskFault, RootNotEmpty, TooLong, Inseparable}
-use Rattle.aisrun.specs.Counts.{HasStood, RisesBefore}
+use Rattle.aisrun.specs.Counts.{HasGoneOn, HasRisen, RisesBefore}
 use Rattle.aisrun.specs.Edges.{edge}
-use Rattle.aisrun.specs.Endings.{FaultLeft, Showing, Working}
+use Rattle.aisrun.specs.Endings.{FaultLeft, Showing, Ending}
 use Rattle.aisrun.specs.Steps.{Behind, CanFollow, Counting, Ended, EventsEnd, Going, LacksBehind, LineEnds, LineLacks, Plays, Standing, Whole, joined_lines, time_behind, unasked}
-use Rattle.aisrun.proofs.PlayLaws.{line-kept, answered-range, played-files}
+use Rattle.aisrun.proofs.CountSteps.{on-behind, risen-later}
+use Rattle.aisrun.proofs.PlayLaws.{device_in, line-kept, answered-range, played-files}
 use Rattle.aisrun.proofs.TimeLaws.{line-now}
 use Rattle.aisrun.proofs.WritingSteps.{written-behind}
 
@@ -57,114 +60,173 @@ told-again None mid left one two first second = second ∙ ap (option_map (λ (_
 told-again (Some f) mid left one two first second = second ∙ ap (option_map (λ (_ : Files). two)) first
 
 -- a cluster that was begun
-pub going-start : (setup : Setup) (places : ℕ) (held left : Option Files) (world : World) → Begun setup places held left world → Going setup places held left world [] []
+pub going-start : (setup : Setup) (places : ℕ) (held : Option Files) (left : DiskSeen) (world : World) → Begun setup places held left world → Going setup places held left.faults left world [] []
 going-start setup places held left world begun = record {
-  state = lone_start setup.start places;
+  state = pair_start setup.start places;
   told = [];
   files = all_applied service_disk (storage_of setup).opening no_files;
   run = Started;
   good = begun.good;
   shows = begun.shows;
+  armed = begun.armed;
   tells = begun.files;
   written = refl;
 }
 
--- the world stands for a state whose files the disk tells
-pub going-tells : (setup : Setup) (places : ℕ) (held left : Option Files) (world : World) (lines : List Line) (text : List ℕ) → (going : Going setup places held left world lines text) → TellsFiles setup going.state left
-going-tells setup places held left world lines text going =
-    told-same held left (files_of setup going.state.world.core.answered) going.tells
+module _ (setup : Setup) (places : ℕ) (held : Option Files) (first : ℕ) where
+  -- the world stands for a state whose files the disk tells
+  pub going-tells : (left : DiskSeen) (world : World) (lines : List Line) (text : List ℕ) → (going : Going setup places held first left world lines text) → TellsFiles setup going.state left.files
+  going-tells left world lines text going =
+      told-same held left.files (files_of setup going.state.world.core.answered) going.tells
 
--- one line more
-pub going-next : (setup : Setup) (places : ℕ) (held mid left : Option Files) (old new : World) (lines : List Line) (text : List ℕ) (next : Line) (printed_lines : List (List ℕ)) → (going : Going setup places held mid old lines text) → EventDone setup going.state next printed_lines mid left new → Going setup places held left new (lines ++ next ∷ []) (text ++ joined_lines printed_lines)
-going-next setup places held mid left old new lines text next printed_lines going done =
-    let state = going.state in
-    let outcome = done.outcome in
-    let more = (line-kept setup done.shelf next state outcome going.good.steady done.happens).1.answers in
-    let played : LinePlayed setup held tt next state outcome tt = record { shelf = done.shelf; shown = held-still _ held mid (files_of setup state.world.core.answered) going.tells done.shelf_is; happens = done.happens } in
-    let R : List Line → Type 0 = λ all. Played setup places held all outcome.state (outcome.told ++ going.told) (performed service_disk (storage_of setup) more.0 state.world.core.answered going.files) in
-    record {
-      state = outcome.state;
-      told = outcome.told ++ going.told;
-      files = performed service_disk (storage_of setup) more.0 state.world.core.answered going.files;
-      run = subst R (sym (reverse-push lines next)) (Went next outcome (performed service_disk (storage_of setup) more.0 state.world.core.answered going.files, tt) going.run (record { step = played; more = more.0; grown = more.1; files = refl }));
-      good = done.good;
-      shows = done.shows;
-      tells = told-again held mid left (files_of setup state.world.core.answered) (files_of setup outcome.state.world.core.answered) going.tells done.files;
-      written = ap (λ front. front ++ joined_lines printed_lines) going.written ∙ ap (λ all. text_of going.told ++ joined_lines all) done.text ∙ sym (text-append outcome.told going.told);
+  -- one line more
+  pub going-next : (mid left : DiskSeen) (old new : World) (lines : List Line) (text : List ℕ) (next : Line) (printed_lines : List (List ℕ)) → (going : Going setup places held first mid old lines text) → EventDone setup going.state next printed_lines mid left new → Going setup places held first left new (lines ++ next ∷ []) (text ++ joined_lines printed_lines)
+  going-next mid left old new lines text next printed_lines going event =
+      let state = going.state in
+      let outcome = event.outcome in
+      let done = event.done in
+      let more = (line-kept setup done.shelf (device_in done) next state outcome going.good.steady done.step.happens).1.answers in
+      let played : LineDone setup held mid.faults next state outcome left.faults = record {
+        shelf = done.shelf;
+        shown = held-still _ held mid.files (files_of setup state.world.core.answered) going.tells done.shown;
+        step = done.step;
+        later = done.later;
+        felled = done.felled;
+      } in
+      let files = performed service_disk (storage_of setup) more.0 state.world.core.answered going.files in
+      let R : List Line → Type 0 = λ all. Played setup places held first all outcome.state (outcome.told ++ going.told) files left.faults in
+      record {
+        state = outcome.state;
+        told = outcome.told ++ going.told;
+        files = files;
+        run = subst R (sym (reverse-push lines next)) (Went next outcome (files, left.faults) going.run (record { step = played; more = more.0; grown = more.1; files = refl }));
+        good = event.good;
+        shows = event.shows;
+        armed = event.armed;
+        tells = told-again held mid.files left.files (files_of setup state.world.core.answered) (files_of setup outcome.state.world.core.answered) going.tells event.files;
+        written = ap (λ front. front ++ joined_lines printed_lines) going.written ∙ ap (λ all. text_of going.told ++ joined_lines all) event.text ∙ sym (text-append outcome.told going.told);
+      }
+
+  abbrev pub going-goes : (left : DiskSeen) (world : World) (lines : List Line) (text : List ℕ) → Going setup places held first left world lines text → Goes setup places held first lines text
+  going-goes left world lines text going = record {
+    state = going.state;
+    told = going.told;
+    files = going.files;
+    faults = left.faults;
+    run = going.run;
+    good = going.good;
+    written = going.written;
+  }
+
+  -- the disk has the files that the deeds of the run make
+  pub going-stand : (left : DiskSeen) (world : World) (lines : List Line) (text : List ℕ) → (going : Going setup places held first left world lines text) → left.files ≡ files_told going.files held
+  going-stand left world lines text going =
+      let core = going.state.world.core in
+      let range = answered-range core.answered core.hand going.good.range in
+      going.tells ∙ ap (λ (files : Files). files_told files held) (sym (played-files setup places held first going.good.begins going.run range))
+
+  -- and it tells what it would tell behind these lines
+  going-seen : (left : DiskSeen) (world : World) (lines : List Line) (text : List ℕ) → (going : Going setup places held first left world lines text) → left ≡ seen_behind (going-goes left world lines text going)
+  going-seen left world lines text going =
+      let tells = going-stand left world lines text going in
+      let S : Option Files → Option ℕ → DiskSeen = λ files armed. record { files = files; armed = armed; faults = left.faults } in
+      ap (λ (files : Option Files). S files left.armed) tells ∙ ap (λ (armed : Option ℕ). S (files_told going.files held) armed) going.armed
+
+  pub going-plays : (left : DiskSeen) (world : World) (lines : List Line) (text : List ℕ) → Going setup places held first left world lines text → Plays setup places held first left world lines text
+  going-plays left world lines text going = record {
+    goes = going-goes left world lines text going;
+    now = record { shows = going.shows; stand = going-stand left world lines text going; armed = going.armed; count = refl };
+  }
+
+  pub going-state : (left : DiskSeen) (world : World) (lines : List Line) (text : List ℕ) → Going setup places held first left world lines text → HasState world left.armed
+  going-state left world lines text going =
+      record { setup = setup; state = going.state; good = going.good; shows = going.shows; count = going.armed }
+
+  -- what one line comes to is what all lines come to
+  pub line-events : (mid left : DiskSeen) (Since : Option Files → ℕ → Type 0) (old new : World) (done : List Line) (next : Line) (others : List Line) (front : List ℕ) → (going : Going setup places held first mid old done front) → Since mid.files mid.faults → (reached : Option Status8) (text : List ℕ) → LineEnds setup going.state next mid left new reached text → EventsEnd setup places held first left Since new (done ++ next ∷ others) reached (front ++ text)
+  line-events mid left Since old new done next others front going since None text ends =
+      let further = going-next mid left old new done front next ends.0 going ends.2 in
+      let P : List ℕ → Type 0 = λ one. Plays setup places held first left new (done ++ next ∷ []) one in
+      (done ++ next ∷ [], others, sym (append_assoc done (next ∷ []) others), subst P (ap (λ (behind : List ℕ). front ++ behind) (sym ends.1)) (going-plays left new (done ++ next ∷ []) (front ++ joined_lines ends.0) further))
+  line-events mid left Since old new done next others front going since (Some DiskFault) text ends =
+      let F : DiskSeen → Type 0 = λ one. FaultLeft setup going.state next one left new ends.0 in
+      record {
+        front = front;
+        behind = record { done = done; next = next; rest = others; parts = refl; goes = going-goes mid old done front going };
+        lines = ends.0;
+        fault = subst F (going-seen mid old done front going) ends.1;
+        since = subst (λ (one : Option Files). Since one mid.faults) (going-stand mid old done front going) since;
+        written = ap (λ (behind : List ℕ). front ++ behind) ends.2;
+      }
+  line-events mid left Since old new done next others front going since (Some Done) text ends = absurd ends
+  line-events mid left Since old new done next others front going since (Some ScriptRefused) text ends = absurd ends
+  line-events mid left Since old new done next others front going since (Some Usage) text ends = absurd ends
+  line-events mid left Since old new done next others front going since (Some Memory) text ends = absurd ends
+  line-events mid left Since old new done next others front going since (Some ReadFault) text ends = absurd ends
+  line-events mid left Since old new done next others front going since (Some WriteFault) text ends = absurd ends
+  line-events mid left Since old new done next others front going since (Some RootNotEmpty) text ends = absurd ends
+  line-events mid left Since old new done next others front going since (Some TooLong) text ends = absurd ends
+  line-events mid left Since old new done next others front going since (Some Inseparable) text ends = absurd ends
+
+  -- memory that was wanting in a line was wanting behind those before it
+  line-lacks : (mid left : DiskSeen) (old new : World) (done : List Line) (next : Line) (others : List Line) (front : List ℕ) → (going : Going setup places held first mid old done front) → (text : List ℕ) → LineLacks setup going.state mid.files left.files new text → LacksBehind setup places held first left.files new (done ++ next ∷ others) (front ++ text)
+  line-lacks mid left old new done next others front going text lacks =
+      let stand = going-stand mid old done front going in
+      let B : Option Files → Type 0 = λ one. Broken setup going.state one left.files new in
+      let L : List ℕ → Type 0 = λ one. LacksBehind setup places held first left.files new (done ++ next ∷ others) one in
+      let whole : L front =
+      record {
+        behind = record { done = done; next = next; rest = others; parts = refl; goes = going-goes mid old done front going };
+        broken = subst B stand lacks.1;
+      } in
+      subst L (sym (ap (λ (more : List ℕ). front ++ more) lacks.0 ∙ append-nil front)) whole
+
+  -- the counts of a line that ends, behind those of the lines before it
+  line-counts : (start between later : ℕ) → start ≤ between → (mid left : DiskSeen) (state : State Peers) (next : Line) (new : World) (reached : Option Status8) (text : List ℕ) → LineEnds setup state next mid left new reached text → RisesBefore reached unasked (between, later) → RisesBefore reached unasked (start, later)
+  line-counts start between later before mid left state next new None text ends rises = (rises.0, on-behind start between later before rises.1)
+  line-counts start between later before mid left state next new (Some DiskFault) text ends rises = (rises.0, risen-later start between later before rises.1)
+  line-counts start between later before mid left state next new (Some Done) text ends rises = absurd ends
+  line-counts start between later before mid left state next new (Some ScriptRefused) text ends rises = absurd ends
+  line-counts start between later before mid left state next new (Some Usage) text ends rises = absurd ends
+  line-counts start between later before mid left state next new (Some Memory) text ends rises = absurd ends
+  line-counts start between later before mid left state next new (Some ReadFault) text ends rises = absurd ends
+  line-counts start between later before mid left state next new (Some WriteFault) text ends rises = absurd ends
+  line-counts start between later before mid left state next new (Some RootNotEmpty) text ends rises = absurd ends
+  line-counts start between later before mid left state next new (Some TooLong) text ends rises = absurd ends
+  line-counts start between later before mid left state next new (Some Inseparable) text ends rises = absurd ends
+
+  module _ {K : Type 0} (told : K → Option (List ℕ)) (faults : K → ℕ) where
+    -- one line more is behind
+    pub behind-next : (one mid last : K) (disk left : DiskSeen) (old new : World) (events : List Line) (next : Line) (others : List Line) (text : List ℕ) (printed_lines : List (List ℕ)) → (so_far : Behind setup places held first disk old (edge told faults one mid) events (next ∷ others)) → text ≡ joined_lines printed_lines → EventDone setup so_far.going.state next printed_lines disk left new → Appends (told mid) (told last) text → Behind setup places held first left new (edge told faults one last) events others
+    behind-next one mid last disk left old new events next others text printed_lines so_far is event appended = record {
+      done = so_far.done ++ next ∷ [];
+      parts = so_far.parts ∙ sym (append_assoc so_far.done (next ∷ []) others);
+      text = so_far.text ++ joined_lines printed_lines;
+      going = going-next disk left old new so_far.done so_far.text next printed_lines so_far.going event;
+      appended = Appends-trans (told one) (told mid) (told last) so_far.text (joined_lines printed_lines) so_far.appended (subst (Appends (told mid) (told last)) is appended);
     }
 
-abbrev pub going-goes : (setup : Setup) (places : ℕ) (held left : Option Files) (world : World) (lines : List Line) (text : List ℕ) → Going setup places held left world lines text → Goes setup places held lines text
-going-goes setup places held left world lines text going =
-    record { state = going.state; told = going.told; files = going.files; run = going.run; good = going.good; written = going.written }
+    -- behind the last line
+    pub behind-last : (one last : K) (left : DiskSeen) (disk : ℕ × ℕ) (Since : Option Files → ℕ → Type 0) (world : World) (events rest : List Line) → rest ≡ [] → faults last ≡ faults one → HasGoneOn disk → Behind setup places held first left world (edge told faults one last) events rest → Ended unasked disk (EventsEnd setup places held first left Since world events) (LacksBehind setup places held first left.files world events) (edge told faults one last) Done
+    behind-last one last left disk Since world events rest none sink_stood disk_on behind =
+        let all : events ≡ behind.done = behind.parts ∙ ap (λ (others : List Line). behind.done ++ others) none ∙ append-nil behind.done in
+        let P : List Line → Type 0 = λ lines. Plays setup places held first left world lines behind.text in
+        Whole behind.text (subst P (sym all) (going-plays left world behind.done behind.text behind.going), (refl, disk_on)) sink_stood behind.appended
 
--- the disk has the files that the deeds of the run make
-pub going-stand : (setup : Setup) (places : ℕ) (held left : Option Files) (world : World) (lines : List Line) (text : List ℕ) → (going : Going setup places held left world lines text) → left ≡ files_told going.files held
-going-stand setup places held left world lines text going =
-    let core = going.state.world.core in
-    let range = answered-range core.answered core.hand going.good.range in
-    going.tells ∙ ap (λ (files : Files). files_told files held) (sym (played-files setup places held going.good.begins going.run range))
-
-pub going-plays : (setup : Setup) (places : ℕ) (held left : Option Files) (world : World) (lines : List Line) (text : List ℕ) → Going setup places held left world lines text → Plays setup places held left world lines text
-going-plays setup places held left world lines text going = record {
-  goes = going-goes setup places held left world lines text going;
-  now = record { shows = going.shows; stand = going-stand setup places held left world lines text going };
-}
-
-pub going-state : (setup : Setup) (places : ℕ) (held left : Option Files) (world : World) (lines : List Line) (text : List ℕ) → Going setup places held left world lines text → HasState world
-going-state setup places held left world lines text going =
-    record { setup = setup; state = going.state; good = going.good; shows = going.shows; so = tt }
-
--- the lines behind can still follow
-pub follow-next : (setup : Setup) (state : State Alone) (held left : Option Files) (old new : World) (next : Line) (others : List Line) (printed_lines : List (List ℕ)) → IsGood setup state → Shows setup state old → EventDone setup state next printed_lines held left new → CanFollow (time_behind old.now next) others → CanFollow new.now others
-follow-next setup state held left old new next others printed_lines good shows done follows =
-    let outcome = done.outcome in
-    let same : time_behind old.now next ≡ new.now =
-    ap (λ (now : ℤ). time_behind now next) shows.now ∙ sym (line-now setup done.shelf next state outcome good.steady done.happens) ∙ sym done.shows.now in
-    subst (λ (now : ℤ). CanFollow now others) same follows
-
--- what one line comes to is what all lines come to
-pub line-events : (setup : Setup) (places : ℕ) (held mid left : Option Files) (Since : Option Files → Type 0) (old new : World) (done : List Line) (next : Line) (others : List Line) (front : List ℕ) → (going : Going setup places held mid old done front) → Since mid → (reached : Option Status8) (text : List ℕ) → LineEnds setup going.state next mid left new reached text → EventsEnd setup places held left Since new (done ++ next ∷ others) reached (front ++ text)
-line-events setup places held mid left Since old new done next others front going since None text ends =
-    let further = going-next setup places held mid left old new done front next ends.0 going ends.2 in
-    let P : List ℕ → Type 0 = λ one. Plays setup places held left new (done ++ next ∷ []) one in
-    (done ++ next ∷ [], others, sym (append_assoc done (next ∷ []) others), subst P (ap (λ (behind : List ℕ). front ++ behind) (sym ends.1)) (going-plays setup places held left new (done ++ next ∷ []) (front ++ joined_lines ends.0) further))
-line-events setup places held mid left Since old new done next others front going since (Some DiskFault) text ends =
-    let stand = going-stand setup places held mid old done front going in
-    let F : Option Files → Type 0 = λ one. FaultLeft setup going.state next one left new ends.0 in
-    record {
-      front = front;
-      behind = record { done = done; next = next; rest = others; parts = refl; goes = going-goes setup places held mid old done front going };
-      lines = ends.0;
-      fault = subst F stand ends.1;
-      since = subst Since stand since;
-      written = ap (λ (behind : List ℕ). front ++ behind) ends.2;
-    }
-line-events setup places held mid left Since old new done next others front going since (Some Done) text ends = absurd ends
-line-events setup places held mid left Since old new done next others front going since (Some ScriptRefused) text ends = absurd ends
-line-events setup places held mid left Since old new done next others front going since (Some Usage) text ends = absurd ends
-line-events setup places held mid left Since old new done next others front going since (Some Memory) text ends = absurd ends
-line-events setup places held mid left Since old new done next others front going since (Some ReadFault) text ends = absurd ends
-line-events setup places held mid left Since old new done next others front going since (Some WriteFault) text ends = absurd ends
-line-events setup places held mid left Since old new done next others front going since (Some RootNotEmpty) text ends = absurd ends
-line-events setup places held mid left Since old new done next others front going since (Some TooLong) text ends = absurd ends
-line-events setup places held mid left Since old new done next others front going since (Some Inseparable) text ends = absurd ends
-
--- one line more is behind
-pub behind-next : {K : Type 0} (told : K → Option (List ℕ)) (faults : K → ℕ) (first mid last : K) (setup : Setup) (places : ℕ) (held disk left : Option Files) (old new : World) (events : List Line) (next : Line) (others : List Line) (text : List ℕ) (printed_lines : List (List ℕ)) → (so_far : Behind setup places held disk old (edge told faults first mid) events (next ∷ others)) → text ≡ joined_lines printed_lines → EventDone setup so_far.going.state next printed_lines disk left new → Appends (told mid) (told last) text → Behind setup places held left new (edge told faults first last) events others
-behind-next told faults first mid last setup places held disk left old new events next others text printed_lines so_far is event appended = record {
-  done = so_far.done ++ next ∷ [];
-  parts = so_far.parts ∙ sym (append_assoc so_far.done (next ∷ []) others);
-  text = so_far.text ++ joined_lines printed_lines;
-  going = going-next setup places held disk left old new so_far.done so_far.text next printed_lines so_far.going event;
-  appended = Appends-trans (told first) (told mid) (told last) so_far.text (joined_lines printed_lines) so_far.appended (subst (Appends (told mid) (told last)) is appended);
-}
-
--- the lines from a place on
-pub from-place : (lines : List Line) (place : ℕ) (next : Line) → place < length lines → next ≡ get_or lines place next → drop place lines ≡ next ∷ drop (place + 1) lines
-from-place lines place next inside is = rw add-one (drop-cons lines place next inside ∙ ap (λ (one : Line). one ∷ drop (suc place) lines) (sym is))
+    -- a line that ended the run
+    pub behind-ends : (one mid last : K) (disk left : DiskSeen) (start between later : ℕ) (Since : Option Files → ℕ → Type 0) (old new : World) (events : List Line) (next : Line) (others : List Line) (status : Status8) → (behind : Behind setup places held first disk old (edge told faults one mid) events (next ∷ others)) → faults mid ≡ faults one → start ≤ between → Since disk.files disk.faults → Ended unasked (between, later) (LineEnds setup behind.going.state next disk left new) (LineLacks setup behind.going.state disk.files left.files new) (edge told faults mid last) status → Ended unasked (start, later) (EventsEnd setup places held first left Since new events) (LacksBehind setup places held first left.files new events) (edge told faults one last) status
+    behind-ends one mid last disk left start between later Since old new events next others status behind sink before since ended =
+        let all = behind.done ++ next ∷ others in
+        let front = behind.text in
+        let E = Counting unasked (between, later) (LineEnds setup behind.going.state next disk left new) in
+        let F = Counting unasked (start, later) (EventsEnd setup places held first left Since new all) in
+        let L = Standing unasked (between, later) (LineLacks setup behind.going.state disk.files left.files new) in
+        let M = Standing unasked (start, later) (LacksBehind setup places held first left.files new all) in
+        let W : List Line → Type 0 = λ lines. Ended unasked (start, later) (EventsEnd setup places held first left Since new lines) (LacksBehind setup places held first left.files new lines) (edge told faults one last) status in
+        subst W (sym behind.parts) (written-behind told faults one mid last E F L M front status behind.appended sink (λ reached text ends. (line-events disk left Since old new behind.done next others front behind.going since reached text ends.0, line-counts start between later before disk left behind.going.state next new reached text ends.0 ends.1)) (λ text lacks. (line-lacks disk left old new behind.done next others front behind.going text lacks.0, lacks.1, on-behind start between later before lacks.2)) ended)
 
 -- before the first line
-pub behind-start : {K : Type 0} (told : K → Option (List ℕ)) (faults : K → ℕ) (sink : K) (setup : Setup) (places : ℕ) (held left : Option Files) (world : World) (events : List Line) → Begun setup places held left world → Behind setup places held left world (edge told faults sink sink) events events
+pub behind-start : {K : Type 0} (told : K → Option (List ℕ)) (faults : K → ℕ) (sink : K) (setup : Setup) (places : ℕ) (held : Option Files) (left : DiskSeen) (world : World) (events : List Line) → Begun setup places held left world → Behind setup places held left.faults left world (edge told faults sink sink) events events
 behind-start told faults sink setup places held left world events begun = record {
   done = [];
   parts = refl;
@@ -173,46 +235,25 @@ behind-start told faults sink setup places held left world events begun = record
   appended = Appends-nil (told sink);
 }
 
--- behind the last line
-pub behind-last : {K : Type 0} (told : K → Option (List ℕ)) (faults : K → ℕ) (first last : K) (setup : Setup) (places : ℕ) (held left : Option Files) (disk : ℕ × ℕ) (Since : Option Files → Type 0) (world : World) (events rest : List Line) → rest ≡ [] → faults last ≡ faults first → HasStood disk → Behind setup places held left world (edge told faults first last) events rest → Ended unasked disk (EventsEnd setup places held left Since world events) (LacksBehind setup places held left world events) (edge told faults first last) Done
-behind-last told faults first last setup places held left disk Since world events rest none sink_stood disk_stood behind =
-    let all : events ≡ behind.done = behind.parts ∙ ap (λ (others : List Line). behind.done ++ others) none ∙ append-nil behind.done in
-    let P : List Line → Type 0 = λ lines. Plays setup places held left world lines behind.text in
-    Whole behind.text (subst P (sym all) (going-plays setup places held left world behind.done behind.text behind.going), (refl, disk_stood)) sink_stood behind.appended
+-- the lines behind can still follow
+pub follow-next : (setup : Setup) (state : State Peers) (held left : DiskSeen) (old new : World) (next : Line) (others : List Line) (printed_lines : List (List ℕ)) → IsGood setup state → Shows setup state old → EventDone setup state next printed_lines held left new → CanFollow (time_behind old.now next) others → CanFollow new.now others
+follow-next setup state held left old new next others printed_lines good shows event follows =
+    let outcome = event.outcome in
+    let done = event.done in
+    let same : time_behind old.now next ≡ new.now =
+    ap (λ (now : ℤ). time_behind now next) shows.now ∙ sym (line-now setup done.shelf (device_in done) next state outcome good.steady done.step.happens) ∙ sym event.shows.now in
+    subst (λ (now : ℤ). CanFollow now others) same follows
 
--- memory that was wanting in a line was wanting behind those before it
-line-lacks : (setup : Setup) (places : ℕ) (held mid left : Option Files) (old new : World) (done : List Line) (next : Line) (others : List Line) (front : List ℕ) → (going : Going setup places held mid old done front) → (text : List ℕ) → LineLacks setup going.state mid left new text → LacksBehind setup places held left new (done ++ next ∷ others) (front ++ text)
-line-lacks setup places held mid left old new done next others front going text lacks =
-    let stand = going-stand setup places held mid old done front going in
-    let B : Option Files → Type 0 = λ one. Broken setup going.state one left new in
-    let L : List ℕ → Type 0 = λ one. LacksBehind setup places held left new (done ++ next ∷ others) one in
-    let whole : L front =
-    record {
-      behind = record { done = done; next = next; rest = others; parts = refl; goes = going-goes setup places held mid old done front going };
-      broken = subst B stand lacks.1;
-    } in
-    subst L (sym (ap (λ (more : List ℕ). front ++ more) lacks.0 ∙ append-nil front)) whole
-
--- a line that ended the run
-pub behind-ends : {K : Type 0} (told : K → Option (List ℕ)) (faults : K → ℕ) (first mid last : K) (setup : Setup) (places : ℕ) (held disk left : Option Files) (start between later : ℕ) (Since : Option Files → Type 0) (old new : World) (events : List Line) (next : Line) (others : List Line) (status : Status8) → (behind : Behind setup places held disk old (edge told faults first mid) events (next ∷ others)) → faults mid ≡ faults first → between ≡ start → Since disk → Ended unasked (between, later) (LineEnds setup behind.going.state next disk left new) (LineLacks setup behind.going.state disk left new) (edge told faults mid last) status → Ended unasked (start, later) (EventsEnd setup places held left Since new events) (LacksBehind setup places held left new events) (edge told faults first last) status
-behind-ends told faults first mid last setup places held disk left start between later Since old new events next others status behind sink stood since ended =
-    let all = behind.done ++ next ∷ others in
-    let front = behind.text in
-    let E = Counting unasked (between, later) (LineEnds setup behind.going.state next disk left new) in
-    let F = Counting unasked (start, later) (EventsEnd setup places held left Since new all) in
-    let L = Standing unasked (between, later) (LineLacks setup behind.going.state disk left new) in
-    let M = Standing unasked (start, later) (LacksBehind setup places held left new all) in
-    let W : List Line → Type 0 = λ lines. Ended unasked (start, later) (EventsEnd setup places held left Since new lines) (LacksBehind setup places held left new lines) (edge told faults first last) status in
-    let counts : (reached : Option Status8) → RisesBefore reached unasked (between, later) → RisesBefore reached unasked (start, later) =
-    λ reached rises. subst (λ (count : ℕ). RisesBefore reached unasked (count, later)) stood rises in
-    subst W (sym behind.parts) (written-behind told faults first mid last E F L M front status behind.appended sink (λ reached text one. (line-events setup places held disk left Since old new behind.done next others front behind.going since reached text one.0, counts reached one.1)) (λ text one. (line-lacks setup places held disk left old new behind.done next others front behind.going text one.0, one.1, one.2 ∙ stood)) ended)
+-- the lines from a place on
+pub from-place : (lines : List Line) (place : ℕ) (next : Line) → place < length lines → next ≡ get_or lines place next → drop place lines ≡ next ∷ drop (place + 1) lines
+from-place lines place next inside is = rw add-one (drop-cons lines place next inside ∙ ap (λ (one : Line). one ∷ drop (suc place) lines) (sym is))
 
 -- what a disk fault in a line left
-pub fault-left : (setup : Setup) (state : State Alone) (next : Line) (held left : Option Files) (old new : World) (lines : List (List ℕ)) → IsGood setup state → Shows setup state old → FaultLeaves next old new [] lines held left → FaultLeft setup state next held left new (joined_lines lines)
-fault-left setup state line.Files held left old new lines good shows leaves =
-    Showing refl (subst (λ (world : World). Shows setup state world) (sym leaves.0) shows) leaves.2 (ap joined_lines leaves.1)
-fault-left setup state (line.Cat name) held left old new lines good shows leaves =
-    Showing refl (subst (λ (world : World). Shows setup state world) (sym leaves.0) shows) leaves.2 (ap joined_lines leaves.1)
-fault-left setup state _ held left old new lines good shows leaves =
-    let fault = leaves setup state good shows in
-    Working fault.0 fault.1 (ap joined_lines fault.2)
+pub fault-left : (setup : Setup) (state : State Peers) (next : Line) (held left : DiskSeen) (old new : World) (lines : List (List ℕ)) → IsGood setup state → Shows setup state old → IsArmedBy state held.armed → HasRisen (held.faults, left.faults) → FaultLeaves next old new [] lines held left → FaultLeft setup state next held left new (joined_lines lines)
+fault-left setup state line.Files held left old new lines good shows armed risen leaves =
+    Showing refl (subst (λ (world : World). Shows setup state world) (sym leaves.0) shows) leaves.2 leaves.3 risen (ap joined_lines leaves.1)
+fault-left setup state (line.Cat name) held left old new lines good shows armed risen leaves =
+    Showing refl (subst (λ (world : World). Shows setup state world) (sym leaves.0) shows) leaves.2 leaves.3 risen (ap joined_lines leaves.1)
+fault-left setup state _ held left old new lines good shows armed risen leaves =
+    let fault = leaves setup state good shows armed in
+    Ending fault.0 fault.1 (ap joined_lines fault.2)

@@ -7,6 +7,7 @@ mod TellingLaws
 mod WaitingLaws
 mod RefusalLaws
 mod TimeLaws
+mod FallLaws
 mod GoingSteps
 mod FaultLaws
 mod EndingSteps

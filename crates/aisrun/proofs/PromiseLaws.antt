@@ -11,8 +11,9 @@ use Rattle.cluster_events.specs.Lines.{Told}
 use Rattle.cluster_events.specs.Servers.{State}
 use Rattle.cluster_events.proofs.Ending.{settle-settles}
 use Rattle.cluster_events.proofs.Filed.{answered-legal}
-use Rattle.lone_cluster.specs.Lone.{Alone, lone, lone_start, IsGoodAlone}
-use Rattle.lone_cluster.proofs.Serving.{lone-serves, lone-spends}
+use Rattle.pair_cluster.specs.Peers.{Peers, IsPair}
+use Rattle.pair_cluster.specs.Pair.{pair, pair_start}
+use Rattle.pair_cluster.proofs.Saying.{pair-serves, pair-spends}
 use Rattle.service_laws.specs.PlainOf.{plain_of}
 use Rattle.service_laws.proofs.ServiceLaws.{is_plain}
 use Rattle.service_laws.proofs.HistoryLaws.{history-of}
@@ -22,57 +23,59 @@ use Rattle.cluster_events.proofs.OnDisk.{range-before}
 use Rattle.cluster_events.proofs.Runs.{each-end}
 use Rattle.service_laws.specs.Disks.{service_disk}
 use Rattle.service_laws.specs.StorageOf.{storage_of}
-use Rattle.aisrun.specs.Playing.{LinePlayed, Ran}
+use Rattle.cluster_core.specs.Playing.{LineDone}
+use Rattle.aisrun.specs.Playing.{Ran}
 use Rattle.aisrun.specs.Promises.{Sentence, Throughout, KeepsOneHistory, RepliesRightly, ReadsRightly, CallsBack, PrintsPosts, KeepsFiles, KeepsRecords, StandsOnce, SettlesAll}
-use Rattle.aisrun.proofs.PlayLaws.{played-says, played-keeps, played-files, played-stays, answered-range}
+use Rattle.aisrun.proofs.PlayLaws.{device_in, opening_files, played-says, played-keeps, played-files, played-stays, answered-range}
 
 -- a sentence that holds of all lines that were played holds at the end of each of them
-pub throughout : (held : Option Files) (P : Setup → Sentence) → ((setup : Setup) (places : ℕ) (held : Option Files) → CanBegin setup → (lines : List Line) (state : State Alone) (told : List Told) (left : Files × Unit {0}) → Ran setup places held lines state told left → AreInRange state.world.core.answered → P setup lines state told left.0) → Throughout held P
-throughout held P always script done rest text front =
+pub throughout : (held : Option Files) (P : Setup → Sentence) → ((setup : Setup) (places : ℕ) (held : Option Files) (first : ℕ) → CanBegin setup → (lines : List Line) (state : State Peers) (told : List Told) (left : Files × ℕ) → Ran setup places held first lines state told left → AreInRange state.world.core.answered → P setup lines state told left.0) → Throughout held P
+throughout held P always first script done rest text front =
     let setup = front.setup in
     let plays = front.goes in
     let core = plays.state.world.core in
     let R : List Entry → Type 0 = λ entries. AreInRange entries in
-    each-end (StepOnDisk (LinePlayed setup held) service_disk (storage_of setup)) (lone_start setup.start front.places) _ (λ lines state told left. P setup lines state told left.0) (λ state. AreInRange state.world.core.answered) (λ before next state outcome after step range. range-before step.more state.world.core.answered (subst R step.grown range)) (always setup front.places held plays.good.begins) plays.run (answered-range core.answered core.hand plays.good.range)
+    each-end (StepOnDisk (LineDone setup held) service_disk (storage_of setup)) (pair_start setup.start front.places) (opening_files setup, first) (λ lines state told left. P setup lines state told left.0) (λ state. AreInRange state.world.core.answered) (λ before next state outcome after step range. range-before step.more state.world.core.answered (subst R step.grown range)) (always setup front.places held first plays.good.begins) plays.run (answered-range core.answered core.hand plays.good.range)
 
 pub keeps-one-history : (held : Option Files) → Throughout held KeepsOneHistory
 keeps-one-history held =
-    throughout held KeepsOneHistory (λ setup places told_first can lines state told files run range. let keeps = played-keeps setup places told_first run in (keeps.history, keeps.order))
+    throughout held KeepsOneHistory (λ setup places told_first first can lines state told files run range. let keeps = played-keeps setup places told_first first run in (keeps.history, keeps.order))
 
 pub replies-rightly : (held : Option Files) → Throughout held RepliesRightly
-replies-rightly held = throughout held RepliesRightly (λ setup places told_first can lines state told files run range. (played-keeps setup places told_first run).replies)
+replies-rightly held = throughout held RepliesRightly (λ setup places told_first first can lines state told files run range. (played-keeps setup places told_first first run).replies)
 
 pub reads-rightly : (held : Option Files) → Throughout held ReadsRightly
-reads-rightly held = throughout held ReadsRightly (λ setup places told_first can lines state told files run range. (played-keeps setup places told_first run).readers)
+reads-rightly held = throughout held ReadsRightly (λ setup places told_first first can lines state told files run range. (played-keeps setup places told_first first run).readers)
 
 pub calls-back : (held : Option Files) → Throughout held CallsBack
 calls-back held =
-    throughout held CallsBack (λ setup places told_first can lines state told files run range. let keeps = played-keeps setup places told_first run in (keeps.items, keeps.writes, keeps.callbacks))
+    throughout held CallsBack (λ setup places told_first first can lines state told files run range. let keeps = played-keeps setup places told_first first run in (keeps.items, keeps.writes, keeps.callbacks))
 
 pub prints-posts : (held : Option Files) → Throughout held PrintsPosts
-prints-posts held = throughout held PrintsPosts (λ setup places told_first can lines state told files run range. (played-keeps setup places told_first run).posts)
+prints-posts held = throughout held PrintsPosts (λ setup places told_first first can lines state told files run range. (played-keeps setup places told_first first run).posts)
 
 pub keeps-files : (held : Option Files) → Throughout held KeepsFiles
-keeps-files held = throughout held KeepsFiles (λ setup places told_first can lines state told files run range. played-files setup places told_first can run range)
+keeps-files held = throughout held KeepsFiles (λ setup places told_first first can lines state told files run range. played-files setup places told_first first can run range)
 
 pub keeps-records : (held : Option Files) → Throughout held KeepsRecords
-keeps-records held = throughout held KeepsRecords (λ setup places told_first can lines state told files run range. played-stays setup places told_first can run range)
+keeps-records held = throughout held KeepsRecords (λ setup places told_first first can lines state told files run range. played-stays setup places told_first first can run range)
 
 pub stands-once : (held : Option Files) → Throughout held StandsOnce
 stands-once held =
-    throughout held StandsOnce (λ setup places told_first can lines state told files run range client number other_client other_number stored other spot own others at other_at.
+    throughout held StandsOnce (λ setup places told_first first can lines state told files run range client number other_client other_number stored other spot own others at other_at.
     let world = state.world in
-    let facts = (played-says setup places told_first run).0.sound.facts in
+    let facts = (played-says setup places told_first first run).0.sound.facts in
     let legal = answered-legal (plain_of setup) world.now world.core.answered world.core.hand facts.legal in
     record-alone setup world.core.answered client other_client number other_number stored other spot (history-of setup can world.now world.core.answered legal range) own others at other_at)
 
-settled : (setup : Setup) (places : ℕ) (held : Option Files) {lines : List Line} {state : State Alone} {told : List Told} {left : Files × Unit {0}} → Ran setup places held lines state told left → SettlesAll setup lines state told left.0
-settled setup places held Started = tt
-settled setup places held (Went {state = state} line.Settle outcome after run step) =
+settled : (setup : Setup) (places : ℕ) (held : Option Files) (first : ℕ) {lines : List Line} {state : State Peers} {told : List Told} {left : Files × ℕ} → Ran setup places held first lines state told left → SettlesAll setup lines state told left.0
+settled setup places held first Started = tt
+settled setup places held first (Went {state = state} line.Settle outcome after run step) =
     let plain = plain_of setup in
-    let happens = step.step.happens in
-    settle-settles plain (is_plain setup) (lone plain) IsGoodAlone (lone-serves plain (is_plain setup)) (lone-spends plain (is_plain setup)) state outcome.state happens.lines (played-says setup places held run).0 happens.rounds
-settled setup places held (Went _ outcome after run step) = tt
+    let device = device_in step.step in
+    let happens = step.step.step.happens in
+    settle-settles plain (is_plain setup) (pair plain device) IsPair (pair-serves plain device (is_plain setup)) (pair-spends plain device (is_plain setup)) state outcome.state happens.lines (played-says setup places held first run).0 happens.rounds
+settled setup places held first (Went _ outcome after run step) = tt
 
 pub settles-all : (held : Option Files) → Throughout held SettlesAll
-settles-all held = throughout held SettlesAll (λ setup places told_first can lines state told files run range. settled setup places told_first run)
+settles-all held = throughout held SettlesAll (λ setup places told_first first can lines state told files run range. settled setup places told_first first run)

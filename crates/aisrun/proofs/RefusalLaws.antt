@@ -15,20 +15,22 @@ use Rattle.cluster_facts.specs.World.{World}
 use Rattle.cluster_events.specs.Lines.{Told, Refused, Stood, Listed, Shown}
 use Rattle.cluster_events.specs.Outcomes.{Outcome}
 use Rattle.cluster_events.specs.Servers.{State}
-use Rattle.cluster_events.specs.Running.{Shelf, Happens}
+use Rattle.cluster_events.specs.Devices.{Device}
+use Rattle.cluster_events.specs.Running.{Shelf}
 use Rattle.cluster_events.specs.Saying.{replies_told}
-use Rattle.cluster_events.specs.Serving.{IsSteady, IsCarried}
+use Rattle.cluster_events.specs.Serving.{IsSteady}
 use Rattle.cluster_facts.specs.Facts.{IsSound}
 use Rattle.cluster_events.proofs.Promised.{gathered-without, gathered-handed}
 use Rattle.cluster_events.proofs.Telling.{gathered-append}
 use Rattle.cluster_events.proofs.Walking.{Kind, Asks, Dispatches, Others, kind_of, IsShow, IsByKind}
 use Rattle.cluster_events.proofs.Walking.{IsTold}
-use Rattle.lone_cluster.proofs.Serving.{lone-carries, lone-walks}
-use Rattle.lone_cluster.specs.Lone.{Alone, lone, IsGoodAlone}
+use Rattle.pair_cluster.specs.Peers.{Peers, IsPair}
+use Rattle.pair_cluster.specs.Running.{PairHappens}
+use Rattle.pair_cluster.proofs.Walking.{IsCored, cored-alone, pair-walks}
 use Rattle.service_laws.specs.PlainOf.{plain_of}
 use Rattle.service_laws.proofs.ServiceLaws.{is_plain}
 use Rattle.aisrun.specs.Promises.{OfAllLines, call_refused, holds_service, rows_of_refusal, rows_of_dispatch, refused_as, refused_by, refusal_in, refusals_told, refusals_due, DeclinesRightly}
-use Rattle.aisrun.proofs.PlayLaws.{played-says, each-played}
+use Rattle.aisrun.proofs.PlayLaws.{device_in, played-says, each-played}
 use Rattle.aisrun.proofs.WaitingLaws.{KeepsWaiting, played-waits}
 
 -- The refusals that a line of a kind tells: those of the client's agent, and otherwise none.
@@ -53,9 +55,8 @@ refuses-told plain = record {
   item = λ world client key item found sound here next place stands. refl;
 }
 
-refuses-carried : (setup : Setup) → IsCarried (plain_of setup) (lone (plain_of setup)) IsGoodAlone (Refuses Others)
-refuses-carried setup =
-    lone-carries (plain_of setup) (Refuses Others) (refuses-told (plain_of setup)) (λ world entry. refl) (λ entry state steady empty may at stands. refl)
+refuses-cored : IsCored (Refuses Others)
+refuses-cored = cored-alone (Refuses Others) (λ world one other hand next. refl) (λ world past hand next number entry. refl)
 
 show-refuses : (line : Told) → IsShow line → refusals_told (line ∷ []) ≡ []
 show-refuses (Refused refused standing) shows = refl
@@ -119,11 +120,12 @@ refused-due setup (line.DispatchOne client) told world sound waits = dispatched-
 refused-due setup (line.DispatchAll client workers) told world sound waits = dispatched-due setup client world sound
 refused-due setup _ told world sound waits = refl
 
-line-declines : (setup : Setup) (shelf : Shelf) (next : Line) (told : List Told) (state : State Alone) (outcome : Outcome (State Alone)) → IsSteady (plain_of setup) IsGoodAlone state → KeepsWaiting state.world told → Happens (plain_of setup) shelf (lone (plain_of setup)) next state outcome → DeclinesRightly next told state outcome
-line-declines setup shelf next told state outcome steady waits happens =
-    (lone-walks (plain_of setup) (is_plain setup) shelf Refuses (refuses-carried setup) (refuses-by-kind (plain_of setup)) next state outcome steady happens).1
+line-declines : (setup : Setup) (shelf : Shelf) (device : Device) (before after : ℕ) (next : Line) (told : List Told) (state : State Peers) (outcome : Outcome (State Peers)) → IsSteady (plain_of setup) IsPair state → KeepsWaiting state.world told → PairHappens (plain_of setup) shelf device next state outcome → DeclinesRightly before next told state outcome after
+line-declines setup shelf device before after next told state outcome steady waits happens =
+    let plain = plain_of setup in
+    (pair-walks plain (is_plain setup) shelf device Refuses (refuses-told plain) refuses-cored (refuses-by-kind plain) next state outcome steady happens).1
     ∙ refused-due setup next told state.world steady.sound waits
 
 pub declines-rightly : (held : Option Files) → OfAllLines held DeclinesRightly
 declines-rightly held =
-    each-played held DeclinesRightly (λ setup places lines state told left next outcome shelf run happens. line-declines setup shelf next told state outcome (played-says setup places held run).0 (played-waits setup places held run) happens)
+    each-played held DeclinesRightly (λ setup places first lines state told before next outcome after run done. line-declines setup done.shelf (device_in done) before.1 after next told state outcome (played-says setup places held first run).0 (played-waits setup places held first run) done.step.happens)

@@ -17,7 +17,7 @@ use Rattle.aisrun.specs.Endings.{ReadsWhole}
 use Rattle.aisrun.specs.Scanning.{IsParted}
 use Rattle.aisrun.specs.ScanSteps.{TextRefused, NotSpelled, NotParted, RecordEnds, RecordsEnd, SourceEnds, SourceLacks, ScanEnds, ScanLacks}
 use Rattle.aisrun.specs.Steps.{Counting, IsNone, IsText, Reaching, Written, unasked}
-use Rattle.aisrun.proofs.CountSteps.{untouched-stood}
+use Rattle.aisrun.proofs.CountSteps.{on-same, untouched-stood}
 use Rattle.aisrun.proofs.EndingSteps.{text-ends}
 use Rattle.aisrun.proofs.WritingSteps.{written-behind}
 
@@ -68,8 +68,8 @@ module _ (query : RecordQuery) (pieces : List Piece) (wanted bytes : List ℕ) w
 module _ {S : Type 0} (query : RecordQuery) (pieces : List Piece) (wanted : List ℕ) (source : Edge S (List ℕ)) where
   -- the records of a source that was read to its end, whose count stood
   pub records-source : (bytes : List ℕ) → ReadsWhole source bytes → HasStood (fault_count source) → (reached : Option Status8) (text : List ℕ) → RecordsEnd query pieces wanted bytes reached text → Counting (fault_count source) unasked (SourceEnds query pieces wanted source) reached text
-  records-source bytes read stood None text ends = ((bytes, read, ends), (stood, refl))
-  records-source bytes read stood (Some Done) text ends = ((bytes, read, ends), (stood, refl))
+  records-source bytes read stood None text ends = ((bytes, read, ends), (stood, on-same 0))
+  records-source bytes read stood (Some Done) text ends = ((bytes, read, ends), (stood, on-same 0))
   records-source bytes read stood (Some ScriptRefused) text ends = absurd ends
   records-source bytes read stood (Some Usage) text ends = absurd ends
   records-source bytes read stood (Some Memory) text ends = absurd ends

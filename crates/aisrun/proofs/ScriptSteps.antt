@@ -1,7 +1,6 @@
--- The lines of a script that has none on failures can be played one after another.
+-- The lines of a script can be played one after another.
 use Rattle.std.proofs.Common.{◌≡◌, ℕ, ℤ, ◌<◌, ◌≤ℤ◌, Bool, true, false, if◌then◌else◌, List, [], ◌∷◌, length, Option, Some, None, refl, ap, sym, ◌∙◌, subst, arith}
 use Rattle.std.specs.Prelude.{int_lt, IfSome}
-use Rattle.std.proofs.lemmas.Bool.{or_parts}
 use Rattle.std.proofs.lemmas.Int.{ints}
 use Rattle.std.specs.FinMap.{keys, entries, empty_of_len, len-entries}
 use Rattle.std.proofs.lemmas.List.{length-map}
@@ -14,8 +13,7 @@ use Rattle.script_language.specs.Scripts.{SpellAll, AreInOrder, IsScriptOf, misp
 use Rattle.script_language.specs.Scripts.SpellAll.{done, skipped, spelled}
 use Rattle.plain_service.specs.Setups.{Setup}
 use Rattle.cluster_core.specs.Beginning.{HoldsNone}
-use Rattle.cluster_core.specs.Playing.{IsLoneLine}
-use Rattle.aisrun.specs.Playing.{is_failure, has_failures}
+use Rattle.cluster_core.specs.Playing.{IsEventLine}
 use Rattle.aisrun.specs.Scripting.{CanPlay, IsPlayable}
 use Rattle.aisrun.specs.Steps.{CanFollow, time_behind}
 
@@ -24,28 +22,24 @@ not-below : (now later : ℤ) → (below : Bool) → int_lt later now ≡ below 
 not-below now later true is placed = absurd cc
 not-below now later false is placed = omega (arith, ints, is)
 
--- a line that can stand behind the first, and is none on failures, can be played
-lone-line : (now : ℤ) (one : Line) → misplaced (Some now) one ≡ None → is_failure one ≡ false → IsLoneLine now one
-lone-line now (line.Cluster start queue callbacks alarm ntf sys) placed well = absurd cc
-lone-line now (line.Crash server) placed well = absurd cc
-lone-line now (line.Arm server count) placed well = absurd cc
-lone-line now line.Disarm placed well = absurd cc
-lone-line now (line.Restart server) placed well = absurd cc
-lone-line now (line.Time later) placed well = not-below now later (int_lt later now) refl placed
-lone-line now _ placed well = tt
+-- a line that can stand behind the first can be played
+event-line : (now : ℤ) (one : Line) → misplaced (Some now) one ≡ None → IsEventLine now one
+event-line now (line.Cluster start queue callbacks alarm ntf sys) placed = absurd cc
+event-line now (line.Time later) placed = not-below now later (int_lt later now) refl placed
+event-line now _ placed = tt
 
 time-behind : (now : ℤ) (one : Line) → misplaced (Some now) one ≡ None → time_after (Some now) one ≡ Some (time_behind now one)
 time-behind now (line.Cluster start queue callbacks alarm ntf sys) placed = absurd cc
 time-behind now (line.Time later) placed = refl
 time-behind now _ placed = refl
 
-pub can-follow : (now : ℤ) {lines : List Line} {raws : List (List ℕ)} → SpellAll lines raws → AreInOrder (Some now) lines → has_failures lines ≡ false → CanFollow now lines
-can-follow now done ordered well = tt
-can-follow now (skipped skips rest) ordered well = can-follow now rest ordered well
-can-follow now (spelled {one = one} {raw = raw} {lines = lines} spells rest) ordered well =
+pub can-follow : (now : ℤ) {lines : List Line} {raws : List (List ℕ)} → SpellAll lines raws → AreInOrder (Some now) lines → CanFollow now lines
+can-follow now done ordered = tt
+can-follow now (skipped skips rest) ordered = can-follow now rest ordered
+can-follow now (spelled {one = one} {raw = raw} {lines = lines} spells rest) ordered =
     let O : Option ℤ → Type 0 = λ time. AreInOrder time lines in
     let others = subst O (time-behind now one ordered.0) ordered.1 in
-    ((raw, spells), lone-line now one ordered.0 ((or_parts (is_failure one) (has_failures lines) well).0), can-follow (time_behind now one) rest others ((or_parts (is_failure one) (has_failures lines) well).1))
+    ((raw, spells), event-line now one ordered.0, can-follow (time_behind now one) rest others)
 
 -- the first line that is spelled
 pub record SpelledFirst (one : Line) (lines : List Line) : Type 0 where
@@ -64,18 +58,18 @@ spelled-first (spelled {one = first} {raw = raw} {lines = others} {raws = raws} 
     record { raw = raw; raws = raws; spells = subst (λ (each : Line). Spells each raw) heads spells; others = subst S tails rest }
 
 -- the opening of a script is its cluster line
-can-open : (opening : Line) (events : List Line) → SpelledFirst opening events → misplaced None opening ≡ None → AreInOrder (time_after None opening) events → has_failures events ≡ false → CanPlay opening events
-can-open (line.Cluster start queue callbacks alarm ntf sys) events first placed ordered well = record {
+can-open : (opening : Line) (events : List Line) → SpelledFirst opening events → misplaced None opening ≡ None → AreInOrder (time_after None opening) events → CanPlay opening events
+can-open (line.Cluster start queue callbacks alarm ntf sys) events first placed ordered = record {
   spelled = (first.raw, first.spells);
   begins = (_, _, (refl, refl));
-  follows = λ setup places begins. subst (λ (now : ℤ). CanFollow now events) (sym (ap (λ (one : Setup). one.start) begins.0)) (can-follow start first.others ordered well);
+  follows = λ setup places begins. subst (λ (now : ℤ). CanFollow now events) (sym (ap (λ (one : Setup). one.start) begins.0)) (can-follow start first.others ordered);
 }
-can-open _ events first placed ordered well = absurd cc
+can-open _ events first placed ordered = absurd cc
 
-pub can-play : (lines : List Line) (bytes : List ℕ) → IsScriptOf lines bytes → has_failures lines ≡ false → IsPlayable lines
-can-play [] bytes script well = let some : 0 < 0 = script.begun in absurd (omega arith)
-can-play (opening ∷ events) bytes script well =
-    can-open opening events (spelled-first script.spelled opening events refl) script.ordered.0 script.ordered.1 ((or_parts (is_failure opening) (has_failures events) well).1)
+pub can-play : (lines : List Line) (bytes : List ℕ) → IsScriptOf lines bytes → IsPlayable lines
+can-play [] bytes script = let some : 0 < 0 = script.begun in absurd (omega arith)
+can-play (opening ∷ events) bytes script =
+    can-open opening events (spelled-first script.spelled opening events refl) script.ordered.0 script.ordered.1
 
 -- a disk that lists no name holds no file
 pub held-none : (old : Option Files) (names : List (List ℕ)) → IfSome old (λ f. names ≡ keys f) → length names ≡ 0 → HoldsNone old

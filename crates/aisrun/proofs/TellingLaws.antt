@@ -5,6 +5,7 @@ use Rattle.plain_service.specs.Setups.{Setup}
 use Rattle.cluster_facts.specs.Messages.{sent_by, receipts_of}
 use Rattle.cluster_facts.specs.Agents.{fed_of}
 use Rattle.cluster_facts.specs.World.{World as WorldOf}
+use Rattle.cluster_rounds.specs.Came.{DiskSeen}
 use Rattle.cluster_core.specs.declared.world.World.{World}
 use Rattle.cluster_events.specs.Promises.{ItemsInOrder}
 use Rattle.cluster_events.specs.Taking.{items_in, taken_of}
@@ -20,10 +21,10 @@ each-told setup world items client key =
     first-told setup world.core.answered (sent_by client world.net) client key (taken_of key (receipts_of client world.net) (items_in (fed_of (world.agents client)))) (items client key)
 
 pub tells-once : (held : Option Files) → Throughout held TellsOnce
-tells-once held = throughout held TellsOnce (λ setup places told_first can lines state told files run range. each-told setup state.world (played-keeps setup places told_first run).items)
+tells-once held = throughout held TellsOnce (λ setup places told_first first can lines state told files run range. each-told setup state.world (played-keeps setup places told_first first run).items)
 
-pub tells-at-want : (held left : Option Files) (world : World) → TellsAtWant held left world
-tells-at-want held left world script done rest next text front broken client key =
+pub tells-at-want : (held : Option Files) (left : DiskSeen) (world : World) → TellsAtWant held left world
+tells-at-want held left world first script done rest next text front broken client key =
     let state = front.goes.state in
     let fed = broken.fed client in
     fed-told front.setup broken.rest.core.answered (sent_by client state.world.net) client key fed.marks (fed_of (broken.rest.agents client)) (record {

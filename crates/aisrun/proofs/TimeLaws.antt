@@ -1,5 +1,5 @@
--- The time in force behind a line, and the entries that it commits, which are of the time before it.
-use Rattle.std.proofs.Common.{◌≡◌, ℕ, ℤ, Option, List, [], ◌∷◌, ◌++◌, length, refl, sym, ◌∙◌, subst}
+-- The time in force behind a line; and the entries that it commits, which are of the time in force as they were accepted.
+use Rattle.std.proofs.Common.{◌≡◌, ℕ, ℤ, ◌⊎◌, inl, inr, Option, List, [], ◌∷◌, ◌++◌, length, refl, sym, ◌∙◌, subst}
 use Rattle.std.specs.List.{AllByRecursion}
 use Rattle.disk_model.specs.Disk.{Files}
 use Rattle.script_lines.specs.declared.line.Line.{Line}
@@ -7,26 +7,28 @@ use Rattle.script_lines.specs.declared.line.Line.TheVariants as line
 use Rattle.plain_service.specs.Setups.{Setup}
 use Rattle.cluster_facts.specs.Types.{Entry}
 use Rattle.cluster_facts.specs.Service.{Plain}
-use Rattle.cluster_facts.specs.History.{time_of}
+use Rattle.cluster_facts.specs.History.{Hand, Empty, Waiting, Applied, Ready, time_of}
 use Rattle.cluster_facts.specs.World.{World}
-use Rattle.cluster_facts.proofs.Words.{All-append}
+use Rattle.cluster_facts.proofs.Words.{All-append, All-map}
 use Rattle.cluster_events.specs.Lines.{Told, Refused, Stood, Listed, Shown}
 use Rattle.cluster_events.specs.Outcomes.{Outcome}
 use Rattle.cluster_events.specs.Servers.{State}
-use Rattle.cluster_events.specs.Running.{Shelf, Happens}
+use Rattle.cluster_events.specs.Devices.{Device}
+use Rattle.cluster_events.specs.Running.{Shelf}
 use Rattle.cluster_events.specs.Saying.{entry_in, entries_told}
-use Rattle.cluster_events.specs.Serving.{IsSteady, IsCarried}
+use Rattle.cluster_events.specs.Serving.{IsSteady}
 use Rattle.cluster_events.proofs.Promised.{gathered-without, gathered-handed}
 use Rattle.cluster_events.proofs.Telling.{gathered-append}
 use Rattle.cluster_events.proofs.Walking.{Kind, Times, Others, kind_of, IsShow, IsByKind}
 use Rattle.cluster_events.proofs.Walking.{IsTold}
-use Rattle.lone_cluster.specs.Lone.{Alone, lone, IsGoodAlone}
-use Rattle.lone_cluster.proofs.Serving.{lone-carries, lone-walks}
+use Rattle.pair_cluster.specs.Peers.{Peers, IsPair}
+use Rattle.pair_cluster.specs.Running.{PairHappens}
+use Rattle.pair_cluster.proofs.Walking.{IsCored, pair-walks}
 use Rattle.service_laws.specs.PlainOf.{plain_of}
 use Rattle.service_laws.proofs.ServiceLaws.{is_plain}
-use Rattle.aisrun.specs.Promises.{OfAllLines, CommitsInTime}
+use Rattle.aisrun.specs.Promises.{OfAllLines, CommitsInTime, IsTimelyIn}
 use Rattle.aisrun.specs.Steps.{time_behind}
-use Rattle.aisrun.proofs.PlayLaws.{played-says, each-played}
+use Rattle.aisrun.proofs.PlayLaws.{device_in, played-says, each-played}
 
 -- the time in force behind a line of a kind
 abbrev time_by : ℤ → Kind → ℤ
@@ -37,67 +39,120 @@ time-by : (now : ℤ) (next : Line) → time_by now (kind_of next) ≡ time_behi
 time-by now (line.Time later) = refl
 time-by now _ = refl
 
-abbrev IsAt : ℤ → ℕ × Entry → Type 0
-IsAt now line = time_of line.1 ≡ now
+-- an entry is of the time in force in a world, or waits in it
+abbrev IsFrom : World → Entry → Type 0
+IsFrom world entry = (time_of entry ≡ world.now) ⊎ (world.core.hand ≡ Waiting entry)
 
--- the entries that lines tell are of one time
-abbrev AreAt : ℤ → List Told → Type 0
-AreAt now told = AllByRecursion (IsAt now) (entries_told told)
+abbrev WaitsFrom : World → Hand → Type 0
+WaitsFrom world (Waiting entry) = IsFrom world entry
+WaitsFrom world _ = Unit {0}
 
--- only a line that sets the time moves it, and what is committed is of the time before
-abbrev InTime : Kind → World → World → List Told → Type 0
-InTime kind old new told = (new.now ≡ time_by old.now kind) × AreAt old.now told
+-- so are the entries that lines tell
+abbrev AreFrom : World → List Told → Type 0
+AreFrom world told = AllByRecursion (λ (line : ℕ × Entry). IsFrom world line.1) (entries_told told)
+
+-- only a line that sets the time moves it; what is committed in a line, or waits behind it, is from before it
+record InTime (kind : Kind) (old new : World) (told : List Told) : Type 0 where
+  pub now : new.now ≡ time_by old.now kind
+  pub entries : AreFrom old told
+  pub waits : WaitsFrom old new.core.hand
+
+-- an entry that waits is from its world
+waits-same : (world : World) (hand : Hand) → world.core.hand ≡ hand → WaitsFrom world hand
+waits-same world (Waiting entry) is = inr is
+waits-same world Empty is = tt
+waits-same world (Applied entry) is = tt
+waits-same world (Ready entry) is = tt
+
+-- an event that leaves the hand, and commits nothing
+in_time-quiet : (kind : Kind) (old new : World) (told : List Told) → new.now ≡ time_by old.now kind → new.core.hand ≡ old.core.hand → entries_told told ≡ [] → InTime kind old new told
+in_time-quiet kind old new told now hand none = record {
+  now = now;
+  entries = subst (λ (lines : List (ℕ × Entry)). AllByRecursion (λ (line : ℕ × Entry). IsFrom old line.1) lines) (sym none) tt;
+  waits = waits-same old new.core.hand (sym hand);
+}
+
+-- what is from a world is from the one before it
+from-before : (one two : World) (first : List Told) (entry : Entry) → InTime Others one two first → IsFrom two entry → IsFrom one entry
+from-before one two first entry before (inl same) = inl (same ∙ before.now)
+from-before one two first entry before (inr waits) = subst (WaitsFrom one) waits before.waits
+
+waits-before : (one two : World) (first : List Told) (hand : Hand) → InTime Others one two first → WaitsFrom two hand → WaitsFrom one hand
+waits-before one two first (Waiting entry) before waits = from-before one two first entry before waits
+waits-before one two first Empty before waits = tt
+waits-before one two first (Applied entry) before waits = tt
+waits-before one two first (Ready entry) before waits = tt
 
 in_time-both : (one two three : World) (first second : List Told) → InTime Others one two first → InTime Others two three second → InTime Others one three (second ++ first)
 in_time-both one two three first second before after =
-    let late : AreAt one.now second = subst (λ (now : ℤ). AreAt now second) before.0 after.1 in
-    let all = All-append (IsAt one.now) (entries_told second) (entries_told first) late before.1 in
-    (after.0 ∙ before.0, subst (λ lines. AllByRecursion (IsAt one.now) lines) (sym (gathered-append entry_in second first)) all)
+    let A : World → ℕ × Entry → Type 0 = λ world line. IsFrom world line.1 in
+    let late : AreFrom one second = All-map (A two) (A one) (entries_told second) (λ line from. from-before one two first line.1 before from) after.entries in
+    let all = All-append (A one) (entries_told second) (entries_told first) late before.entries in
+    record {
+      now = after.now ∙ before.now;
+      entries = subst (λ lines. AllByRecursion (A one) lines) (sym (gathered-append entry_in second first)) all;
+      waits = waits-before one two first three.core.hand before after.waits;
+    }
 
 in_time-told : (plain : Plain) → IsTold plain (InTime Others)
 in_time-told plain = record {
-  same = λ world. (refl, tt);
+  same = λ world. in_time-quiet Others world world [] refl refl refl;
   both = in_time-both;
-  ignored = λ world place why. (refl, tt);
-  answer = λ world client number reply. (refl, tt);
-  pushed = λ world client key item. (refl, tt);
-  reply = λ world client number call reply sound kept place stands. (refl, tt);
-  item = λ world client key item found sound here next place stands. (refl, tt);
+  ignored = λ world place why. in_time-quiet Others world world _ refl refl refl;
+  answer = λ world client number reply. in_time-quiet Others world _ _ refl refl refl;
+  pushed = λ world client key item. in_time-quiet Others world _ _ refl refl refl;
+  reply = λ world client number call reply sound kept place stands. in_time-quiet Others world _ _ refl refl refl;
+  item = λ world client key item found sound here next place stands. in_time-quiet Others world _ _ refl refl refl;
 }
 
-in_time-carried : (setup : Setup) → IsCarried (plain_of setup) (lone (plain_of setup)) IsGoodAlone (InTime Others)
-in_time-carried setup =
-    lone-carries (plain_of setup) (InTime Others) (in_time-told (plain_of setup)) (λ world entry. (refl, tt)) (λ entry state steady empty may at stands. (refl, (at, tt)))
+in_time-cored : IsCored (InTime Others)
+in_time-cored = record {
+  taken = λ world past entry at. record { now = refl; entries = tt; waits = inl at };
+  applied = λ world past entry. record { now = refl; entries = (inr refl, tt); waits = tt };
+  confirmed = λ world past entry. record { now = refl; entries = tt; waits = tt };
+  answered = λ world past entry. record { now = refl; entries = tt; waits = tt };
+  over = λ world past hand. record { now = refl; entries = tt; waits = tt };
+}
 
-show-at : (now : ℤ) (line : Told) → IsShow line → AreAt now (line ∷ [])
-show-at now (Refused refused standing) shows = tt
-show-at now (Stood server role) shows = tt
-show-at now (Listed name count) shows = tt
-show-at now (Shown text) shows = tt
-show-at now _ shows = elim shows [ ]
+show-none : (line : Told) → IsShow line → entries_told (line ∷ []) ≡ []
+show-none (Refused refused standing) shows = refl
+show-none (Stood server role) shows = refl
+show-none (Listed name count) shows = refl
+show-none (Shown text) shows = refl
+show-none _ shows = elim shows [ ]
 
 in_time-by-kind : (plain : Plain) → IsByKind plain InTime
 in_time-by-kind plain = record {
-  time = λ now world sound after. (refl, tt);
-  declined = λ client asked status world sound is. (refl, tt);
-  asked = λ client asked world sound is. (refl, tt);
-  refused = λ client status world sound is. (refl, tt);
+  time = λ now world sound after. in_time-quiet (Times now) world _ [] refl refl refl;
+  declined = λ client asked status world sound is. in_time-quiet _ world world _ refl refl refl;
+  asked = λ client asked world sound is. in_time-quiet _ world _ _ refl refl refl;
+  refused = λ client status world sound is. in_time-quiet _ world world _ refl refl refl;
   handed = λ client callbacks after world sound is hands.
-      (refl, subst (λ lines. AllByRecursion (IsAt world.now) lines) (sym (gathered-handed entry_in client (length (world.agents client).handed) callbacks (λ number callback. refl))) tt);
-  shows = λ world line shows. (refl, show-at world.now line shows);
-  printed = λ old new told goes.
-      (goes.0, subst (λ lines. AllByRecursion (IsAt old.now) lines) (sym (gathered-without entry_in (λ place why. refl) told)) goes.1);
+      in_time-quiet _ world _ _ refl refl (gathered-handed entry_in client (length (world.agents client).handed) callbacks (λ number callback. refl));
+  shows = λ world line shows. in_time-quiet Others world world (line ∷ []) refl refl (show-none line shows);
+  printed = λ old new told goes. record {
+    now = goes.now;
+    entries = subst (λ lines. AllByRecursion (λ (line : ℕ × Entry). IsFrom old line.1) lines) (sym (gathered-without entry_in (λ place why. refl) told)) goes.entries;
+    waits = goes.waits;
+  };
 }
 
-line-in-time : (setup : Setup) (shelf : Shelf) (next : Line) (state : State Alone) (outcome : Outcome (State Alone)) → IsSteady (plain_of setup) IsGoodAlone state → Happens (plain_of setup) shelf (lone (plain_of setup)) next state outcome → InTime (kind_of next) state.world outcome.state.world outcome.told
-line-in-time setup shelf next state outcome steady happens =
-    (lone-walks (plain_of setup) (is_plain setup) shelf InTime (in_time-carried setup) (in_time-by-kind (plain_of setup)) next state outcome steady happens).1
+line-in-time : (setup : Setup) (shelf : Shelf) (device : Device) (next : Line) (state : State Peers) (outcome : Outcome (State Peers)) → IsSteady (plain_of setup) IsPair state → PairHappens (plain_of setup) shelf device next state outcome → InTime (kind_of next) state.world outcome.state.world outcome.told
+line-in-time setup shelf device next state outcome steady happens =
+    let plain = plain_of setup in
+    (pair-walks plain (is_plain setup) shelf device InTime (in_time-told plain) in_time-cored (in_time-by-kind plain) next state outcome steady happens).1
 
 -- the time in force behind a line
-pub line-now : (setup : Setup) (shelf : Shelf) (next : Line) (state : State Alone) (outcome : Outcome (State Alone)) → IsSteady (plain_of setup) IsGoodAlone state → Happens (plain_of setup) shelf (lone (plain_of setup)) next state outcome → outcome.state.world.now ≡ time_behind state.world.now next
-line-now setup shelf next state outcome steady happens =
-    (line-in-time setup shelf next state outcome steady happens).0 ∙ time-by state.world.now next
+pub line-now : (setup : Setup) (shelf : Shelf) (device : Device) (next : Line) (state : State Peers) (outcome : Outcome (State Peers)) → IsSteady (plain_of setup) IsPair state → PairHappens (plain_of setup) shelf device next state outcome → outcome.state.world.now ≡ time_behind state.world.now next
+line-now setup shelf device next state outcome steady happens =
+    (line-in-time setup shelf device next state outcome steady happens).now ∙ time-by state.world.now next
+
+waits-timely : (state : State Peers) (hand : Hand) → WaitsFrom state.world hand → IsTimelyIn state hand
+waits-timely state (Waiting entry) waits = waits
+waits-timely state Empty waits = tt
+waits-timely state (Applied entry) waits = tt
+waits-timely state (Ready entry) waits = tt
 
 pub commits-in-time : (held : Option Files) → OfAllLines held CommitsInTime
 commits-in-time held =
-    each-played held CommitsInTime (λ setup places lines state told left next outcome shelf run happens. (line-in-time setup shelf next state outcome (played-says setup places held run).0 happens).1)
+    each-played held CommitsInTime (λ setup places first lines state told before next outcome after run done. let goes = line-in-time setup done.shelf (device_in done) next state outcome (played-says setup places held first run).0 done.step.happens in (goes.entries, waits-timely state outcome.state.world.core.hand goes.waits))

@@ -15,19 +15,19 @@ use Rattle.cluster_events.specs.Lines.{Told, Posted, Committed, Replied, Decline
 use Rattle.cluster_events.specs.Servers.{State}
 use Rattle.cluster_events.specs.ClientEvents.{hand_out}
 use Rattle.cluster_events.specs.Saying.{reply_in, replies_told, IsDone}
-use Rattle.cluster_events.specs.Serving.{IsCarried}
 use Rattle.cluster_events.proofs.Promised.{gathered-without, gathered-handed}
 use Rattle.cluster_events.proofs.Walking.{Kind, Asks, kind_of, IsShow, IsByKind}
 use Rattle.cluster_events.proofs.Walking.{IsTold}
 use Rattle.cluster_events.proofs.Telling.{gathered-append}
-use Rattle.lone_cluster.specs.Lone.{Alone, lone, IsGoodAlone}
-use Rattle.lone_cluster.proofs.Serving.{lone-carries, lone-walks}
+use Rattle.pair_cluster.specs.Falling.{with_core}
+use Rattle.pair_cluster.specs.Peers.{Peers}
+use Rattle.pair_cluster.proofs.Walking.{IsCored, cored-alone, pair-walks}
 use Rattle.service_laws.specs.PlainOf.{plain_of}
 use Rattle.service_laws.proofs.ServiceLaws.{is_plain}
 use Rattle.cluster_events.specs.Runs.RunBy.{Started, Went}
 use Rattle.aisrun.specs.Playing.{Ran}
 use Rattle.aisrun.specs.Promises.{is_replied, waiting_of}
-use Rattle.aisrun.proofs.PlayLaws.{played-says}
+use Rattle.aisrun.proofs.PlayLaws.{device_in, played-says}
 
 -- Lists.
 
@@ -141,9 +141,9 @@ passes-told plain = record {
   item = λ world client key item found sound here next place stands. passes-agent world _ client _ (Posted _ _ ∷ []) refl refl (λ other. refl) (λ other. refl);
 }
 
-passes-carried : (setup : Setup) → IsCarried (plain_of setup) (lone (plain_of setup)) IsGoodAlone Passes
-passes-carried setup =
-    lone-carries (plain_of setup) Passes (passes-told (plain_of setup)) (λ world entry. passes-quiet _ _ [] (λ client. refl) (λ client. refl) (λ client. refl)) (λ entry state steady empty may at stands. passes-quiet state.world _ (Committed _ _ ∷ []) (λ client. refl) (λ client. refl) (λ client. refl))
+passes-cored : IsCored Passes
+passes-cored =
+    cored-alone Passes (λ world one other hand next. passes-quiet (with_core one hand world) (with_core other next world) [] (λ client. refl) (λ client. refl) (λ client. refl)) (λ world past hand next number entry. passes-quiet (with_core past hand world) (with_core past next world) (Committed number entry ∷ []) (λ client. refl) (λ client. refl) (λ client. refl))
 
 passes-without : (old new : World) (told : List Told) → Passes old new told → Passes old new (without is_ignored told)
 passes-without old new told passes = record {
@@ -214,10 +214,12 @@ waits-behind : (kind : Kind) (old new : World) (before told : List Told) → Wai
 waits-behind (Asks client asked) old new before told goes below waits = goes before below waits
 waits-behind _ old new before told goes below waits = waits-on old new before told waits goes
 
-pub played-waits : (setup : Setup) (places : ℕ) (held : Option Files) {lines : List Line} {state : State Alone} {told : List Told} {left : Files × Unit {0}} → Ran setup places held lines state told left → KeepsWaiting state.world told
-played-waits setup places held Started = λ client. refl
-played-waits setup places held (Went {state = state} {told = told} next outcome after run step) =
-    let says = played-says setup places held run in
+pub played-waits : (setup : Setup) (places : ℕ) (held : Option Files) (first : ℕ) {lines : List Line} {state : State Peers} {told : List Told} {left : Files × ℕ} → Ran setup places held first lines state told left → KeepsWaiting state.world told
+played-waits setup places held first Started = λ client. refl
+played-waits setup places held first (Went {state = state} {told = told} next outcome after run step) =
+    let plain = plain_of setup in
+    let done = step.step in
+    let says = played-says setup places held first run in
     let below : AreBelow state.world told = λ client. All-map (λ (reply : ℕ × Reply). IsDone (state.world.agents client) reply.0) (λ (reply : ℕ × Reply). reply.0 < (state.world.agents client).next) (replies_told client told) (λ reply done. done.sent) (says.1.replies client).done in
-    let walks = (lone-walks (plain_of setup) (is_plain setup) step.step.shelf Waits (passes-carried setup) (waits-by-kind (plain_of setup)) next state outcome says.0 step.step.happens).1 in
-    waits-behind (kind_of next) state.world outcome.state.world told outcome.told walks below (played-waits setup places held run)
+    let walks = (pair-walks plain (is_plain setup) done.shelf (device_in done) Waits (passes-told plain) passes-cored (waits-by-kind plain) next state outcome says.0 done.step.happens).1 in
+    waits-behind (kind_of next) state.world outcome.state.world told outcome.told walks below (played-waits setup places held first run)

@@ -9,10 +9,10 @@ use Rattle.io_edge.specs.declared.answers.SinkAnswer.TheVariants as sink_answer
 use Rattle.io_edge.specs.Writes.{AppendsFront}
 use Rattle.io_edge.proofs.Fronts.{front-behind, front-more}
 use Rattle.aisrun.specs.declared.ending.Status8.{Status8}
-use Rattle.aisrun.specs.Counts.{HasStood, RisesBefore}
+use Rattle.aisrun.specs.Counts.{HasGoneOn, HasStood, RisesBefore}
 use Rattle.aisrun.specs.Edges.{Edge, edge, before, after}
 use Rattle.aisrun.specs.Steps.{Reaching, Written, Whole, SinkFailed, SinkLacked, Lacked, Counting, Standing, Ended, sink_status, joined_lines, unasked}
-use Rattle.aisrun.proofs.CountSteps.{other-stood, risen-behind, rises-alone, rises-read}
+use Rattle.aisrun.proofs.CountSteps.{other-stood, risen-behind, rises-alone, rises-read, stood-on}
 
 -- what a sink that did not take all leaves of a text
 pub unwritten : {K : Type 0} (E : Reaching) (L : List ℕ → Type 0) (sink : Edge K (List ℕ)) (answer : SinkAnswer) (reached : Option Status8) (text : List ℕ) → E reached text → RoseExactlyOn {T = Unit} (sink.faults sink.old) (sink.faults sink.new) (Err answer) sink_answer.Failed → AppendsFront (before sink) (after sink) text → Written E L sink (sink_status answer)
@@ -41,11 +41,11 @@ written-behind told faults old mid new E F L M front status first stood ends lac
     Lacked is (still ∙ stood) (front ++ text) (lacks text l) (Appends-trans (told old) (told mid) (told new) front text first appends)
 
 -- the same with the counts of source and disk
-ended-by : {K : Type 0} (s d source disk : ℕ × ℕ) (E F : Reaching) (L M : List ℕ → Type 0) (sink : Edge K (List ℕ)) (status : Status8) → (HasStood s → HasStood source) → (HasStood d → HasStood disk) → ((reached : Option Status8) → RisesBefore reached s d → RisesBefore reached source disk) → ((reached : Option Status8) (text : List ℕ) → E reached text → F reached text) → ((text : List ℕ) → L text → M text) → Ended s d E L sink status → Ended source disk F M sink status
-ended-by s d source disk E F L M sink status source_stood disk_stood rises ends lacks ended =
+ended-by : {K : Type 0} (s d source disk : ℕ × ℕ) (E F : Reaching) (L M : List ℕ → Type 0) (sink : Edge K (List ℕ)) (status : Status8) → (HasStood s → HasStood source) → (HasGoneOn d → HasGoneOn disk) → ((reached : Option Status8) → RisesBefore reached s d → RisesBefore reached source disk) → ((reached : Option Status8) (text : List ℕ) → E reached text → F reached text) → ((text : List ℕ) → L text → M text) → Ended s d E L sink status → Ended source disk F M sink status
+ended-by s d source disk E F L M sink status source_stood disk_on rises ends lacks ended =
     written-as (Counting s d E) (Counting source disk F) (Standing s d L) (Standing source disk M) sink status
     (λ reached text one. (ends reached text one.0, rises reached one.1))
-    (λ text one. (lacks text one.0, source_stood one.1, disk_stood one.2))
+    (λ text one. (lacks text one.0, source_stood one.1, disk_on one.2))
     ended
 
 pub ended-as : {K : Type 0} (source disk : ℕ × ℕ) (E F : Reaching) (L M : List ℕ → Type 0) (sink : Edge K (List ℕ)) (status : Status8) → ((reached : Option Status8) (text : List ℕ) → E reached text → F reached text) → ((text : List ℕ) → L text → M text) → Ended source disk E L sink status → Ended source disk F M sink status
@@ -60,7 +60,7 @@ ended-read source disk E F L M sink status stood ends lacks ended =
 -- the disk was not asked
 pub ended-alone : {K : Type 0} (source disk : ℕ × ℕ) (E F : Reaching) (L M : List ℕ → Type 0) (sink : Edge K (List ℕ)) (status : Status8) → HasStood disk → ((reached : Option Status8) (text : List ℕ) → E reached text → F reached text) → ((text : List ℕ) → L text → M text) → Ended source unasked E L sink status → Ended source disk F M sink status
 ended-alone source disk E F L M sink status stood ends lacks ended =
-    ended-by source unasked source disk E F L M sink status (λ one. one) (λ _. stood) (λ reached one. rises-alone reached source disk stood one) ends lacks ended
+    ended-by source unasked source disk E F L M sink status (λ one. one) (λ _. stood-on disk stood) (λ reached one. rises-alone reached source disk stood one) ends lacks ended
 
 -- the disk was asked before, and its count stood
 pub ended-later : {K : Type 0} (source : ℕ × ℕ) (old mid new : ℕ) (E F : Reaching) (L M : List ℕ → Type 0) (sink : Edge K (List ℕ)) (status : Status8) → mid ≡ old → ((reached : Option Status8) (text : List ℕ) → E reached text → F reached text) → ((text : List ℕ) → L text → M text) → Ended source (mid, new) E L sink status → Ended source (old, new) F M sink status

@@ -1,5 +1,5 @@
 -- Words of public clauses: what a run takes to its end where nothing fails and memory is there.
-use Rattle.std.specs.Prelude.{◌≡◌, ℕ, ◌≤◌, ◌⊎◌, false, List, [], ◌∷◌, length, Option, Some, codes}
+use Rattle.std.specs.Prelude.{◌≡◌, ℕ, ◌≤◌, ◌⊎◌, List, [], ◌∷◌, length, Option, Some, codes}
 use Rattle.ais_values.specs.declared.kind.StreamKind.{StreamKind}
 use Rattle.disk_model.specs.Disk.{Files, no_files}
 use Rattle.format_expr.specs.declared.fault.ExprFault.{ExprFault}
@@ -10,7 +10,6 @@ use Rattle.aisrun.specs.declared.command.Command.TheVariants.{Expr, Gen}
 use Rattle.aisrun.specs.declared.ending.Status8.{Status8}
 use Rattle.aisrun.specs.declared.ending.Status8.TheVariants.{Done, Memory}
 use Rattle.aisrun.specs.Commands.{command_of, text_of}
-use Rattle.aisrun.specs.Playing.{has_failures}
 use Rattle.aisrun.specs.Scanning.{CanScan}
 
 -- a source has the script of these lines to give, which is not longer than 16 MiB
@@ -20,12 +19,11 @@ pub record HoldsScript (left : Option (List ℕ)) (lines : List Line) : Type 0 w
   pub short : length bytes ≤ 16777216
   pub script : IsScriptOf lines bytes
 
--- the words `run`, a script without lines on servers that fail, and a disk without files
+-- the words `run`, a script, and a disk without files
 pub record CanRun (words : List (List ℕ)) (left : Option (List ℕ)) (held : Option Files) : Type 0 where
   pub asked : words ≡ codes "run" ∷ []
   pub lines : List Line
   pub script : HoldsScript left lines
-  pub built : has_failures lines ≡ false
   pub empty : held ≡ Some no_files
 
 -- the words `check`, and a script

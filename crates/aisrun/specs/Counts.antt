@@ -1,20 +1,26 @@
 -- Words of public clauses: which counts of faults rise in a run, by the status that it ends with.
-use Rattle.std.specs.Prelude.{◌≡◌, ℕ, ◌≤◌, Option, Some}
+use Rattle.std.specs.Prelude.{◌≡◌, ℕ, ◌≤◌, Option, Some, None}
 use Rattle.ais_values.specs.Causes.{Rose}
 use Rattle.aisrun.specs.declared.ending.Status8.{Status8}
-use Rattle.aisrun.specs.declared.ending.Status8.TheVariants.{Memory, ReadFault, WriteFault, DiskFault}
+use Rattle.aisrun.specs.declared.ending.Status8.TheVariants.{Done, Memory, ReadFault, WriteFault, DiskFault}
 
 -- a count, before and after: it is what it was
 abbrev pub HasStood : ℕ × ℕ → Type 0
 HasStood count = count.1 ≡ count.0
 
+-- it did not fall
+abbrev pub HasGoneOn : ℕ × ℕ → Type 0
+HasGoneOn count = count.0 ≤ count.1
+
 -- it rose, and did not fall to where counts end
 abbrev pub HasRisen : ℕ × ℕ → Type 0
 HasRisen count = (count.0 ≤ count.1) × Rose count.0 count.1
 
--- By the end that was to come: the source's count rose by a read fault, and the disk's by a disk fault. By any other, and where
--- none was to come yet, both stand.
+-- By the end that was to come: the source's count rose by a read fault, and the disk's by a disk fault. Where lines were played, the
+-- disk's did not fall: it goes along with the lines, which tell at each rise that a server is down. By any other end both stand.
 abbrev pub RisesBefore : Option Status8 → (source disk : ℕ × ℕ) → Type 0
+RisesBefore None source disk = HasStood source × HasGoneOn disk
+RisesBefore (Some Done) source disk = HasStood source × HasGoneOn disk
 RisesBefore (Some ReadFault) source disk = HasRisen source × HasStood disk
 RisesBefore (Some DiskFault) source disk = HasStood source × HasRisen disk
 RisesBefore _ source disk = HasStood source × HasStood disk

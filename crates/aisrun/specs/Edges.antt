@@ -1,6 +1,7 @@
 -- Words of public clauses: what a run was given of each thing outside, and what it leaves of it.
 use Rattle.std.specs.Prelude.{◌≡◌, ℕ, List, Option}
 use Rattle.disk_model.specs.Disk.{Files}
+use Rattle.cluster_rounds.specs.Came.{DiskSeen}
 use Rattle.cluster_core.specs.declared.world.World.{World}
 
 -- a source, a sink or a disk before and after: what it tells of its content, and how often it has failed
@@ -28,15 +29,26 @@ fault_count one = (one.faults one.old, one.faults one.new)
 abbrev pub IsUntouched : {S T : Type 0} → Edge S T → Type 0
 IsUntouched one = one.new ≡ one.old
 
--- where a script is played: the sink, the disk, and the world of servers and clients before and after
+-- where a script is played: the sink, the disk, with the changing calls that are left until it stops, where it is armed after, and the
+-- world of servers and clients before and after
 pub record Stage (K D : Type 0) : Type 0 where
   pub sink : Edge K (List ℕ)
   pub disk : Edge D Files
+  pub armed : Option ℕ
   pub world : World
   pub world_after : World
 
-abbrev pub stage : {K D : Type 0} → Edge K (List ℕ) → Edge D Files → World → World → Stage K D
-stage sink disk world world_after = record { sink = sink; disk = disk; world = world; world_after = world_after }
+abbrev pub stage : {K D : Type 0} → Edge K (List ℕ) → Edge D Files → Option ℕ → World → World → Stage K D
+stage sink disk armed world world_after =
+    record { sink = sink; disk = disk; armed = armed; world = world; world_after = world_after }
+
+-- what the disk tells after
+abbrev pub disk_left : {K D : Type 0} → Stage K D → DiskSeen
+disk_left scene = record { files = after scene.disk; armed = scene.armed; faults = scene.disk.faults scene.disk.new }
+
+-- the disk's count of faults before
+abbrev pub first_count : {K D : Type 0} → Stage K D → ℕ
+first_count scene = scene.disk.faults scene.disk.old
 
 -- a whole run: its words, its source and its stage
 pub record Around (S K D : Type 0) : Type 0 where
@@ -44,9 +56,10 @@ pub record Around (S K D : Type 0) : Type 0 where
   pub source : Edge S (List ℕ)
   pub stage : Stage K D
 
-abbrev pub around : {S K D : Type 0} → List (List ℕ) → Edge S (List ℕ) → Edge K (List ℕ) → Edge D Files → World → World → Around S K D
-around words source sink disk world world_after =
-    record { words = words; source = source; stage = stage sink disk world world_after }
+abbrev pub around :
+    {S K D : Type 0} → List (List ℕ) → Edge S (List ℕ) → Edge K (List ℕ) → Edge D Files → Option ℕ → World → World → Around S K D
+around words source sink disk armed world world_after =
+    record { words = words; source = source; stage = stage sink disk armed world world_after }
 
 -- disk and world are as they were
 pub record LeavesAll {K D : Type 0} (scene : Stage K D) : Type 0 where

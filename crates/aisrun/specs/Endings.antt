@@ -24,20 +24,21 @@ use Rattle.stream_layout.specs.Deeds.{calls_of_all}
 use Rattle.disk_model.specs.DeviceCalls.{DoesFront, FailsAfter}
 use Rattle.cluster_core.specs.declared.world.World.{World}
 use Rattle.cluster_core.specs.Beginning.{Begins, HoldsNone}
-use Rattle.cluster_core.specs.Broken.{Broken, FaultedIn}
+use Rattle.cluster_core.specs.Broken.{Broken, EventEnded}
 use Rattle.cluster_core.specs.Worlds.{Shows}
 use Rattle.cluster_events.specs.Lines.{Told}
 use Rattle.cluster_events.specs.Servers.{State}
-use Rattle.lone_cluster.specs.Lone.{Alone}
+use Rattle.pair_cluster.specs.Peers.{Peers}
+use Rattle.cluster_rounds.specs.Came.{DiskSeen}
 use Rattle.aisrun.specs.declared.ending.Status8.{Status8}
 use Rattle.aisrun.specs.declared.ending.Status8.TheVariants.{Done, ScriptRefused, Usage, Memory, ReadFault, WriteFault, DiskFault}
 use Rattle.aisrun.specs.declared.ending.Status8.TheVariants.{RootNotEmpty, TooLong, Inseparable}
 use Rattle.aisrun.specs.declared.command.Command.{Command}
 use Rattle.aisrun.specs.declared.command.Command.TheVariants.{Run, Check, Expr, Gen, Scan}
 use Rattle.aisrun.specs.Commands.{command_of, text_of as word_text}
-use Rattle.aisrun.specs.Counts.{HasStood, RisesBefore}
-use Rattle.aisrun.specs.Edges.{Edge, before, after, fault_count, IsUntouched, Stage, Around, LeavesAll}
-use Rattle.aisrun.specs.Playing.{files_told, has_failures, PlaysFront, StandsAt, text_of}
+use Rattle.aisrun.specs.Counts.{HasGoneOn, HasRisen, HasStood, RisesBefore}
+use Rattle.aisrun.specs.Edges.{Edge, before, after, fault_count, first_count, disk_left, IsUntouched, Stage, Around, LeavesAll}
+use Rattle.aisrun.specs.Playing.{files_told, PlaysFront, seen_behind, StandsAt, text_of}
 use Rattle.aisrun.specs.Scanning.{CanScan, CannotScan, ScansAll, ScansFront, TakesText}
 use Rattle.aisrun.specs.Usage.{usage_line}
 
@@ -79,14 +80,6 @@ pub record ScriptFails (bytes text : List ℕ) : Type 0 where
   pub none : (lines : List Line) → IsScriptOf lines bytes → ⊥
   pub printed : text ≡ codes "script line " ++ (decimal number ++ (codes ": " ++ (why_word reason ++ codes "\n")))
 
--- the bytes are a script, and it has a line on servers that fail
-pub record ScriptNotBuilt (bytes text : List ℕ) : Type 0 where
-  pub lines : List Line
-  pub script : IsScriptOf lines bytes
-  pub one : (others : List Line) → IsScriptOf others bytes → others ≡ lines
-  pub fails : has_failures lines ≡ true
-  pub printed : text ≡ codes "script not built\n"
-
 -- the text is an expression: its pieces are counted, and it has no fault
 pub record TextPasses (kind : StreamKind) (text printed : List ℕ) : Type 0 where
   pub pieces : List Piece
@@ -127,23 +120,26 @@ shows_files line.Files = true
 shows_files (line.Cat name) = true
 shows_files _ = false
 
--- what a fault in the event of a line left: a line that shows files left all as it was, any other, which is `work` or `settle`, came
--- to an entry that was to be worked
-pub data FaultLeft (setup : Setup) (state : State Alone) (next : Line) (held left : Option Files) (world : World) (lines : List ℕ) : Type 0 where
-  Showing : shows_files next ≡ true → Shows setup state world → left ≡ held → lines ≡ [] → FaultLeft setup state next held left world lines
-  Working :
-      (told : List Told) → FaultedIn setup next state told held left world → lines ≡ text_of told
+-- what a fault in the event of a line left: a line that shows files left all as it was; any other, which is `work`, `settle` or a `crash`
+-- of the active server, ended where no server was left that is active
+pub data FaultLeft (setup : Setup) (state : State Peers) (next : Line) (held left : DiskSeen) (world : World) (lines : List ℕ) : Type 0 where
+  Showing :
+      shows_files next ≡ true → Shows setup state world → left.files ≡ held.files → left.armed ≡ held.armed → HasRisen (held.faults, left.faults)
+      → lines ≡ [] → FaultLeft setup state next held left world lines
+  Ending :
+      (told : List Told) → EventEnded setup state next told held left world → lines ≡ text_of told
       → FaultLeft setup state next held left world lines
 
--- there is a value of the disk that tells these files and has the count of the start. That the run passed through it is not said:
+-- there is a value of the disk that tells these files and has this count of faults. That the run passed through it is not said:
 -- of a disk a contract knows the values before a call and after it, and no steps between
-pub record StoodUpTo {D : Type 0} (disk : Edge D Files) (held : Option Files) : Type 0 where
+pub record StoodUpTo {D : Type 0} (disk : Edge D Files) (held : Option Files) (faults : ℕ) : Type 0 where
   pub mid : D
   pub told : disk.told mid ≡ held
-  pub stood : disk.faults mid ≡ disk.faults disk.old
+  pub count : disk.faults mid ≡ faults
 
 -- the disk failed: as its names were asked for, in the deeds of the start, or in an event behind those that were done, of which
--- some lines were printed
+-- some lines were printed; its count of faults goes along with these from the first on, so that the one in the event came where no other
+-- server was in service
 pub data DiskFails {K D : Type 0} (script : List Line) (scene : Stage K D) (text : List ℕ) : Type 0 where
   AtNames : after scene.disk ≡ before scene.disk → scene.world_after ≡ scene.world → text ≡ fault_line → DiskFails script scene text
   AtOpening :
@@ -152,18 +148,18 @@ pub data DiskFails {K D : Type 0} (script : List Line) (scene : Stage K D) (text
       → scene.world_after ≡ scene.world → text ≡ fault_line → DiskFails script scene text
   AtEvent :
       (done : List Line) (next : Line) (rest : List Line) (text_before : List ℕ)
-      (front : PlaysFront (before scene.disk) script done (next ∷ rest) text_before)
+      (front : PlaysFront (before scene.disk) (first_count scene) script done (next ∷ rest) text_before)
       (lines : List ℕ)
-      → FaultLeft front.setup front.goes.state next (files_told front.goes.files (before scene.disk)) (after scene.disk) scene.world_after lines
-      → StoodUpTo scene.disk (files_told front.goes.files (before scene.disk)) → text ≡ text_before ++ (lines ++ fault_line)
+      → FaultLeft front.setup front.goes.state next (seen_behind front.goes) (disk_left scene) scene.world_after lines
+      → StoodUpTo scene.disk (files_told front.goes.files (before scene.disk)) front.goes.faults → text ≡ text_before ++ (lines ++ fault_line)
       → DiskFails script scene text
 
 -- these events of a script were done, and world and disk stand where they led
 pub record PlayedTo {K D : Type 0} (scene : Stage K D) (script done rest : List Line) (text : List ℕ) : Type 0 where
-  pub front : PlaysFront (before scene.disk) script done rest text
-  pub now : StandsAt front.setup front.goes.state front.goes.files (before scene.disk) (after scene.disk) scene.world_after
+  pub front : PlaysFront (before scene.disk) (first_count scene) script done rest text
+  pub now : StandsAt front.setup front.goes.state front.goes.files front.goes.faults (before scene.disk) (disk_left scene) scene.world_after
 
--- how a script that was read and has no line on failures ends on its stage, and its text; or how far it came
+-- how a script that was read ends on its stage, and its text; or how far it came
 abbrev pub PlayEnds : {K D : Type 0} → List Line → Stage K D → Option Status8 → List ℕ → Type 0
 PlayEnds lines scene None text = (done rest : List Line) × PlayedTo scene lines done rest text
 PlayEnds lines scene (Some Done) text = (done : List Line) × PlayedTo scene lines done [] text
@@ -179,15 +175,15 @@ pub data PlayLacks {K D : Type 0} (script : List Line) (scene : Stage K D) (text
       text ≡ [] → (opens : Opens script (before scene.disk)) → DoesFront (calls_of_all (opening_of opens.setup)) (before scene.disk) (after scene.disk)
       → scene.world_after ≡ scene.world → PlayLacks script scene text
   InEvent :
-      (done : List Line) (next : Line) (rest : List Line) (front : PlaysFront (before scene.disk) script done (next ∷ rest) text)
+      (done : List Line) (next : Line) (rest : List Line)
+      (front : PlaysFront (before scene.disk) (first_count scene) script done (next ∷ rest) text)
       → Broken front.setup front.goes.state (files_told front.goes.files (before scene.disk)) (after scene.disk) scene.world_after
       → PlayLacks script scene text
 
--- a script was read that has no line on servers that fail and come back
+-- a script was read to be played
 pub record HasScript {S K D : Type 0} (run : Around S K D) (lines : List Line) : Type 0 where
   pub words : command_of run.words ≡ Some Run
   pub script : ReadsScript run.source lines
-  pub built : has_failures lines ≡ false
 
 -- what each command comes to where all is well
 pub data Succeeds {S K D : Type 0} (run : Around S K D) (text : List ℕ) : Type 0 where
@@ -214,13 +210,10 @@ Reads words = (command_of words ≡ Some Run) ⊎ (command_of words ≡ Some Che
 abbrev pub ReadsSource : List (List ℕ) → Type 0
 ReadsSource words = Reads words ⊎ CanScan words
 
--- the input is no script, or none that is built, or the text no expression
+-- the input is no script, or the text no expression
 pub data Refuses {S K D : Type 0} (run : Around S K D) (text : List ℕ) : Type 0 where
   NoScript :
       Reads run.words → LeavesAll run.stage → (bytes : List ℕ) → ReadsWhole run.source bytes → ScriptFails bytes text
-      → Refuses run text
-  NotBuilt :
-      command_of run.words ≡ Some Run → LeavesAll run.stage → (bytes : List ℕ) → ReadsWhole run.source bytes → ScriptNotBuilt bytes text
       → Refuses run text
   NoExpression :
       (kind : StreamKind) → TakesText run.words kind → LeavesAll run.stage → IsUntouched run.source → TextFails kind (word_text run.words) text
@@ -300,11 +293,12 @@ LacksBy (Some (Expr kind)) run text = (text ≡ []) × LeavesAll run.stage × Is
 LacksBy (Some (Gen count seed)) run text = (text ≡ []) × LeavesAll run.stage × IsUntouched run.source
 LacksBy (Some (Scan query)) run text = RecordsLack run text
 
--- memory ran out in the sink; or elsewhere, where no object had failed, and all text up to there was written
+-- memory ran out in the sink; or elsewhere, where no object had failed but the disk in works of servers that went down, and all text up to
+-- there was written
 pub data EndsLacking {S K D : Type 0} (run : Around S K D) : Type 0 where
   Unwritten : EndsUnwritten run → EndsLacking run
   Lacking :
-      (text : List ℕ) → LacksBy (command_of run.words) run text → HasStood (fault_count run.source) → HasStood (fault_count run.stage.disk)
+      (text : List ℕ) → LacksBy (command_of run.words) run text → HasStood (fault_count run.source) → HasGoneOn (fault_count run.stage.disk)
       → Appends (before run.stage.sink) (after run.stage.sink) text → EndsLacking run
 
 -- how a run ends, by its status

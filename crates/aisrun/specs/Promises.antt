@@ -1,6 +1,7 @@
 -- Words of public clauses: what is promised at the end of each line that is played, each sentence by itself.
-use Rattle.std.specs.Prelude.{◌≡◌, ℕ, suc, Bool, false, not, ◌||◌, ◌==◌, List, [], ◌∷◌, length, Option, Some, None}
+use Rattle.std.specs.Prelude.{◌≡◌, ℕ, suc, ◌≤◌, ◌⊎◌, Bool, false, not, ◌||◌, ◌==◌, List, [], ◌∷◌, length, Option, Some, None}
 use Rattle.std.specs.List.{AllByRecursion}
+use Rattle.ais_values.specs.Causes.{Rose}
 use Rattle.ais_values.specs.FirstRow.{first_row}
 use Rattle.disk_model.specs.Disk.{Files}
 use Rattle.script_lines.specs.declared.line.Line.{Line}
@@ -12,40 +13,54 @@ use Rattle.cluster_facts.specs.Lists.{without}
 use Rattle.cluster_facts.specs.Messages.{sent_by}
 use Rattle.cluster_facts.specs.Agents.{can_serve, service_of, is_shut}
 use Rattle.cluster_facts.specs.Facts.{log_by, ntf_by}
-use Rattle.cluster_facts.specs.History.{time_of}
+use Rattle.cluster_facts.specs.History.{Hand, Waiting, time_of}
 use Rattle.cluster_events.specs.Lines.{Told, Declined}
 use Rattle.cluster_events.specs.Saying.{gathered, entries_told, replies_told}
 use Rattle.cluster_events.specs.Servers.{State}
 use Rattle.cluster_events.specs.Filing.{FilesStand, RecordsStay}
-use Rattle.cluster_events.specs.Runs.{AtEachEnd, LineSentenceOf, OfEachLine}
+use Rattle.cluster_events.specs.Outcomes.{Outcome}
+use Rattle.cluster_events.specs.OnDisk.{StepOnDisk}
+use Rattle.cluster_events.specs.Runs.{AtEachEnd, RunBy}
+use Rattle.cluster_events.specs.Runs.RunBy.{Started, Went}
 use Rattle.cluster_events.specs.Promises.{OneHistory, InOrder, PostsPrinted, RepliesRight, ReadersRight, CallbacksPrinted, ItemsInOrder, WritesCalledBack}
 use Rattle.cluster_events.specs.Settled.{IsSettled}
-use Rattle.lone_cluster.specs.Lone.{Alone}
+use Rattle.pair_cluster.specs.Peers.{Peers}
+use Rattle.pair_cluster.specs.Standing.{StayUp, is_crash, IsShort}
 use Rattle.service_laws.specs.Disks.{service_disk}
 use Rattle.service_laws.specs.PlainOf.{plain_of}
 use Rattle.service_laws.specs.StorageOf.{storage_of}
+use Rattle.cluster_rounds.specs.Came.{TellsDown}
+use Rattle.cluster_core.specs.Playing.{LineDone}
 use Rattle.aisrun.specs.Playing.{PlaysFront}
 
 -- what is said of the lines played so far, the last first, of where they led, of what they told and of the files
 abbrev pub Sentence : Type 1
-Sentence = List Line → State Alone → List Told → Files → Type 0
+Sentence = List Line → State Peers → List Told → Files → Type 0
 
 -- it is so at each end, however far a script was played on a disk that told these files before
 abbrev pub Throughout : (held : Option Files) (P : Setup → Sentence) → Type 0
 Throughout held P =
-    (script done rest : List Line) (text : List ℕ) (front : PlaysFront held script done rest text)
-    → AtEachEnd
-    (λ (lines : List Line) (state : State Alone) (told : List Told) (left : Files × Unit {0}). P front.setup lines state told left.0)
-    front.goes.run
+    (first : ℕ) (script done rest : List Line) (text : List ℕ) (front : PlaysFront held first script done rest text)
+    → AtEachEnd (λ (lines : List Line) (state : State Peers) (told : List Told) (left : Files × ℕ). P front.setup lines state told left.0) front.goes.run
 
--- what is said of one line: what was told before it, where it was played, and what it led to
+-- what is said of one line: the disk's count of faults before it, what was told before it, where it was played, what it led to, and the
+-- count after it
 abbrev pub LineSentence : Type 1
-LineSentence = LineSentenceOf Alone
+LineSentence = ℕ → Line → List Told → State Peers → Outcome (State Peers) → ℕ → Type 0
+
+-- it is so of each line of a run
+abbrev pub OfEachLine :
+    (P : LineSentence) {setup : Setup} {held : Option Files} {start : State Peers} {first : Files × ℕ} {lines : List Line} {state : State Peers}
+    {told : List Told} {left : Files × ℕ}
+    → RunBy (StepOnDisk (LineDone setup held) service_disk (storage_of setup)) start first lines state told left → Type 0
+OfEachLine P Started = Unit {0}
+OfEachLine P (Went {state = state} {told = told} {before = before} next outcome after run step) =
+    P before.1 next told state outcome after.1 × OfEachLine P run
 
 -- it is so of each line, however far a script was played on a disk that told these files before
 abbrev pub OfAllLines : (held : Option Files) (P : LineSentence) → Type 0
 OfAllLines held P =
-    (script done rest : List Line) (text : List ℕ) (front : PlaysFront held script done rest text) → OfEachLine P front.goes.run
+    (first : ℕ) (script done rest : List Line) (text : List ℕ) (front : PlaysFront held first script done rest text) → OfEachLine P front.goes.run
 
 -- one history: it is legal, its entries are those of the `acc` lines, in order, and each client's calls stand in it in their order
 abbrev pub KeepsOneHistory : Setup → Sentence
@@ -87,17 +102,37 @@ StandsOnce setup lines state told files =
     → (client ≡ other_client) × (number ≡ other_number)
 
 -- after `settle` every call is in the history and answered, and no item is held, but for those whose client's queue is full
-abbrev pub IsSettledAfter : Setup → List Line → State Alone → Type 0
+abbrev pub IsSettledAfter : Setup → List Line → State Peers → Type 0
 IsSettledAfter setup (line.Settle ∷ lines) state = IsSettled (plain_of setup) state.world
 IsSettledAfter setup _ state = Unit {0}
 
 abbrev pub SettlesAll : Setup → Sentence
 SettlesAll setup lines state told files = IsSettledAfter setup lines state
 
--- an entry is committed at the time in force
+-- an entry is of the time in force, or it waited for the partner before, so that its time was looked at as it was accepted
+abbrev pub IsTimely : State Peers → Entry → Type 0
+IsTimely state entry = (time_of entry ≡ state.world.now) ⊎ (state.world.core.hand ≡ Waiting entry)
+
+abbrev pub IsTimelyIn : State Peers → Hand → Type 0
+IsTimelyIn state (Waiting entry) = IsTimely state entry
+IsTimelyIn state _ = Unit {0}
+
+-- an entry is of the time that is in force as it is accepted: so is each one that a line commits, and one that waits for the partner
+-- behind the line
 abbrev pub CommitsInTime : LineSentence
-CommitsInTime next told state outcome =
-    AllByRecursion (λ (line : ℕ × Entry). time_of line.1 ≡ state.world.now) (entries_told outcome.told)
+CommitsInTime before next told state outcome after =
+    AllByRecursion (λ (line : ℕ × Entry). IsTimely state line.1) (entries_told outcome.told) × IsTimelyIn state outcome.state.world.core.hand
+
+-- Which servers go down.
+
+-- a server goes down only by `crash`, where the count that was armed came to its end, or where the disk's count of faults rose
+abbrev pub FallsByCause : LineSentence
+FallsByCause before next told state outcome after =
+    is_crash next ≡ false → IsShort next state.peers.armed outcome.state.peers.armed → ¬ Rose before after → StayUp state.peers outcome.state.peers
+
+-- and where the count rose in a line that was done, it tells that a server is down
+abbrev pub FaultsFell : LineSentence
+FaultsFell before next told state outcome after = (before ≤ after) × TellsDown before after outcome.told
 
 -- What clients' agents refuse by themselves, by the calls that a client sent, each with its number, the newest first.
 
@@ -158,4 +193,4 @@ refusals_told told = gathered refusal_in told
 
 -- a line tells a refusal exactly where one is due
 abbrev pub DeclinesRightly : LineSentence
-DeclinesRightly next told state outcome = refusals_told outcome.told ≡ refusals_due next told state.world.net
+DeclinesRightly before next told state outcome after = refusals_told outcome.told ≡ refusals_due next told state.world.net

@@ -13,18 +13,19 @@ use Rattle.script_language.specs.Lines.{Spells}
 use Rattle.plain_service.specs.Setups.{Setup}
 use Rattle.cluster_events.specs.Lines.{Told}
 use Rattle.cluster_events.specs.Servers.{State}
-use Rattle.lone_cluster.specs.Lone.{Alone}
+use Rattle.pair_cluster.specs.Peers.{Peers}
+use Rattle.cluster_rounds.specs.Came.{DiskSeen}
 use Rattle.cluster_core.specs.declared.world.World.{World}
 use Rattle.cluster_core.specs.Beginning.{Begun, HoldsNone}
 use Rattle.cluster_core.specs.Broken.{Broken}
-use Rattle.cluster_core.specs.Playing.{EventDone, IsLoneLine}
-use Rattle.cluster_core.specs.Worlds.{IsGood, LeavesFiles, Shows}
+use Rattle.cluster_core.specs.Playing.{EventDone, IsEventLine}
+use Rattle.cluster_core.specs.Worlds.{IsArmedBy, IsGood, LeavesFiles, Shows}
 use Rattle.aisrun.specs.declared.ending.Status8.{Status8}
 use Rattle.aisrun.specs.declared.ending.Status8.TheVariants.{Done, Memory, WriteFault, DiskFault}
-use Rattle.aisrun.specs.Counts.{HasStood, HasRisen, RisesBefore}
+use Rattle.aisrun.specs.Counts.{HasGoneOn, HasStood, HasRisen, RisesBefore}
 use Rattle.aisrun.specs.Edges.{Edge, before, after, fault_count, Stage}
 use Rattle.aisrun.specs.Endings.{FaultLeft, PlayEnds, PlayLacks, fault_line}
-use Rattle.aisrun.specs.Playing.{files_told, Goes, Played, StandsAt, text_of}
+use Rattle.aisrun.specs.Playing.{files_told, Goes, Played, seen_behind, StandsAt, text_of}
 
 -- an end, or a point before any end, with the text up to there
 abbrev pub Reaching : Type 1
@@ -52,9 +53,9 @@ unasked = (0, 0)
 abbrev pub Counting : (source disk : ℕ × ℕ) → Reaching → Reaching
 Counting source disk E reached text = E reached text × RisesBefore reached source disk
 
--- memory was wanting, and both counts stand
+-- memory was wanting; the source's count stands, and the disk's did not fall
 abbrev pub Standing : (source disk : ℕ × ℕ) → (List ℕ → Type 0) → List ℕ → Type 0
-Standing source disk L text = L text × HasStood source × HasStood disk
+Standing source disk L text = L text × HasStood source × HasGoneOn disk
 
 -- what was written, and how the counts of source and disk hang together with it
 abbrev pub Ended : {K : Type 0} → (source disk : ℕ × ℕ) → Reaching → (List ℕ → Type 0) → Edge K (List ℕ) → Status8 → Type 0
@@ -99,21 +100,23 @@ time_behind now _ = now
 abbrev pub CanFollow : ℤ → List Line → Type 0
 CanFollow now [] = Unit {0}
 CanFollow now (next ∷ lines) =
-    ((raw : List ℕ) × Spells next raw) × IsLoneLine now next × CanFollow (time_behind now next) lines
+    ((raw : List ℕ) × Spells next raw) × IsEventLine now next × CanFollow (time_behind now next) lines
 
--- some lines were played
-pub record Going (setup : Setup) (places : ℕ) (held left : Option Files) (world : World) (lines : List Line) (text : List ℕ) : Type 0 where
-  pub state : State Alone
+-- some lines were played from a count of faults on
+pub record Going (setup : Setup) (places : ℕ) (held : Option Files) (first : ℕ) (left : DiskSeen) (world : World) (lines : List Line)
+    (text : List ℕ) : Type 0 where
+  pub state : State Peers
   pub told : List Told
   pub files : Files
-  pub run : Played setup places held (reverse lines) state told files
+  pub run : Played setup places held first (reverse lines) state told files left.faults
   pub good : IsGood setup state
   pub shows : Shows setup state world
-  pub tells : LeavesFiles setup state held left
+  pub armed : IsArmedBy state left.armed
+  pub tells : LeavesFiles setup state held left.files
   pub written : text ≡ text_of told
 
 -- where one line that is played ends: its event is done, or the disk failed behind some lines
-abbrev pub LineEnds : Setup → State Alone → Line → Option Files → Option Files → World → Reaching
+abbrev pub LineEnds : Setup → State Peers → Line → DiskSeen → DiskSeen → World → Reaching
 LineEnds setup state next held left world None text =
     (lines : List (List ℕ)) × (text ≡ joined_lines lines) × EventDone setup state next lines held left world
 LineEnds setup state next held left world (Some DiskFault) text =
@@ -123,59 +126,61 @@ LineEnds setup state next held left world _ text = ⊥
 -- what the playing of a line gives
 abbrev pub LineGives : {K : Type 0} → (disk : ℕ × ℕ) → Reaching → (List ℕ → Type 0) → Edge K (List ℕ) → Result Unit Status8 → Type 0
 LineGives disk E L sink (Ok done) =
-    (text : List ℕ) × E None text × HasStood disk × HasStood (fault_count sink) × Appends (before sink) (after sink) text
+    (text : List ℕ) × E None text × HasGoneOn disk × HasStood (fault_count sink) × Appends (before sink) (after sink) text
 LineGives disk E L sink (Err status) = Ended unasked disk E L sink status
 
 -- memory was wanting as a line was played, before anything of it was written
-abbrev pub LineLacks : Setup → State Alone → Option Files → Option Files → World → List ℕ → Type 0
+abbrev pub LineLacks : Setup → State Peers → Option Files → Option Files → World → List ℕ → Type 0
 LineLacks setup state held left world text = (text ≡ []) × Broken setup state held left world
 
 -- lines were played, and world and disk stand where they led
-pub record Plays (setup : Setup) (places : ℕ) (held left : Option Files) (world : World) (lines : List Line) (text : List ℕ) : Type 0 where
-  pub goes : Goes setup places held lines text
-  pub now : StandsAt setup goes.state goes.files held left world
+pub record Plays (setup : Setup) (places : ℕ) (held : Option Files) (first : ℕ) (left : DiskSeen) (world : World) (lines : List Line)
+    (text : List ℕ) : Type 0 where
+  pub goes : Goes setup places held first lines text
+  pub now : StandsAt setup goes.state goes.files goes.faults held left world
 
 -- an event broke off behind those that were done
-pub record BreaksBehind (setup : Setup) (places : ℕ) (held : Option Files) (events : List Line) (front : List ℕ) : Type 0 where
+pub record BreaksBehind (setup : Setup) (places : ℕ) (held : Option Files) (first : ℕ) (events : List Line) (front : List ℕ) : Type 0 where
   pub done : List Line
   pub next : Line
   pub rest : List Line
   pub parts : events ≡ done ++ next ∷ rest
-  pub goes : Goes setup places held done front
+  pub goes : Goes setup places held first done front
 
 -- for want of memory
-pub record LacksBehind (setup : Setup) (places : ℕ) (held left : Option Files) (world : World) (events : List Line) (front : List ℕ) : Type 0 where
-  pub behind : BreaksBehind setup places held events front
+pub record LacksBehind (setup : Setup) (places : ℕ) (held : Option Files) (first : ℕ) (left : Option Files) (world : World) (events : List Line)
+    (front : List ℕ) : Type 0 where
+  pub behind : BreaksBehind setup places held first events front
   pub broken : Broken setup behind.goes.state (files_told behind.goes.files held) left world
 
--- by a fault of the disk, whose count of faults stood up to where it told the files of the events before
-pub record FaultsBehind (setup : Setup) (places : ℕ) (held left : Option Files) (Since : Option Files → Type 0) (world : World) (events : List Line)
-    (text : List ℕ) : Type 0 where
+-- by a fault of the disk, which told the files of the events before and their count of faults
+pub record FaultsBehind (setup : Setup) (places : ℕ) (held : Option Files) (first : ℕ) (left : DiskSeen) (Since : Option Files → ℕ → Type 0)
+    (world : World) (events : List Line) (text : List ℕ) : Type 0 where
   pub front : List ℕ
-  pub behind : BreaksBehind setup places held events front
+  pub behind : BreaksBehind setup places held first events front
   pub lines : List ℕ
-  pub fault : FaultLeft setup behind.goes.state behind.next (files_told behind.goes.files held) left world lines
-  pub since : Since (files_told behind.goes.files held)
+  pub fault : FaultLeft setup behind.goes.state behind.next (seen_behind behind.goes) left world lines
+  pub since : Since (files_told behind.goes.files held) behind.goes.faults
   pub written : text ≡ front ++ (lines ++ fault_line)
 
 -- where the lines behind the opening end
-abbrev pub EventsEnd : Setup → ℕ → Option Files → Option Files → (Option Files → Type 0) → World → List Line → Reaching
-EventsEnd setup places held left Since world events None text =
-    (done : List Line) × (rest : List Line) × (events ≡ done ++ rest) × Plays setup places held left world done text
-EventsEnd setup places held left Since world events (Some Done) text = Plays setup places held left world events text
-EventsEnd setup places held left Since world events (Some DiskFault) text =
-    FaultsBehind setup places held left Since world events text
-EventsEnd setup places held left Since world events _ text = ⊥
+abbrev pub EventsEnd : Setup → ℕ → Option Files → ℕ → DiskSeen → (Option Files → ℕ → Type 0) → World → List Line → Reaching
+EventsEnd setup places held first left Since world events None text =
+    (done : List Line) × (rest : List Line) × (events ≡ done ++ rest) × Plays setup places held first left world done text
+EventsEnd setup places held first left Since world events (Some Done) text = Plays setup places held first left world events text
+EventsEnd setup places held first left Since world events (Some DiskFault) text =
+    FaultsBehind setup places held first left Since world events text
+EventsEnd setup places held first left Since world events _ text = ⊥
 
 -- behind some of the lines, of which these are left: the text so far is written, and no fault was lost
-pub record Behind {K : Type 0} (setup : Setup) (places : ℕ) (held left : Option Files) (world : World) (sink : Edge K (List ℕ))
-    (events rest : List Line) : Type 0 where
+pub record Behind {K : Type 0} (setup : Setup) (places : ℕ) (held : Option Files) (first : ℕ) (left : DiskSeen) (world : World)
+    (sink : Edge K (List ℕ)) (events rest : List Line) : Type 0 where
   pub done : List Line
   pub parts : events ≡ done ++ rest
   pub text : List ℕ
-  pub going : Going setup places held left world done text
+  pub going : Going setup places held first left world done text
   pub appended : Appends (before sink) (after sink) text
 
 -- a cluster was begun, and the disk has its first files
-abbrev pub HasBegun : Option Files → World → Type 0
+abbrev pub HasBegun : DiskSeen → World → Type 0
 HasBegun left world = (setup : Setup) × (places : ℕ) × (held : Option Files) × Begun setup places held left world

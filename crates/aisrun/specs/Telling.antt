@@ -8,7 +8,8 @@ use Rattle.cluster_facts.specs.Messages.{receipts_of}
 use Rattle.cluster_facts.specs.Agents.{fed_of}
 use Rattle.cluster_facts.specs.World.{World as WorldOf}
 use Rattle.cluster_events.specs.Servers.{State}
-use Rattle.lone_cluster.specs.Lone.{Alone}
+use Rattle.pair_cluster.specs.Peers.{Peers}
+use Rattle.cluster_rounds.specs.Came.{DiskSeen}
 use Rattle.service_laws.specs.Telling.{TellSends, callbacks_of}
 use Rattle.cluster_core.specs.declared.world.World.{World}
 use Rattle.cluster_core.specs.Broken.{Broken}
@@ -31,15 +32,15 @@ TellsOnce setup lines state told files = TellsEach setup state.world
 
 -- the same where an event broke off, by the marks of the items that clients were fed
 abbrev pub TellsBroken :
-    (setup : Setup) (state : State Alone) (held left : Option Files) (world : World) → Broken setup state held left world → Type 0
+    (setup : Setup) (state : State Peers) (held left : Option Files) (world : World) → Broken setup state held left world → Type 0
 TellsBroken setup state held left world broken =
     (client key : ℕ)
     → TellSends setup broken.rest.core.answered client key (callbacks_of key (broken.fed client).marks (fed_of (broken.rest.agents client)))
 
 -- so it is behind each front of a script that was played on a disk that told these files before, wherever want of memory in the
 -- next line left the world and the disk as they are now
-abbrev pub TellsAtWant : (held left : Option Files) (world : World) → Type 0
+abbrev pub TellsAtWant : (held : Option Files) (left : DiskSeen) (world : World) → Type 0
 TellsAtWant held left world =
-    (script done rest : List Line) (next : Line) (text : List ℕ) (front : PlaysFront held script done (next ∷ rest) text)
-    (broken : Broken front.setup front.goes.state (files_told front.goes.files held) left world)
-    → TellsBroken front.setup front.goes.state (files_told front.goes.files held) left world broken
+    (first : ℕ) (script done rest : List Line) (next : Line) (text : List ℕ) (front : PlaysFront held first script done (next ∷ rest) text)
+    (broken : Broken front.setup front.goes.state (files_told front.goes.files held) left.files world)
+    → TellsBroken front.setup front.goes.state (files_told front.goes.files held) left.files world broken

@@ -94,14 +94,6 @@ pub fn usage(alloc: Global) -> Result<End, AllocError>
     end_with(alloc, Status8::Usage, USAGE)
 }
 
-/// The end where a script has a line that cannot be played.
-pub fn not_built(alloc: Global) -> Result<End, AllocError>
-    ensures status { IfOk result (λ end. end.status ≡ Status8.ScriptRefused) }
-    ensures text { IfOk result (λ end. end.text.items ≡ codes "script not built\n") }
-{
-    end_with(alloc, Status8::ScriptRefused, b"script not built\n")
-}
-
 /// The end where a line of the input is bad.
 pub fn bad_line(alloc: Global, line: u32, why: ScriptWhy) -> Result<End, AllocError>
     ensures status { IfOk result (λ end. end.status ≡ Status8.ScriptRefused) }

@@ -1,14 +1,15 @@
 //! Playing a script: the cluster begins on a disk without files, and then line follows line.
-ghost use Rattle.std.specs.Prelude.{◌≡◌, ◌∷◌, ◌++◌, ℕ, codes, List, Option, IfOk};
+ghost use Rattle.std.specs.Prelude.{◌≡◌, ◌∷◌, ◌++◌, ℕ, codes, List, Option, None, IfOk};
 ghost use Rattle.ais_values.specs.Causes.{RoseExactlyOn};
 ghost use Rattle.disk_model.specs.Disk.{Files};
 ghost use Rattle.plain_service.specs.Setups.{Setup};
 ghost use Rattle.cluster_events.specs.Servers.{State};
-ghost use Rattle.lone_cluster.specs.Lone.{Alone};
+ghost use Rattle.pair_cluster.specs.Peers.{Peers};
+ghost use Rattle.cluster_rounds.specs.Came.{seen};
 ghost use Rattle.script_language.specs.Lines.{Spells};
 ghost use Rattle.cluster_core.specs.Beginning.{Begun, HoldsNone};
-ghost use Rattle.cluster_core.specs.Playing.{IsLoneLine};
-ghost use Rattle.cluster_core.specs.Worlds.{empty_world, HasState, IsGood, Shows, TellsFiles};
+ghost use Rattle.cluster_core.specs.Playing.{IsEventLine};
+ghost use Rattle.cluster_core.specs.Worlds.{empty_world, HasState, IsArmedBy, IsGood, Shows, TellsFiles};
 ghost use Rattle.aisrun.specs.Edges.{edge, stage};
 ghost use Rattle.aisrun.specs.Endings.{StoodUpTo};
 ghost use Rattle.aisrun.specs.Scripting.{CanPlay, IsPlayable};
@@ -38,12 +39,14 @@ fn play_line<R: Threads + Wait + Sync, K: Sink, D: SharedDisk, G: Gate>(
     world: &mut World,
 ) -> Result<(), Status8>
     requires spelled { (raw : List ℕ) × Spells line.now raw }
-    requires lone { IsLoneLine world.old.now line.now }
-    requires state { HasState world.old }
-    ensures { (setup : Setup) (state : State Alone) → IsGood setup state
-        → Shows setup state world.old → TellsFiles setup state (D.files disk.old)
-        → LineGives (D.faults disk.old, D.faults disk.new)
-        (LineEnds setup state line.now (D.files disk.old) (D.files disk.new) world.new)
+    requires event { IsEventLine world.old.now line.now }
+    requires state { HasState world.old (D.tally disk.old).armed }
+    ensures { (setup : Setup) (state : State Peers) → IsGood setup state
+        → Shows setup state world.old → IsArmedBy state (D.tally disk.old).armed
+        → TellsFiles setup state (D.files disk.old)
+        → LineGives (D.faults disk.old, D.faults disk.new) (LineEnds setup state line.now
+        (seen (D.files disk.old) (D.tally disk.old) (D.faults disk.old))
+        (seen (D.files disk.new) (D.tally disk.new) (D.faults disk.new)) world.new)
         (LineLacks setup state (D.files disk.old) (D.files disk.new) world.new)
         (edge K.written K.faults out.old out.new) result }
 {
@@ -67,14 +70,17 @@ fn play_events<R: Threads + Wait + Sync, K: Sink, D: SharedDisk, G: Gate>(
     gate: &G,
     world: &mut World,
 ) -> Status8
-    requires begun { HasBegun (D.files disk.old) world.old }
+    requires begun { HasBegun (seen (D.files disk.old) (D.tally disk.old) (D.faults disk.old))
+        world.old }
     requires follows { CanFollow world.old.now events.now }
     ensures { (setup : Setup) (places : ℕ) (held : Option Files)
-        → Begun setup places held (D.files disk.old) world.old
+        → Begun setup places held
+        (seen (D.files disk.old) (D.tally disk.old) (D.faults disk.old)) world.old
         → Ended unasked (D.faults disk.old, D.faults disk.new)
-        (EventsEnd setup places held (D.files disk.new)
+        (EventsEnd setup places held (D.faults disk.old)
+        (seen (D.files disk.new) (D.tally disk.new) (D.faults disk.new))
         (StoodUpTo (edge D.files D.faults disk.old disk.new)) world.new events.now)
-        (LacksBehind setup places held (D.files disk.new) world.new events.now)
+        (LacksBehind setup places held (D.faults disk.old) (D.files disk.new) world.new events.now)
         (edge K.written K.faults out.old out.new) result }
 {
     for line in events {
@@ -100,8 +106,10 @@ fn open<R: Threads + Wait + Sync, K: Sink, D: SharedDisk, G: Gate>(
     requires script { CanPlay opening.now events.now }
     requires empty { world.old ≡ empty_world }
     requires bare { HoldsNone (D.files disk.old) }
+    requires unarmed { (D.tally disk.old).armed ≡ None }
     ensures { PlayedOn (opening.now ∷ events.now) (stage (edge K.written K.faults out.old out.new)
-        (edge D.files D.faults disk.old disk.new) world.old world.new) result }
+        (edge D.files D.faults disk.old disk.new) (D.tally disk.new).armed world.old world.new)
+        result }
 {
     match world.begin(rt, alloc, opening, disk) {
         Ok(()) => play_events(rt, alloc, events, out, disk, gate, world),
@@ -114,6 +122,7 @@ fn open<R: Threads + Wait + Sync, K: Sink, D: SharedDisk, G: Gate>(
 fn first_name<D: SharedDisk>(alloc: Global, disk: &mut D) -> Result<Option<Text>, DiskAnswer>
     ensures found { IfOk result (λ found. FindsNames (D.files disk.old) found) }
     ensures same { D.files disk.new ≡ D.files disk.old }
+    ensures armed { (D.tally disk.new).armed ≡ (D.tally disk.old).armed }
     ensures cause { RoseExactlyOn (D.faults disk.old) (D.faults disk.new) result DiskAnswer.Failed }
 {
     let names = match disk.names(alloc) {
@@ -145,8 +154,9 @@ fn write_held<K: Sink>(alloc: Global, out: &mut K, name: &[u8]) -> Status8
 /// others are its events, whose lines are written as each event ends.
 ///
 /// `RootNotEmpty` comes where the disk holds a file; its least name is written, and disk and world stay.
-/// `DiskFault` comes only where the disk's count of faults rose. By any status but this one the count stands, but where the
-/// sink failed or lacked memory as the line of a disk fault was written.
+/// `DiskFault` comes only where the disk's count of faults rose: as its names were asked for, in the deeds of the start, as a
+/// line showed files, or where no other server was in service. A fault in the work of a server whose standby takes over ends
+/// no run; its rise is told by a line `server S down`.
 pub fn play<R: Threads + Wait + Sync, K: Sink, D: SharedDisk, G: Gate>(
     rt: &R,
     alloc: Global,
@@ -158,8 +168,10 @@ pub fn play<R: Threads + Wait + Sync, K: Sink, D: SharedDisk, G: Gate>(
 ) -> Status8
     requires script { IsPlayable lines.now }
     requires empty { world.old ≡ empty_world }
+    requires unarmed { (D.tally disk.old).armed ≡ None }
     ensures { PlayedOn lines.now (stage (edge K.written K.faults out.old out.new)
-        (edge D.files D.faults disk.old disk.new) world.old world.new) result }
+        (edge D.files D.faults disk.old disk.new) (D.tally disk.new).armed world.old world.new)
+        result }
 {
     match first_name(alloc, disk) {
         Ok(None) => match lines.split_first() {

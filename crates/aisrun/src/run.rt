@@ -1,5 +1,5 @@
 //! The top call: the words, a source, a sink, a disk and a world, and the status that the run ends with.
-ghost use Rattle.std.specs.Prelude.{◌≡◌, ◌≤◌, Some, length};
+ghost use Rattle.std.specs.Prelude.{◌≡◌, ◌≤◌, None, Some, length};
 ghost use Rattle.aisrun.specs.AfterFault.{KeepsAtFault};
 ghost use Rattle.aisrun.specs.Commands.{command_of, word_bytes};
 ghost use Rattle.aisrun.specs.Completing.{CanCheck, CanGenerate, CanParse, CanRun, HoldsRecords, IsDoneOrMemory};
@@ -7,11 +7,12 @@ ghost use Rattle.aisrun.specs.Counts.{HasRisen, NoneRises, RisesBy};
 ghost use Rattle.aisrun.specs.declared.ending.Status8.{Status8};
 ghost use Rattle.aisrun.specs.Edges.{around, edge, fault_count, stage};
 ghost use Rattle.aisrun.specs.Endings.{Ends, EndsBy};
-ghost use Rattle.aisrun.specs.Promises.{OfAllLines, Throughout, CallsBack, CommitsInTime, DeclinesRightly, KeepsFiles, KeepsOneHistory, KeepsRecords, PrintsPosts, ReadsRightly, RepliesRightly, SettlesAll, StandsOnce};
+ghost use Rattle.aisrun.specs.Promises.{OfAllLines, Throughout, CallsBack, CommitsInTime, DeclinesRightly, FallsByCause, FaultsFell, KeepsFiles, KeepsOneHistory, KeepsRecords, PrintsPosts, ReadsRightly, RepliesRightly, SettlesAll, StandsOnce};
 ghost use Rattle.aisrun.specs.Telling.{TellsAtWant, TellsOnce};
 ghost use Rattle.aisrun.specs.Scripting.{BytesEnd, BytesLack};
 ghost use Rattle.aisrun.specs.RunSteps.{InputEnds, InputLacks, WordsLack};
 ghost use Rattle.aisrun.specs.Steps.{Ended, unasked};
+ghost use Rattle.cluster_rounds.specs.Came.{seen};
 ghost use Rattle.cluster_core.specs.Worlds.{empty_world};
 
 use crate::check::run_check;
@@ -44,8 +45,9 @@ fn run_bytes<R: Threads + Wait + Sync, K: Sink, D: SharedDisk, G: Gate>(
 ) -> Status8
     requires short { length bytes.now ≤ 16777216 }
     requires empty { world.old ≡ empty_world }
+    requires unarmed { (D.tally disk.old).armed ≡ None }
     ensures { let scene = stage (edge K.written K.faults out.old out.new)
-        (edge D.files D.faults disk.old disk.new) world.old world.new
+        (edge D.files D.faults disk.old disk.new) (D.tally disk.new).armed world.old world.new
         in Ended unasked (fault_count scene.disk) (BytesEnd bytes.now scene)
         (BytesLack bytes.now scene) scene.sink result }
 {
@@ -66,10 +68,11 @@ fn run_script<R: Threads + Wait + Sync, S: Source, K: Sink, D: SharedDisk, G: Ga
     gate: &G,
     world: &mut World,
 ) -> Status8
-    requires { world.old ≡ empty_world }
+    requires empty { world.old ≡ empty_world }
+    requires unarmed { (D.tally disk.old).armed ≡ None }
     ensures { let source = edge S.left S.faults source.old source.new in
         let scene = stage (edge K.written K.faults out.old out.new)
-        (edge D.files D.faults disk.old disk.new) world.old world.new
+        (edge D.files D.faults disk.old disk.new) (D.tally disk.new).armed world.old world.new
         in Ended (fault_count source) (fault_count scene.disk) (InputEnds source scene)
         (InputLacks source scene) scene.sink result }
 {
@@ -93,9 +96,10 @@ fn run_command<R: Threads + Wait + Sync, S: Source, K: Sink, D: SharedDisk, G: G
 ) -> Status8
     requires asked { Some command ≡ command_of (word_bytes words.now) }
     requires empty { world.old ≡ empty_world }
+    requires unarmed { (D.tally disk.old).armed ≡ None }
     ensures { let run = around (word_bytes words.now)
         (edge S.left S.faults source.old source.new) (edge K.written K.faults out.old out.new)
-        (edge D.files D.faults disk.old disk.new) world.old world.new
+        (edge D.files D.faults disk.old disk.new) (D.tally disk.new).armed world.old world.new
         in Ended (fault_count run.source) (fault_count run.stage.disk) (Ends run)
         (WordsLack run) run.stage.sink result }
 {
@@ -121,10 +125,11 @@ fn run_words<R: Threads + Wait + Sync, S: Source, K: Sink, D: SharedDisk, G: Gat
     gate: &G,
     world: &mut World,
 ) -> Status8
-    requires { world.old ≡ empty_world }
+    requires empty { world.old ≡ empty_world }
+    requires unarmed { (D.tally disk.old).armed ≡ None }
     ensures { let run = around (word_bytes words.now)
         (edge S.left S.faults source.old source.new) (edge K.written K.faults out.old out.new)
-        (edge D.files D.faults disk.old disk.new) world.old world.new
+        (edge D.files D.faults disk.old disk.new) (D.tally disk.new).armed world.old world.new
         in Ended (fault_count run.source) (fault_count run.stage.disk) (Ends run)
         (WordsLack run) run.stage.sink result }
 {
@@ -147,26 +152,32 @@ fn run_words<R: Threads + Wait + Sync, S: Source, K: Sink, D: SharedDisk, G: Gat
 /// whose tokens the texts cannot be told apart in records of the size (`Inseparable`). SIZE is 0, for records that end with
 /// their first line feed, or 32 to 16,384; TOKEN is 1 to 1,024.
 ///
+/// The disk is not armed before.
+///
 /// The clause `ends` says of each status what was read, what is written and what stands. Every count of faults stands but
 /// as the status says: `WriteFault` comes exactly where the sink's rose, whatever was to come; the source's rises by
-/// `ReadFault` and the disk's by `DiskFault`, and each only so, or where the sink failed or lacked memory as the text of just
-/// this end was written. The disk's rose as the names were asked for, in the deeds of the start, or in an event; of the last
-/// it is said that a value of the disk that tells the files of the events before has the count of the start. The disk is
-/// asked for nothing, and no line is played, of a script with a line on servers that fail and come back. Where memory ran
-/// out in the sink, `Memory`, a front of a text was written; elsewhere no object had failed, and all text up to there was;
-/// `check`, `expr`, `gen`, `scan`, `find` and words that are none of the program's leave disk and world as they are all the
-/// same, `expr`, `gen` and such words the source too, and so do `scan` and `find` where it was not yet known whether their
-/// text serves.
+/// `ReadFault`, and only so, or where the sink failed or lacked memory as the text of just this end was written. The disk's
+/// goes along with the lines that are played: it rises in one that is done only where a line of it tells that a server is
+/// down, and by `DiskFault`: as the names were asked for, in the deeds of the start, as a line showed files, or in an event
+/// behind which no server is active. There no other server was in service as the disk failed: the works that failed
+/// before are those by which the count rose before, and a takeover in the event had a fault of its own. Of the count before
+/// that event it is said that a value of the disk with the files of the events before has it. Where memory ran out in the
+/// sink, `Memory`, a front of a text was written; elsewhere no object had failed but the disk in works of servers that went
+/// down, and all text up to there was written; `check`, `expr`, `gen`, `scan`, `find` and words that are none of the
+/// program's leave disk and world as they are all the same, `expr`, `gen` and such words the source too, and so do `scan`
+/// and `find` where it was not yet known whether their text serves.
 ///
-/// The clauses behind them say of each run what holds at the end of every line that was played, by any status. A line tells
-/// a refusal by a client's agent exactly where the calls that the client had sent, and those of them whose reply no line
-/// told, make one due. Each entry is committed at the time in force. Of every subscription, the callbacks that its client
-/// got tell of the first sends answered ok for which it asked while it lasted, each once and in order, and tell as lost
-/// those that were dropped; so no notification comes twice to it, and those of one sender come in its order. No two calls
-/// have a record at one place. Where a fault of the disk ended it in an entry's work, the same holds of history, replies,
-/// callbacks and posts up to the fault, the entry is committed and has no reply, and what was answered as stored before it
-/// stands, unless the entry gives its place away; where the fault came in a line that shows files, all stands as at the end
-/// of the line before. Where memory ran out in an event, what clients were fed up to there tells the same of the sends.
+/// The clauses behind them say of each run what holds at the end of every line that was played, by any status, whatever is
+/// lost, repeated, reordered, crashed, stopped, restarted or failed over. A line tells a refusal by a client's agent exactly
+/// where the calls that the client had sent, and those of them whose reply no line told, make one due. Each entry is of the
+/// time that was in force as it was accepted. A server goes down only by `crash`, where the count that was armed came to
+/// its end, or where the disk's count of faults rose. Of every subscription, the callbacks that its client got tell of the
+/// first sends answered ok for which it asked while it lasted, each once and in order, and tell as lost those that were
+/// dropped; so no notification comes twice to it, and those of one sender come in its order. No two calls have a record at
+/// one place. Where a fault of the disk left no active server, the same holds of history, replies, callbacks and posts up to
+/// the fault; the last entry, whose work failed, has no reply, but behind a `crash`; and what was answered as stored before
+/// it stands, unless the entry gives its place away. Where the fault came in a line that shows files, all stands as at the
+/// end of the line before. Where memory ran out in an event, what clients were fed up to there tells the same of the sends.
 pub fn run<R: Threads + Wait + Sync, S: Source, K: Sink, D: SharedDisk, G: Gate>(
     rt: &R,
     alloc: Global,
@@ -177,12 +188,13 @@ pub fn run<R: Threads + Wait + Sync, S: Source, K: Sink, D: SharedDisk, G: Gate>
     gate: &G,
     world: &mut World,
 ) -> Status8
-    requires { world.old ≡ empty_world }
+    requires empty { world.old ≡ empty_world }
+    requires unarmed { (D.tally disk.old).armed ≡ None }
 
     // How the run ends, by its status.
     ensures ends { EndsBy result (around (word_bytes words.now)
         (edge S.left S.faults source.old source.new) (edge K.written K.faults out.old out.new)
-        (edge D.files D.faults disk.old disk.new) world.old world.new) }
+        (edge D.files D.faults disk.old disk.new) (D.tally disk.new).armed world.old world.new) }
 
     // Which counts of faults rose.
     ensures faults { RisesBy result (S.faults source.old, S.faults source.new)
@@ -193,6 +205,8 @@ pub fn run<R: Threads + Wait + Sync, S: Source, K: Sink, D: SharedDisk, G: Gate>
     ensures replies { Throughout (D.files disk.old) RepliesRightly }
     ensures declines { OfAllLines (D.files disk.old) DeclinesRightly }
     ensures in_time { OfAllLines (D.files disk.old) CommitsInTime }
+    ensures falls { OfAllLines (D.files disk.old) FallsByCause }
+    ensures fells { OfAllLines (D.files disk.old) FaultsFell }
     ensures readers { Throughout (D.files disk.old) ReadsRightly }
     ensures callbacks { Throughout (D.files disk.old) CallsBack }
     ensures tells_once { Throughout (D.files disk.old) TellsOnce }
@@ -203,13 +217,15 @@ pub fn run<R: Threads + Wait + Sync, S: Source, K: Sink, D: SharedDisk, G: Gate>
     ensures settles { Throughout (D.files disk.old) SettlesAll }
 
     // What holds where a fault of the disk ended the run in an event.
-    ensures fault_keeps { KeepsAtFault (D.files disk.old) (D.files disk.new) world.new }
+    ensures fault_keeps { KeepsAtFault (D.files disk.old)
+        (seen (D.files disk.new) (D.tally disk.new) (D.faults disk.new)) world.new }
 
     // What holds where memory ran out in an event.
-    ensures want_tells { TellsAtWant (D.files disk.old) (D.files disk.new) world.new }
+    ensures want_tells { TellsAtWant (D.files disk.old)
+        (seen (D.files disk.new) (D.tally disk.new) (D.faults disk.new)) world.new }
 
-    // Where nothing fails, a script without lines on failures is played, a script is checked, an expression is taken apart,
-    // a script is made, and records are told: only memory may be missing.
+    // Where nothing fails, a script is played, a script is checked, an expression is taken apart, a script is made, and records
+    // are told: only memory may be missing.
     ensures completes { CanRun (word_bytes words.now) (S.left source.old) (D.files disk.old)
         → NoneRises (S.faults source.old, S.faults source.new) (K.faults out.old, K.faults out.new)
         (D.faults disk.old, D.faults disk.new) → IsDoneOrMemory result }

@@ -1,4 +1,5 @@
 //! Whole runs over objects in memory: what they print, and the calls outside failing in turn.
+mod failing_servers;
 mod rows;
 mod short_disk;
 
@@ -7,6 +8,7 @@ use ais_values::Duplicate;
 use callback_dispatch::OpenGate;
 use cluster_core::World;
 use disk_model::{MemDisk, SharedDisk};
+use failing_servers::FAILING;
 use io_edge::{MemSink, MemSource, Sink, SinkAnswer};
 use rows::PLAYED;
 use short_disk::ShortDisk;
@@ -75,11 +77,11 @@ const ENDS: &str = "\
     check|crash a\narm a 5\ndisarm\nrestart a\n|0|ok 5\n;\
     run|time 5x\n|1|script line 2: grammar\n;\
     run|settle\ntime 5\n|1|script line 3: time\n;\
-    run|crash a\n|1|script not built\n;\
-    run|settle\narm a 5\n|1|script not built\n;\
-    run|disarm|1|script not built\n;\
+    run|crash a\n|0|server a down\nserver b active\n;\
+    run|settle\narm a 5\n|0|;\
+    run|disarm|0|;\
     run|restart b\ntime 5\n|1|script line 3: time\n;\
-    run|restart b\n|1|script not built\n;\
+    run|restart b\n|0|refused restart b a=active b=standby net=0 link=0 back=0 hand=-\n;\
     expr,system,@Cr @Cb||0|ok 3\n;\
     expr,notification,||0|ok 0\n;\
     expr,alarm,@Sv||1|bad 1 WrongClass\n;\
@@ -111,23 +113,20 @@ const SCANS: &str = "\
     scan,alarm,a,0||4|read fault\n;\
     find,alarm,a,0,1024,a||4|read fault\n";
 
-/// One digit each for the failing call of the source, of the sink and of the disk's reading ones, whether the script has a line on
-/// failures, whether there is a file, and the exit status; then the word and the text, one row a line. The disk's first changing
-/// call fails.
+/// One digit each for the failing call of the source, of the sink and of the disk's reading ones, whether there is a file, and the
+/// exit status; then the word and the text, one row a line. The disk's first changing call fails.
 const REASONS: &str = "\
-    100002|run,run|usage: aisrun run, check, expr KIND TEXT, gen COUNT SEED, scan KIND TEXT SIZE or find KIND TEXT SIZE TOKEN WORD\n;\
-    100114|run|read fault\n;\
-    001111|run|script not built\n;\
-    000017|run|root not empty: x\n;\
-    000006|run|disk fault\n;\
-    001016|run|disk fault\n;\
-    110115|run,run|;\
-    110115|run|;\
-    010115|run|;\
-    010015|run|;\
-    010005|run|;\
-    011015|scan,system,a,0|;\
-    010005|find,system,@Cb,0,1,settle|";
+    10002|run,run|usage: aisrun run, check, expr KIND TEXT, gen COUNT SEED, scan KIND TEXT SIZE or find KIND TEXT SIZE TOKEN WORD\n;\
+    10014|run|read fault\n;\
+    00017|run|root not empty: x\n;\
+    00006|run|disk fault\n;\
+    00116|run|disk fault\n;\
+    11015|run,run|;\
+    11015|run|;\
+    01015|run|;\
+    01005|run|;\
+    01115|scan,system,a,0|;\
+    01005|find,system,@Cb,0,1,settle|";
 
 /// The most bytes of a piece that a sink takes.
 const PIECE: usize = 100;
@@ -211,6 +210,8 @@ fn play<R: Abort + Threads + Wait + Sync, D: SharedDisk>(
 ) -> u8 {
     let list = parted(rt, alloc, words);
     let mut world = World::empty(alloc);
+    // A run begins on a disk that is not armed.
+    disk.disarm();
     let status = run(
         rt,
         alloc,
@@ -252,19 +253,65 @@ fn behind_cluster(rt: &impl Abort, alloc: Global, rest: &str) -> Vec<u8> {
     input.into_bytes()
 }
 
-/// The script of a row prints the row's text.
-fn row_plays<R: Abort + Threads + Wait + Sync>(rt: &R, alloc: Global, row: &str) {
-    let (script, text) = row.split_once('^').expect(rt, "a script and a text");
+/// A script over a disk of which these changing calls fail, and whose torn ranges hold these bytes, prints this text.
+fn plays_on<R: Abort + Threads + Wait + Sync>(
+    rt: &R,
+    alloc: Global,
+    changes: &[u64],
+    torn: &[u8],
+    script: &str,
+    text: &str,
+) {
     let input = script.as_bytes().to_vec(alloc).expect(rt, "memory");
     let mut stage = prepared(rt, alloc, input, NONE);
+    let failing = changes.to_vec(alloc).expect(rt, "memory");
+    let torn = torn.to_vec(alloc).expect(rt, "memory");
+    stage.disk = MemDisk::new(alloc, failing, Vec::new(alloc), torn);
     ends(rt, alloc, &mut stage, "run", 0, text.as_bytes());
     drop(stage);
+}
+
+/// The script of a row prints the row's text, whatever bytes torn ranges hold.
+fn row_plays<R: Abort + Threads + Wait + Sync>(rt: &R, alloc: Global, torn: &[u8], row: &str) {
+    let (script, text) = row.split_once('^').expect(rt, "a script and a text");
+    plays_on(rt, alloc, &[], torn, script, text);
 }
 
 #[test]
 fn scripts_are_played(rt: HostRuntime) {
     for row in PLAYED.split('`') {
-        row_plays(&rt, rt.alloc(), row);
+        row_plays(&rt, rt.alloc(), &[], row);
+    }
+}
+
+#[test]
+fn scripts_of_failing_servers_are_played(rt: HostRuntime) {
+    for row in FAILING.split('`') {
+        row_plays(&rt, rt.alloc(), b"\x00torn\n", row);
+    }
+}
+
+/// Five records on a file that holds two; the fifth makes the changing calls 21 and 22.
+const WRAPPED: &str = "\
+    cluster start=1704067200000000000 queue=2 callbacks=8 sysfmt=\"@Cr @Cb\" sysrec=32 sysmax=64 sysfull=wrap\n\
+    log 1 init A.2.1\n\
+    log 1 open system\n\
+    log 1 write system inv=0 flags=0 gen sev=6 class=0.0.0 user=\"u\" body=\"a\"\n\
+    log 1 write system inv=0 flags=0 gen sev=6 class=0.0.0 user=\"u\" body=\"b\"\n\
+    log 1 write system inv=0 flags=0 gen sev=6 class=0.0.0 user=\"u\" body=\"c\"\n\
+    log 1 write system inv=0 flags=0 gen sev=6 class=0.0.0 user=\"u\" body=\"d\"\n\
+    settle\n\
+    log 1 write system inv=0 flags=0 gen sev=6 class=0.0.0 user=\"u\" body=\"e\"\n\
+    settle\n\
+    cat \"saLogSystem_20240101_000002.log\"\n";
+
+/// A call that fails is taken over as one in which the server stops.
+#[test]
+fn each_change_of_a_wrapped_record_fails_in_turn(rt: HostRuntime) {
+    let row = FAILING.split('`').nth(1).expect(&rt, "a second row");
+    let (_, text) = row.split_once('^').expect(&rt, "a script and a text");
+    for change in 21..23 {
+        plays_on(&rt, rt.alloc(), &[change], b"torn", WRAPPED, text);
     }
 }
 
@@ -338,17 +385,12 @@ fn reason_ends<R: Abort + Threads + Wait + Sync>(rt: &R, alloc: Global, row: &st
     let (digits, row) = row.split_once('|').expect(rt, "digits");
     let (words, text) = row.split_once('|').expect(rt, "words and a text");
     let digits = digits.as_bytes();
-    let rest = if digit(digits, 3) == 1 {
-        "crash a\n"
-    } else {
-        WRITE
-    };
-    let input = behind_cluster(rt, alloc, rest);
+    let input = behind_cluster(rt, alloc, WRITE);
     let mut stage = prepared(rt, alloc, input, failing_by(digits));
-    if digit(digits, 4) == 1 {
+    if digit(digits, 3) == 1 {
         stage.disk.hold(b"x", Vec::new(alloc)).expect(rt, "memory");
     }
-    let status = digit(digits, 5);
+    let status = digit(digits, 4);
     ends(rt, alloc, &mut stage, words, status, text.as_bytes());
     drop(stage);
 }
@@ -360,9 +402,12 @@ fn the_first_reason_ends_the_run(rt: HostRuntime) {
     }
 }
 
-/// The lines before the record's deeds, and the one behind them.
+/// The lines before the record's deeds.
 const BEFORE: &str =
-    "post 1 req 1 1\npost 2 req 1 2\npost 3 req 1 3\nacc 1 call 1 1 1704067200000000000\npost 4 rep 1 1\nreply 1 1 ok\nacc 2 call 1 2 1704067200000000000\npost 5 rep 1 2\nreply 1 2 ok\nacc 3 call 1 3 1704067200000000000\nserver a down\n";
+    "post 1 req 1 1\npost 2 req 1 2\npost 3 req 1 3\nacc 1 call 1 1 1704067200000000000\npost 4 rep 1 1\nreply 1 1 ok\nacc 2 call 1 2 1704067200000000000\npost 5 rep 1 2\nreply 1 2 ok\nacc 3 call 1 3 1704067200000000000\n";
+
+/// What the standby prints where the active server fails in these deeds: it does them again, and answers the repeated call.
+const TAKEN_OVER: &str = "server a down\nserver b active\npost 6 rep 1 3\nreply 1 3 ok\n";
 
 /// With this failing call the lines print this text, and then the disk's fault.
 fn breaks<R: Abort + Threads + Wait + Sync>(
@@ -379,14 +424,59 @@ fn breaks<R: Abort + Threads + Wait + Sync>(
     drop(stage);
 }
 
-/// The opening makes twelve changing calls, and the record two.
+/// The opening makes twelve changing calls.
 #[test]
-fn each_change_of_the_disk_fails_in_turn(rt: HostRuntime) {
-    for change in 1..15 {
-        let shown = if change <= 12 { "" } else { BEFORE };
-        breaks(&rt, rt.alloc(), WRITE, Failing { change, ..NONE }, shown);
+fn each_change_of_the_start_fails_in_turn(rt: HostRuntime) {
+    for change in 1..13 {
+        breaks(&rt, rt.alloc(), WRITE, Failing { change, ..NONE }, "");
     }
 }
+
+/// The run over a disk of which these changing calls fail ends so, behind the lines before the record's deeds.
+fn fails_at<R: Abort + Threads + Wait + Sync>(
+    rt: &R,
+    alloc: Global,
+    changes: &[u64],
+    rest: &str,
+    status: u8,
+    shown: &str,
+) {
+    let input = behind_cluster(rt, alloc, rest);
+    let mut stage = prepared(rt, alloc, input, NONE);
+    let failing = changes.to_vec(alloc).expect(rt, "memory");
+    stage.disk = MemDisk::new(alloc, failing, Vec::new(alloc), Vec::new(alloc));
+    let text = format!(in alloc; "{BEFORE}{shown}").expect(rt, "memory");
+    ends(rt, alloc, &mut stage, "run", status, text.as_bytes());
+    drop(stage);
+}
+
+/// The record makes two changing calls: where one of them fails, the standby takes over.
+#[test]
+fn each_change_of_a_record_fails_in_turn(rt: HostRuntime) {
+    for change in 13..15 {
+        fails_at(&rt, rt.alloc(), &[change], WRITE, 0, TAKEN_OVER);
+    }
+}
+
+/// A fault in the takeover takes the standby down too, and so does one in its own work.
+#[test]
+fn a_fault_without_a_standby_ends_the_run(rt: HostRuntime) {
+    let alloc = rt.alloc();
+    let both = "server a down\nserver b down\ndisk fault\n";
+    fails_at(&rt, alloc, &[13, 14], WRITE, 6, both);
+    fails_at(&rt, alloc, &[14, 16], WRITE, 6, both);
+    let more = format!(in alloc; "{WRITE}{ANOTHER}").expect(&rt, "memory");
+    let later = format!(in alloc; "{TAKEN_OVER}{ANSWERED}").expect(&rt, "memory");
+    fails_at(&rt, alloc, &[14, 17], more.as_str(), 6, later.as_str());
+}
+
+/// One record more.
+const ANOTHER: &str =
+    "log 1 write system inv=0 flags=0 gen sev=6 class=0.0.0 user=\"u\" body=\"b\"\nsettle\n";
+
+/// What is printed of it where the one server that is left fails in its deeds.
+const ANSWERED: &str =
+    "post 7 req 1 4\nacc 4 call 1 4 1704067200000000000\nserver b down\ndisk fault\n";
 
 const SHOWING: &str = "files\ncat \"saLogSystem.cfg\"\n";
 

@@ -579,6 +579,7 @@ pub const PLAYED: &str = "\
     reply 1 - BAD_HANDLE\n\
     `\
     cluster start=1704067200000000000 queue=1 callbacks=1\n\
+    crash b\n\
     servers\n\
     mirror\n\
     ack\n\
@@ -608,6 +609,7 @@ pub const PLAYED: &str = "\
     cat \"x\\x07\"\n\
     cat \"saLogSystem_20240101_000002.log\"\n\
     ^\
+    server b down\n\
     server a active\n\
     server b down\n\
     refused mirror a=active b=down net=0 link=0 back=0 hand=-\n\
@@ -645,6 +647,7 @@ pub const PLAYED: &str = "\
     text          2 00:00:01 01/01/2024 IN u \"y\"\n\
     `\
     cluster start=1704067200000000000 queue=2 callbacks=1\n\
+    crash b\n\
     ntf 1 init A.1.1\n\
     ntf 1 subscribe 9 filter alarm\n\
     settle\n\
@@ -675,6 +678,7 @@ pub const PLAYED: &str = "\
     settle\n\
     dispatch 1 all workers=1\n\
     ^\
+    server b down\n\
     post 1 req 1 1\n\
     post 2 req 1 2\n\
     acc 1 call 1 1 1704067200000000000\n\

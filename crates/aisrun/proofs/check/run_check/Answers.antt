@@ -3,6 +3,7 @@ use Rattle.aisrun.specs.Checking.{CheckEnds, Judged}
 use Rattle.aisrun.specs.Edges.{edge, fault_count}
 use Rattle.aisrun.specs.Endings.{input_limit, ReadsWhole}
 use Rattle.aisrun.specs.Steps.{Counting, IsNone, Standing, unasked}
+use Rattle.aisrun.proofs.CountSteps.{on-same}
 use Rattle.aisrun.proofs.EndingSteps.{end-written, judged-check, ok-ends, unread-written}
 use Rattle.aisrun.proofs.check.run_check.Goals as goal
 
@@ -18,7 +19,7 @@ returns-in-Ok g c =
     let whole = subst (λ (one : List ℕ). ReadsWhole source one) (sym c.as_slice.ensures.value) c.in-Ok.ensures.bytes in
     let stood = c.in-Ok.ensures.cause.stands in
     let E = Counting (fault_count source) unasked (CheckEnds source) in
-    end-written E (Standing (fault_count source) unasked IsNone) c.judge.result sink c.write_end.result c.write_end.ensures (ok-ends c.judge.result (Judged bytes) E (judged-check source bytes whole stood) c.judge.ensures) (refl, stood, refl)
+    end-written E (Standing (fault_count source) unasked IsNone) c.judge.result sink c.write_end.result c.write_end.ensures (ok-ends c.judge.result (Judged bytes) E (judged-check source bytes whole stood) c.judge.ensures) (refl, stood, on-same 0)
 
 pub returns-in-Err : goal.returns-in-Err
 unfolding input_limit

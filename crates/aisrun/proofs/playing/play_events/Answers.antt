@@ -1,19 +1,23 @@
-use Rattle.std.proofs.Common.{ℕ, ◌+◌, List, drop, refl, ◌∙◌, subst, arith}
+use Rattle.std.proofs.Common.{ℕ, ◌+◌, ◌≤◌, List, drop, refl, ◌∙◌, subst, arith}
 use Rattle.std.proofs.Math.ListN.{drop_of_length-le}
 use Rattle.script_lines.specs.declared.line.Line.{Line}
+use Rattle.cluster_rounds.specs.Came.{seen}
 use Rattle.aisrun.specs.Edges.{edge}
 use Rattle.aisrun.specs.Endings.{StoodUpTo}
 use Rattle.aisrun.specs.Steps.{Behind, CanFollow}
+use Rattle.aisrun.proofs.CountSteps.{on-same}
 use Rattle.aisrun.proofs.GoingSteps.{behind-start, behind-next, behind-last, behind-ends, follow-next, from-place, going-state, going-tells}
 use Rattle.aisrun.proofs.playing.play_events.Goals as goal
 
 pub loop-line-init : goal.loop-line-init
-loop-line-init g c = record {
-  follows = c.requires.follows;
-  behind = λ setup places held begun. behind-start g.K.Sink.written g.K.Sink.faults c.args.out.now setup places held (g.D.SharedDisk.files c.args.disk.now) c.args.world.now c.args.events.now begun;
-  sink = refl;
-  disk = refl;
-}
+loop-line-init g c =
+    let disk = c.args.disk.now in
+    record {
+      follows = c.requires.follows;
+      behind = λ setup places held begun. behind-start g.K.Sink.written g.K.Sink.faults c.args.out.now setup places held (seen (g.D.SharedDisk.files disk) (g.D.SharedDisk.tally disk) (g.D.SharedDisk.faults disk)) c.args.world.now c.args.events.now begun;
+      sink = refl;
+      disk = on-same (g.D.SharedDisk.faults disk);
+    }
 
 pub returns-in-Err : goal.returns-in-Err
 returns-in-Err g c setup places held begun =
@@ -21,59 +25,74 @@ returns-in-Err g c setup places held begun =
     let sink = g.K.Sink.faults in
     let files = g.D.SharedDisk.files in
     let faults = g.D.SharedDisk.faults in
+    let tally = g.D.SharedDisk.tally in
     let events = c.args.events.now in
     let line = c.line-item.result in
     let others = drop (c.loop-line.line-index + 1) events in
+    let mid = seen (files c.loop-line.disk) (tally c.loop-line.disk) (faults c.loop-line.disk) in
+    let left = seen (files c.play_line.new.disk) (tally c.play_line.new.disk) (faults c.play_line.new.disk) in
+    let first = faults c.args.disk.now in
     let at = from-place events c.loop-line.line-index line c.loop-line-test.true c.line-item.is in
-    let behind = subst (λ (rest : List Line). Behind setup places held (files c.loop-line.disk) c.loop-line.world (edge written sink c.args.out.now c.loop-line.out) events rest) at (c.loop-line.invariant.behind setup places held begun) in
-    behind-ends written sink c.args.out.now c.loop-line.out c.play_line.new.out setup places held (files c.loop-line.disk) (files c.play_line.new.disk) (faults c.args.disk.now) (faults c.loop-line.disk) (faults c.play_line.new.disk) (StoodUpTo (edge files faults c.args.disk.now c.play_line.new.disk)) c.loop-line.world c.play_line.new.world events line others c.in-Err.status behind c.loop-line.invariant.sink c.loop-line.invariant.disk
-    (record { mid = c.loop-line.disk; told = refl; stood = c.loop-line.invariant.disk })
-    (c.in-Err.ensures setup behind.going.state behind.going.good behind.going.shows (going-tells setup places held (files c.loop-line.disk) c.loop-line.world behind.done behind.text behind.going))
+    let behind = subst (λ (rest : List Line). Behind setup places held first mid c.loop-line.world (edge written sink c.args.out.now c.loop-line.out) events rest) at (c.loop-line.invariant.behind setup places held begun) in
+    behind-ends setup places held first written sink c.args.out.now c.loop-line.out c.play_line.new.out mid left first mid.faults left.faults (StoodUpTo (edge files faults c.args.disk.now c.play_line.new.disk)) c.loop-line.world c.play_line.new.world events line others c.in-Err.status behind c.loop-line.invariant.sink c.loop-line.invariant.disk
+    (record { mid = c.loop-line.disk; told = refl; count = refl })
+    (c.in-Err.ensures setup behind.going.state behind.going.good behind.going.shows behind.going.armed (going-tells setup places held first mid c.loop-line.world behind.done behind.text behind.going))
 
 pub loop-line-preserved : goal.loop-line-preserved
 loop-line-preserved g c =
     let written = g.K.Sink.written in
     let sink = g.K.Sink.faults in
     let files = g.D.SharedDisk.files in
+    let faults = g.D.SharedDisk.faults in
+    let tally = g.D.SharedDisk.tally in
     let events = c.args.events.now in
     let line = c.line-item.result in
     let others = drop (c.loop-line.line-index + 1) events in
     let old = c.loop-line.world in
     let new = c.play_line.new.world in
+    let mid = seen (files c.loop-line.disk) (tally c.loop-line.disk) (faults c.loop-line.disk) in
+    let left = seen (files c.play_line.new.disk) (tally c.play_line.new.disk) (faults c.play_line.new.disk) in
+    let first = faults c.args.disk.now in
     let at = from-place events c.loop-line.line-index line c.loop-line-test.true c.line-item.is in
     let follows = subst (λ (rest : List Line). CanFollow old.now rest) at c.loop-line.invariant.follows in
     let begun = c.requires.begun in
-    let first = c.loop-line.invariant.behind begun.0 begun.1 begun.2 begun.3 in
-    let first_done = c.in-Ok.ensures begun.0 first.going.state first.going.good first.going.shows (going-tells begun.0 begun.1 begun.2 (files c.loop-line.disk) old first.done first.text first.going) in
+    let one = c.loop-line.invariant.behind begun.0 begun.1 begun.2 begun.3 in
+    let one_done = c.in-Ok.ensures begun.0 one.going.state one.going.good one.going.shows one.going.armed (going-tells begun.0 begun.1 begun.2 first mid old one.done one.text one.going) in
     record {
-      follows = follow-next begun.0 first.going.state (files c.loop-line.disk) (files c.play_line.new.disk) old new line others first_done.1.0 first.going.good first.going.shows first_done.1.2 follows.2;
+      follows = follow-next begun.0 one.going.state mid left old new line others one_done.1.0 one.going.good one.going.shows one_done.1.2 follows.2;
       behind = λ setup places held starts.
-          let behind = subst (λ (rest : List Line). Behind setup places held (files c.loop-line.disk) old (edge written sink c.args.out.now c.loop-line.out) events rest) at (c.loop-line.invariant.behind setup places held starts) in
-          let done = c.in-Ok.ensures setup behind.going.state behind.going.good behind.going.shows (going-tells setup places held (files c.loop-line.disk) old behind.done behind.text behind.going) in
-          behind-next written sink c.args.out.now c.loop-line.out c.play_line.new.out setup places held (files c.loop-line.disk) (files c.play_line.new.disk) old new events line others done.0 done.1.0 behind done.1.1 done.1.2 done.4;
-      sink = first_done.3 ∙ c.loop-line.invariant.sink;
-      disk = first_done.2 ∙ c.loop-line.invariant.disk;
+          let behind = subst (λ (rest : List Line). Behind setup places held first mid old (edge written sink c.args.out.now c.loop-line.out) events rest) at (c.loop-line.invariant.behind setup places held starts) in
+          let done = c.in-Ok.ensures setup behind.going.state behind.going.good behind.going.shows behind.going.armed (going-tells setup places held first mid old behind.done behind.text behind.going) in
+          behind-next setup places held first written sink c.args.out.now c.loop-line.out c.play_line.new.out mid left old new events line others done.0 done.1.0 behind done.1.1 done.1.2 done.4;
+      sink = one_done.3 ∙ c.loop-line.invariant.sink;
+      disk =
+          let before = c.loop-line.invariant.disk in
+          let on : mid.faults ≤ left.faults = one_done.2 in
+          omega arith;
     }
 
 pub returns : goal.returns
 returns g c setup places held begun =
     let files = g.D.SharedDisk.files in
     let faults = g.D.SharedDisk.faults in
+    let tally = g.D.SharedDisk.tally in
+    let left = seen (files c.loop-line.disk) (tally c.loop-line.disk) (faults c.loop-line.disk) in
     let disk : ℕ × ℕ = (faults c.args.disk.now, faults c.loop-line.disk) in
-    behind-last g.K.Sink.written g.K.Sink.faults c.args.out.now c.loop-line.out setup places held (files c.loop-line.disk) disk (StoodUpTo (edge files faults c.args.disk.now c.loop-line.disk)) c.loop-line.world c.args.events.now (drop c.loop-line.line-index c.args.events.now) (drop_of_length-le c.args.events.now (omega arith)) c.loop-line.invariant.sink c.loop-line.invariant.disk (c.loop-line.invariant.behind setup places held begun)
+    behind-last setup places held (faults c.args.disk.now) g.K.Sink.written g.K.Sink.faults c.args.out.now c.loop-line.out left disk (StoodUpTo (edge files faults c.args.disk.now c.loop-line.disk)) c.loop-line.world c.args.events.now (drop c.loop-line.line-index c.args.events.now) (drop_of_length-le c.args.events.now (omega arith)) c.loop-line.invariant.sink c.loop-line.invariant.disk (c.loop-line.invariant.behind setup places held begun)
 
 pub play_line-requires-clause-state : goal.play_line-requires-clause-state
 play_line-requires-clause-state g c κs within =
     let begun = c.requires.begun in
-    let first = c.loop-line.invariant.behind begun.0 begun.1 begun.2 begun.3 in
-    going-state begun.0 begun.1 begun.2 (g.D.SharedDisk.files c.loop-line.disk) c.loop-line.world first.done first.text first.going
+    let one = c.loop-line.invariant.behind begun.0 begun.1 begun.2 begun.3 in
+    let disk = c.loop-line.disk in
+    going-state begun.0 begun.1 begun.2 (g.D.SharedDisk.faults c.args.disk.now) (seen (g.D.SharedDisk.files disk) (g.D.SharedDisk.tally disk) (g.D.SharedDisk.faults disk)) c.loop-line.world one.done one.text one.going
 
 pub play_line-requires-clause-spelled : goal.play_line-requires-clause-spelled
 play_line-requires-clause-spelled g c κs within =
     let at = from-place c.args.events.now c.loop-line.line-index c.line-item.result c.loop-line-test.true c.line-item.is in
     (subst (λ (rest : List Line). CanFollow c.loop-line.world.now rest) at c.loop-line.invariant.follows).0
 
-pub play_line-requires-clause-lone : goal.play_line-requires-clause-lone
-play_line-requires-clause-lone g c κs within =
+pub play_line-requires-clause-event : goal.play_line-requires-clause-event
+play_line-requires-clause-event g c κs within =
     let at = from-place c.args.events.now c.loop-line.line-index c.line-item.result c.loop-line-test.true c.line-item.is in
     (subst (λ (rest : List Line). CanFollow c.loop-line.world.now rest) at c.loop-line.invariant.follows).1

@@ -1,4 +1,5 @@
 use Rattle.std.proofs.Common.{ℕ, List, ◌++◌, ◌∙◌, None, refl, sym, subst}
+use Rattle.cluster_rounds.specs.Came.{seen}
 use Rattle.cluster_core.specs.Playing.{EventDone}
 use Rattle.aisrun.specs.declared.ending.Status8.{Status8}
 use Rattle.aisrun.specs.declared.ending.Status8.TheVariants.{DiskFault}
@@ -11,41 +12,45 @@ use Rattle.aisrun.proofs.GoingSteps.{fault-left}
 use Rattle.aisrun.proofs.playing.play_line.Goals as goal
 
 pub returns-in-Ok : goal.returns-in-Ok
-returns-in-Ok g c setup state good shows tells =
+returns-in-Ok g c setup state good shows armed tells =
     let files = g.D.SharedDisk.files in
     let faults = g.D.SharedDisk.faults in
-    let old = files c.args.disk.now in
-    let new = files c.event.new.disk in
-    let disk : ℕ × ℕ = (faults c.args.disk.now, faults c.event.new.disk) in
+    let tally = g.D.SharedDisk.tally in
+    let held = seen (files c.args.disk.now) (tally c.args.disk.now) (faults c.args.disk.now) in
+    let left = seen (files c.event.new.disk) (tally c.event.new.disk) (faults c.event.new.disk) in
+    let disk : ℕ × ℕ = (held.faults, left.faults) in
     let world = c.event.new.self in
     let next = c.args.line.now in
-    let E = LineEnds setup state next old new world in
-    let L = LineLacks setup state old new world in
+    let E = LineEnds setup state next held left world in
+    let L = LineLacks setup state held.files left.files world in
     let sink = edge g.K.Sink.written g.K.Sink.faults c.args.out.now c.write_lines.new.out in
     let lines = c.as_slice.result.now in
-    let done = subst (λ (one : List (List ℕ)). EventDone setup state next one old new world) (sym c.as_slice.ensures) (c.in-Ok.ensures.ok setup state good shows tells) in
+    let done = subst (λ (one : List (List ℕ)). EventDone setup state next one held left world) (sym c.as_slice.ensures) (c.in-Ok.ensures.ok setup state good shows armed tells) in
     subst (λ (status : Status8). Ended unasked disk E L sink status) (sym c.unwritten.ensures) (unwritten (Counting unasked disk E) (Standing unasked disk L) sink c.in-Err.answer None (joined_lines lines) ((lines, refl, done), (refl, c.in-Ok.ensures.cause)) c.in-Err.ensures.cause c.in-Err.ensures.bytes)
 
 pub returns-in-Err-Memory : goal.returns-in-Err-Memory
-returns-in-Err-Memory g c setup state good shows tells =
+returns-in-Err-Memory g c setup state good shows armed tells =
     let broken = rw c.in-Err-Memory.field-0-is at c.in-Err-Memory.ensures.broken in
-    let stood = rw c.in-Err-Memory.field-0-is at c.in-Err-Memory.ensures.cause in
+    let on = rw c.in-Err-Memory.field-0-is at c.in-Err-Memory.ensures.cause in
     let disk : ℕ × ℕ = (g.D.SharedDisk.faults c.args.disk.now, g.D.SharedDisk.faults c.event.new.disk) in
     let L = LineLacks setup state (g.D.SharedDisk.files c.args.disk.now) (g.D.SharedDisk.files c.event.new.disk) c.event.new.self in
-    lacked _ (Standing unasked disk L) _ ((refl, broken setup state good shows), refl, stood) refl
+    lacked _ (Standing unasked disk L) _ ((refl, broken setup state good shows armed), refl, on) refl
 
 pub returns : goal.returns
-returns g c setup state good shows tells =
+returns g c setup state good shows armed tells =
     let files = g.D.SharedDisk.files in
     let faults = g.D.SharedDisk.faults in
-    let disk : ℕ × ℕ = (faults c.args.disk.now, faults c.event.new.disk) in
-    let E = LineEnds setup state c.args.line.now (files c.args.disk.now) (files c.event.new.disk) c.event.new.self in
-    let L = LineLacks setup state (files c.args.disk.now) (files c.event.new.disk) c.event.new.self in
+    let tally = g.D.SharedDisk.tally in
+    let held = seen (files c.args.disk.now) (tally c.args.disk.now) (faults c.args.disk.now) in
+    let left = seen (files c.event.new.disk) (tally c.event.new.disk) (faults c.event.new.disk) in
+    let disk : ℕ × ℕ = (held.faults, left.faults) in
+    let E = LineEnds setup state c.args.line.now held left c.event.new.self in
+    let L = LineLacks setup state held.files left.files c.event.new.self in
     let sink = edge g.K.Sink.written g.K.Sink.faults c.args.out.now c.write_broken.new.out in
     let risen = rw c.in-Err-DiskFault.field-0-is at c.in-Err-DiskFault.ensures.cause in
     let broken = rw c.in-Err-DiskFault.field-0-is at c.in-Err-DiskFault.ensures.broken in
     let lines = c.as_slice-in-Err-DiskFault.result.now in
-    let left = fault-left setup state c.args.line.now (files c.args.disk.now) (files c.event.new.disk) c.args.world.now c.event.new.self c.in-Err-DiskFault.printed good shows broken in
+    let fault = fault-left setup state c.args.line.now held left c.args.world.now c.event.new.self c.in-Err-DiskFault.printed good shows armed risen broken in
     let same = c.as_slice-in-Err-DiskFault.ensures ∙ c.in-Err-DiskFault.printed-is in
-    let printed = subst (λ (one : List (List ℕ)). FaultLeft setup state c.args.line.now (files c.args.disk.now) (files c.event.new.disk) c.event.new.self (joined_lines one)) (sym same) left in
+    let printed = subst (λ (one : List (List ℕ)). FaultLeft setup state c.args.line.now held left c.event.new.self (joined_lines one)) (sym same) fault in
     text-written (Counting unasked disk E) (Standing unasked disk L) DiskFault (joined_lines lines ++ fault_line) sink c.write_broken.result ((joined_lines lines, printed, refl), (refl, risen)) c.write_broken.ensures

@@ -1,8 +1,10 @@
+use Rattle.cluster_rounds.specs.Came.{seen}
 use Rattle.aisrun.proofs.StatusLaws.{ends-by, rises-by}
 use Rattle.aisrun.proofs.PromiseLaws.{keeps-one-history, replies-rightly, reads-rightly, calls-back, prints-posts, keeps-files, keeps-records, stands-once, settles-all}
 use Rattle.aisrun.proofs.TellingLaws.{tells-once, tells-at-want}
 use Rattle.aisrun.proofs.RefusalLaws.{declines-rightly}
 use Rattle.aisrun.proofs.TimeLaws.{commits-in-time}
+use Rattle.aisrun.proofs.FallLaws.{falls-by-cause, faults-fell}
 use Rattle.aisrun.proofs.FaultLaws.{keeps-at-fault}
 use Rattle.aisrun.proofs.CompletenessLaws.{completes, checks, exprs, scans}
 use Rattle.aisrun.proofs.GeneratingLaws.{generates}
@@ -25,6 +27,12 @@ returns-clause-declines g c = declines-rightly _
 
 pub returns-clause-in_time : goal.returns-clause-in_time
 returns-clause-in_time g c = commits-in-time _
+
+pub returns-clause-falls : goal.returns-clause-falls
+returns-clause-falls g c = falls-by-cause _
+
+pub returns-clause-fells : goal.returns-clause-fells
+returns-clause-fells g c = faults-fell _
 
 pub returns-clause-readers : goal.returns-clause-readers
 returns-clause-readers g c = reads-rightly _
@@ -51,10 +59,12 @@ pub returns-clause-settles : goal.returns-clause-settles
 returns-clause-settles g c = settles-all _
 
 pub returns-clause-fault_keeps : goal.returns-clause-fault_keeps
-returns-clause-fault_keeps g c = keeps-at-fault _ _ _
+returns-clause-fault_keeps g c =
+    keeps-at-fault (g.D.SharedDisk.files c.args.disk.now) (seen (g.D.SharedDisk.files c.run_words.new.disk) (g.D.SharedDisk.tally c.run_words.new.disk) (g.D.SharedDisk.faults c.run_words.new.disk)) c.run_words.new.world
 
 pub returns-clause-want_tells : goal.returns-clause-want_tells
-returns-clause-want_tells g c = tells-at-want _ _ _
+returns-clause-want_tells g c =
+    tells-at-want (g.D.SharedDisk.files c.args.disk.now) (seen (g.D.SharedDisk.files c.run_words.new.disk) (g.D.SharedDisk.tally c.run_words.new.disk) (g.D.SharedDisk.faults c.run_words.new.disk)) c.run_words.new.world
 
 pub returns-clause-completes : goal.returns-clause-completes
 returns-clause-completes g c can none =

@@ -2,6 +2,7 @@ use Rattle.std.proofs.Common.{ℕ, List, inl, refl, subst}
 use Rattle.aisrun.specs.Edges.{edge, fault_count}
 use Rattle.aisrun.specs.ScanSteps.{ScanEnds, ScanLacks, SourceEnds, SourceLacks}
 use Rattle.aisrun.specs.Steps.{Counting, IsNever, IsText, Standing, Written, unasked}
+use Rattle.aisrun.proofs.CountSteps.{on-same}
 use Rattle.aisrun.proofs.EndingSteps.{lacked, text-written}
 use Rattle.aisrun.proofs.ScanLaws.{refused-scan, source-lacks, source-scan}
 use Rattle.aisrun.proofs.WritingSteps.{ended-as}
@@ -34,4 +35,4 @@ returns-in-Ok-Refused g c =
     text-written E L end.status end.text.items sink c.write_text.result (refused-scan query c.args.text.now c.args.wanted.now source refl end.status end.text.items refused) written
 
 pub returns-in-Err : goal.returns-in-Err
-returns-in-Err g c = lacked _ _ _ (inl (refl, refl), refl, refl) refl
+returns-in-Err g c = lacked _ _ _ (inl (refl, refl), refl, on-same 0) refl

@@ -4,6 +4,7 @@ use Rattle.aisrun.specs.Edges.{edge, fault_count}
 use Rattle.aisrun.specs.Endings.{input_limit, ReadsWhole}
 use Rattle.aisrun.specs.ScanSteps.{RecordsEnd, SourceEnds, SourceLacks}
 use Rattle.aisrun.specs.Steps.{Counting, Standing, unasked}
+use Rattle.aisrun.proofs.CountSteps.{on-same}
 use Rattle.aisrun.proofs.EndingSteps.{unread-written}
 use Rattle.aisrun.proofs.ScanLaws.{records-source}
 use Rattle.aisrun.proofs.WritingSteps.{written-as}
@@ -23,7 +24,7 @@ returns-in-Ok g c =
     let bytes = c.as_slice.result.now in
     let whole = subst (λ (one : List ℕ). ReadsWhole source one) (sym c.as_slice.ensures.value) c.in-Ok.ensures.bytes in
     let stood = c.in-Ok.ensures.cause.stands in
-    written-as (RecordsEnd query pieces wanted bytes) (Counting (fault_count source) unasked (SourceEnds query pieces wanted source)) (TellsFront query.shown pieces query.size wanted bytes) (Standing (fault_count source) unasked (SourceLacks query pieces wanted source)) sink c.write_records.result (records-source query pieces wanted source bytes whole stood) (λ text told. (inr (bytes, whole, told), stood, refl)) c.write_records.ensures
+    written-as (RecordsEnd query pieces wanted bytes) (Counting (fault_count source) unasked (SourceEnds query pieces wanted source)) (TellsFront query.shown pieces query.size wanted bytes) (Standing (fault_count source) unasked (SourceLacks query pieces wanted source)) sink c.write_records.result (records-source query pieces wanted source bytes whole stood) (λ text told. (inr (bytes, whole, told), stood, on-same 0)) c.write_records.ensures
 
 pub returns-in-Err : goal.returns-in-Err
 unfolding input_limit
