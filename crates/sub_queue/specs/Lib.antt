@@ -2,6 +2,5 @@ pub mod Items
 pub mod Queue
 pub mod History
 pub mod Inside
-pub mod Losing
 pub mod Laws
 pub use Rattle.ntf_types.specs.Kinds

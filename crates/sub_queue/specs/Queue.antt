@@ -13,6 +13,11 @@ pub record Queue : Type 0 where
   pub held : List Content
   pub lost : List Lost
 
+-- a queue, and for how many notifications more there is room
+pub record KeptQueue : Type 0 where
+  pub queue : Queue
+  pub spare : ℕ
+
 abbrev pub queue_of_parts : ℕ → ℕ → List Content → List Lost → Queue
 queue_of_parts capacity first held lost =
     record { capacity = capacity; first = first; held = held; lost = lost }

@@ -4,10 +4,8 @@
 
 mod item;
 mod law;
-mod losses;
 mod queue;
 
 pub use item::{Content, Item, Lost};
 pub use law::{law_of_calls, law_of_counts, law_of_equality, law_of_marks};
-pub use losses::Room;
 pub use queue::{SubQueue, mark_of};

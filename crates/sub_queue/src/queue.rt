@@ -3,35 +3,35 @@ ghost use Rattle.std.specs.Prelude.{◌≡◌, ◌+◌, ◌<◌, ◌≤◌, ◌�
 ghost use Rattle.std.specs.Vec.{vec_capacity};
 ghost use Rattle.sub_queue.specs.Items.{mark_of, numbered, discarded};
 ghost use Rattle.ntf_types.specs.declared.notification.Notification.{Notification};
-ghost use Rattle.sub_queue.specs.Losing.{IsRoomFor};
 ghost use Rattle.sub_queue.specs.Queue.{IsCapacity, IsSound, IsNew, HasNumberLeft, empty_queue, queue_of_parts, has_room, offered, with_lost, received};
 
-use crate::losses::{Losses, Room};
 use crate::{Content, Item, Lost};
 use ais_values::Seq;
 use ntf_types::{Notification, kind_of};
 use std::alloc::{AllocError, Global};
 use std::marker::Model;
+use std::mem;
 
 /// The items of a subscription that have no receipt yet, at most `capacity` of them, and the
-/// notifications that were lost since all places were taken.
+/// notifications that were lost since all places were taken. Contracts see the queue, and for how many
+/// notifications more there is room.
 #[derive(Drop)]
 pub struct SubQueue {
     alloc: Global,
     capacity: u32,
     first: u32,
     items: Vec<Item>,
-    lost: Losses,
+    lost: Vec<Lost>,
 }
 
 impl Model for SubQueue {
-    ghost use Rattle.sub_queue.specs.Queue.{Queue};
+    ghost use Rattle.sub_queue.specs.Queue.{KeptQueue};
 
-    ghost Value = { Queue };
+    ghost Value = { KeptQueue };
 
-    ghost use Rattle.sub_queue.specs.Inside.{queue_of, IsKept};
+    ghost use Rattle.sub_queue.specs.Inside.{kept_inside, IsKept};
 
-    ghost view = { queue_of };
+    ghost view = { kept_inside };
 
     ghost invariant = { IsKept };
 }
@@ -95,14 +95,14 @@ impl SubQueue {
     /// The queue of a new subscription, of this capacity. It takes the memory of all its items.
     pub fn new(alloc: Global, cap: u32) -> Result<SubQueue, AllocError>
         requires { IsCapacity cap }
-        ensures { IfOk result (λ queue. queue ≡ empty_queue cap) }
+        ensures { IfOk result (λ made. made.queue ≡ empty_queue cap) }
     {
         Ok(SubQueue {
             alloc,
             capacity: cap,
             first: 1,
             items: Vec::with_capacity(alloc, cap as usize)?,
-            lost: Losses::new(alloc),
+            lost: Vec::new(alloc),
         })
     }
 
@@ -115,30 +115,29 @@ impl SubQueue {
         lost: Seq<Lost>,
     ) -> Result<SubQueue, AllocError>
         requires { IsSound (queue_of_parts cap first held lost) }
-        ensures { IfOk result (λ queue. queue ≡ queue_of_parts cap first held lost) }
+        ensures { IfOk result (λ made. made.queue ≡ queue_of_parts cap first held lost) }
     {
         let items = numbered_items(alloc, cap, first, held)?;
-        let lost = Losses::rebuild(lost)?;
         Ok(SubQueue {
             alloc,
             capacity: cap,
             first,
             items,
-            lost,
+            lost: lost.into_vec(),
         })
     }
 
     /// Offers a notification that matches. It becomes the next item where a place is free, which takes
     /// no memory; otherwise its type and id join those lost. On an error nothing changes.
     pub fn offer(&mut self, notification: Notification) -> Result<(), AllocError>
-        requires { HasNumberLeft self.old }
-        ensures ok { OnOk result (self.new ≡ offered notification self.old) }
-        ensures room { IsTrue (has_room self.old) → IsOk result }
-        ensures err { OnErr result (self.new ≡ self.old) }
+        requires { HasNumberLeft self.old.queue }
+        ensures ok { OnOk result (self.new.queue ≡ offered notification self.old.queue) }
+        ensures room { IsTrue (has_room self.old.queue) → IsOk result }
+        ensures err { OnErr result (self.new.queue ≡ self.old.queue) }
     {
         match self.reserve(self.alloc) {
-            Ok(room) => {
-                self.offer_reserved(notification, room);
+            Ok(()) => {
+                self.offer_reserved(notification);
                 Ok(())
             }
             Err(error) => {
@@ -148,25 +147,25 @@ impl SubQueue {
         }
     }
 
-    /// Room for one notification more. It takes memory only where all places are taken, and so are those for the marks
-    /// of what was lost. An error is want of memory.
-    pub fn reserve(&self, alloc: Global) -> Result<Room, AllocError>
-        ensures ok { IfOk result (λ room. IsRoomFor room self.now) }
-        ensures free { IsTrue (has_room self.now) → IsOk result }
+    /// Makes room for one notification more. The queue stays as it is; an error is want of memory. It takes memory
+    /// only where all places are taken, and so are those for the marks of what was lost.
+    pub fn reserve(&mut self, _alloc: Global) -> Result<(), AllocError>
+        ensures queue { self.new.queue ≡ self.old.queue }
+        ensures ok { OnOk result (1 ≤ self.new.spare) }
+        ensures free { IsTrue (has_room self.old.queue) → IsOk result }
     {
-        if self.has_room() {
-            return Ok(Room::none(alloc));
+        if self.items.len() < self.capacity as usize {
+            return Ok(());
         }
-        let room = self.lost.reserve(alloc)?;
-        Ok(room)
+        self.lost.reserve(1)?;
+        Ok(())
     }
 
-    /// Offers a notification that matches, as `offer` does, into room that was made for the queue as it is. It takes no
-    /// memory.
-    pub fn offer_reserved(&mut self, notification: Notification, room: Room)
-        requires numbers { HasNumberLeft self.old }
-        requires room { IsRoomFor room self.old }
-        ensures { self.new ≡ offered notification self.old }
+    /// Offers a notification that matches, as `offer` does, into room that was made for it. It takes no memory.
+    pub fn offer_reserved(&mut self, notification: Notification)
+        requires numbers { HasNumberLeft self.old.queue }
+        requires room { 1 ≤ self.old.spare }
+        ensures { self.new.queue ≡ offered notification self.old.queue }
     {
         let count = self.items.len();
         if count < self.capacity as usize {
@@ -176,30 +175,30 @@ impl SubQueue {
         } else {
             let mark = mark_of(&notification);
             drop(notification);
-            self.lost.push_reserved(mark, room);
+            self.lost.push_reserved(mark);
         }
     }
 
-    /// Offers a notification that matches by its mark alone, where no place is free, into room that was made for the
-    /// queue as it is. It takes no memory.
-    pub fn lose_reserved(&mut self, mark: Lost, room: Room)
-        requires full { has_room self.old ≡ false }
-        requires room { IsRoomFor room self.old }
-        ensures { self.new ≡ with_lost mark self.old }
+    /// Offers a notification that matches by its mark alone, where no place is free, into room that was made for it.
+    /// It takes no memory.
+    pub fn lose_reserved(&mut self, mark: Lost)
+        requires full { has_room self.old.queue ≡ false }
+        requires room { 1 ≤ self.old.spare }
+        ensures { self.new.queue ≡ with_lost mark self.old.queue }
     {
-        self.lost.push_reserved(mark, room);
+        self.lost.push_reserved(mark);
     }
 
     /// Whether a place is free for the next item.
     pub fn has_room(&self) -> bool
-        ensures { result ≡ has_room self.now }
+        ensures { result ≡ has_room self.now.queue }
     {
         self.items.len() < self.capacity as usize
     }
 
     /// Whether a receipt is new: its number is that of an item that is held.
     pub fn is_new(&self, through: u32) -> bool
-        ensures { IsTrue result ↔ IsNew through self.now }
+        ensures { IsTrue result ↔ IsNew through self.now.queue }
     {
         through >= self.first && through - self.first < self.items.len() as u32
     }
@@ -207,36 +206,36 @@ impl SubQueue {
     /// Takes a new receipt: the items through its number are removed. Where notifications were lost, one
     /// item more holds them all, and none is lost any more. It takes no memory.
     pub fn acked(&mut self, through: u32)
-        requires new { IsNew through self.old }
-        requires numbers { HasNumberLeft self.old }
-        ensures { self.new ≡ received through self.old }
+        requires new { IsNew through self.old.queue }
+        requires numbers { HasNumberLeft self.old.queue }
+        ensures { self.new.queue ≡ received through self.old.queue }
     {
         let count = (through - self.first) as usize + 1;
         remove_front(&mut self.items, count);
         self.first = through + 1;
         let number = self.first + self.items.len() as u32;
-        let lost = self.lost.take(self.alloc);
-        add_discarded(&mut self.items, number, lost);
+        let lost = mem::replace(&mut self.lost, Vec::new(self.alloc));
+        add_discarded(&mut self.items, number, Seq::from_vec(lost));
     }
 
     /// The items that are held, in order of their numbers.
     pub fn items(&self) -> &[Item]
-        ensures items { result.now ≡ numbered self.now.first self.now.held }
-        ensures sound { IsSound self.now }
+        ensures items { result.now ≡ numbered self.now.queue.first self.now.queue.held }
+        ensures sound { IsSound self.now.queue }
     {
         self.items.as_slice()
     }
 
     /// What was lost since the last item was made, in order.
     pub fn lost(&self) -> &[Lost]
-        ensures { result.now ≡ self.now.lost }
+        ensures { result.now ≡ self.now.queue.lost }
     {
         self.lost.as_slice()
     }
 
     /// The number of the first item that is held, or of the next one where none is.
     pub fn first(&self) -> u32
-        ensures { result ≡ self.now.first }
+        ensures { result ≡ self.now.queue.first }
     {
         self.first
     }
