@@ -12,8 +12,12 @@ use Rattle.log_history.specs.Table.{OpenStream, LogTable, has_nobody, last_after
 use Rattle.log_history.specs.KeptAnswers.{is_of_application}
 use Rattle.log_service.specs.Moments.{IsTimeOfCall, IsMoment, second_of}
 use Rattle.log_service.specs.Changing.{AreEndsIn}
-use Rattle.log_service.specs.State.{IsCallTime, applications_in, others_in, AreFew}
+use Rattle.log_service.specs.State.{KeptLog, IsCallTime, applications_in, others_in, AreFew}
 use Rattle.log_service.proofs.EndLemmas.{pos-from, pos-below, abs-bound, second-bound, stamp-bound}
+
+-- what is kept the same is the same table
+pub same_table : {one other : KeptLog} → one ≡ other → one.table ≡ other.table
+same_table is = ap (λ (kept : KeptLog). kept.table) is
 
 -- a change that leaves a stream an application's or not leaves the numbers
 module _ (change : OpenStream → OpenStream) (keeps : (stream : OpenStream) → is_of_application (change stream) ≡ is_of_application stream) where

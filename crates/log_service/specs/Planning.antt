@@ -1,5 +1,5 @@
 -- Words of public clauses: what a planned call tells, what it makes of the state, and when it can be made.
-use Rattle.std.specs.Prelude.{◌≡◌, ◌≢◌, ◌<◌, ℕ, ◌==◌, false, pos, ◌≤ℤ◌, unsigned_abs, vec_capacity, List, [], ◌∷◌, ◌++◌, length}
+use Rattle.std.specs.Prelude.{◌≡◌, ◌≢◌, ◌<◌, ℕ, ◌==◌, false, pos, ◌≤ℤ◌, unsigned_abs, List, [], ◌∷◌, ◌++◌, length}
 use Rattle.std.specs.List.{list_any}
 use Rattle.ais_values.specs.declared.status.Status.{Status}
 use Rattle.ais_values.specs.declared.status.Status.TheVariants as status
@@ -32,7 +32,7 @@ abbrev pub streams_after : Doing → List OpenStream → List OpenStream
 streams_after Stay streams = streams
 streams_after (Begin users) streams = streams
 streams_after (Join place openers) streams = change_at (with_openers openers) streams place
-streams_after (Make stream room) streams = streams ++ stream ∷ []
+streams_after (Make stream) streams = streams ++ stream ∷ []
 streams_after (Store place taken files) streams = change_at (with_files taken files) streams place
 streams_after (Leave name client) streams = kept_streams (closed_streams client name streams)
 streams_after (End client) streams = kept_streams (left_streams client streams)
@@ -43,10 +43,9 @@ users_after (Begin begun) users = begun
 users_after (End client) users = without (λ other. other == client) users
 users_after _ users = users
 
--- there is the stream that changes, and room for one more where one is made
+-- there is the stream that changes
 abbrev pub CanDo : Doing → List OpenStream → Type 0
 CanDo (Join place openers) streams = place < length streams
-CanDo (Make stream room) streams = (room.items ≡ []) × (length streams < vec_capacity room)
 CanDo (Store place taken files) streams = place < length streams
 CanDo _ streams = Unit {0}
 

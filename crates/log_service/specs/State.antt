@@ -24,6 +24,11 @@ use Rattle.log_history.specs.Table.{OpenStream, LogTable, has_nobody, table, tab
 use Rattle.log_history.specs.KeptAnswers.{kept_stream, is_of_application}
 use Rattle.log_service.specs.Moments.{second_of}
 
+-- what is kept, and for how many streams more there is room
+pub record KeptLog : Type 0 where
+  pub table : LogTable
+  pub spare : ℕ
+
 -- a time at which a call can come: there is room for its stamps behind the last one
 pub record IsCallTime (kept : LogTable) (now : ℤ) : Type 0 where
   pub last : kept.last ≤ 19999999000

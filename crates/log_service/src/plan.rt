@@ -25,10 +25,9 @@ pub(crate) enum Doing {
         place: usize,
         openers: ClientSet,
     },
-    /// A stream stands behind the others, with all of them in this room.
+    /// A stream stands behind the others, where there is room for it.
     Make {
         stream: LiveStream,
-        room: Vec<LiveStream>,
     },
     /// The stream at a place has taken so many records then, and has these files.
     Store {
@@ -47,8 +46,8 @@ pub(crate) enum Doing {
     },
 }
 
-/// A call that was planned: what it is answered and does to streams, and what it makes of the state. It holds all the
-/// memory that making the call takes.
+/// A call that was planned: what it is answered and does to streams, and what it makes of the state. It holds the
+/// memory that making the call takes, but for the place of a new stream among the others.
 #[derive(Drop)]
 pub struct LogPlan {
     pub(crate) step: Step,
@@ -96,21 +95,6 @@ impl LogPlan {
     }
 }
 
-/// Puts a stream behind the others, all of them in the room that was made for them.
-fn put_behind(streams: &mut Vec<LiveStream>, mut room: Vec<LiveStream>, stream: LiveStream)
-    requires empty { room.items ≡ [] }
-    requires enough { vec_len streams.old < vec_capacity room }
-    ensures { streams.new.items ≡ streams.old.items ++ stream ∷ [] }
-{
-    match room.append(streams) {
-        Ok(()) => {
-            room.push_reserved(stream);
-            *streams = room;
-        }
-        Err(_) => unreachable!(),
-    }
-}
-
 /// The stream at a place is open for these clients.
 fn put_openers(streams: &mut Vec<LiveStream>, place: usize, openers: ClientSet)
     requires { place < vec_len streams.old }
@@ -129,7 +113,8 @@ fn put_files(streams: &mut Vec<LiveStream>, place: usize, taken: u32, files: Seq
 
 /// Does what was planned. It takes no memory.
 pub(crate) fn carry_out(streams: &mut Vec<LiveStream>, users: &mut ClientSet, doing: Doing)
-    requires { CanDo doing streams.old.items }
+    requires can { CanDo doing streams.old.items }
+    requires room { vec_len streams.old < vec_capacity streams.old }
     ensures streams { streams.new.items ≡ streams_after doing streams.old.items }
     ensures users { users.new ≡ users_after doing users.old }
 {
@@ -137,7 +122,7 @@ pub(crate) fn carry_out(streams: &mut Vec<LiveStream>, users: &mut ClientSet, do
         Doing::Stay => {}
         Doing::Begin { users: begun } => *users = begun,
         Doing::Join { place, openers } => put_openers(streams, place, openers),
-        Doing::Make { stream, room } => put_behind(streams, room, stream),
+        Doing::Make { stream } => streams.push_reserved(stream),
         Doing::Store {
             place,
             taken,

@@ -1,5 +1,5 @@
 //! The state, and what each call answers and makes of it.
-ghost use Rattle.std.specs.Prelude.{◌≡◌, ◌≢◌, ◌↔◌, ◌<◌, ◌≤ℤ◌, pos, unsigned_abs, length, map, IfOk, OnErr, IsTrue, [], slice_get, option_map};
+ghost use Rattle.std.specs.Prelude.{◌≡◌, ◌≢◌, ◌↔◌, ◌<◌, ◌≤◌, ◌≤ℤ◌, pos, unsigned_abs, length, map, IfOk, OnOk, OnErr, IsTrue, [], slice_get, option_map};
 ghost use Rattle.std.specs.Option.{option_copied};
 ghost use Rattle.client_set.specs.Members.{has};
 ghost use Rattle.stream_config.specs.AttributeTests.{passes_attrs};
@@ -45,7 +45,7 @@ fn is_application(name: &StreamName) -> bool
 }
 
 /// The last stamp, the clients that use the service, and the living streams in order of creation, each with the
-/// clients that have it open.
+/// clients that have it open. Contracts see these, and for how many streams more there is room.
 #[derive(Drop)]
 pub struct LogState {
     last: i64,
@@ -54,13 +54,13 @@ pub struct LogState {
 }
 
 impl Model for LogState {
-    ghost use Rattle.log_history.specs.Table.{LogTable};
+    ghost use Rattle.log_service.specs.State.{KeptLog};
 
-    ghost Value = { LogTable };
+    ghost Value = { KeptLog };
 
-    ghost use Rattle.log_service.specs.Kept.{table_of, IsKeptState};
+    ghost use Rattle.log_service.specs.Kept.{kept_inside, IsKeptState};
 
-    ghost view = { table_of };
+    ghost view = { kept_inside };
 
     ghost invariant = { IsKeptState };
 }
@@ -76,7 +76,7 @@ impl LogState {
         requires time { IsTimeOfCall start }
         requires wells { CanBeginWith start wells }
         ensures { IfOk result (λ made. (setup : LogSetup) → BeginsWith setup start wells →
-            HasBegun setup made) }
+            HasBegun setup (made.0.table, made.1)) }
     {
         let (last, streams, events) = begin::wells(alloc, start, wells.as_slice())?;
         let state = LogState {
@@ -100,7 +100,7 @@ impl LogState {
         requires lengths { length streams ≡ length openers }
         requires sound { IsSoundTable
             (table_with (unsigned_abs last_stamp) users (joined_streams streams openers)) }
-        ensures { IfOk result (λ state. state
+        ensures { IfOk result (λ state. state.table
             ≡ table_with (unsigned_abs last_stamp) users (joined_streams streams openers)) }
     {
         let streams = begin::rebuilt(alloc, streams, openers.as_slice())?;
@@ -111,10 +111,20 @@ impl LogState {
         })
     }
 
+    /// Makes room for one stream more. What is kept stays as it is; an error is want of memory.
+    fn make_room(&mut self) -> Result<(), AllocError>
+        ensures table { self.new.table ≡ self.old.table }
+        ensures ok { OnOk result (1 ≤ self.new.spare) }
+    {
+        self.streams.reserve(1)?;
+        Ok(())
+    }
+
     /// Makes a planned call. The answer is what the plan told.
     fn carry(&mut self, plan: LogPlan) -> Step
-        requires { CanCommit self.old plan }
-        ensures now { self.new ≡ planned plan self.old }
+        requires can { CanCommit self.old.table plan }
+        requires room { 1 ≤ self.old.spare }
+        ensures now { self.new.table ≡ planned plan self.old.table }
         ensures step { result ≡ step_of plan }
     {
         let LogPlan { step, last, doing } = plan;
@@ -123,17 +133,18 @@ impl LogState {
         step
     }
 
-    /// Makes a call that was planned for the state as it is. It takes no memory: the plan brought all of it.
+    /// Makes a call that was planned for the state as it is, into room that was made for it. It takes no memory.
     pub fn commit(&mut self, plan: LogPlan)
-        requires { CanCommit self.old plan }
-        ensures { self.new ≡ planned plan self.old }
+        requires can { CanCommit self.old.table plan }
+        requires room { 1 ≤ self.old.spare }
+        ensures { self.new.table ≡ planned plan self.old.table }
     {
         drop(self.carry(plan));
     }
 
     /// What decides a beginning of use: `NoResources` where the client uses the service already, and else ok.
     fn begin_status(&self, client: u16) -> Status
-        ensures { result ≡ begin_status self.now client }
+        ensures { result ≡ begin_status self.now.table client }
     {
         if self.users.contains(client) {
             Status::NoResources
@@ -142,9 +153,9 @@ impl LogState {
         }
     }
 
-    /// Plans `init`. An error is want of memory.
-    pub fn plan_init(&self, alloc: Global, client: u16, _now: i64) -> Result<LogPlan, AllocError>
-        ensures { IfOk result (Plans self.now (begin_status self.now client) (Began client)) }
+    /// The plan of `init` for the state as it is. An error is want of memory.
+    fn init_plan(&self, alloc: Global, client: u16) -> Result<LogPlan, AllocError>
+        ensures { IfOk result (Plans self.now.table (begin_status self.now.table client) (Began client)) }
     {
         let status = self.begin_status(client);
         if status != Status::Ok {
@@ -155,15 +166,31 @@ impl LogState {
         Ok(LogPlan::accepted(Seq::new(alloc), self.last, Doing::Begin { users }))
     }
 
+    /// Plans `init`, and makes room for one stream more. The state stays as it is; an error is want of memory.
+    pub fn plan_init(
+        &mut self,
+        alloc: Global,
+        client: u16,
+        _now: i64,
+    ) -> Result<LogPlan, AllocError>
+        ensures ok { IfOk result (Plans self.old.table (begin_status self.old.table client) (Began client)) }
+        ensures table { self.new.table ≡ self.old.table }
+        ensures room { OnOk result (1 ≤ self.new.spare) }
+    {
+        self.make_room()?;
+        let plan = self.init_plan(alloc, client)?;
+        Ok(plan)
+    }
+
     /// Begins a client's use of the service (the library call for initialisation). `NoResources` exactly where it
     /// uses the service already. On an error, and with another answer than ok, nothing changes.
     pub fn init(&mut self, alloc: Global, client: u16, now: i64) -> Result<Step, AllocError>
-        ensures status { IfOk result (λ step. step.status ≡ begin_status self.old client) }
+        ensures status { IfOk result (λ step. step.status ≡ begin_status self.old.table client) }
         ensures ok { IfOk result (λ step. step.status ≡ Status.Ok
-            → Made (Began client) self.old self.new step.events) }
+            → Made (Began client) self.old.table self.new.table step.events) }
         ensures refused { IfOk result (λ step. step.status ≢ Status.Ok
-            → Left self.old self.new step.events) }
-        ensures err { OnErr result (self.new ≡ self.old) }
+            → Left self.old.table self.new.table step.events) }
+        ensures err { OnErr result (self.new.table ≡ self.old.table) }
     {
         match self.plan_init(alloc, client, now) {
             Ok(plan) => Ok(self.carry(plan)),
@@ -173,7 +200,7 @@ impl LogState {
 
     /// What decides an end of use: `BadHandle` where the client does not use the service, and else ok.
     fn end_status(&self, client: u16) -> Status
-        ensures { result ≡ end_status self.now client }
+        ensures { result ≡ end_status self.now.table client }
     {
         if self.users.contains(client) {
             Status::Ok
@@ -182,15 +209,10 @@ impl LogState {
         }
     }
 
-    /// Plans `close_all`. An error is want of memory.
-    pub fn plan_close_all(
-        &self,
-        alloc: Global,
-        client: u16,
-        now: i64,
-    ) -> Result<LogPlan, AllocError>
-        requires { IsCallTime self.now now }
-        ensures { IfOk result (Plans self.now (end_status self.now client)
+    /// The plan of `close_all` for the state as it is. An error is want of memory.
+    fn close_all_plan(&self, alloc: Global, client: u16, now: i64) -> Result<LogPlan, AllocError>
+        requires { IsCallTime self.now.table now }
+        ensures { IfOk result (Plans self.now.table (end_status self.now.table client)
             (Ended client (second_of now))) }
     {
         let status = self.end_status(client);
@@ -202,17 +224,35 @@ impl LogState {
         Ok(LogPlan::accepted(events, last, Doing::End { client }))
     }
 
+    /// Plans `close_all`, and makes room for one stream more. The state stays as it is; an error is want of memory.
+    pub fn plan_close_all(
+        &mut self,
+        alloc: Global,
+        client: u16,
+        now: i64,
+    ) -> Result<LogPlan, AllocError>
+        requires { IsCallTime self.old.table now }
+        ensures ok { IfOk result (Plans self.old.table (end_status self.old.table client)
+            (Ended client (second_of now))) }
+        ensures table { self.new.table ≡ self.old.table }
+        ensures room { OnOk result (1 ≤ self.new.spare) }
+    {
+        self.make_room()?;
+        let plan = self.close_all_plan(alloc, client, now)?;
+        Ok(plan)
+    }
+
     /// Ends a client's use of the service, and with it all that it has open. `BadHandle` exactly where it does
     /// not use the service. An application's stream that nobody has open any more ends; streams that end do so
     /// in order of creation. On an error, and with another answer than ok, nothing changes.
     pub fn close_all(&mut self, alloc: Global, client: u16, now: i64) -> Result<Step, AllocError>
-        requires { IsCallTime self.old now }
-        ensures status { IfOk result (λ step. step.status ≡ end_status self.old client) }
+        requires { IsCallTime self.old.table now }
+        ensures status { IfOk result (λ step. step.status ≡ end_status self.old.table client) }
         ensures ok { IfOk result (λ step. step.status ≡ Status.Ok
-            → Made (Ended client (second_of now)) self.old self.new step.events) }
+            → Made (Ended client (second_of now)) self.old.table self.new.table step.events) }
         ensures refused { IfOk result (λ step. step.status ≢ Status.Ok
-            → Left self.old self.new step.events) }
-        ensures err { OnErr result (self.new ≡ self.old) }
+            → Left self.old.table self.new.table step.events) }
+        ensures err { OnErr result (self.new.table ≡ self.old.table) }
     {
         match self.plan_close_all(alloc, client, now) {
             Ok(plan) => Ok(self.carry(plan)),
@@ -223,7 +263,7 @@ impl LogState {
     /// What decides a close: `BadHandle` where the client does not use the service or does not have the stream
     /// open, and else ok.
     fn close_status(&self, client: u16, name: &StreamName) -> Status
-        ensures { result ≡ close_status self.now client name.now }
+        ensures { result ≡ close_status self.now.table client name.now }
     {
         if !self.users.contains(client) || !self.has_open(name, client) {
             return Status::BadHandle;
@@ -233,7 +273,7 @@ impl LogState {
 
     /// Whether the client has the stream of this name open.
     fn has_open(&self, name: &StreamName, client: u16) -> bool
-        ensures { result ≡ has_opener self.now.streams name.now client }
+        ensures { result ≡ has_opener self.now.table.streams name.now client }
     {
         match streams::stream_of(self.streams.as_slice(), name) {
             Some(stream) => stream.is_open_for(client),
@@ -241,16 +281,16 @@ impl LogState {
         }
     }
 
-    /// Plans `close`. An error is want of memory.
-    pub fn plan_close(
+    /// The plan of `close` for the state as it is. An error is want of memory.
+    fn close_plan(
         &self,
         alloc: Global,
         client: u16,
         name: &StreamName,
         now: i64,
     ) -> Result<LogPlan, AllocError>
-        requires { IsCallTime self.now now }
-        ensures { IfOk result (Plans self.now (close_status self.now client name.now)
+        requires { IsCallTime self.now.table now }
+        ensures { IfOk result (Plans self.now.table (close_status self.now.table client name.now)
             (Closed client name.now (second_of now))) }
     {
         let status = self.close_status(client, name);
@@ -263,6 +303,25 @@ impl LogState {
         Ok(LogPlan::accepted(events, last, Doing::Leave { name, client }))
     }
 
+    /// Plans `close`, and makes room for one stream more. The state stays as it is; an error is want of memory.
+    pub fn plan_close(
+        &mut self,
+        alloc: Global,
+        client: u16,
+        name: &StreamName,
+        now: i64,
+    ) -> Result<LogPlan, AllocError>
+        requires { IsCallTime self.old.table now }
+        ensures ok { IfOk result (Plans self.old.table (close_status self.old.table client name.now)
+            (Closed client name.now (second_of now))) }
+        ensures table { self.new.table ≡ self.old.table }
+        ensures room { OnOk result (1 ≤ self.new.spare) }
+    {
+        self.make_room()?;
+        let plan = self.close_plan(alloc, client, name, now)?;
+        Ok(plan)
+    }
+
     /// Closes a stream for a client. `BadHandle` exactly where the client does not use the service or does not
     /// have the stream open. An application's stream that nobody has open any more ends. On an error, and with
     /// another answer than ok, nothing changes.
@@ -273,13 +332,13 @@ impl LogState {
         name: &StreamName,
         now: i64,
     ) -> Result<Step, AllocError>
-        requires { IsCallTime self.old now }
-        ensures status { IfOk result (λ step. step.status ≡ close_status self.old client name.now) }
+        requires { IsCallTime self.old.table now }
+        ensures status { IfOk result (λ step. step.status ≡ close_status self.old.table client name.now) }
         ensures ok { IfOk result (λ step. step.status ≡ Status.Ok
-            → Made (Closed client name.now (second_of now)) self.old self.new step.events) }
+            → Made (Closed client name.now (second_of now)) self.old.table self.new.table step.events) }
         ensures refused { IfOk result (λ step. step.status ≢ Status.Ok
-            → Left self.old self.new step.events) }
-        ensures err { OnErr result (self.new ≡ self.old) }
+            → Left self.old.table self.new.table step.events) }
+        ensures err { OnErr result (self.new.table ≡ self.old.table) }
     {
         match self.plan_close(alloc, client, name, now) {
             Ok(plan) => Ok(self.carry(plan)),
@@ -292,7 +351,7 @@ impl LogState {
     /// with others, or where another one has its path and file; `NoResources` where 64 streams of applications
     /// live; and else ok.
     fn making_status(&self, name: &StreamName, attrs: &StreamAttrs) -> Status
-        ensures { result ≡ making_status self.now.streams name.now attrs.now }
+        ensures { result ≡ making_status self.now.table.streams name.now attrs.now }
     {
         let streams = self.streams.as_slice();
         if !is_application(name) || !passes_attrs(name.kind(), attrs) {
@@ -316,7 +375,7 @@ impl LogState {
     /// What decides an open: `BadHandle` where the client does not use the service; without attributes `NotExist`
     /// where no stream of the name lives, and else ok; with attributes what decides the making.
     fn open_status(&self, client: u16, name: &StreamName, create: Option<&StreamAttrs>) -> Status
-        ensures { result ≡ open_status self.now client name.now (option_copied create.entry) }
+        ensures { result ≡ open_status self.now.table client name.now (option_copied create.entry) }
     {
         if !self.users.contains(client) {
             return Status::BadHandle;
@@ -333,8 +392,8 @@ impl LogState {
         }
     }
 
-    /// Plans `open_stream`. An error is want of memory.
-    pub fn plan_open_stream(
+    /// The plan of `open_stream` for the state as it is. An error is want of memory.
+    fn open_stream_plan(
         &self,
         alloc: Global,
         client: u16,
@@ -342,10 +401,10 @@ impl LogState {
         create: Option<&StreamAttrs>,
         now: i64,
     ) -> Result<LogPlan, AllocError>
-        requires { IsCallTime self.now now }
-        ensures { IfOk result (Plans self.now
-            (open_status self.now client name.now (option_copied create.entry))
-            (opening_in self.now.streams client name.now (option_copied create.entry) now)) }
+        requires { IsCallTime self.now.table now }
+        ensures { IfOk result (Plans self.now.table
+            (open_status self.now.table client name.now (option_copied create.entry))
+            (opening_in self.now.table.streams client name.now (option_copied create.entry) now)) }
     {
         let status = self.open_status(client, name, create);
         if status != Status::Ok {
@@ -353,6 +412,27 @@ impl LogState {
         }
         let streams = self.streams.as_slice();
         let plan = streams::opening_plan(alloc, streams, client, name, create, self.last, now)?;
+        Ok(plan)
+    }
+
+    /// Plans `open_stream`, and makes room for one stream more. The state stays as it is; an error is want of memory.
+    pub fn plan_open_stream(
+        &mut self,
+        alloc: Global,
+        client: u16,
+        name: &StreamName,
+        create: Option<&StreamAttrs>,
+        now: i64,
+    ) -> Result<LogPlan, AllocError>
+        requires { IsCallTime self.old.table now }
+        ensures ok { IfOk result (Plans self.old.table
+            (open_status self.old.table client name.now (option_copied create.entry))
+            (opening_in self.old.table.streams client name.now (option_copied create.entry) now)) }
+        ensures table { self.new.table ≡ self.old.table }
+        ensures room { OnOk result (1 ≤ self.new.spare) }
+    {
+        self.make_room()?;
+        let plan = self.open_stream_plan(alloc, client, name, create, now)?;
         Ok(plan)
     }
 
@@ -370,15 +450,15 @@ impl LogState {
         create: Option<&StreamAttrs>,
         now: i64,
     ) -> Result<Step, AllocError>
-        requires { IsCallTime self.old now }
+        requires { IsCallTime self.old.table now }
         ensures status { IfOk result (λ step. step.status
-            ≡ open_status self.old client name.now (option_copied create.entry)) }
+            ≡ open_status self.old.table client name.now (option_copied create.entry)) }
         ensures ok { IfOk result (λ step. step.status ≡ Status.Ok → Made
-            (opening_in self.old.streams client name.now (option_copied create.entry) now)
-            self.old self.new step.events) }
+            (opening_in self.old.table.streams client name.now (option_copied create.entry) now)
+            self.old.table self.new.table step.events) }
         ensures refused { IfOk result (λ step. step.status ≢ Status.Ok
-            → Left self.old self.new step.events) }
-        ensures err { OnErr result (self.new ≡ self.old) }
+            → Left self.old.table self.new.table step.events) }
+        ensures err { OnErr result (self.new.table ≡ self.old.table) }
     {
         match self.plan_open_stream(alloc, client, name, create, now) {
             Ok(plan) => Ok(self.carry(plan)),
@@ -388,7 +468,7 @@ impl LogState {
 
     /// Whether the stream of this name halts and has as many records as its file holds.
     fn is_full(&self, name: &StreamName) -> bool
-        ensures { result ≡ is_filled self.now.streams name.now }
+        ensures { result ≡ is_filled self.now.table.streams name.now }
     {
         match streams::stream_of(self.streams.as_slice(), name) {
             Some(stream) => stream.holds_all(),
@@ -407,7 +487,7 @@ impl LogState {
         time: i64,
         header: &Header,
     ) -> Status
-        ensures { result ≡ write_status self.now client name.now flags time header.now }
+        ensures { result ≡ write_status self.now.table client name.now flags time header.now }
     {
         if !self.users.contains(client) {
             Status::BadHandle
@@ -424,8 +504,8 @@ impl LogState {
         }
     }
 
-    /// Plans `write`. An error is want of memory.
-    pub fn plan_write(
+    /// The plan of `write` for the state as it is. An error is want of memory.
+    fn write_plan(
         &self,
         alloc: Global,
         client: u16,
@@ -436,10 +516,10 @@ impl LogState {
         body: &Text,
         now: i64,
     ) -> Result<LogPlan, AllocError>
-        requires moment { IsCallTime self.now now }
-        requires numbers { HasNumberLeft self.now name.now }
-        ensures { IfOk result (Plans self.now
-            (write_status self.now client name.now flags time header.now)
+        requires moment { IsCallTime self.now.table now }
+        requires numbers { HasNumberLeft self.now.table name.now }
+        ensures { IfOk result (Plans self.now.table
+            (write_status self.now.table client name.now flags time header.now)
             (Stored name.now (record_at time header.now body.now now) (second_of now))) }
     {
         let status = self.write_status(client, name, flags, time, header);
@@ -449,6 +529,31 @@ impl LogState {
         let rec = record_at(alloc, time, header, body, now)?;
         let streams = self.streams.as_slice();
         let plan = streams::storing_plan(alloc, streams, name, self.last, &rec, now)?;
+        Ok(plan)
+    }
+
+    /// Plans `write`, and makes room for one stream more. The state stays as it is; an error is want of memory.
+    pub fn plan_write(
+        &mut self,
+        alloc: Global,
+        client: u16,
+        name: &StreamName,
+        flags: u32,
+        time: i64,
+        header: &Header,
+        body: &Text,
+        now: i64,
+    ) -> Result<LogPlan, AllocError>
+        requires moment { IsCallTime self.old.table now }
+        requires numbers { HasNumberLeft self.old.table name.now }
+        ensures ok { IfOk result (Plans self.old.table
+            (write_status self.old.table client name.now flags time header.now)
+            (Stored name.now (record_at time header.now body.now now) (second_of now))) }
+        ensures table { self.new.table ≡ self.old.table }
+        ensures room { OnOk result (1 ≤ self.new.spare) }
+    {
+        self.make_room()?;
+        let plan = self.write_plan(alloc, client, name, flags, time, header, body, now)?;
         Ok(plan)
     }
 
@@ -468,16 +573,16 @@ impl LogState {
         body: &Text,
         now: i64,
     ) -> Result<Step, AllocError>
-        requires moment { IsCallTime self.old now }
-        requires numbers { HasNumberLeft self.old name.now }
+        requires moment { IsCallTime self.old.table now }
+        requires numbers { HasNumberLeft self.old.table name.now }
         ensures status { IfOk result (λ step. step.status
-            ≡ write_status self.old client name.now flags time header.now) }
+            ≡ write_status self.old.table client name.now flags time header.now) }
         ensures ok { IfOk result (λ step. step.status ≡ Status.Ok
             → Made (Stored name.now (record_at time header.now body.now now) (second_of now))
-            self.old self.new step.events) }
+            self.old.table self.new.table step.events) }
         ensures refused { IfOk result (λ step. step.status ≢ Status.Ok
-            → Left self.old self.new step.events) }
-        ensures err { OnErr result (self.new ≡ self.old) }
+            → Left self.old.table self.new.table step.events) }
+        ensures err { OnErr result (self.new.table ≡ self.old.table) }
     {
         match self.plan_write(alloc, client, name, flags, time, header, body, now) {
             Ok(plan) => Ok(self.carry(plan)),
@@ -487,7 +592,7 @@ impl LogState {
 
     /// What decides the storing of a record: `NoSpace` where the stream of this name is full, and else ok.
     fn store_status(&self, name: &StreamName) -> Status
-        ensures { result ≡ store_status self.now name.now }
+        ensures { result ≡ store_status self.now.table name.now }
     {
         if self.is_full(name) {
             Status::NoSpace
@@ -496,18 +601,18 @@ impl LogState {
         }
     }
 
-    /// Plans `store`. An error is want of memory.
-    pub fn plan_store(
+    /// The plan of `store` for the state as it is. An error is want of memory.
+    fn store_plan(
         &self,
         alloc: Global,
         kind: StreamKind,
         rec: &LogRecord,
         now: i64,
     ) -> Result<LogPlan, AllocError>
-        requires moment { IsCallTime self.now now }
+        requires moment { IsCallTime self.now.table now }
         requires notified { IsNotified kind rec.now }
-        requires numbers { HasNumberLeft self.now (stream_of_kind kind) }
-        ensures { IfOk result (Plans self.now (store_status self.now (stream_of_kind kind))
+        requires numbers { HasNumberLeft self.now.table (stream_of_kind kind) }
+        ensures { IfOk result (Plans self.now.table (store_status self.now.table (stream_of_kind kind))
             (Stored (stream_of_kind kind) rec.now (second_of now))) }
     {
         let name = stream_of_kind(kind);
@@ -520,6 +625,27 @@ impl LogState {
         Ok(plan)
     }
 
+    /// Plans `store`, and makes room for one stream more. The state stays as it is; an error is want of memory.
+    pub fn plan_store(
+        &mut self,
+        alloc: Global,
+        kind: StreamKind,
+        rec: &LogRecord,
+        now: i64,
+    ) -> Result<LogPlan, AllocError>
+        requires moment { IsCallTime self.old.table now }
+        requires notified { IsNotified kind rec.now }
+        requires numbers { HasNumberLeft self.old.table (stream_of_kind kind) }
+        ensures ok { IfOk result (Plans self.old.table (store_status self.old.table (stream_of_kind kind))
+            (Stored (stream_of_kind kind) rec.now (second_of now))) }
+        ensures table { self.new.table ≡ self.old.table }
+        ensures room { OnOk result (1 ≤ self.new.spare) }
+    {
+        self.make_room()?;
+        let plan = self.store_plan(alloc, kind, rec, now)?;
+        Ok(plan)
+    }
+
     /// Stores the record of a notification in the stream of its kind. `NoSpace` exactly where that stream is full.
     /// On an error, and with another answer than ok, nothing changes.
     pub fn store(
@@ -529,17 +655,17 @@ impl LogState {
         rec: &LogRecord,
         now: i64,
     ) -> Result<Step, AllocError>
-        requires moment { IsCallTime self.old now }
+        requires moment { IsCallTime self.old.table now }
         requires notified { IsNotified kind rec.now }
-        requires numbers { HasNumberLeft self.old (stream_of_kind kind) }
+        requires numbers { HasNumberLeft self.old.table (stream_of_kind kind) }
         ensures status { IfOk result (λ step. step.status
-            ≡ store_status self.old (stream_of_kind kind)) }
+            ≡ store_status self.old.table (stream_of_kind kind)) }
         ensures ok { IfOk result (λ step. step.status ≡ Status.Ok
             → Made (Stored (stream_of_kind kind) rec.now (second_of now))
-            self.old self.new step.events) }
+            self.old.table self.new.table step.events) }
         ensures refused { IfOk result (λ step. step.status ≢ Status.Ok
-            → Left self.old self.new step.events) }
-        ensures err { OnErr result (self.new ≡ self.old) }
+            → Left self.old.table self.new.table step.events) }
+        ensures err { OnErr result (self.new.table ≡ self.old.table) }
     {
         match self.plan_store(alloc, kind, rec, now) {
             Ok(plan) => Ok(self.carry(plan)),
@@ -550,7 +676,7 @@ impl LogState {
     /// Whether a call can come at this time: it lies from 0 to 9,000,000,000,000,000,000, and the last stamp is
     /// at most 19,999,999,000.
     pub fn is_call_time(&self, now: i64) -> bool
-        ensures { IsTrue result ↔ IsCallTime self.now now }
+        ensures { IsTrue result ↔ IsCallTime self.now.table now }
     {
         self.last <= 19_999_999_000 && now >= 0 && now <= 9_000_000_000_000_000_000
     }
@@ -558,7 +684,7 @@ impl LogState {
     /// Whether a number is left for the next record of the stream of this name, if there is one: fewer than
     /// 4,294,967,294 of its records were numbered.
     pub fn has_number_left(&self, name: &StreamName) -> bool
-        ensures { IsTrue result ↔ HasNumberLeft self.now name.now }
+        ensures { IsTrue result ↔ HasNumberLeft self.now.table name.now }
     {
         match streams::stream_of(self.streams.as_slice(), name) {
             Some(stream) => stream.state().taken < 4_294_967_294,
@@ -568,21 +694,21 @@ impl LogState {
 
     /// The clients that use the service, rising.
     pub fn users(&self) -> &[u16]
-        ensures { result.now ≡ self.now.users }
+        ensures { result.now ≡ self.now.table.users }
     {
         self.users.as_slice()
     }
 
     /// The last stamp, a second.
     pub fn last_stamp(&self) -> i64
-        ensures { result ≡ pos self.now.last }
+        ensures { result ≡ pos self.now.table.last }
     {
         self.last
     }
 
     /// How many streams live.
     pub fn count(&self) -> u32
-        ensures { result ≡ length self.now.streams }
+        ensures { result ≡ length self.now.table.streams }
     {
         self.streams.len() as u32
     }
@@ -590,7 +716,7 @@ impl LogState {
     /// What stands of a living stream, by its place in order of creation, from 0.
     pub fn stream_at(&self, i: u32) -> Option<&StreamState>
         ensures { option_copied result
-            ≡ option_map (λ (stream : OpenStream). stream.state) (slice_get self.now.streams i) }
+            ≡ option_map (λ (stream : OpenStream). stream.state) (slice_get self.now.table.streams i) }
     {
         match self.streams.get(i as usize) {
             Some(stream) => Some(stream.state()),
@@ -601,7 +727,7 @@ impl LogState {
     /// The clients that have a living stream open, rising, by its place in order of creation, from 0.
     pub fn openers_at(&self, i: u32) -> Option<&[u16]>
         ensures { option_copied result
-            ≡ option_map (λ (stream : OpenStream). stream.openers) (slice_get self.now.streams i) }
+            ≡ option_map (λ (stream : OpenStream). stream.openers) (slice_get self.now.table.streams i) }
     {
         match self.streams.get(i as usize) {
             Some(stream) => Some(stream.openers()),

@@ -106,11 +106,10 @@ fn making_plan(
     ensures { IfOk result (PlansMaking streams.now created
         (opened_stream client name.now attrs.now (unsigned_abs created))) }
 {
-    let room = Vec::with_capacity(alloc, streams.len() + 1)?;
     let stream = new_stream(alloc, client, name, attrs, created)?;
     let state = stream.state().copy(alloc)?;
     let events = alone(alloc, StreamEvent::Made { state })?;
-    Ok(LogPlan::accepted(events, created, Doing::Make { stream, room }))
+    Ok(LogPlan::accepted(events, created, Doing::Make { stream }))
 }
 
 /// The plan by which a client opens the stream of this name; where there is none, nothing changes.

@@ -7,10 +7,10 @@ use Rattle.log_history.specs.Times.{record_at}
 use Rattle.log_history.specs.Table.{OpenStream, LogTable}
 use Rattle.log_history.specs.KeptAnswers.{write_status}
 use Rattle.log_service.specs.PlanningParts.{PlansStoring}
-use Rattle.log_service.proofs.KeptLemmas.{moment-of, moment-fits}
+use Rattle.log_service.proofs.KeptLemmas.{moment-of, moment-fits, same_table}
 use Rattle.log_service.proofs.WriteLemmas.{write-rows, printable}
 use Rattle.log_service.proofs.StatePlans.{stored-as}
-use Rattle.log_service.proofs.state.LogState.plan_write.Goals as goal
+use Rattle.log_service.proofs.state.LogState.write_plan.Goals as goal
 
 pub storing_plan-requires-clause-printable : goal.storing_plan-requires-clause-printable
 storing_plan-requires-clause-printable c =
@@ -25,7 +25,7 @@ returns c =
     let time_fits = c.ranges.time in
     let now_fits = c.ranges.now in
     let last = c.self.inside.last in
-    let moment = moment-of last c.args.now c.args.self.now c.self.invariant.from (ap (λ (kept : LogTable). kept.last) c.self.view_is) c.requires.moment in
+    let moment = moment-of last c.args.now c.args.self.now.table c.self.invariant.from (ap (λ (kept : LogTable). kept.last) (same_table c.self.view_is)) c.requires.moment in
     let last_fits = moment-fits last c.args.now moment in
     let items = c.self.inside.streams.items in
     let ok : c.write_status-status.result ≡ status.Ok = search rules in
@@ -33,4 +33,4 @@ returns c =
     let rec_is = simp to_z-of_z at c.in_ok-rec.ensures in
     let told = simp to_z-of_z at c.in_ok-plan.ensures in
     let plans = subst (λ (list : List OpenStream). PlansStoring last c.args.now c.args.name.now c.in_ok-rec.rec list c.in_ok-plan.plan) c.as_slice-streams.ensures.value told in
-    stored-as last c.self.inside.users items c.args.self.now c.self.view_is c.self.invariant.few c.self.invariant.busy c.args.now (write_status c.args.self.now c.args.client c.args.name.now c.args.flags c.args.time c.args.header.now) c.args.name.now c.in_ok-rec.rec (record_at c.args.time c.args.header.now c.args.body.now c.args.now) c.in_ok-plan.plan (sym ok ∙ answered) rec_is plans
+    stored-as last c.self.inside.users items c.args.self.now.table (same_table c.self.view_is) c.self.invariant.few c.self.invariant.busy c.args.now (write_status c.args.self.now.table c.args.client c.args.name.now c.args.flags c.args.time c.args.header.now) c.args.name.now c.in_ok-rec.rec (record_at c.args.time c.args.header.now c.args.body.now c.args.now) c.in_ok-plan.plan (sym ok ∙ answered) rec_is plans

@@ -8,20 +8,20 @@ use Rattle.log_history.specs.Table.{OpenStream, LogTable}
 use Rattle.log_history.specs.KeptAnswers.{store_status}
 use Rattle.log_service.specs.Planning.{Plans}
 use Rattle.log_service.specs.PlanningParts.{PlansStoring}
-use Rattle.log_service.proofs.KeptLemmas.{moment-of, moment-fits}
+use Rattle.log_service.proofs.KeptLemmas.{moment-of, moment-fits, same_table}
 use Rattle.log_service.proofs.StatePlans.{stored-as}
-use Rattle.log_service.proofs.state.LogState.plan_store.Goals as goal
+use Rattle.log_service.proofs.state.LogState.store_plan.Goals as goal
 
 pub returns : goal.returns
 returns c =
     let now_fits = c.ranges.now in
     let last = c.self.inside.last in
-    let moment = moment-of last c.args.now c.args.self.now c.self.invariant.from (ap (λ (kept : LogTable). kept.last) c.self.view_is) c.requires.moment in
+    let moment = moment-of last c.args.now c.args.self.now.table c.self.invariant.from (ap (λ (kept : LogTable). kept.last) (same_table c.self.view_is)) c.requires.moment in
     let last_fits = moment-fits last c.args.now moment in
     let items = c.self.inside.streams.items in
     let name = c.stream_of_kind-name.result in
     let ok : c.store_status-status.result ≡ status.Ok = search rules in
     let told = simp to_z-of_z at c.in_ok-plan.ensures in
     let plans = subst (λ (list : List OpenStream). PlansStoring last c.args.now name c.args.rec.now list c.in_ok-plan.plan) c.as_slice-streams.ensures.value told in
-    subst (λ (n : StreamName). Plans c.args.self.now (store_status c.args.self.now n) (Stored n c.args.rec.now (second_of c.args.now)) c.in_ok-plan.plan) c.stream_of_kind-name.ensures
-    (stored-as last c.self.inside.users items c.args.self.now c.self.view_is c.self.invariant.few c.self.invariant.busy c.args.now (store_status c.args.self.now name) name c.args.rec.now c.args.rec.now c.in_ok-plan.plan (sym ok ∙ c.store_status-status.ensures) refl plans)
+    subst (λ (n : StreamName). Plans c.args.self.now.table (store_status c.args.self.now.table n) (Stored n c.args.rec.now (second_of c.args.now)) c.in_ok-plan.plan) c.stream_of_kind-name.ensures
+    (stored-as last c.self.inside.users items c.args.self.now.table (same_table c.self.view_is) c.self.invariant.few c.self.invariant.busy c.args.now (store_status c.args.self.now.table name) name c.args.rec.now c.args.rec.now c.in_ok-plan.plan (sym ok ∙ c.store_status-status.ensures) refl plans)

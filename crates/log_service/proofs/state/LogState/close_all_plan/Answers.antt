@@ -4,9 +4,9 @@ use Rattle.ais_values.specs.declared.status.Status.TheVariants as status
 use Rattle.log_history.specs.KeptAnswers.{end_status}
 use Rattle.log_history.specs.Table.{OpenStream, LogTable, without_opener, left_streams}
 use Rattle.log_service.specs.Changing.{AreEndsIn}
-use Rattle.log_service.proofs.KeptLemmas.{AreFew-mapped, few-bound, ends-fit, moment-of, moment-fits}
+use Rattle.log_service.proofs.KeptLemmas.{AreFew-mapped, few-bound, ends-fit, moment-of, moment-fits, same_table}
 use Rattle.log_service.proofs.StatePlans.{ended-as}
-use Rattle.log_service.proofs.state.LogState.plan_close_all.Goals as goal
+use Rattle.log_service.proofs.state.LogState.close_all_plan.Goals as goal
 
 pub endings-requires-clause-few : goal.endings-requires-clause-few
 endings-requires-clause-few c =
@@ -17,7 +17,7 @@ pub returns : goal.returns
 returns c =
     let now_fits = c.ranges.now in
     let last = c.self.inside.last in
-    let moment = moment-of last c.args.now c.args.self.now c.self.invariant.from (ap (λ (kept : LogTable). kept.last) c.self.view_is) c.requires in
+    let moment = moment-of last c.args.now c.args.self.now.table c.self.invariant.from (ap (λ (kept : LogTable). kept.last) (same_table c.self.view_is)) c.requires in
     let last_fits = moment-fits last c.args.now moment in
     let items = c.self.inside.streams.items in
     let left = left_streams c.args.client items in
@@ -27,4 +27,4 @@ returns c =
     let ends = subst (λ (list : List OpenStream). AreEndsIn last c.args.now (left_streams c.args.client list) (stamped, events)) c.as_slice-streams.ensures.value (record { stamp = simp to_z-of_z at c.in_ok-last.ensures.stamp; events = simp to_z-of_z at c.in_ok-last.ensures.events }) in
     let short = few-bound left (AreFew-mapped (without_opener c.args.client) (λ _. refl) items c.self.invariant.few) in
     let fits = ends-fit last c.args.now left (stamped, events) moment (omega arith) ends in
-    ended-as last c.self.inside.users items c.args.self.now c.self.view_is c.self.invariant.few c.self.invariant.busy c.args.now (end_status c.args.self.now c.args.client) c.args.client stamped events c.accepted.result (sym ok ∙ c.end_status-status.ensures) ends (simp to_z-of_z at c.accepted.ensures)
+    ended-as last c.self.inside.users items c.args.self.now.table (same_table c.self.view_is) c.self.invariant.few c.self.invariant.busy c.args.now (end_status c.args.self.now.table c.args.client) c.args.client stamped events c.accepted.result (sym ok ∙ c.end_status-status.ensures) ends (simp to_z-of_z at c.accepted.ensures)

@@ -6,28 +6,28 @@ use Rattle.stream_config.specs.Attributes.{kind_of, PassesAttrs}
 use Rattle.log_history.specs.Table.{OpenStream, LogTable}
 use Rattle.log_history.specs.KeptAnswers.{making_in}
 use Rattle.log_service.specs.PlanningParts.{PlansOpening}
-use Rattle.log_service.proofs.KeptLemmas.{moment-of, moment-fits}
+use Rattle.log_service.proofs.KeptLemmas.{moment-of, moment-fits, same_table}
 use Rattle.log_service.proofs.OpenLemmas.{making-passes}
 use Rattle.log_service.proofs.StatePlans.{opened-as}
-use Rattle.log_service.proofs.state.LogState.plan_open_stream.Goals as goal
+use Rattle.log_service.proofs.state.LogState.open_stream_plan.Goals as goal
 
 pub opening_plan-requires-clause-passes : goal.opening_plan-requires-clause-passes
 opening_plan-requires-clause-passes c =
     let ok : c.open_status-status.result ≡ status.Ok = search rules in
     let create = option_copied c.args.create in
     subst (λ (list : List OpenStream). ForSome (making_in list c.args.name.now create) (PassesAttrs (kind_of c.args.name.now))) (sym c.as_slice-streams.ensures.value)
-    (subst (λ (kept : LogTable). ForSome (making_in kept.streams c.args.name.now create) (PassesAttrs (kind_of c.args.name.now))) (sym c.self.view_is)
-    (making-passes c.args.self.now c.args.client c.args.name.now create (sym c.open_status-status.ensures ∙ ok)))
+    (subst (λ (kept : LogTable). ForSome (making_in kept.streams c.args.name.now create) (PassesAttrs (kind_of c.args.name.now))) (sym (same_table c.self.view_is))
+    (making-passes c.args.self.now.table c.args.client c.args.name.now create (sym c.open_status-status.ensures ∙ ok)))
 
 pub returns : goal.returns
 returns c =
     let now_fits = c.ranges.now in
     let last = c.self.inside.last in
-    let moment = moment-of last c.args.now c.args.self.now c.self.invariant.from (ap (λ (kept : LogTable). kept.last) c.self.view_is) c.requires in
+    let moment = moment-of last c.args.now c.args.self.now.table c.self.invariant.from (ap (λ (kept : LogTable). kept.last) (same_table c.self.view_is)) c.requires in
     let last_fits = moment-fits last c.args.now moment in
     let items = c.self.inside.streams.items in
     let create = option_copied c.args.create in
     let ok : c.open_status-status.result ≡ status.Ok = search rules in
     let told = simp to_z-of_z at c.in_ok-plan.ensures in
     let plans = subst (λ (list : List OpenStream). PlansOpening last c.args.now c.args.client c.args.name.now (making_in list c.args.name.now create) list c.in_ok-plan.plan) c.as_slice-streams.ensures.value told in
-    opened-as last c.self.inside.users items c.args.self.now c.self.view_is c.self.invariant.few c.self.invariant.busy c.args.now c.args.client c.args.name.now create c.in_ok-plan.plan moment (sym ok ∙ c.open_status-status.ensures) plans
+    opened-as last c.self.inside.users items c.args.self.now.table (same_table c.self.view_is) c.self.invariant.few c.self.invariant.busy c.args.now c.args.client c.args.name.now create c.in_ok-plan.plan moment (sym ok ∙ c.open_status-status.ensures) plans
