@@ -14,7 +14,7 @@ use Rattle.sub_queue.proofs.Accounts.{account_of-possible, offered-queue_for, re
 use Rattle.client_set.specs.Members.{Stands}
 use Rattle.client_set.specs.Rising.{put}
 use Rattle.client_set.proofs.RisingLaws.{map-put, map-without, Stands-put, Stands-without}
-use Rattle.ntf_history.specs.declared.subscription.Subscription.{Subscription}
+use Rattle.ntf_history.specs.Kept.{Subscription}
 use Rattle.ntf_history.specs.Changes.{Sub, NtfChange}
 use Rattle.ntf_history.specs.Changes.NtfChange.{Began, Ended, Subscribed, Unsubscribed, Sent, Receipted}
 use Rattle.ntf_history.specs.Subscriptions.{has_key, has_id, is_of, comes_first, subs, sub_at, lasts, offered_to, happened, account, is_known}

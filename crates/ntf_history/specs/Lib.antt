@@ -2,6 +2,7 @@ pub mod Changes
 pub mod Subscriptions
 pub mod StoredAlarms
 pub mod Possible
+pub mod Kept
 pub mod Tables
 pub mod Readers
 pub mod Rows

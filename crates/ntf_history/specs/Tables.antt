@@ -5,7 +5,7 @@ use Rattle.ntf_filters.specs.Matching.{matches}
 use Rattle.sub_queue.specs.Queue.{Queue, IsCapacity, IsSound, empty_queue, next_number, offered, received}
 use Rattle.sub_queue.specs.History.{queue_for}
 use Rattle.client_set.specs.Rising.{put, without, IsRising}
-use Rattle.ntf_history.specs.declared.subscription.Subscription.{Subscription}
+use Rattle.ntf_history.specs.Kept.{Subscription}
 use Rattle.ntf_history.specs.Changes.{Sub, NtfChange, users, last_id}
 use Rattle.ntf_history.specs.Changes.NtfChange.{Began, Ended, Subscribed, Unsubscribed, Sent, Receipted}
 use Rattle.ntf_history.specs.Subscriptions.{key_first, subs, account}

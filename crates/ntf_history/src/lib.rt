@@ -4,10 +4,8 @@
 #![tactic(auto)]
 
 mod law;
-mod subscription;
 
 pub use law::{
     law_of_asked, law_of_changes, law_of_items, law_of_readers, law_of_stored,
     law_of_subscriptions, law_of_tables, law_of_users,
 };
-pub use subscription::Subscription;

@@ -2,9 +2,9 @@
 use Rattle.std.proofs.Common.{◌≡◌, ℕ, zero, suc, ◌<◌, ◌≤◌, Bool, true, false, cond, List, [], ◌∷◌, ◌++◌, length, map, take, get_or, refl, ap, sym, ◌∙◌, arith}
 use Rattle.std.specs.List.{AllByRecursion}
 use Rattle.client_set.specs.Edits.{change_at}
-use Rattle.ntf_service.specs.Planning.{HoldsAt}
+use Rattle.ntf_service.specs.Planning.{HoldsAt, RiseBetween}
 use Rattle.ntf_service.specs.Offering.{change_each}
-use Rattle.ntf_service.specs.ByKind.{positions, RiseBetween}
+use Rattle.ntf_service.specs.ByKind.{positions}
 
 module _ {X : Type 0} where
   pub holds-read : (P : X → Type 0) (xs : List X) (place : ℕ) (d : X) → place < length xs → P (get_or xs place d) → HoldsAt P xs place
@@ -88,3 +88,14 @@ pub rise-below : (high : ℕ) (places : List ℕ) (index d place : ℕ) → plac
 rise-below high places index d place is rise within =
     let below = (rise-before 0 high places index d rise within).2 in
     omega (arith, is, below)
+
+pub rise-each : (low high : ℕ) (places : List ℕ) → RiseBetween low high places → AllByRecursion (λ place. place < high) places
+rise-each low high [] rise = tt
+rise-each low high (place ∷ places) rise = (rise.1, rise-each (suc place) high places rise.2)
+
+-- one place more behind the others
+pub rise-more : (low high place : ℕ) (places : List ℕ) → low ≤ place → place < high → RiseBetween low place places → RiseBetween low high (places ++ place ∷ [])
+rise-more low high place [] from below rise = (from, below, tt)
+rise-more low high place (other ∷ places) from below rise =
+    let above = rise.1 in
+    (rise.0, omega arith, rise-more (suc other) high place places (omega arith) below rise.2)

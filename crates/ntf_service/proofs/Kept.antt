@@ -10,7 +10,7 @@ use Rattle.sub_queue.specs.Queue.{Queue, IsCapacity, IsSound, HasNumberLeft, emp
 use Rattle.sub_queue.proofs.Keeping.{IsSound-more, IsSound-lost, IsSound-received}
 use Rattle.client_set.specs.Rising.{put, without, ComesFirst, IsRising, IsOrder}
 use Rattle.client_set.proofs.RisingLaws.{IsOrder-nat_lt, IsRising-put, IsRising-without}
-use Rattle.ntf_history.specs.declared.subscription.Subscription.{Subscription}
+use Rattle.ntf_history.specs.Kept.{Subscription}
 use Rattle.ntf_history.specs.Tables.{NtfTable, HaveQueues, IsSoundTable, table_with, is_kept_at, is_kept_for, kept_first, has_item, offered_sub, received_sub, requeued}
 use Rattle.ntf_history.proofs.TableLaws.{has_item-decides}
 use Rattle.ntf_history.proofs.KeyLaws.{key_first-self, key_first-onward, key_first-beside}

@@ -7,3 +7,5 @@ pub mod Planned
 pub mod Answered
 pub mod Received
 pub mod HistoryLaws
+pub mod Telling
+pub mod HavingRoom

@@ -4,7 +4,7 @@ use Rattle.std.specs.Prelude.{Some, find, insert}
 use Rattle.std.specs.List.{prefix_len}
 use Rattle.std.proofs.lemmas.Bool.Decides.{nat_tests}
 use Rattle.client_set.specs.Rising.{put, ComesFirst, IsRising}
-use Rattle.ntf_history.specs.declared.subscription.Subscription.{Subscription}
+use Rattle.ntf_history.specs.Kept.{Subscription}
 use Rattle.ntf_history.specs.Subscriptions.{key_first}
 use Rattle.ntf_history.specs.Tables.{is_kept_at, kept_first}
 use Rattle.ntf_service.specs.State.{IsKeyAbove}

@@ -3,8 +3,9 @@ use Rattle.std.proofs.Common.{◌≡◌, ℕ, zero, suc, ◌<◌, ◌≤◌, Boo
 use Rattle.std.proofs.Math.Seq.{take-suc}
 use Rattle.std.proofs.lemmas.List.{length-map, length-take, length-take-le, map-append}
 use Rattle.ntf_filters.specs.declared.filter.FilterSet.{FilterSet}
-use Rattle.ntf_history.specs.declared.subscription.Subscription.{Subscription}
-use Rattle.ntf_service.specs.ByKind.{positions, filters_of, RiseBetween}
+use Rattle.ntf_service.specs.declared.subscription.Subscription.{Subscription}
+use Rattle.ntf_service.specs.ByKind.{positions, filters_of}
+use Rattle.ntf_service.specs.Planning.{RiseBetween}
 
 module _ {X : Type 0} (test : X → Bool) where
   pub length-positions : (xs : List X) → length (positions test xs) ≤ length xs

@@ -3,11 +3,11 @@ use Rattle.std.proofs.Common.{◌≡◌, ℕ, ◌<◌, ◌≤◌, Bool, true, fa
 use Rattle.std.specs.Prelude.{Some, find, filter}
 use Rattle.sub_queue.specs.Queue.{Queue, IsNew, HasNumberLeft, received}
 use Rattle.client_set.specs.Rising.{IsRising, without}
-use Rattle.ntf_history.specs.declared.subscription.Subscription.{Subscription}
+use Rattle.ntf_history.specs.Kept.{Subscription}
 use Rattle.ntf_history.specs.Tables.{requeued, is_kept_at, is_new_for, has_item, kept_first, received_sub}
 use Rattle.ntf_history.proofs.TableLaws.{has_item-decides}
 use Rattle.ntf_service.specs.State.{HaveNumbersLeft}
-use Rattle.ntf_service.specs.ByKind.{filters_of}
+use Rattle.ntf_service.proofs.Telling.{filters_in}
 use Rattle.ntf_service.proofs.Places.{place_in, set-map, map-absent, find-at}
 use Rattle.ntf_service.proofs.Offers.{number-at}
 
@@ -20,7 +20,7 @@ filter-without {X} test (x ∷ xs) = left (test x) (filter-without test xs) wher
   left false rest = ap (λ ys. x ∷ ys) rest
 
 -- receipts leave what subscriptions ask for
-pub filters-received : (client key through : ℕ) (subs : List Subscription) → filters_of (map (received_sub client key through) subs) ≡ filters_of subs
+pub filters-received : (client key through : ℕ) (subs : List Subscription) → filters_in (map (received_sub client key through) subs) ≡ filters_in subs
 filters-received client key through [] = refl
 filters-received client key through (kept ∷ subs) =
     ap (λ sets. kept.filters ∷ sets) (filters-received client key through subs)

@@ -1,10 +1,10 @@
 -- Words of bodies alone: the places of subscriptions by the types of notifications that they have filters of.
-use Rattle.std.specs.Prelude.{◌≡◌, ℕ, zero, suc, ◌<◌, ◌≤◌, ⊤, Bool, if◌then◌else◌, List, [], ◌∷◌, map, Option, is_some}
+use Rattle.std.specs.Prelude.{◌≡◌, ℕ, zero, suc, Bool, if◌then◌else◌, List, [], ◌∷◌, map, Option, is_some}
 use Rattle.ntf_types.specs.declared.notification.Body.{Body}
 use Rattle.ntf_types.specs.declared.notification.Body.TheVariants as body
 use Rattle.ntf_filters.specs.declared.filter.Filter.{Filter}
 use Rattle.ntf_filters.specs.declared.filter.FilterSet.{FilterSet}
-use Rattle.ntf_history.specs.declared.subscription.Subscription.{Subscription}
+use Rattle.ntf_service.specs.declared.subscription.Subscription.{Subscription}
 use Rattle.ntf_service.specs.declared.by_kind.Kind.{Kind}
 use Rattle.ntf_service.specs.declared.by_kind.Kind.TheVariants.{Objects, Attributes, States, Alarms, Security}
 use Rattle.ntf_service.specs.declared.by_kind.ByKind.{ByKind}
@@ -48,8 +48,3 @@ places_in Security by_kind = by_kind.security.items
 -- for each type they are those of the sets that have a filter of it
 abbrev pub IsByKind : ByKind → List FilterSet → Type 0
 IsByKind by_kind sets = (kind : Kind) → places_in kind by_kind ≡ positions (has_filter kind) sets
-
--- places that rise, from one number on and below another
-abbrev pub RiseBetween : (low high : ℕ) → List ℕ → Type 0
-RiseBetween low high [] = ⊤
-RiseBetween low high (place ∷ places) = (low ≤ place) × (place < high) × RiseBetween (suc place) high places

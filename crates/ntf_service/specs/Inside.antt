@@ -1,6 +1,7 @@
 -- Words of bodies alone: how the state is kept.
 use Rattle.ntf_service.specs.declared.state.NtfState.TheInside.{Inside}
 use Rattle.ntf_history.specs.Tables.{NtfTable, IsSoundTable}
+use Rattle.ntf_service.specs.Told.{KeptNtf, all_told, spare_in}
 use Rattle.ntf_service.specs.ByKind.{IsByKind, filters_of}
 
 abbrev pub table_inside : Inside → NtfTable
@@ -8,8 +9,12 @@ table_inside inside = record {
   capacity = inside.capacity;
   users = inside.users;
   last_id = inside.last_id;
-  subs = inside.subs.items;
+  subs = all_told inside.subs.items;
 }
+
+abbrev pub kept_inside : Inside → KeptNtf
+kept_inside inside =
+    record { table = table_inside inside; spare = spare_in inside.subs.items }
 
 -- the table is sound, and the places by types are those of its subscriptions
 pub record IsKept (inside : Inside) : Type 0 where

@@ -1,3 +1,4 @@
+pub mod Told
 pub mod State
 pub mod Planning
 pub mod ByKind

@@ -1,13 +1,13 @@
 -- Words of bodies alone: the offers that a plan gathers, place by place.
-use Rattle.std.specs.Prelude.{◌≡◌, ℕ, Bool, true, false, List, [], ◌∷◌, ◌++◌}
+use Rattle.std.specs.Prelude.{◌≡◌, ℕ, ◌<◌, Bool, true, false, List, [], ◌∷◌, ◌++◌}
+use Rattle.std.specs.List.{AllByRecursion}
 use Rattle.ntf_types.specs.declared.notification.Notification.{Notification}
 use Rattle.sub_queue.specs.Queue.{Queue, offered}
-use Rattle.sub_queue.specs.Losing.{IsRoomFor}
-use Rattle.ntf_history.specs.declared.subscription.Subscription.{Subscription}
+use Rattle.ntf_history.specs.Kept.{Subscription}
 use Rattle.ntf_history.specs.Tables.{offered_sub}
 use Rattle.ntf_service.specs.declared.plan.Offer.{Offer}
 use Rattle.client_set.specs.Edits.{change_at}
-use Rattle.ntf_service.specs.Planning.{queue_with, offers_made, Suits, CanOfferAll}
+use Rattle.ntf_service.specs.Planning.{queue_with, offers_made, offer_places, Suits, CanOfferAll, RiseBetween}
 
 -- the list with the elements at these places changed, one after another
 abbrev pub change_each : {X : Type 0} → (X → X) → List ℕ → List X → List X
@@ -17,7 +17,6 @@ change_each change (place ∷ places) xs = change_each change places (change_at 
 -- an offer of a notification to a queue at a place: it suits the queue, which it makes what the notification makes of it
 pub record IsOffer (place : ℕ) (notification : Notification) (queue : Queue) (offer : Offer) : Type 0 where
   pub placed : offer.place ≡ place
-  pub room : IsRoomFor offer.room queue
   pub suits : Suits offer.share queue
   pub made : queue_with offer.share queue ≡ offered notification queue
 
@@ -31,3 +30,4 @@ Joins false place notification kept old new = new ≡ old
 pub record AreOffers (notification : Notification) (places : List ℕ) (subs : List Subscription) (offers : List Offer) : Type 0 where
   pub can : CanOfferAll offers subs
   pub made : offers_made offers subs ≡ change_each (offered_sub notification) places subs
+  pub rise : (bound : ℕ) → AllByRecursion (λ place. place < bound) places → RiseBetween 0 bound (offer_places offers)

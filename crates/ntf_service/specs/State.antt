@@ -7,7 +7,7 @@ use Rattle.ntf_filters.specs.declared.filter.FilterSet.{FilterSet}
 use Rattle.ntf_filters.specs.FitTests.{is_fit}
 use Rattle.sub_queue.specs.Queue.{HasNumberLeft}
 use Rattle.client_set.specs.Members.{has}
-use Rattle.ntf_history.specs.declared.subscription.Subscription.{Subscription}
+use Rattle.ntf_history.specs.Kept.{Subscription}
 use Rattle.ntf_history.specs.Changes.{Sub}
 use Rattle.ntf_history.specs.Tables.{NtfTable, is_kept_under}
 use Rattle.ntf_history.specs.Rows.{answer, begin_by, end_by, subscribe_by, unsubscribe_by}

@@ -3,9 +3,9 @@ ghost use Rattle.std.specs.Prelude.{◌≡◌, ◌∷◌, [], ◌++◌, ◌<◌,
 ghost use Rattle.arrayvec.specs.ArrayVec.{array_vec_len};
 ghost use Rattle.ntf_service.specs.ByKind.{kind_for, filter_of, has_filter, positions, filters_of, places_in, IsByKind};
 
+use crate::subscription::Subscription;
 use arrayvec::ArrayVec;
 use ntf_filters::{Filter, FilterSet};
-use ntf_history::Subscription;
 use ntf_types::Body;
 
 /// A type of notifications.

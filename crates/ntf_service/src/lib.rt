@@ -7,10 +7,12 @@ mod editing;
 mod law;
 mod offering;
 mod plan;
+mod rooms;
 mod searching;
 mod state;
+mod subscription;
 
 pub use law::law_of_history;
-pub use ntf_history::Subscription;
 pub use plan::SendPlan;
 pub use state::NtfState;
+pub use subscription::Subscription;

@@ -3,15 +3,15 @@ ghost use Rattle.std.specs.Prelude.{◌≡◌, ◌+◌, ◌<◌, ◌≤◌, leng
 ghost use Rattle.std.specs.Vec.{vec_capacity};
 ghost use Rattle.ntf_filters.specs.Matching.{matches};
 ghost use Rattle.ntf_service.specs.State.{HaveNumbersLeft};
-ghost use Rattle.ntf_service.specs.ByKind.{RiseBetween};
-ghost use Rattle.ntf_service.specs.Planning.{queue_with, Suits};
+ghost use Rattle.ntf_service.specs.Planning.{queue_with, RiseBetween, Suits};
+ghost use Rattle.ntf_service.specs.Told.{told, all_told};
 ghost use Rattle.ntf_service.specs.Offering.{IsOffer, Joins, AreOffers};
 ghost use Rattle.sub_queue.specs.Queue.{offered};
 
 use crate::plan::{Offer, Share};
+use crate::subscription::Subscription;
 use ais_values::Duplicate;
 use ntf_filters::{FilterSet, matches};
-use ntf_history::Subscription;
 use ntf_types::Notification;
 use std::alloc::{AllocError, Global};
 use sub_queue::{SubQueue, mark_of};
@@ -29,9 +29,9 @@ fn share_of(
     queue: &SubQueue,
     notification: &Notification,
 ) -> Result<Share, AllocError>
-    ensures suits { IfOk result (λ share. Suits share queue.now) }
+    ensures suits { IfOk result (λ share. Suits share queue.now.queue) }
     ensures made { IfOk result (λ share.
-        queue_with share queue.now ≡ offered notification.now queue.now) }
+        queue_with share queue.now.queue ≡ offered notification.now queue.now.queue) }
 {
     if queue.has_room() {
         let notification = notification.copy(alloc)?;
@@ -42,18 +42,17 @@ fn share_of(
     }
 }
 
-/// The offer of a notification to the queue of the subscription at a place, with room for it there.
+/// The offer of a notification to the queue of the subscription at a place.
 fn offer_to(
     alloc: Global,
     place: usize,
     queue: &SubQueue,
     notification: &Notification,
 ) -> Result<Offer, AllocError>
-    ensures { IfOk result (IsOffer place notification.now queue.now) }
+    ensures { IfOk result (IsOffer place notification.now queue.now.queue) }
 {
-    let room = queue.reserve(alloc)?;
     let share = share_of(alloc, queue, notification)?;
-    Ok(Offer { place, share, room })
+    Ok(Offer { place, share })
 }
 
 /// Adds the offer of a notification to the subscription at a place, if that asks for it. There is room for it among the
@@ -67,7 +66,7 @@ fn add_offer(
 ) -> Result<(), AllocError>
     requires { vec_len offers.old < vec_capacity offers.old }
     ensures joins { OnOk result (Joins (matches kept.now.filters notification.now)
-        place notification.now kept.now offers.old.items offers.new.items) }
+        place notification.now (told kept.now) offers.old.items offers.new.items) }
     ensures count { vec_len offers.new ≤ vec_len offers.old + 1 }
     ensures capacity { vec_capacity offers.new ≡ vec_capacity offers.old }
 {
@@ -87,9 +86,9 @@ pub(crate) fn offers_for(
     notification: &Notification,
 ) -> Result<Vec<Offer>, AllocError>
     requires places { RiseBetween 0 (length subs.now) places.now }
-    requires numbers { HaveNumbersLeft subs.now }
+    requires numbers { HaveNumbersLeft (all_told subs.now) }
     ensures { IfOk result
-        (λ offers. AreOffers notification.now places.now subs.now offers.items) }
+        (λ offers. AreOffers notification.now places.now (all_told subs.now) offers.items) }
 {
     let mut offers = Vec::with_capacity(alloc, places.len())?;
     for index in 0..places.len() {

@@ -1,13 +1,13 @@
 //! What a send would do, planned with all the memory that it takes.
-ghost use Rattle.std.specs.Prelude.{◌≡◌, vec_len};
+ghost use Rattle.std.specs.Prelude.{◌≡◌, ◌+◌, ◌≤◌, drop, vec_len};
 ghost use Rattle.client_set.specs.Edits.{change_at};
 ghost use Rattle.sub_queue.specs.Queue.{HasNumberLeft};
-ghost use Rattle.sub_queue.specs.Losing.{IsRoomFor};
-ghost use Rattle.ntf_service.specs.Planning.{queue_with, sub_with_share, offers_made, Suits, CanOffer, CanOfferAll};
+ghost use Rattle.ntf_service.specs.Planning.{queue_with, sub_with_share, offers_made, offer_places, HoldsAt, RiseBetween, Suits, CanOffer, CanOfferAll};
+ghost use Rattle.ntf_service.specs.Told.{all_told, HasRoom, spare_in};
 
-use ntf_history::Subscription;
+use crate::subscription::Subscription;
 use ntf_types::Notification;
-use sub_queue::{Lost, Room, SubQueue};
+use sub_queue::{Lost, SubQueue};
 
 /// What a queue gets of a notification: all of it, or its mark alone, where it finds no place.
 #[derive(Drop)]
@@ -16,16 +16,15 @@ pub(crate) enum Share {
     Mark { mark: Lost },
 }
 
-/// An offer to the subscription at a place, with its room there.
+/// An offer to the subscription at a place.
 #[derive(Drop)]
 pub(crate) struct Offer {
     pub(crate) place: usize,
     pub(crate) share: Share,
-    pub(crate) room: Room,
 }
 
-/// A send that was planned: its id, and the offers to the subscriptions that ask for the notification. It holds all the
-/// memory that making it takes.
+/// A send that was planned: its id, and the offers to the subscriptions that ask for the notification, each with a share
+/// of it. For the shares there is room in the queues.
 #[derive(Drop)]
 pub struct SendPlan {
     pub(crate) id: u64,
@@ -41,34 +40,39 @@ impl SendPlan {
     }
 }
 
-/// Gives a queue its share.
-fn give(queue: &mut SubQueue, share: Share, room: Room)
-    requires numbers { HasNumberLeft queue.old }
-    requires room { IsRoomFor room queue.old }
-    requires suits { Suits share queue.old }
-    ensures { queue.new ≡ queue_with share queue.old }
+/// Gives a queue its share, for which there is room.
+fn give(queue: &mut SubQueue, share: Share)
+    requires numbers { HasNumberLeft queue.old.queue }
+    requires room { 1 ≤ queue.old.spare }
+    requires suits { Suits share queue.old.queue }
+    ensures { queue.new.queue ≡ queue_with share queue.old.queue }
 {
     match share {
-        Share::Whole { notification } => queue.offer_reserved(notification, room),
-        Share::Mark { mark } => queue.lose_reserved(mark, room),
+        Share::Whole { notification } => queue.offer_reserved(notification),
+        Share::Mark { mark } => queue.lose_reserved(mark),
     }
 }
 
-/// Makes an offer.
+/// Makes an offer, for which there is room. The other subscriptions stay as they are, and so do their rooms.
 fn make_offer(subs: &mut Vec<Subscription>, offer: Offer)
-    requires { CanOffer offer subs.old.items }
-    ensures { subs.new.items
-        ≡ change_at (sub_with_share offer.share) subs.old.items offer.place }
+    requires can { CanOffer offer (all_told subs.old.items) }
+    requires room { HoldsAt HasRoom subs.old.items offer.place }
+    ensures told { all_told subs.new.items
+        ≡ change_at (sub_with_share offer.share) (all_told subs.old.items) offer.place }
+    ensures behind { drop (offer.place + 1) subs.new.items
+        ≡ drop (offer.place + 1) subs.old.items }
 {
-    let Offer { place, share, room } = offer;
+    let Offer { place, share } = offer;
     let kept = &mut subs[place];
-    give(&mut kept.queue, share, room);
+    give(&mut kept.queue, share);
 }
 
-/// Makes offers, one after another. It takes no memory.
+/// Makes offers, one after another, where there is room in each queue. It takes no memory.
 pub(crate) fn make_offers(subs: &mut Vec<Subscription>, offers: Vec<Offer>)
-    requires { CanOfferAll offers.items subs.old.items }
-    ensures { subs.new.items ≡ offers_made offers.items subs.old.items }
+    requires can { CanOfferAll offers.items (all_told subs.old.items) }
+    requires rise { RiseBetween 0 (vec_len subs.old) (offer_places offers.items) }
+    requires room { 1 ≤ spare_in subs.old.items }
+    ensures { all_told subs.new.items ≡ offers_made offers.items (all_told subs.old.items) }
 {
     for offer in offers {
         make_offer(subs, offer);

@@ -1,22 +1,24 @@
 //! The state, and what each call makes of it.
-ghost use Rattle.std.specs.Prelude.{◌≡◌, ◌≢◌, ◌↔◌, ◌+◌, nat_lt, length, IfOk, OnOk, OnErr, option_copied, slice_get, IsTrue};
+ghost use Rattle.std.specs.Prelude.{◌≡◌, ◌≢◌, ◌↔◌, ◌+◌, ◌≤◌, nat_lt, length, IfOk, OnOk, OnErr, option_copied, option_map, slice_get, IsTrue};
 ghost use Rattle.sub_queue.specs.Queue.{IsCapacity, empty_queue};
 ghost use Rattle.ntf_filters.specs.FitTests.{is_fit};
 ghost use Rattle.client_set.specs.Rising.{IsRising};
 ghost use Rattle.client_set.specs.Members.{has};
-ghost use Rattle.ntf_history.specs.Tables.{NtfTable, empty_table, table_with, sub_with, has_item, IsSoundTable, with_id, is_new_in, after_begin, after_end, after_subscribe, after_unsubscribe, after_send, after_receipt};
+ghost use Rattle.ntf_history.specs.Tables.{empty_table, table_with, sub_with, has_item, IsSoundTable, with_id, is_new_in, after_begin, after_end, after_subscribe, after_unsubscribe, after_send, after_receipt};
 ghost use Rattle.ntf_service.specs.State.{sub_of, begin_answer, end_answer, subscribe_answer, unsubscribe_answer, CanSendMore, HaveNumbersLeft, IsKeyAbove};
 ghost use Rattle.ntf_service.specs.Planning.{sent_by, CanCommitSend, PlansSend};
+ghost use Rattle.ntf_service.specs.Told.{told, all_told};
 
 use crate::by_kind::{ByKind, kind_for};
 use crate::editing::{add, receive, remove_for, remove_under};
 use crate::offering::offers_for;
 use crate::plan::{SendPlan, make_offers};
-use crate::searching::{find_at, has_id, have_numbers_left, is_key_above};
+use crate::rooms::make_room;
+use crate::searching::{find_at, has_id, have_numbers_left, is_key_above, kept_at};
+use crate::subscription::Subscription;
 use ais_values::{Duplicate, Status};
 use client_set::ClientSet;
 use ntf_filters::{FilterSet, check_filters};
-use ntf_history::Subscription;
 use ntf_types::Notification;
 use std::alloc::{AllocError, Global};
 use std::marker::Model;
@@ -26,7 +28,8 @@ use sub_queue::SubQueue;
 const MAX_SUBSCRIPTIONS: usize = 64;
 
 /// The clients that use the service, the last id that was given, and the subscriptions that last,
-/// in order of client, then key. Beside them stand their places by the types that they ask for.
+/// in order of client, then key. Beside them stand their places by the types that they ask for. Contracts see what is kept,
+/// and for how many sends more there is room: 1 where each queue has room.
 #[derive(Drop)]
 pub struct NtfState {
     capacity: u32,
@@ -37,13 +40,13 @@ pub struct NtfState {
 }
 
 impl Model for NtfState {
-    ghost use Rattle.ntf_history.specs.Tables.{NtfTable};
+    ghost use Rattle.ntf_service.specs.Told.{KeptNtf};
 
-    ghost Value = { NtfTable };
+    ghost Value = { KeptNtf };
 
-    ghost use Rattle.ntf_service.specs.Inside.{table_inside, IsKept};
+    ghost use Rattle.ntf_service.specs.Inside.{kept_inside, IsKept};
 
-    ghost view = { table_inside };
+    ghost view = { kept_inside };
 
     ghost invariant = { IsKept };
 }
@@ -59,7 +62,7 @@ fn subscription(
 ) -> Result<Subscription, AllocError>
     requires { IsCapacity cap }
     ensures { IfOk result (λ kept.
-        kept ≡ sub_with (sub_of client key id filters.now) (empty_queue cap)) }
+        told kept ≡ sub_with (sub_of client key id filters.now) (empty_queue cap)) }
 {
     Ok(Subscription {
         client,
@@ -79,7 +82,7 @@ fn is_usable(filters: &FilterSet) -> bool
 
 /// Whether a subscription holds an item of this number.
 fn has_item(kept: &Subscription, number: u32) -> bool
-    ensures { result ≡ has_item number kept.now.queue }
+    ensures { result ≡ has_item number kept.now.queue.queue }
 {
     kept.queue.is_new(number)
 }
@@ -89,7 +92,7 @@ impl NtfState {
     /// capacity. It takes no memory.
     pub fn new(alloc: Global, cap: u32) -> NtfState
         requires { IsCapacity cap }
-        ensures { result ≡ empty_table cap }
+        ensures { result.table ≡ empty_table cap }
     {
         NtfState {
             capacity: cap,
@@ -103,11 +106,11 @@ impl NtfState {
     /// Begins a client's use of the service. `NoResources` exactly where it uses the service
     /// already. On an error, and with another answer than ok, nothing changes.
     pub fn init(&mut self, client: u16) -> Result<Status, AllocError>
-        ensures status { IfOk result (λ status. status ≡ begin_answer client self.old) }
+        ensures status { IfOk result (λ status. status ≡ begin_answer client self.old.table) }
         ensures ok { IfOk result (λ status. status ≡ Status.Ok →
-            self.new ≡ after_begin client self.old) }
-        ensures refused { IfOk result (λ status. status ≢ Status.Ok → self.new ≡ self.old) }
-        ensures err { OnErr result (self.new ≡ self.old) }
+            self.new.table ≡ after_begin client self.old.table) }
+        ensures refused { IfOk result (λ status. status ≢ Status.Ok → self.new.table ≡ self.old.table) }
+        ensures err { OnErr result (self.new.table ≡ self.old.table) }
     {
         if self.users.contains(client) {
             return Ok(Status::NoResources);
@@ -119,9 +122,9 @@ impl NtfState {
     /// Ends a client's use of the service and all its subscriptions. `BadHandle` exactly where it
     /// does not use the service; then nothing changes. It takes no memory.
     pub fn fini(&mut self, client: u16) -> Status
-        ensures status { result ≡ end_answer client self.old }
-        ensures ok { result ≡ Status.Ok → self.new ≡ after_end client self.old }
-        ensures refused { result ≢ Status.Ok → self.new ≡ self.old }
+        ensures status { result ≡ end_answer client self.old.table }
+        ensures ok { result ≡ Status.Ok → self.new.table ≡ after_end client self.old.table }
+        ensures refused { result ≢ Status.Ok → self.new.table ≡ self.old.table }
     {
         if !self.users.contains(client) {
             return Status::BadHandle;
@@ -137,7 +140,7 @@ impl NtfState {
     /// subscription of that id, `NoResources` where 64 subscriptions last, the first of these that
     /// holds, and else ok.
     fn subscribe_status(&self, client: u16, id: u32, filters: &FilterSet) -> Status
-        ensures { result ≡ subscribe_answer client id filters.now self.now }
+        ensures { result ≡ subscribe_answer client id filters.now self.now.table }
     {
         if !self.users.contains(client) {
             Status::BadHandle
@@ -165,13 +168,13 @@ impl NtfState {
         id: u32,
         filters: &FilterSet,
     ) -> Result<Status, AllocError>
-        requires { IsKeyAbove client key self.old.subs }
+        requires { IsKeyAbove client key self.old.table.subs }
         ensures status { IfOk result (λ status.
-            status ≡ subscribe_answer client id filters.now self.old) }
+            status ≡ subscribe_answer client id filters.now self.old.table) }
         ensures ok { IfOk result (λ status. status ≡ Status.Ok →
-            self.new ≡ after_subscribe (sub_of client key id filters.now) self.old) }
-        ensures refused { IfOk result (λ status. status ≢ Status.Ok → self.new ≡ self.old) }
-        ensures err { OnErr result (self.new ≡ self.old) }
+            self.new.table ≡ after_subscribe (sub_of client key id filters.now) self.old.table) }
+        ensures refused { IfOk result (λ status. status ≢ Status.Ok → self.new.table ≡ self.old.table) }
+        ensures err { OnErr result (self.new.table ≡ self.old.table) }
     {
         let status = self.subscribe_status(client, id, filters);
         if status != Status::Ok {
@@ -187,9 +190,9 @@ impl NtfState {
     /// not use the service, else `NotExist` where it has no subscription of that id; then nothing
     /// changes. It takes no memory.
     pub fn unsubscribe(&mut self, client: u16, id: u32) -> Status
-        ensures status { result ≡ unsubscribe_answer client id self.old }
-        ensures ok { result ≡ Status.Ok → self.new ≡ after_unsubscribe client id self.old }
-        ensures refused { result ≢ Status.Ok → self.new ≡ self.old }
+        ensures status { result ≡ unsubscribe_answer client id self.old.table }
+        ensures ok { result ≡ Status.Ok → self.new.table ≡ after_unsubscribe client id self.old.table }
+        ensures refused { result ≢ Status.Ok → self.new.table ≡ self.old.table }
     {
         if !self.users.contains(client) {
             return Status::BadHandle;
@@ -202,16 +205,23 @@ impl NtfState {
         Status::Ok
     }
 
-    /// Plans `send`: what it gives and makes of the state, with all the memory that this takes. Of the
-    /// subscriptions only those are looked at that have a filter of the notification's type. An error
-    /// is want of memory.
-    pub fn plan_send(
+    /// Makes room for a notification more in each queue. What is kept stays as it is; an error is want of memory.
+    fn make_room(&mut self, alloc: Global) -> Result<(), AllocError>
+        ensures table { self.new.table ≡ self.old.table }
+        ensures ok { OnOk result (1 ≤ self.new.spare) }
+    {
+        make_room(&mut self.subs, alloc)
+    }
+
+    /// The plan of `send` for the state as it is. Of the subscriptions only those are looked at that have a filter of
+    /// the notification's type. An error is want of memory.
+    fn send_plan(
         &self,
         alloc: Global,
         mut notification: Notification,
     ) -> Result<SendPlan, AllocError>
-        requires { CanSendMore self.now }
-        ensures { IfOk result (PlansSend self.now notification) }
+        requires { CanSendMore self.now.table }
+        ensures { IfOk result (PlansSend self.now.table notification) }
     {
         let id = self.last_id + 1;
         notification.id = id;
@@ -222,11 +232,33 @@ impl NtfState {
         Ok(SendPlan { id, offers })
     }
 
-    /// Makes a send that was planned for the state as it is. The answer is its id. It takes no memory:
-    /// the plan brought all of it.
+    /// Plans `send`: what it gives and makes of the state, with a share of the notification for each subscription that
+    /// asks for it, and makes room for these. The state stays as it is; an error is want of memory.
+    pub fn plan_send(
+        &mut self,
+        alloc: Global,
+        notification: Notification,
+    ) -> Result<SendPlan, AllocError>
+        requires { CanSendMore self.old.table }
+        ensures ok { IfOk result (PlansSend self.old.table notification) }
+        ensures table { self.new.table ≡ self.old.table }
+        ensures room { OnOk result (1 ≤ self.new.spare) }
+    {
+        match self.make_room(alloc) {
+            Ok(()) => self.send_plan(alloc, notification),
+            Err(error) => {
+                drop(notification);
+                Err(error)
+            }
+        }
+    }
+
+    /// Makes a send that was planned for the state as it is, into room that was made for it. The answer is its id. It
+    /// takes no memory.
     pub fn commit_send(&mut self, plan: SendPlan) -> u64
-        requires { CanCommitSend self.old plan }
-        ensures now { self.new ≡ sent_by plan self.old }
+        requires can { CanCommitSend self.old.table plan }
+        requires room { 1 ≤ self.old.spare }
+        ensures now { self.new.table ≡ sent_by plan self.old.table }
         ensures id { result ≡ plan.id }
     {
         let SendPlan { id, offers } = plan;
@@ -239,11 +271,11 @@ impl NtfState {
     /// subscription that asks for it, and to no other. On an error nothing changes, and no id is
     /// used up.
     pub fn send(&mut self, alloc: Global, notification: Notification) -> Result<u64, AllocError>
-        requires { CanSendMore self.old }
-        ensures id { IfOk result (λ id. id ≡ self.old.last_id + 1) }
+        requires { CanSendMore self.old.table }
+        ensures id { IfOk result (λ id. id ≡ self.old.table.last_id + 1) }
         ensures ok { OnOk result
-            (self.new ≡ after_send (with_id (self.old.last_id + 1) notification) self.old) }
-        ensures err { OnErr result (self.new ≡ self.old) }
+            (self.new.table ≡ after_send (with_id (self.old.table.last_id + 1) notification) self.old.table) }
+        ensures err { OnErr result (self.new.table ≡ self.old.table) }
     {
         let plan = self.plan_send(alloc, notification)?;
         Ok(self.commit_send(plan))
@@ -252,14 +284,14 @@ impl NtfState {
     /// Whether a notification can be sent: an id is left for it, and a number for the next item of
     /// each subscription.
     pub fn can_send(&self) -> bool
-        ensures { IsTrue result ↔ CanSendMore self.now }
+        ensures { IsTrue result ↔ CanSendMore self.now.table }
     {
         self.last_id < 4_294_967_294 && have_numbers_left(self.subs.as_slice())
     }
 
     /// Whether a key is above those of all subscriptions of a client.
     pub fn is_key_above(&self, client: u16, key: u32) -> bool
-        ensures { IsTrue result ↔ IsKeyAbove client key self.now.subs }
+        ensures { IsTrue result ↔ IsKeyAbove client key self.now.table.subs }
     {
         is_key_above(self.subs.as_slice(), client, key)
     }
@@ -267,7 +299,7 @@ impl NtfState {
     /// Whether a receipt is new: the subscription of this client and key lasts, and the number is
     /// that of an item that it holds.
     pub fn is_new(&self, client: u16, key: u32, through: u32) -> bool
-        ensures { result ≡ is_new_in self.now client key through }
+        ensures { result ≡ is_new_in self.now.table client key through }
     {
         match find_at(self.subs.as_slice(), client, key) {
             None => false,
@@ -277,39 +309,39 @@ impl NtfState {
 
     /// Takes a new receipt. It takes no memory.
     pub fn acked(&mut self, client: u16, key: u32, through: u32)
-        requires new { IsTrue (is_new_in self.old client key through) }
-        requires numbers { HaveNumbersLeft self.old.subs }
-        ensures { self.new ≡ after_receipt client key through self.old }
+        requires new { IsTrue (is_new_in self.old.table client key through) }
+        requires numbers { HaveNumbersLeft self.old.table.subs }
+        ensures { self.new.table ≡ after_receipt client key through self.old.table }
     {
         receive(&mut self.subs, client, key, through);
     }
 
     /// Whether a client uses the service.
     pub fn is_user(&self, client: u16) -> bool
-        ensures { result ≡ has client self.now.users }
+        ensures { result ≡ has client self.now.table.users }
     {
         self.users.contains(client)
     }
 
     /// The clients that use the service, rising.
     pub fn users(&self) -> &[u16]
-        ensures users { result.now ≡ self.now.users }
-        ensures rising { IsRising nat_lt self.now.users }
+        ensures users { result.now ≡ self.now.table.users }
+        ensures rising { IsRising nat_lt self.now.table.users }
     {
         self.users.as_slice()
     }
 
     /// The last id that was given, or 0 where none was.
     pub fn last_id(&self) -> u64
-        ensures { result ≡ self.now.last_id }
+        ensures { result ≡ self.now.table.last_id }
     {
         self.last_id
     }
 
     /// How many subscriptions last.
     pub fn count(&self) -> u32
-        ensures count { result ≡ length self.now.subs }
-        ensures sound { IsSoundTable self.now }
+        ensures count { result ≡ length self.now.table.subs }
+        ensures sound { IsSoundTable self.now.table }
     {
         self.subs.len() as u32
     }
@@ -317,15 +349,15 @@ impl NtfState {
     /// The subscription at a place, from 0, in order of client, then key. None exactly where fewer
     /// last.
     pub fn sub_at(&self, place: u32) -> Option<&Subscription>
-        ensures { option_copied result ≡ slice_get self.now.subs place }
+        ensures { option_map told (option_copied result) ≡ slice_get self.now.table.subs place }
     {
-        self.subs.get(place as usize)
+        kept_at(self.subs.as_slice(), place as usize)
     }
 
     /// The state with these parts. It takes no memory.
     pub fn rebuild(cap: u32, last_id: u64, users: Vec<u16>, subs: Vec<Subscription>) -> NtfState
-        requires { IsSoundTable (table_with cap users.items last_id subs.items) }
-        ensures { result ≡ table_with cap users.items last_id subs.items }
+        requires { IsSoundTable (table_with cap users.items last_id (all_told subs.items)) }
+        ensures { result.table ≡ table_with cap users.items last_id (all_told subs.items) }
     {
         let by_kind = ByKind::of(subs.as_slice());
         NtfState {

@@ -13,7 +13,7 @@ use Rattle.sub_queue.specs.declared.item.Content.TheVariants.{Notified}
 use Rattle.sub_queue.specs.Items.{discarded}
 use Rattle.sub_queue.specs.Queue.{Queue, IsCapacity, next_number, empty_queue, has_room, offered, received}
 use Rattle.sub_queue.proofs.Keeping.{length-discarded}
-use Rattle.ntf_history.specs.declared.subscription.Subscription.{Subscription}
+use Rattle.ntf_history.specs.Kept.{Subscription}
 use Rattle.ntf_history.specs.Changes.{Sub, NtfChange}
 use Rattle.ntf_history.specs.Changes.NtfChange.{Began, Ended, Subscribed, Unsubscribed, Sent, Receipted}
 use Rattle.ntf_history.specs.Tables.{NtfTable, sub_with, requeued, is_kept_at, is_kept_under, is_kept_for, kept_first, has_item, offered_sub, received_sub, after_change}

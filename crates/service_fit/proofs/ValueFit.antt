@@ -10,7 +10,7 @@ use Rattle.log_history.specs.Table.{OpenStream, LogTable}
 use Rattle.alarm_view.specs.declared.alarm.KeptAlarm.{KeptAlarm}
 use Rattle.alarm_view.specs.Alarms.{IsAlarm, RiseFrom}
 use Rattle.sub_queue.specs.Queue.{IsSound}
-use Rattle.ntf_history.specs.declared.subscription.Subscription.{Subscription}
+use Rattle.ntf_history.specs.Kept.{Subscription}
 use Rattle.ntf_history.specs.Tables.{HaveQueues, kept_first}
 use Rattle.calls.specs.declared.saved.SavedReader.{SavedReader}
 use Rattle.plain_service.specs.Fitness.{IsFit, IsFitStream, IsFitAlarm, IsFitSub as IsFitSaved, IsFitReader, IsStanding, HaveFitStreams, HasFitStamp, HaveFitAlarms, HaveFitSubs, HaveFitReaders, is_record_before, is_id_before, is_sub_before, have_one_id as have_one_saved_id}

@@ -9,7 +9,7 @@ use Rattle.calls.specs.declared.saved.Saved.{Saved}
 use Rattle.calls.specs.declared.saved.SavedWindow.{SavedWindow}
 use Rattle.calls.specs.declared.saved.SavedSub.{SavedSub}
 use Rattle.log_history.specs.Table.{OpenStream}
-use Rattle.ntf_history.specs.declared.subscription.Subscription.{Subscription}
+use Rattle.ntf_history.specs.Kept.{Subscription}
 use Rattle.ntf_history.specs.Changes.{Sub, NtfChange}
 use Rattle.ntf_history.specs.Subscriptions.{subs}
 use Rattle.ntf_history.specs.Tables.{HaveQueues, kept_of}

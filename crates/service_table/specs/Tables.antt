@@ -11,7 +11,7 @@ use Rattle.calls.specs.declared.saved.SavedAlarm.{SavedAlarm}
 use Rattle.calls.specs.declared.saved.SavedSub.{SavedSub}
 use Rattle.calls.specs.declared.saved.SavedReader.{SavedReader}
 use Rattle.log_history.specs.Table.{OpenStream, LogTable}
-use Rattle.ntf_history.specs.declared.subscription.Subscription.{Subscription}
+use Rattle.ntf_history.specs.Kept.{Subscription}
 use Rattle.ntf_history.specs.Readers.{Reader}
 use Rattle.ntf_history.specs.Tables.{NtfTable}
 use Rattle.plain_service.specs.Values.{saved_stream, saved_alarm}

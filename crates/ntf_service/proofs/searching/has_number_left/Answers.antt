@@ -6,7 +6,7 @@ use Rattle.ntf_service.proofs.searching.has_number_left.Goals as goal
 
 pub returns : goal.returns
 returns c =
-    let queue = c.args.kept.now.queue in
+    let queue = c.args.kept.now.queue.queue in
     let shown = ap length c.items.ensures.items in
     let long = length-numbered queue.first queue.held in
     let next : c.from.result + length c.items.result.now ≡ next_number queue = omega (arith, shown, long, c.from.ensures, c.first.ensures) in

@@ -1,4 +1,6 @@
-use Rattle.std.proofs.Common.{length, ap, subst, ◌∙◌, arith}
+use Rattle.std.proofs.lemmas.List.{length-map}
+use Rattle.ntf_service.specs.Told.{told}
+use Rattle.std.proofs.Common.{length, ap, subst, arith}
 use Rattle.ntf_history.specs.Tables.{is_kept_for}
 use Rattle.ntf_service.specs.Inside.{table_inside}
 use Rattle.ntf_service.specs.ByKind.{IsByKind, filters_of}
@@ -9,7 +11,8 @@ pub of-self-inside-requires : goal.of-self-inside-requires
 of-self-inside-requires c =
     let table = table_inside c.self.inside in
     let few = (kept-without table.capacity (is_kept_for c.args.client) table.subs (kept-table table c.self.invariant.table)).few in
-    omega (arith, ap length (c.as_slice.ensures.value ∙ c.remove_for.ensures), few)
+    let now = c.remove_for.new.subs.items in
+    omega (arith, ap length c.as_slice.ensures.value, length-map now told, ap length c.remove_for.ensures, few)
 
 pub invariant_of-self : goal.invariant_of-self
 invariant_of-self c = record {

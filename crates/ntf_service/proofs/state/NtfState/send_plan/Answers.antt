@@ -3,11 +3,13 @@ use Rattle.ntf_history.specs.Tables.{NtfTable}
 use Rattle.ntf_service.specs.State.{HaveNumbersLeft}
 use Rattle.ntf_service.specs.Inside.{table_inside}
 use Rattle.ntf_service.specs.Planning.{PlansSend}
+use Rattle.ntf_service.specs.Told.{all_told}
+use Rattle.ntf_service.proofs.Telling.{same_table, filters-told}
 use Rattle.ntf_service.specs.ByKind.{kind_for, has_filter, positions, filters_of}
 use Rattle.ntf_service.proofs.Positions.{kept-rise}
 use Rattle.ntf_service.proofs.Planned.{plans-send}
-use Rattle.ntf_service.proofs.state.NtfState.plan_send.Goals as goal
-use Rattle.ntf_service.proofs.state.NtfState.plan_send.Goals.{After-as_slice}
+use Rattle.ntf_service.proofs.state.NtfState.send_plan.Goals as goal
+use Rattle.ntf_service.proofs.state.NtfState.send_plan.Goals.{After-as_slice}
 
 -- the places are those of the notification's type
 placed : (c : After-as_slice) → c.places-places.result.now ≡ positions (has_filter (kind_for c.args.notification.body)) (filters_of c.self.inside.subs.items)
@@ -20,8 +22,11 @@ offers_for-planned-requires-clause-places c =
 
 pub returns : goal.returns
 returns c =
+    let items = c.self.inside.subs.items in
     let table = table_inside c.self.inside in
+    let test = has_filter (kind_for c.args.notification.body) in
     let P : NtfTable → Type 0 = λ t. HaveNumbersLeft t.subs in
-    let left : HaveNumbersLeft table.subs = subst P (sym c.self.view_is) c.requires.items in
-    let plans = plans-send table c.args.notification c.places-places.result.now c.as_slice.result.now _ c.self.invariant.table left c.as_slice.ensures.value (placed (goal.at.returns c).After-as_slice) refl c.in_ok-offers.ensures in
-    subst (λ t. PlansSend t c.args.notification (record { id = c.self.inside.last_id + 1; offers = c.in_ok-offers.offers })) c.self.view_is plans
+    let left : HaveNumbersLeft table.subs = subst P (sym (same_table c.self.view_is)) c.requires.items in
+    let places = placed (goal.at.returns c).After-as_slice ∙ ap (positions test) (sym (filters-told items)) in
+    let plans = plans-send table c.args.notification c.places-places.result.now (all_told c.as_slice.result.now) _ c.self.invariant.table left (ap all_told c.as_slice.ensures.value) places refl c.in_ok-offers.ensures in
+    subst (λ t. PlansSend t c.args.notification (record { id = c.self.inside.last_id + 1; offers = c.in_ok-offers.offers })) (same_table c.self.view_is) plans
