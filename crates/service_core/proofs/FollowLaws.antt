@@ -11,7 +11,7 @@ use Rattle.calls.specs.declared.saved.SavedWindow.{SavedWindow}
 use Rattle.client_window.specs.Windows.{window_of}
 use Rattle.log_history.specs.Deeds.{deeds_of_all}
 use Rattle.log_history.proofs.FirstLaws.{find-map}
-use Rattle.ntf_history.specs.declared.subscription.Subscription.{Subscription}
+use Rattle.ntf_history.specs.Kept.{Subscription}
 use Rattle.ntf_history.specs.Tables.{HaveQueues, is_kept_at, is_new_for, is_new_in}
 use Rattle.ntf_history.proofs.AnswerLaws.{is_new-kept}
 use Rattle.plain_service.specs.Setups.{Setup}

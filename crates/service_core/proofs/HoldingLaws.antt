@@ -4,7 +4,7 @@ use Rattle.std.specs.List.{flat_map}
 use Rattle.sub_queue.specs.declared.item.Content.{Content}
 use Rattle.sub_queue.specs.Items.{numbered}
 use Rattle.calls.specs.declared.entry.Entry.{Entry}
-use Rattle.ntf_history.specs.declared.subscription.Subscription.{Subscription}
+use Rattle.ntf_history.specs.Kept.{Subscription}
 use Rattle.ntf_history.specs.Changes.{Sub, NtfChange}
 use Rattle.ntf_history.specs.Subscriptions.{subs}
 use Rattle.ntf_history.specs.Tables.{HaveQueues, kept_of}

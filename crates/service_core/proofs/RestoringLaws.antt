@@ -8,7 +8,7 @@ use Rattle.alarm_view.specs.Alarms.{CanAdd}
 use Rattle.calls.specs.declared.saved.Saved.{Saved}
 use Rattle.calls.specs.declared.saved.SavedAlarm.{SavedAlarm}
 use Rattle.log_service.specs.State.{IsSoundTable as IsSoundLog, joined_streams, table_with as log_with}
-use Rattle.ntf_history.specs.declared.subscription.Subscription.{Subscription}
+use Rattle.ntf_history.specs.Kept.{Subscription}
 use Rattle.ntf_history.specs.Tables.{IsSoundTable as IsSoundNtf, table_with as ntf_with}
 use Rattle.plain_service.specs.Fitness.{IsFit}
 use Rattle.service_table.specs.Tables.{ServiceTable, kept_alarm_of, kept_sub_of, table_of_saved, saved_table}

@@ -7,7 +7,7 @@ use Rattle.sub_queue.specs.declared.item.Content.{Content}
 use Rattle.sub_queue.specs.declared.item.Lost.{Lost}
 use Rattle.calls.specs.declared.reply.Reply.{Reply}
 use Rattle.calls.specs.declared.saved.SavedSub.{SavedSub}
-use Rattle.ntf_history.specs.declared.subscription.Subscription.{Subscription}
+use Rattle.ntf_history.specs.Kept.{Subscription}
 use Rattle.service_table.specs.Tables.{saved_queue}
 
 -- a window keeps at most 32 replies

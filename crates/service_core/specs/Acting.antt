@@ -14,8 +14,8 @@ use Rattle.service_core.specs.declared.parts.Acted.{Acted}
 abbrev pub table_with_parts : ℕ → Parts → List ClientWindow → ServiceTable
 table_with_parts number parts windows = record {
   number = number;
-  log = parts.log;
-  ntf = parts.ntf;
+  log = parts.log.table;
+  ntf = parts.ntf.table;
   alarms = parts.alarms.kept;
   readers = parts.readers.items;
   windows = windows;

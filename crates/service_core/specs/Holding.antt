@@ -6,7 +6,7 @@ use Rattle.sub_queue.specs.declared.item.Content.{Content}
 use Rattle.sub_queue.specs.declared.item.Item.{Item}
 use Rattle.sub_queue.specs.Items.{numbered}
 use Rattle.calls.specs.declared.entry.Held.{Held}
-use Rattle.ntf_history.specs.declared.subscription.Subscription.{Subscription}
+use Rattle.ntf_history.specs.Kept.{Subscription}
 use Rattle.ntf_history.specs.Tables.{NtfTable}
 use Rattle.plain_service.specs.Items.{held_for}
 

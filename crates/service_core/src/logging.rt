@@ -33,7 +33,7 @@ pub(crate) fn log_fini(
     client: u16,
     now: i64,
 ) -> Result<Acted, AllocError>
-    requires { CanCallLog parts.old.log now }
+    requires { CanCallLog parts.old.log.table now }
     ensures ok { IfOk result (λ acted. (seq : ℕ) →
         HasActed (table_of parts.old) client seq now LogFini (table_of parts.new) acted) }
     ensures err { OnErr result (table_of parts.new ≡ table_of parts.old) }
@@ -52,7 +52,7 @@ pub(crate) fn log_open(
     name: &StreamName,
     create: Option<&StreamAttrs>,
 ) -> Result<Acted, AllocError>
-    requires { CanCallLog parts.old.log now }
+    requires { CanCallLog parts.old.log.table now }
     ensures ok { IfOk result (λ acted. (seq : ℕ) →
         HasActed (table_of parts.old) client seq now (LogOpen name.now (option_copied create.entry))
         (table_of parts.new) acted) }
@@ -73,7 +73,7 @@ pub(crate) fn log_close(
     now: i64,
     name: &StreamName,
 ) -> Result<Acted, AllocError>
-    requires { CanCallLog parts.old.log now }
+    requires { CanCallLog parts.old.log.table now }
     ensures ok { IfOk result (λ acted. (seq : ℕ) →
         HasActed (table_of parts.old) client seq now (LogClose name.now) (table_of parts.new)
         acted) }

@@ -29,7 +29,7 @@ pub(crate) fn ntf_subscribe(
     id: u32,
     filters: &FilterSet,
 ) -> Result<Acted, AllocError>
-    requires { IsKeyAbove client seq parts.old.ntf.subs }
+    requires { IsKeyAbove client seq parts.old.ntf.table.subs }
     ensures ok { IfOk result (λ acted. (now : ℤ) →
         HasActed (table_of parts.old) client seq now (NtfSubscribe id filters.now)
         (table_of parts.new) acted) }

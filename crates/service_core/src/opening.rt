@@ -20,7 +20,7 @@ use stream_layout::Deed;
 /// The parts of a service whose log stands so, and nothing else was ever kept.
 fn unused(alloc: Global, cap: u32, log: LogState) -> Kept
     requires { IsCapacity cap }
-    ensures { kept_table result ≡ unused_table cap log }
+    ensures { kept_table result ≡ unused_table cap log.table }
 {
     Kept {
         number: 0,

@@ -1,5 +1,5 @@
 //! Calls of the Log Service that were planned.
-ghost use Rattle.std.specs.Prelude.{◌≡◌, OnOk, OnErr, IfOk};
+ghost use Rattle.std.specs.Prelude.{◌≡◌, ◌≤◌, OnOk, OnErr, IfOk};
 ghost use Rattle.std.specs.List.{AllByRecursion};
 ghost use Rattle.calls.specs.declared.reply.Reply.TheVariants.{Done};
 ghost use Rattle.log_history.specs.Deeds.{deeds_of_all};
@@ -18,12 +18,13 @@ pub(crate) fn make_planned(
     alloc: Global,
     plan: LogPlan,
 ) -> Result<Acted, AllocError>
-    requires can { CanCommit log.old plan }
+    requires can { CanCommit log.old.table plan }
+    requires room { 1 ≤ log.old.spare }
     requires events { AllByRecursion IsFitEvent (step_of plan).events }
-    ensures now { OnOk result (log.new ≡ planned plan log.old) }
+    ensures now { OnOk result (log.new.table ≡ planned plan log.old.table) }
     ensures told { IfOk result (λ acted. IsTold (step_of plan).status Done acted.told) }
     ensures deeds { IfOk result (λ acted. acted.deeds ≡ deeds_of_all (step_of plan).events) }
-    ensures err { OnErr result (log.new ≡ log.old) }
+    ensures err { OnErr result (log.new.table ≡ log.old.table) }
 {
     let step = plan.step();
     let status = step.status;

@@ -4,6 +4,7 @@ ghost use Rattle.std.specs.List.{AllByRecursion};
 ghost use Rattle.calls.specs.declared.saved.SavedAlarm.{SavedAlarm};
 ghost use Rattle.plain_service.specs.Fitness.{IsFit, IsFitWindow};
 ghost use Rattle.service_table.specs.Tables.{kept_window, kept_alarm_of, kept_sub_of, table_of_saved};
+ghost use Rattle.ntf_service.specs.Told.{told, all_told};
 ghost use Rattle.service_core.specs.Inside.{kept_table};
 ghost use Rattle.service_core.specs.Restoring.{states_in, openers_in, HasSoundQueue, CanAddEach};
 
@@ -46,7 +47,7 @@ fn openers_of(alloc: Global, streams: &[SavedStream]) -> Result<Seq<Seq<u16>>, A
 /// The state of the Log Service.
 fn restored_log(alloc: Global, saved: &Saved) -> Result<LogState, AllocError>
     requires { IsFit saved.now }
-    ensures { IfOk result (λ log. log ≡ (table_of_saved saved.now).log) }
+    ensures { IfOk result (λ log. log.table ≡ (table_of_saved saved.now).log) }
 {
     let users = saved.log_users.copy(alloc)?;
     let states = states_of(alloc, saved.streams.as_slice())?;
@@ -58,7 +59,7 @@ fn restored_log(alloc: Global, saved: &Saved) -> Result<LogState, AllocError>
 /// A subscription with its queue.
 fn restored_sub(alloc: Global, cap: u32, sub: &SavedSub) -> Result<Subscription, AllocError>
     requires { HasSoundQueue cap sub.now }
-    ensures { IfOk result (λ kept. kept ≡ kept_sub_of cap sub.now) }
+    ensures { IfOk result (λ kept. told kept ≡ kept_sub_of cap sub.now) }
 {
     let held = sub.held.copy(alloc)?;
     let lost = sub.lost.copy(alloc)?;
@@ -79,7 +80,7 @@ fn restored_subs(
     subs: &[SavedSub],
 ) -> Result<Vec<Subscription>, AllocError>
     requires { AllByRecursion (HasSoundQueue cap) subs.now }
-    ensures { IfOk result (λ kept. kept.items ≡ map (kept_sub_of cap) subs.now) }
+    ensures { IfOk result (λ kept. all_told kept.items ≡ map (kept_sub_of cap) subs.now) }
 {
     let mut kept = Vec::new(alloc);
     for sub in subs {
@@ -91,7 +92,7 @@ fn restored_subs(
 /// The state of the Notification Service.
 fn restored_ntf(alloc: Global, saved: &Saved) -> Result<NtfState, AllocError>
     requires { IsFit saved.now }
-    ensures { IfOk result (λ ntf. ntf ≡ (table_of_saved saved.now).ntf) }
+    ensures { IfOk result (λ ntf. ntf.table ≡ (table_of_saved saved.now).ntf) }
 {
     let users = saved.ntf_users.copy(alloc)?.into_vec();
     let subs = restored_subs(alloc, saved.capacity, saved.subs.as_slice())?;

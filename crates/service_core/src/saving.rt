@@ -3,6 +3,7 @@ ghost use Rattle.std.specs.Prelude.{◌≡◌, ◌++◌, ◌∷◌, [], map, rev
 ghost use Rattle.std.specs.Option.{option_copied, option_map, option_to_list};
 ghost use Rattle.plain_service.specs.Values.{saved_stream, saved_alarm};
 ghost use Rattle.service_table.specs.Tables.{saved_window, saved_queue, saved_table};
+ghost use Rattle.ntf_service.specs.Told.{told};
 ghost use Rattle.service_core.specs.Inside.{kept_table};
 ghost use Rattle.service_core.specs.Holding.{contents_in};
 
@@ -82,7 +83,7 @@ fn push_stream(
     place: u32,
 ) -> Result<(), AllocError>
     ensures { OnOk result (streams.new ≡ streams.old
-        ++ option_to_list (option_map saved_stream (slice_get log.now.streams place))) }
+        ++ option_to_list (option_map saved_stream (slice_get log.now.table.streams place))) }
 {
     let Some(state) = log.stream_at(place) else {
         return Ok(());
@@ -98,7 +99,7 @@ fn push_stream(
 
 /// The living streams.
 fn streams_of(alloc: Global, log: &LogState) -> Result<Seq<SavedStream>, AllocError>
-    ensures { IfOk result (λ streams. streams ≡ map saved_stream log.now.streams) }
+    ensures { IfOk result (λ streams. streams ≡ map saved_stream log.now.table.streams) }
 {
     let mut streams = Seq::new(alloc);
     for place in 0..log.count() {
@@ -151,7 +152,7 @@ fn contents_of(alloc: Global, items: &[Item]) -> Result<Seq<Content>, AllocError
 
 /// Adds a subscription.
 fn push_sub(alloc: Global, subs: &mut Seq<SavedSub>, sub: &Subscription) -> Result<(), AllocError>
-    ensures { OnOk result (subs.new ≡ subs.old ++ saved_queue sub.now ∷ []) }
+    ensures { OnOk result (subs.new ≡ subs.old ++ saved_queue (told sub.now) ∷ []) }
 {
     let held = contents_of(alloc, sub.queue.items())?;
     let lost = copied(alloc, sub.queue.lost())?;
@@ -176,7 +177,7 @@ fn push_sub_at(
     place: u32,
 ) -> Result<(), AllocError>
     ensures { OnOk result (subs.new ≡ subs.old
-        ++ option_to_list (option_map saved_queue (slice_get ntf.now.subs place))) }
+        ++ option_to_list (option_map saved_queue (slice_get ntf.now.table.subs place))) }
 {
     match ntf.sub_at(place) {
         None => Ok(()),
@@ -189,7 +190,7 @@ fn push_sub_at(
 
 /// The subscriptions that last.
 fn subs_of(alloc: Global, ntf: &NtfState) -> Result<Seq<SavedSub>, AllocError>
-    ensures { IfOk result (λ subs. subs ≡ map saved_queue ntf.now.subs) }
+    ensures { IfOk result (λ subs. subs ≡ map saved_queue ntf.now.table.subs) }
 {
     let mut subs = Seq::new(alloc);
     for place in 0..ntf.count() {
@@ -200,7 +201,7 @@ fn subs_of(alloc: Global, ntf: &NtfState) -> Result<Seq<SavedSub>, AllocError>
 
 /// The value of what is kept. Nothing of it changes.
 pub(crate) fn saved(alloc: Global, kept: &Kept, cap: u32) -> Result<Saved, AllocError>
-    requires { cap ≡ kept.now.parts.ntf.capacity }
+    requires { cap ≡ kept.now.parts.ntf.table.capacity }
     ensures { IfOk result (λ saved. saved ≡ saved_table (kept_table kept.now)) }
 {
     let parts = &kept.parts;

@@ -54,8 +54,8 @@ fn kind_for(notification: &Notification) -> StreamKind
 
 /// How many records the alarm stream, which stands first, has taken.
 fn alarm_number(log: &LogState) -> u32
-    requires { IsAlarmFirst log.now.streams }
-    ensures { result ≡ alarm_count log.now.streams }
+    requires { IsAlarmFirst log.now.table.streams }
+    ensures { result ≡ alarm_count log.now.table.streams }
 {
     match log.stream_at(0) {
         Some(state) => state.taken,
@@ -86,14 +86,15 @@ fn offer_and_keep(
     number: u32,
     sent: &Notification,
 ) -> Result<u64, AllocError>
-    requires sending { CanSendMore ntf.old }
+    requires sending { CanSendMore ntf.old.table }
     requires add { is_alarm sent.now.body ≡ true → CanAdd number sent.now alarms.old.kept }
-    requires id { with_id (ntf.old.last_id + 1) sent.now ≡ sent.now }
-    ensures id { IfOk result (λ id. id ≡ ntf.old.last_id + 1) }
-    ensures ntf { OnOk result (ntf.new ≡ after_send sent.now ntf.old) }
+    requires id { with_id (ntf.old.table.last_id + 1) sent.now ≡ sent.now }
+    ensures id { IfOk result (λ id. id ≡ ntf.old.table.last_id + 1) }
+    ensures ntf { OnOk result (ntf.new.table ≡ after_send sent.now ntf.old.table) }
     ensures alarms { OnOk result
         (alarms.new.kept ≡ alarms_with (Some (Sent sent.now number)) alarms.old.kept) }
-    ensures err { OnErr result ((ntf.new ≡ ntf.old) × (alarms.new.kept ≡ alarms.old.kept)) }
+    ensures err { OnErr result
+        ((ntf.new.table ≡ ntf.old.table) × (alarms.new.kept ≡ alarms.old.kept)) }
 {
     let copy = sent.copy(alloc)?;
     let plan = ntf.plan_send(alloc, copy)?;
@@ -121,16 +122,17 @@ fn send_planned(
     plan: LogPlan,
     sent: &Notification,
 ) -> Result<u64, AllocError>
-    requires can { CanCommit parts.old.log plan }
-    requires first { IsAlarmFirst parts.old.log.streams }
-    requires stands { IsAlarmFirst (planned plan parts.old.log).streams }
-    requires sending { CanSendMore parts.old.ntf }
+    requires can { CanCommit parts.old.log.table plan }
+    requires room { 1 ≤ parts.old.log.spare }
+    requires first { IsAlarmFirst parts.old.log.table.streams }
+    requires stands { IsAlarmFirst (planned plan parts.old.log.table).streams }
+    requires sending { CanSendMore parts.old.ntf.table }
     requires add { is_alarm sent.now.body ≡ true
-        → CanAdd (alarm_count parts.old.log.streams) sent.now parts.old.alarms.kept }
-    requires id { with_id (parts.old.ntf.last_id + 1) sent.now ≡ sent.now }
-    ensures id { IfOk result (λ id. id ≡ parts.old.ntf.last_id + 1) }
+        → CanAdd (alarm_count parts.old.log.table.streams) sent.now parts.old.alarms.kept }
+    requires id { with_id (parts.old.ntf.table.last_id + 1) sent.now ≡ sent.now }
+    ensures id { IfOk result (λ id. id ≡ parts.old.ntf.table.last_id + 1) }
     ensures ok { OnOk result (table_of parts.new
-        ≡ sent_with (table_of parts.old) (planned plan parts.old.log) sent.now) }
+        ≡ sent_with (table_of parts.old) (planned plan parts.old.log.table) sent.now) }
     ensures err { OnErr result (table_of parts.new ≡ table_of parts.old) }
 {
     let number = alarm_number(&parts.log);
@@ -154,21 +156,22 @@ fn send_stored(
     plan: LogPlan,
     sent: &Notification,
 ) -> Result<Acted, AllocError>
-    requires can { CanCommit parts.old.log plan }
+    requires can { CanCommit parts.old.log.table plan }
+    requires room { 1 ≤ parts.old.log.spare }
     requires events { AllByRecursion IsFitEvent (step_of plan).events }
-    requires first { IsAlarmFirst parts.old.log.streams }
-    requires stands { IsAlarmFirst (planned plan parts.old.log).streams }
-    requires sending { CanSendMore parts.old.ntf }
+    requires first { IsAlarmFirst parts.old.log.table.streams }
+    requires stands { IsAlarmFirst (planned plan parts.old.log.table).streams }
+    requires sending { CanSendMore parts.old.ntf.table }
     requires add { is_alarm sent.now.body ≡ true
-        → CanAdd (alarm_count parts.old.log.streams) sent.now parts.old.alarms.kept }
-    requires id { with_id (parts.old.ntf.last_id + 1) sent.now ≡ sent.now }
+        → CanAdd (alarm_count parts.old.log.table.streams) sent.now parts.old.alarms.kept }
+    requires id { with_id (parts.old.ntf.table.last_id + 1) sent.now ≡ sent.now }
     ensures reply { IfOk result (λ acted.
-        acted.told.reply ≡ reply.Sent (parts.old.ntf.last_id + 1)) }
+        acted.told.reply ≡ reply.Sent (parts.old.ntf.table.last_id + 1)) }
     ensures kept { IfOk result (λ acted.
-        acted.told.kept ≡ reply.Sent (parts.old.ntf.last_id + 1)) }
+        acted.told.kept ≡ reply.Sent (parts.old.ntf.table.last_id + 1)) }
     ensures deeds { IfOk result (λ acted. acted.deeds ≡ deeds_of_all (step_of plan).events) }
     ensures ok { OnOk result (table_of parts.new
-        ≡ sent_with (table_of parts.old) (planned plan parts.old.log) sent.now) }
+        ≡ sent_with (table_of parts.old) (planned plan parts.old.log.table) sent.now) }
     ensures err { OnErr result (table_of parts.new ≡ table_of parts.old) }
 {
     let step = plan.step();
@@ -194,12 +197,12 @@ fn send_accepted(
     now: i64,
     sent: &Notification,
 ) -> Result<Acted, AllocError>
-    requires log { CanCallLog parts.old.log now }
-    requires sending { CanSendMore parts.old.ntf }
+    requires log { CanCallLog parts.old.log.table now }
+    requires sending { CanSendMore parts.old.ntf.table }
     requires alarms { AllByRecursion
-        (WasStored (alarm_count parts.old.log.streams) parts.old.ntf.last_id)
+        (WasStored (alarm_count parts.old.log.table.streams) parts.old.ntf.table.last_id)
         parts.old.alarms.kept }
-    requires id { sent.now.id ≡ parts.old.ntf.last_id + 1 }
+    requires id { sent.now.id ≡ parts.old.ntf.table.last_id + 1 }
     requires time { is_negative sent.now.event_time ≡ false }
     ensures ok { IfOk result (HasSent (table_of parts.old) now sent.now (table_of parts.new)) }
     ensures err { OnErr result (table_of parts.new ≡ table_of parts.old) }

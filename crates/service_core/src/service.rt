@@ -54,7 +54,7 @@ impl Model for Service {
 
 /// What the types of the parts keep. It does nothing else.
 fn show_sound(parts: &Parts)
-    ensures { HaveQueues parts.now.ntf.capacity parts.now.ntf.subs }
+    ensures { HaveQueues parts.now.ntf.table.capacity parts.now.ntf.table.subs }
 {
     let _ = parts.ntf.count();
 }
@@ -69,7 +69,7 @@ fn apply_call(
     call: &Call,
 ) -> Result<Effect, AllocError>
     requires fit { HasFitValue kept.old }
-    requires queues { HaveQueues kept.old.parts.ntf.capacity kept.old.parts.ntf.subs }
+    requires queues { HaveQueues kept.old.parts.ntf.table.capacity kept.old.parts.ntf.table.subs }
     requires few { kept.old.number < 4000000000 }
     requires caller { IsClient client }
     requires moment { IsMoment now }
@@ -77,7 +77,7 @@ fn apply_call(
     ensures ok { IfOk result (λ effect.
         HasApplied (kept_table kept.old) client seq now call.now (kept_table kept.new) effect) }
     ensures fit { HasFitValue kept.new }
-    ensures capacity { kept.new.parts.ntf.capacity ≡ kept.old.parts.ntf.capacity }
+    ensures capacity { kept.new.parts.ntf.table.capacity ≡ kept.old.parts.ntf.table.capacity }
     ensures err { OnErr result (kept_table kept.new ≡ kept_table kept.old) }
 {
     let fresh = room_for(alloc, &mut kept.callers, client)?;
@@ -93,12 +93,12 @@ fn apply_call(
 /// Applies a new receipt. It takes no memory.
 fn apply_receipt(kept: &mut Kept, alloc: Global, client: u16, key: u32, through: u32) -> Effect
     requires fit { HasFitValue kept.old }
-    requires queues { HaveQueues kept.old.parts.ntf.capacity kept.old.parts.ntf.subs }
+    requires queues { HaveQueues kept.old.parts.ntf.table.capacity kept.old.parts.ntf.table.subs }
     requires few { kept.old.number < 4000000000 }
-    requires new { is_new_for_table kept.old.parts.ntf client key through ≡ true }
+    requires new { is_new_for_table kept.old.parts.ntf.table client key through ≡ true }
     ensures now { kept_table kept.new ≡ after_receipt_in (kept_table kept.old) client key through }
     ensures fit { HasFitValue kept.new }
-    ensures capacity { kept.new.parts.ntf.capacity ≡ kept.old.parts.ntf.capacity }
+    ensures capacity { kept.new.parts.ntf.table.capacity ≡ kept.old.parts.ntf.table.capacity }
     ensures reply { result.reply ≡ None }
     ensures deeds { result.deeds ≡ [] }
 {

@@ -19,8 +19,8 @@ use stream_config::StreamName;
 
 /// Drops the alarms whose records stand no more.
 pub(crate) fn keep_standing(alarms: &mut AlarmView, log: &LogState)
-    requires { IsAlarmFirst log.now.streams }
-    ensures { alarms.new.kept ≡ from_record (standing_from log.now.streams) alarms.old.kept }
+    requires { IsAlarmFirst log.now.table.streams }
+    ensures { alarms.new.kept ≡ from_record (standing_from log.now.table.streams) alarms.old.kept }
 {
     match log.stream_at(0) {
         Some(state) => alarms.keep_from(first_standing(state)),
@@ -30,9 +30,9 @@ pub(crate) fn keep_standing(alarms: &mut AlarmView, log: &LogState)
 
 /// Drops them where a record was stored.
 fn keep_after(alarms: &mut AlarmView, log: &LogState, status: Status)
-    requires { IsAlarmFirst log.now.streams }
+    requires { IsAlarmFirst log.now.table.streams }
     ensures { alarms.new.kept ≡ where_ok status
-        (from_record (standing_from log.now.streams) alarms.old.kept) alarms.old.kept }
+        (from_record (standing_from log.now.table.streams) alarms.old.kept) alarms.old.kept }
 {
     if status == Status::Ok {
         keep_standing(alarms, log);
@@ -51,7 +51,7 @@ pub(crate) fn log_write(
     header: &Header,
     body: &Text,
 ) -> Result<Acted, AllocError>
-    requires { CanCallLog parts.old.log now }
+    requires { CanCallLog parts.old.log.table now }
     ensures ok { IfOk result (λ acted. (seq invocation : ℕ) →
         HasActed (table_of parts.old) client seq now
         (LogWrite name.now invocation flags time header.now body.now) (table_of parts.new) acted) }

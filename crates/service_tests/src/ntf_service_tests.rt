@@ -124,7 +124,7 @@ fn offers_to_each_that_asks(rt: HostRuntime) {
 }
 
 /// Plans a send of an alarm and lets the plan go.
-fn plan_in_vain(rt: &impl Abort, alloc: Global, state: &NtfState) -> u64 {
+fn plan_in_vain(rt: &impl Abort, alloc: Global, state: &mut NtfState) -> u64 {
     let alarm = alarm(rt, alloc, 0, 100, 2);
     assert!(rt; state.can_send());
     let plan = state.plan_send(alloc, alarm).expect(rt, "memory");
@@ -139,10 +139,10 @@ fn plan_in_vain(rt: &impl Abort, alloc: Global, state: &NtfState) -> u64 {
 fn plans_a_send(rt: HostRuntime) {
     let alloc = rt.alloc();
     let mut state = three_users(&rt, alloc);
-    assert!(rt; plan_in_vain(&rt, alloc, &state) == 1 && told(&state, 0) == (2, 0, 0));
+    assert!(rt; plan_in_vain(&rt, alloc, &mut state) == 1 && told(&state, 0) == (2, 0, 0));
     assert!(rt; send(&rt, alloc, &mut state) == 1 && told(&state, 2) == (7, 1, 0));
     assert!(rt; state.unsubscribe(2, 5) == Status::Ok);
-    assert!(rt; plan_in_vain(&rt, alloc, &state) == 2 && told(&state, 1) == (7, 1, 0));
+    assert!(rt; plan_in_vain(&rt, alloc, &mut state) == 2 && told(&state, 1) == (7, 1, 0));
     assert!(rt; send(&rt, alloc, &mut state) == 2 && told(&state, 1) == (7, 2, 0));
     assert!(rt; told(&state, 0) == (3, 0, 0));
     drop(state);

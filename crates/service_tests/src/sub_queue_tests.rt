@@ -127,11 +127,12 @@ fn rebuilds(rt: HostRuntime) {
 fn offer_reserved(rt: &impl Abort, alloc: Global, queue: &mut SubQueue, id: u64) {
     let _held = queue.items();
     assert!(rt; queue.first() < 1000);
-    let room = queue.reserve(alloc).expect(rt, "memory");
-    queue.offer_reserved(numbered(rt, alloc, id), room);
+    let notification = numbered(rt, alloc, id);
+    queue.reserve(alloc).expect(rt, "memory");
+    queue.offer_reserved(notification);
 }
 
-/// Room that is made before an offer takes the item, and then what is lost, over several doublings of the marks' places.
+/// Room that is made before an offer takes the item, and then what is lost, over several growths of the marks' vector.
 #[test]
 fn offers_into_room(rt: HostRuntime) {
     let alloc = rt.alloc();

@@ -6,7 +6,7 @@ use Rattle.service_core.proofs.holding.items_of.Goals as goal
 
 pub loop-place-preserved : goal.loop-place-preserved
 loop-place-preserved c =
-    let subs = c.args.ntf.now.subs in
+    let subs = c.args.ntf.now.table.subs in
     let place = c.loop-place.place in
     c.in_ok-add_items_at.ensures
     ∙ ap (λ (front : List Held). front ++ items_at subs place) c.loop-place.invariant

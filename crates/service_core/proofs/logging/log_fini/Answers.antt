@@ -1,4 +1,6 @@
-use Rattle.std.proofs.Common.{refl}
+use Rattle.std.proofs.Common.{refl, ap, sym, subst, ◌∙◌}
+use Rattle.log_history.specs.Table.{LogTable}
+use Rattle.log_service.specs.Planning.{CanCommit, planned}
 use Rattle.std.proofs.lemmas.Int.{to_z-of_z}
 use Rattle.calls.specs.declared.call.Call.TheVariants.{LogFini}
 use Rattle.log_history.specs.Changes.{Ended}
@@ -10,17 +12,23 @@ use Rattle.service_core.proofs.logging.log_fini.Goals as goal
 use Rattle.plain_service.proofs.HistoryEvents.{second-bound}
 
 pub plan_close_all-requires : goal.plan_close_all-requires
-plan_close_all-requires c = let fits = c.ranges.now in simp to_z-of_z (call-time c.args.parts.now.log c.args.now c.requires)
+plan_close_all-requires c = let fits = c.ranges.now in simp to_z-of_z (call-time c.args.parts.now.log.table c.args.now c.requires)
+
+pub make_planned-requires-clause-can : goal.make_planned-requires-clause-can
+make_planned-requires-clause-can c =
+    let fits = c.ranges.now in
+    let plans = simp to_z-of_z at c.in_ok-plan.ensures.ok in
+    subst (λ (t : LogTable). CanCommit t c.in_ok-plan.plan) (sym c.in_ok-plan.ensures.table) plans.can
 
 pub make_planned-requires-clause-events : goal.make_planned-requires-clause-events
 make_planned-requires-clause-events c =
     let fits = c.ranges.now in
-    let plans = simp to_z-of_z at c.in_ok-plan.ensures in
-    planned-fit c.args.parts.now.log c.args.now (Ended c.args.client (second_of c.args.now)) _ c.in_ok-plan.plan c.requires (second-bound c.args.now c.requires.moment) (λ e. tt) plans
+    let plans = simp to_z-of_z at c.in_ok-plan.ensures.ok in
+    planned-fit c.args.parts.now.log.table c.args.now (Ended c.args.client (second_of c.args.now)) _ c.in_ok-plan.plan c.requires (second-bound c.args.now c.requires.moment) (λ e. tt) plans
 
 pub returns-clause-ok : goal.returns-clause-ok
 returns-clause-ok c =
     let fits = c.ranges.now in
-    let plans = simp to_z-of_z at c.in_ok-plan.ensures in
+    let plans = simp to_z-of_z at c.in_ok-plan.ensures.ok in
     let acted = c.in_ok-acted.ensures in
-    λ seq. log-acted (table_of c.args.parts.now) c.args.client seq c.args.now (LogFini) (Ended c.args.client (second_of c.args.now)) c.in_ok-plan.plan c.make_planned.new.log c.in_ok-acted.acted tt refl plans acted.now acted.told acted.deeds
+    λ seq. log-acted (table_of c.args.parts.now) c.args.client seq c.args.now (LogFini) (Ended c.args.client (second_of c.args.now)) c.in_ok-plan.plan c.make_planned.new.log.table c.in_ok-acted.acted tt refl plans (acted.now ∙ ap (planned c.in_ok-plan.plan) c.in_ok-plan.ensures.table) acted.told acted.deeds

@@ -10,4 +10,4 @@ use Rattle.service_core.proofs.notifying.ntf_init.Goals as goal
 pub returns-clause-ok : goal.returns-clause-ok
 returns-clause-ok c =
     let parts = c.args.parts.now in
-    λ seq now. quiet-acted (table_of parts) c.args.client seq now NtfInit c.in_ok-status.status Done c.init.new.self parts.readers.items c.act_of.result tt c.in_ok-status.ensures.status refl (notified-by c.in_ok-status.status (ntf.Began c.args.client) parts.ntf c.init.new.self c.in_ok-status.ensures.ok c.in_ok-status.ensures.refused) (same-readers c.in_ok-status.status parts.readers.items) c.act_of.ensures.told (c.act_of.ensures.deeds ∙ c.new.ensures)
+    λ seq now. quiet-acted (table_of parts) c.args.client seq now NtfInit c.in_ok-status.status Done c.init.new.self.table parts.readers.items c.act_of.result tt c.in_ok-status.ensures.status refl (notified-by c.in_ok-status.status (ntf.Began c.args.client) parts.ntf.table c.init.new.self.table c.in_ok-status.ensures.ok c.in_ok-status.ensures.refused) (same-readers c.in_ok-status.status parts.readers.items) c.act_of.ensures.told (c.act_of.ensures.deeds ∙ c.new.ensures)

@@ -11,4 +11,4 @@ use Rattle.service_core.proofs.notifying.ntf_subscribe.Goals as goal
 pub returns-clause-ok : goal.returns-clause-ok
 returns-clause-ok c =
     let parts = c.args.parts.now in
-    λ now. quiet-acted (table_of parts) c.args.client c.args.seq now (NtfSubscribe c.args.id c.args.filters.now) c.in_ok-status.status Done c.subscribe.new.self parts.readers.items c.act_of.result tt c.in_ok-status.ensures.status refl (notified-by c.in_ok-status.status (ntf.Subscribed (sub_of c.args.client c.args.seq c.args.id c.args.filters.now)) parts.ntf c.subscribe.new.self c.in_ok-status.ensures.ok c.in_ok-status.ensures.refused) (same-readers c.in_ok-status.status parts.readers.items) c.act_of.ensures.told (c.act_of.ensures.deeds ∙ c.new.ensures)
+    λ now. quiet-acted (table_of parts) c.args.client c.args.seq now (NtfSubscribe c.args.id c.args.filters.now) c.in_ok-status.status Done c.subscribe.new.self.table parts.readers.items c.act_of.result tt c.in_ok-status.ensures.status refl (notified-by c.in_ok-status.status (ntf.Subscribed (sub_of c.args.client c.args.seq c.args.id c.args.filters.now)) parts.ntf.table c.subscribe.new.self.table c.in_ok-status.ensures.ok c.in_ok-status.ensures.refused) (same-readers c.in_ok-status.status parts.readers.items) c.act_of.ensures.told (c.act_of.ensures.deeds ∙ c.new.ensures)

@@ -11,4 +11,4 @@ returns c =
     let parts = c.args.parts.now in
     let answered = c.end_reading-status.result in
     let user = ap (λ using. stop_answer using c.args.client parts.readers.items) c.is_user-is_user.ensures in
-    λ seq now. quiet-acted (table_of parts) c.args.client seq now ReaderEnd answered Done parts.ntf c.end_reading-status.new.readers.items c.act_of.result tt (c.end_reading-status.ensures.status ∙ user) refl (same-notified answered parts.ntf) c.end_reading-status.ensures.readers c.act_of.ensures.told (c.act_of.ensures.deeds ∙ c.new.ensures)
+    λ seq now. quiet-acted (table_of parts) c.args.client seq now ReaderEnd answered Done parts.ntf.table c.end_reading-status.new.readers.items c.act_of.result tt (c.end_reading-status.ensures.status ∙ user) refl (same-notified answered parts.ntf.table) c.end_reading-status.ensures.readers c.act_of.ensures.told (c.act_of.ensures.deeds ∙ c.new.ensures)

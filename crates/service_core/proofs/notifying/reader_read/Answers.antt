@@ -13,4 +13,4 @@ returns-clause-ok c =
     let reader = reader_for c.args.client parts.readers.items in
     let answered = read_answer c.is_user-is_user.result reader c.args.code parts.alarms.kept in
     let user = ap (λ using. read_answer using reader c.args.code parts.alarms.kept) c.is_user-is_user.ensures in
-    λ seq now. quiet-acted (table_of parts) c.args.client seq now (ReaderRead c.args.code) answered (found_reply (read_in reader c.args.code parts.alarms.kept)) parts.ntf c.read_on.new.readers.items (record { told = c.in_ok-told.told; deeds = c.new.result }) tt user refl (same-notified answered parts.ntf) c.in_ok-told.ensures.readers c.in_ok-told.ensures.told c.new.ensures
+    λ seq now. quiet-acted (table_of parts) c.args.client seq now (ReaderRead c.args.code) answered (found_reply (read_in reader c.args.code parts.alarms.kept)) parts.ntf.table c.read_on.new.readers.items (record { told = c.in_ok-told.told; deeds = c.new.result }) tt user refl (same-notified answered parts.ntf.table) c.in_ok-told.ensures.readers c.in_ok-told.ensures.told c.new.ensures

@@ -15,4 +15,4 @@ returns-clause-ok c =
     let status = simp to_z-of_z at c.in_ok-status.ensures.status in
     let readers = simp to_z-of_z at c.in_ok-status.ensures.readers in
     let user = ap (λ using. start_answer using c.args.client parts.readers.items parts.alarms.kept c.args.code c.args.value c.args.filters.now) c.is_user-is_user.ensures in
-    λ seq now. quiet-acted (table_of parts) c.args.client seq now (ReaderStart c.args.code c.args.value c.args.filters.now) answered Done parts.ntf c.start_reading.new.readers.items c.act_of.result tt (status ∙ user) refl (same-notified answered parts.ntf) readers c.act_of.ensures.told (c.act_of.ensures.deeds ∙ c.new.ensures)
+    λ seq now. quiet-acted (table_of parts) c.args.client seq now (ReaderStart c.args.code c.args.value c.args.filters.now) answered Done parts.ntf.table c.start_reading.new.readers.items c.act_of.result tt (status ∙ user) refl (same-notified answered parts.ntf.table) readers c.act_of.ensures.told (c.act_of.ensures.deeds ∙ c.new.ensures)

@@ -8,7 +8,7 @@ use Rattle.service_core.proofs.saving.streams_of.Goals as goal
 
 pub loop-place-preserved : goal.loop-place-preserved
 loop-place-preserved c =
-    let streams = c.args.log.now.streams in
+    let streams = c.args.log.now.table.streams in
     let place = c.loop-place.place in
     c.in_ok-push_stream.ensures
     ∙ ap (λ (front : List SavedStream). front ++ option_to_list (option_map saved_stream (slice_get streams place))) c.loop-place.invariant

@@ -8,7 +8,7 @@ use Rattle.service_core.proofs.saving.subs_of.Goals as goal
 
 pub loop-place-preserved : goal.loop-place-preserved
 loop-place-preserved c =
-    let subs = c.args.ntf.now.subs in
+    let subs = c.args.ntf.now.table.subs in
     let place = c.loop-place.place in
     c.in_ok-push_sub_at.ensures
     ∙ ap (λ (front : List SavedSub). front ++ option_to_list (option_map saved_queue (slice_get subs place))) c.loop-place.invariant

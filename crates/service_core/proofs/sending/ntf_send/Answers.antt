@@ -23,4 +23,4 @@ returns-clause-ok c =
     let accepted = is ∙ ap (λ id. accepted_as (id + 1) c.args.now c.args.notification.now) c.last_id.ensures in
     let done : HasSent (table_of parts) c.args.now c.in_ok-sent.sent (table_of c.send_accepted.new.parts) c.in_ok-acted.acted = simp to_z-of_z at c.in_ok-acted.ensures.ok in
     let sent = subst (λ n. HasSent (table_of parts) c.args.now n (table_of c.send_accepted.new.parts) c.in_ok-acted.acted) accepted done in
-    λ seq. sent-acted (table_of parts) (table_of c.send_accepted.new.parts) c.args.client seq c.args.now c.args.notification.now c.in_ok-acted.acted (first-now parts.log c.args.now c.requires.1.log) (sym c.is_user.ensures ∙ c.if-not-is_user.false) (sym c.is_right.ensures ∙ c.if-not-is_right.false) sent
+    λ seq. sent-acted (table_of parts) (table_of c.send_accepted.new.parts) c.args.client seq c.args.now c.args.notification.now c.in_ok-acted.acted (first-now parts.log.table c.args.now c.requires.1.log) (sym c.is_user.ensures ∙ c.if-not-is_user.false) (sym c.is_right.ensures ∙ c.if-not-is_right.false) sent

@@ -1,62 +1,77 @@
-use Rattle.std.proofs.Common.{◌≡◌, ◌≢◌, rules, ap, sym, ◌∙◌, arith}
+use Rattle.std.proofs.Common.{◌≡◌, ◌≢◌, true, rules, ap, sym, subst, ◌∙◌, arith}
 use Rattle.std.proofs.lemmas.Int.{to_z-of_z}
 use Rattle.ais_values.specs.declared.status.Status.TheVariants as status
 use Rattle.log_history.specs.Changes.{Stored}
 use Rattle.log_history.specs.KeptAnswers.{is_filled, store_status}
-use Rattle.log_history.specs.Table.{table_after, events_of}
+use Rattle.log_history.specs.Table.{LogTable, table_after, events_of}
 use Rattle.log_history.specs.Times.{second_of}
 use Rattle.log_service.specs.State.{stream_of_kind}
+use Rattle.log_service.specs.Planning.{CanCommit, planned}
 use Rattle.log_service.specs.declared.step.Step.{Step}
+use Rattle.alarm_view.specs.Alarms.{CanAdd}
+use Rattle.ntf_history.specs.StoredAlarms.{is_alarm}
+use Rattle.service_fit.specs.Conditions.{with_log}
+use Rattle.service_fit.specs.Fit.{IsAlarmFirst, alarm_count}
 use Rattle.service_fit.proofs.AlarmsFit.{can-add}
 use Rattle.service_fit.proofs.LogFit.{inside}
 use Rattle.service_core.specs.Acting.{table_of}
-use Rattle.service_core.specs.Sending.{sent_with, stored_of}
+use Rattle.service_core.specs.Sending.{sent_with, stored_of, HasSent}
 use Rattle.service_core.proofs.LogConditions.{number-left, planned-fit, planned-first, first-now}
 use Rattle.service_core.proofs.SendActs.{room-left, refused-sent, done-sent}
 use Rattle.service_core.proofs.sending.send_accepted.Goals as goal
 use Rattle.plain_service.proofs.HistoryEvents.{second-bound}
 
 pub plan_store-requires-clause-numbers : goal.plan_store-requires-clause-numbers
-plan_store-requires-clause-numbers c = number-left c.args.parts.now.log c.args.now _ c.requires.log
+plan_store-requires-clause-numbers c = number-left c.args.parts.now.log.table c.args.now _ c.requires.log
 
 pub returns-then-ne-clause-ok : goal.returns-then-ne-clause-ok
 returns-then-ne-clause-ok c =
     let parts = c.args.parts.now in
     let refused : c.step.result.now.status ≢ status.Ok = search rules in
-    let answered = ap (λ (s : Step). s.status) c.step.ensures ∙ c.in_ok-plan.ensures.answer ∙ ap (store_status parts.log) c.kind_for.ensures.stream in
-    refused-sent (table_of parts) c.args.now c.args.sent.now c.step.result.now.status c.act_of.result answered refused c.act_of.ensures.told (c.act_of.ensures.deeds ∙ c.new.ensures)
+    let answered = ap (λ (s : Step). s.status) c.step.ensures ∙ c.in_ok-plan.ensures.ok.answer ∙ ap (store_status parts.log.table) c.kind_for.ensures.stream in
+    subst (λ (t : LogTable). HasSent (table_of parts) c.args.now c.args.sent.now (with_log (table_of parts) t) c.act_of.result) (sym c.in_ok-plan.ensures.table)
+    (refused-sent (table_of parts) c.args.now c.args.sent.now c.step.result.now.status c.act_of.result answered refused c.act_of.ensures.told (c.act_of.ensures.deeds ∙ c.new.ensures))
+
+pub send_stored-requires-clause-can : goal.send_stored-requires-clause-can
+send_stored-requires-clause-can c =
+    let fits = c.ranges.now in
+    let plans = simp to_z-of_z at c.in_ok-plan.ensures.ok in
+    subst (λ (t : LogTable). CanCommit t c.in_ok-plan.plan) (sym c.in_ok-plan.ensures.table) plans.can
 
 pub send_stored-requires-clause-events : goal.send_stored-requires-clause-events
 send_stored-requires-clause-events c =
     let fits = c.ranges.now in
-    let log = c.args.parts.now.log in
-    let plans = simp to_z-of_z at c.in_ok-plan.ensures in
+    let log = c.args.parts.now.log.table in
+    let plans = simp to_z-of_z at c.in_ok-plan.ensures.ok in
     planned-fit log c.args.now (Stored (stream_of_kind c.kind_for.result) c.in_ok-rec.rec (second_of c.args.now)) _ c.in_ok-plan.plan c.requires.log (second-bound c.args.now c.requires.log.moment) (λ e. room-left (is_filled log.streams _) e) plans
 
 pub send_stored-requires-clause-first : goal.send_stored-requires-clause-first
-send_stored-requires-clause-first c = first-now c.args.parts.now.log c.args.now c.requires.log
+send_stored-requires-clause-first c =
+    subst (λ (t : LogTable). IsAlarmFirst t.streams) (sym c.in_ok-plan.ensures.table) (first-now c.args.parts.now.log.table c.args.now c.requires.log)
 
 pub send_stored-requires-clause-stands : goal.send_stored-requires-clause-stands
 send_stored-requires-clause-stands c =
     let fits = c.ranges.now in
-    let log = c.args.parts.now.log in
-    let plans = simp to_z-of_z at c.in_ok-plan.ensures in
-    planned-first log c.args.now (stream_of_kind c.kind_for.result) c.in_ok-rec.rec (second_of c.args.now) _ c.in_ok-plan.plan c.requires.log (second-bound c.args.now c.requires.log.moment) (λ e. room-left (is_filled log.streams _) e) plans
+    let log = c.args.parts.now.log.table in
+    let plans = simp to_z-of_z at c.in_ok-plan.ensures.ok in
+    subst (λ (t : LogTable). IsAlarmFirst (planned c.in_ok-plan.plan t).streams) (sym c.in_ok-plan.ensures.table)
+    (planned-first log c.args.now (stream_of_kind c.kind_for.result) c.in_ok-rec.rec (second_of c.args.now) _ c.in_ok-plan.plan c.requires.log (second-bound c.args.now c.requires.log.moment) (λ e. room-left (is_filled log.streams _) e) plans)
 
 pub send_stored-requires-clause-add : goal.send_stored-requires-clause-add
 send_stored-requires-clause-add c =
     let parts = c.args.parts.now in
     let few = c.requires.log.few in
     let id = c.requires.id in
-    λ alarm. can-add parts.log.last c.requires.log.number parts.ntf.last_id parts.log.streams c.args.sent.now parts.alarms.kept (omega (arith, few)) alarm (omega (arith, id)) (inside c.requires.log.number parts.log c.requires.log.fit).each c.requires.alarms
+    subst (λ (t : LogTable). is_alarm c.args.sent.now.body ≡ true → CanAdd (alarm_count t.streams) c.args.sent.now parts.alarms.kept) (sym c.in_ok-plan.ensures.table)
+    (λ alarm. can-add parts.log.table.last c.requires.log.number parts.ntf.table.last_id parts.log.table.streams c.args.sent.now parts.alarms.kept (omega (arith, few)) alarm (omega (arith, id)) (inside c.requires.log.number parts.log.table c.requires.log.fit).each c.requires.alarms)
 
 pub returns-clause-ok : goal.returns-clause-ok
 returns-clause-ok c =
     let fits = c.ranges.now in
     let parts = c.args.parts.now in
-    let log = parts.log in
+    let log = parts.log.table in
     let stream = c.kind_for.ensures.stream in
-    let plans = simp to_z-of_z at c.in_ok-plan.ensures in
+    let plans = simp to_z-of_z at c.in_ok-plan.ensures.ok in
     let written = simp to_z-of_z at c.in_ok-rec.ensures in
     let acted = c.in_ok-acted.ensures in
     let answered : c.step.result.now.status ≡ status.Ok = search rules in
@@ -66,4 +81,4 @@ returns-clause-ok c =
     let second = second_of c.args.now in
     let made = (plans.ok room).now ∙ ap (λ s. table_after (Stored s rec second) log) stream ∙ ap (λ r. table_after (stored_of c.args.now r c.args.sent.now) log) written in
     let happened = (plans.ok room).done ∙ ap (λ s. events_of (Stored s rec second) log) stream ∙ ap (λ r. events_of (stored_of c.args.now r c.args.sent.now) log) written in
-    done-sent (table_of parts) _ c.args.now c.args.sent.now plan.step.status plan.step.events c.in_ok-acted.acted (plans.answer ∙ ap (store_status log) stream) room (acted.ok ∙ ap (λ l. sent_with (table_of parts) l c.args.sent.now) made) acted.reply acted.kept happened acted.deeds
+    done-sent (table_of parts) _ c.args.now c.args.sent.now plan.step.status plan.step.events c.in_ok-acted.acted (plans.answer ∙ ap (store_status log) stream) room (acted.ok ∙ ap (λ (t : LogTable). sent_with (with_log (table_of parts) t) (planned plan t) c.args.sent.now) c.in_ok-plan.ensures.table ∙ ap (λ l. sent_with (table_of parts) l c.args.sent.now) made) acted.reply acted.kept happened acted.deeds

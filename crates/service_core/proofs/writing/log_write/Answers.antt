@@ -1,8 +1,9 @@
-use Rattle.std.proofs.Common.{sym, ap, subst}
+use Rattle.std.proofs.Common.{sym, ap, subst, ◌∙◌}
 use Rattle.std.proofs.lemmas.Int.{to_z-of_z}
 use Rattle.log_history.specs.Changes.{Stored}
 use Rattle.log_history.specs.Table.{LogTable}
 use Rattle.log_history.specs.Times.{second_of, record_at}
+use Rattle.log_service.specs.Planning.{CanCommit, planned}
 use Rattle.log_service.specs.declared.step.Step.{Step}
 use Rattle.calls.specs.declared.call.Call.TheVariants.{LogWrite}
 use Rattle.service_fit.specs.Fit.{IsAlarmFirst}
@@ -15,30 +16,37 @@ use Rattle.plain_service.proofs.HistoryEvents.{second-bound}
 
 pub plan_write-requires-clause-moment : goal.plan_write-requires-clause-moment
 plan_write-requires-clause-moment c =
-    let fits = c.ranges.now in simp to_z-of_z (call-time c.args.parts.now.log c.args.now c.requires)
+    let fits = c.ranges.now in simp to_z-of_z (call-time c.args.parts.now.log.table c.args.now c.requires)
 
 pub plan_write-requires-clause-numbers : goal.plan_write-requires-clause-numbers
-plan_write-requires-clause-numbers c = number-left c.args.parts.now.log c.args.now c.args.name.now c.requires
+plan_write-requires-clause-numbers c = number-left c.args.parts.now.log.table c.args.now c.args.name.now c.requires
+
+pub make_planned-requires-clause-can : goal.make_planned-requires-clause-can
+make_planned-requires-clause-can c =
+    let fits = c.ranges.now in
+    let times = c.ranges.time in
+    let plans = simp to_z-of_z at c.in_ok-plan.ensures.ok in
+    subst (λ (t : LogTable). CanCommit t c.in_ok-plan.plan) (sym c.in_ok-plan.ensures.table) plans.can
 
 pub make_planned-requires-clause-events : goal.make_planned-requires-clause-events
 make_planned-requires-clause-events c =
     let fits = c.ranges.now in
     let times = c.ranges.time in
-    let plans = simp to_z-of_z at c.in_ok-plan.ensures in
-    planned-fit c.args.parts.now.log c.args.now (Stored c.args.name.now (record_at c.args.time c.args.header.now c.args.body.now c.args.now) (second_of c.args.now)) _ c.in_ok-plan.plan c.requires (second-bound c.args.now c.requires.moment) (λ e. call-can (table_of c.args.parts.now) c.args.client c.args.now (LogWrite c.args.name.now 0 c.args.flags c.args.time c.args.header.now c.args.body.now) e) plans
+    let plans = simp to_z-of_z at c.in_ok-plan.ensures.ok in
+    planned-fit c.args.parts.now.log.table c.args.now (Stored c.args.name.now (record_at c.args.time c.args.header.now c.args.body.now c.args.now) (second_of c.args.now)) _ c.in_ok-plan.plan c.requires (second-bound c.args.now c.requires.moment) (λ e. call-can (table_of c.args.parts.now) c.args.client c.args.now (LogWrite c.args.name.now 0 c.args.flags c.args.time c.args.header.now c.args.body.now) e) plans
 
 pub keep_after-requires : goal.keep_after-requires
 keep_after-requires c =
     let fits = c.ranges.now in
     let times = c.ranges.time in
-    let plans = simp to_z-of_z at c.in_ok-plan.ensures in
-    subst (λ (l : LogTable). IsAlarmFirst l.streams) (sym c.in_ok-acted.ensures.now)
-    (planned-first c.args.parts.now.log c.args.now c.args.name.now (record_at c.args.time c.args.header.now c.args.body.now c.args.now) (second_of c.args.now) _ c.in_ok-plan.plan c.requires (second-bound c.args.now c.requires.moment) (λ e. call-can (table_of c.args.parts.now) c.args.client c.args.now (LogWrite c.args.name.now 0 c.args.flags c.args.time c.args.header.now c.args.body.now) e) plans)
+    let plans = simp to_z-of_z at c.in_ok-plan.ensures.ok in
+    subst (λ (l : LogTable). IsAlarmFirst l.streams) (sym (c.in_ok-acted.ensures.now ∙ ap (planned c.in_ok-plan.plan) c.in_ok-plan.ensures.table))
+    (planned-first c.args.parts.now.log.table c.args.now c.args.name.now (record_at c.args.time c.args.header.now c.args.body.now c.args.now) (second_of c.args.now) _ c.in_ok-plan.plan c.requires (second-bound c.args.now c.requires.moment) (λ e. call-can (table_of c.args.parts.now) c.args.client c.args.now (LogWrite c.args.name.now 0 c.args.flags c.args.time c.args.header.now c.args.body.now) e) plans)
 
 pub returns-clause-ok : goal.returns-clause-ok
 returns-clause-ok c =
     let fits = c.ranges.now in
     let times = c.ranges.time in
-    let plans = simp to_z-of_z at c.in_ok-plan.ensures in
+    let plans = simp to_z-of_z at c.in_ok-plan.ensures.ok in
     let acted = c.in_ok-acted.ensures in
-    λ seq invocation. write-acted (table_of c.args.parts.now) c.args.client seq invocation c.args.flags c.args.now c.args.time c.args.name.now c.args.header.now c.args.body.now c.in_ok-plan.plan c.step.result.now.status c.make_planned.new.log c.keep_after.new.alarms.kept c.in_ok-acted.acted plans (ap (λ (s : Step). s.status) c.step.ensures) acted.now c.keep_after.ensures acted.told acted.deeds
+    λ seq invocation. write-acted (table_of c.args.parts.now) c.args.client seq invocation c.args.flags c.args.now c.args.time c.args.name.now c.args.header.now c.args.body.now c.in_ok-plan.plan c.step.result.now.status c.make_planned.new.log.table c.keep_after.new.alarms.kept c.in_ok-acted.acted plans (ap (λ (s : Step). s.status) c.step.ensures) (acted.now ∙ ap (planned c.in_ok-plan.plan) c.in_ok-plan.ensures.table) c.keep_after.ensures acted.told acted.deeds

@@ -7,7 +7,7 @@ use Rattle.service_core.proofs.service.Service.items.Goals as goal
 
 pub returns-clause-value : goal.returns-clause-value
 returns-clause-value c =
-    c.in_ok-items.ensures ∙ sym (items-saved c.self.inside.kept.parts.ntf.subs) ∙ ap items_held c.self.view_is
+    c.in_ok-items.ensures ∙ sym (items-saved c.self.inside.kept.parts.ntf.table.subs) ∙ ap items_held c.self.view_is
 
 pub returns-clause-history : goal.returns-clause-history
 returns-clause-history c =
