@@ -1,4 +1,5 @@
 //! What a client asks of the services.
+use crate::Boxed;
 use ais_values::{Duplicate, Text, Version, Which};
 use ntf_filters::FilterSet;
 use ntf_types::Notification;
@@ -38,12 +39,12 @@ pub enum Call {
     NtfInit,
     /// Sends a notification, whose id is 0.
     NtfSend {
-        notification: Notification,
+        notification: Boxed<Notification>,
     },
     /// Subscribes, under an id, to the notifications that pass the filters.
     NtfSubscribe {
         id: u32,
-        filters: FilterSet,
+        filters: Boxed<FilterSet>,
     },
     /// Ends the subscription of this id.
     NtfUnsubscribe {
@@ -53,7 +54,7 @@ pub enum Call {
     ReaderStart {
         mode: u32,
         value: i64,
-        filters: FilterSet,
+        filters: Boxed<FilterSet>,
     },
     /// Reads the next stored alarm, in this direction.
     ReaderRead {

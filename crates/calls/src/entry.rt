@@ -1,5 +1,5 @@
 //! What a service accepts, and the items that it holds for a client.
-use crate::Call;
+use crate::{Boxed, Call};
 use ais_values::Duplicate;
 use std::alloc::{AllocError, Global};
 use sub_queue::Item;
@@ -29,7 +29,7 @@ pub struct Held {
     pub client: u16,
     /// The number of the call that made the subscription.
     pub key: u32,
-    pub item: Item,
+    pub item: Boxed<Item>,
 }
 
 impl Duplicate for Entry {

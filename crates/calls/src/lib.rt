@@ -1,6 +1,7 @@
 //! Calls and their answers, entries, callbacks and the saved value of a service; and the history of what was accepted.
 #![tactic(auto)]
 
+mod boxed;
 mod call;
 mod entry;
 mod history;
@@ -8,6 +9,7 @@ mod law;
 mod reply;
 mod saved;
 
+pub use boxed::Boxed;
 pub use call::{Ask, Call};
 pub use entry::{Entry, Held};
 pub use history::History;

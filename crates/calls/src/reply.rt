@@ -1,4 +1,5 @@
 //! What a service answers, and what a client's callbacks tell.
+use crate::Boxed;
 use ais_values::{Duplicate, Seq, Status};
 use ntf_types::Notification;
 use std::alloc::{AllocError, Global};
@@ -13,7 +14,7 @@ pub enum Reply {
     /// The notification was sent, and has this id.
     Sent { id: u64 },
     /// The stored alarm that was read.
-    Found { notification: Notification },
+    Found { notification: Boxed<Notification> },
 }
 
 /// What a callback tells a client.

@@ -164,7 +164,7 @@ impl Agent {
                 Ok(taken)
             }
             Message::Item { key, item, .. } => {
-                let taken = self.take_item(rt, alloc, *key, item)?;
+                let taken = self.take_item(rt, alloc, *key, item.get())?;
                 Ok(taken)
             }
             _ => unreachable!(),

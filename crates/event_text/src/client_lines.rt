@@ -69,7 +69,7 @@ pub fn put_reply(
                 Piece::Word(b" "),
                 Piece::Number(u64::from(seq)),
                 Piece::Word(b" ok "),
-                Piece::Note(notification),
+                Piece::Note(notification.get()),
                 Piece::Word(b"\n"),
             ],
         ),

@@ -5,7 +5,7 @@ ghost use Rattle.client_agent.specs.Steps.{HasWorkers};
 
 use ais_values::{ClassId, Name, Seq, Status, Text, Version, Which};
 use callback_dispatch::{Gate, Numbered, OpenGate};
-use calls::{Ask, Call, Callback, Reply};
+use calls::{Ask, Boxed, Call, Callback, Reply};
 use client_agent::*;
 use ntf_filters::FilterSet;
 use record_print::Header;
@@ -50,7 +50,7 @@ fn write(rt: &impl Abort, alloc: Global, invocation: u64) -> Call {
     }
 }
 
-fn subscribe() -> Call {
+fn subscribe(rt: &impl Abort, alloc: Global) -> Call {
     let filters = FilterSet {
         objects: None,
         attributes: None,
@@ -58,6 +58,7 @@ fn subscribe() -> Call {
         alarms: None,
         security: None,
     };
+    let filters = Boxed::new(alloc, filters).expect(rt, "memory");
     Call::NtfSubscribe { id: 9, filters }
 }
 
@@ -74,7 +75,9 @@ fn ask_of(rt: &impl Abort, alloc: Global, asked: Asked) -> Ask {
         Asked::Write { invocation } => Ask::Plain {
             call: write(rt, alloc, invocation),
         },
-        Asked::Subscribe => Ask::Plain { call: subscribe() },
+        Asked::Subscribe => Ask::Plain {
+            call: subscribe(rt, alloc),
+        },
         Asked::EndLog => Ask::Plain {
             call: Call::LogFini,
         },
@@ -161,7 +164,7 @@ fn delivered<R: Abort + Wait>(
     let message = Message::Item {
         client: 7,
         key,
-        item: Item { number, content },
+        item: Boxed::new(alloc, Item { number, content }).expect(rt, "memory"),
     };
     let taken = agent.receive(rt, alloc, &message).expect(rt, "memory");
     drop(message);

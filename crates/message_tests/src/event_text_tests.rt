@@ -1,6 +1,6 @@
 //! The lines of events, against the written rules.
 use ais_values::{ClassId, Name, Seq, Status, Text};
-use calls::{Call, Callback, Entry, Reply};
+use calls::{Boxed, Call, Callback, Entry, Reply};
 use cluster_events::{ServerRole, Standing, Why};
 use event_text::{
     put_callback, put_declined, put_dispatched, put_entry, put_file, put_ignored, put_post,
@@ -93,15 +93,16 @@ fn reply() -> Message {
 }
 
 /// Item 3 of the subscription of client 1 under key 2.
-fn item(alloc: Global) -> Message {
+fn item(rt: &impl Abort, alloc: Global) -> Message {
     let lost = Seq::new(alloc);
+    let item = Item {
+        number: 3,
+        content: Content::Discarded { lost },
+    };
     Message::Item {
         client: 1,
         key: 2,
-        item: Item {
-            number: 3,
-            content: Content::Discarded { lost },
-        },
+        item: Boxed::new(alloc, item).expect(rt, "memory"),
     }
 }
 
@@ -119,7 +120,7 @@ fn tells_of_the_net(rt: HostRuntime) {
     let alloc = rt.alloc();
     post(&rt, alloc, 5, request(), b"post 5 req 1 3\n");
     post(&rt, alloc, 6, reply(), b"post 6 rep 1 3\n");
-    post(&rt, alloc, 21, item(alloc), b"post 21 item 1 2 3\n");
+    post(&rt, alloc, 21, item(&rt, alloc), b"post 21 item 1 2 3\n");
     post(&rt, alloc, 22, receipt(), b"post 22 rcpt 1 2 3\n");
 }
 

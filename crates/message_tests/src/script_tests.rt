@@ -301,7 +301,7 @@ fn second_shown(rt: &impl Abort, alloc: Global, lines: &Seq<Line>) -> Vec<u8> {
                 },
                 ..
             },
-        ] => print_note(alloc, notification).expect(rt, "memory"),
+        ] => print_note(alloc, notification.get()).expect(rt, "memory"),
         _ => Vec::new(alloc),
     }
 }

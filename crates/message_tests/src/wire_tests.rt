@@ -2,7 +2,7 @@
 ghost use Rattle.wire.specs.MessageSpelling.{MessageInRange};
 
 use ais_values::{Duplicate, Name, Seq};
-use calls::{Call, Entry, Reply, Saved};
+use calls::{Boxed, Call, Entry, Reply, Saved};
 use std::alloc::Global;
 use std::process::Abort;
 use stream_config::StreamName;
@@ -116,7 +116,7 @@ fn an_item(rt: HostRuntime) {
     };
     lost.push(one).expect(&rt, "memory");
     let content = Content::Discarded { lost };
-    let item = Item { number: 3, content };
+    let item = Boxed::new(alloc, Item { number: 3, content }).expect(&rt, "memory");
     let message = Message::Item {
         client: 1,
         key: 2,

@@ -14,7 +14,7 @@ use crate::streams::{attrs, header, stream};
 use crate::trouble::Trouble;
 use crate::values::version;
 use ais_values::Which;
-use calls::{Ask, Call};
+use calls::{Ask, Boxed, Call};
 use std::alloc::Global;
 use stream_config::StreamAttrs;
 
@@ -115,6 +115,7 @@ fn send(alloc: Global, bytes: &[u8]) -> Result<(Ask, &[u8]), Trouble>
     ensures { Gives (λ found. (found.0, found.1.now)) result (send_at bytes.now) }
 {
     let (notification, rest) = note(alloc, bytes)?;
+    let notification = Boxed::new(alloc, notification)?;
     let call = Call::NtfSend { notification };
     Ok((Ask::Plain { call }, rest))
 }
@@ -126,6 +127,7 @@ fn subscribe(alloc: Global, bytes: &[u8]) -> Result<(Ask, &[u8]), Trouble>
 {
     let (id, rest) = number32(bytes).ok_or(Trouble::Bad)?;
     let (filters, rest) = filters(alloc, rest)?;
+    let filters = Boxed::new(alloc, filters)?;
     let call = Call::NtfSubscribe { id, filters };
     Ok((Ask::Plain { call }, rest))
 }
@@ -149,6 +151,7 @@ fn reader(alloc: Global, bytes: &[u8]) -> Result<(Ask, &[u8]), Trouble>
     let rest = skip(rest, b" value=").ok_or(Trouble::Bad)?;
     let (value, rest) = signed64(rest).ok_or(Trouble::Bad)?;
     let (filters, rest) = filters(alloc, rest)?;
+    let filters = Boxed::new(alloc, filters)?;
     let call = Call::ReaderStart {
         mode,
         value,

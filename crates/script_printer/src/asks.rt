@@ -202,8 +202,8 @@ fn put_call(alloc: Global, out: &mut Vec<u8>, call: &Call) -> Result<(), AllocEr
         } => put_write(alloc, out, stream, *invocation, *flags, *time, header, body),
         Call::LogClose { stream } => put_close(alloc, out, stream),
         Call::LogFini | Call::NtfFini => put(out, b"fini"),
-        Call::NtfSend { notification } => put_send(alloc, out, notification),
-        Call::NtfSubscribe { id, filters } => put_subscribe(alloc, out, *id, filters),
+        Call::NtfSend { notification } => put_send(alloc, out, notification.get()),
+        Call::NtfSubscribe { id, filters } => put_subscribe(alloc, out, *id, filters.get()),
         Call::NtfUnsubscribe { id } => put_pieces(
             alloc,
             out,
@@ -213,7 +213,7 @@ fn put_call(alloc: Global, out: &mut Vec<u8>, call: &Call) -> Result<(), AllocEr
             mode,
             value,
             filters,
-        } => put_reader(alloc, out, *mode, *value, filters),
+        } => put_reader(alloc, out, *mode, *value, filters.get()),
         Call::ReaderRead { direction } => put_pieces(
             alloc,
             out,

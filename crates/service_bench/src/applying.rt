@@ -70,7 +70,8 @@ fn open_streams(alloc: Global, service: &mut Service, count: u32) -> Result<(), 
 fn subscribe(alloc: Global, service: &mut Service, count: u32) -> Result<(), AllocError> {
     apply(alloc, service, SENDER, Call::NtfInit)?;
     for id in 0..count {
-        apply(alloc, service, SENDER, subscribe_of(alloc, id))?;
+        let call = subscribe_of(alloc, id)?;
+        apply(alloc, service, SENDER, call)?;
     }
     Ok(())
 }
@@ -95,7 +96,8 @@ pub(crate) fn prepare(
     subscribe(alloc, service, setting.subs)?;
     send_alarms(alloc, service, setting.alarms)?;
     if matches!(kind, Kind::Read) {
-        apply(alloc, service, SENDER, start_of(alloc, 7))?;
+        let call = start_of(alloc, 7)?;
+        apply(alloc, service, SENDER, call)?;
     }
     Ok(())
 }

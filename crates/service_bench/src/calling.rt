@@ -1,6 +1,6 @@
 //! The calls that are applied.
 use ais_values::{ClassId, Name, Seq, StreamKind, Text};
-use calls::Call;
+use calls::{Boxed, Call};
 use ntf_filters::{Filter, FilterSet};
 use ntf_types::{Body, Notification};
 use record_print::Header;
@@ -103,8 +103,8 @@ fn notify_of(
     let notifier = name_of(alloc, b"hw");
     let text = text_of(alloc, b"fan");
     match (object, notifier, text) {
-        (Ok(object), Ok(notifier), Ok(text)) => Ok(Call::NtfSend {
-            notification: Notification {
+        (Ok(object), Ok(notifier), Ok(text)) => {
+            let notification = Notification {
                 id: 0,
                 event_type,
                 object,
@@ -115,8 +115,10 @@ fn notify_of(
                 text,
                 info: Seq::new(alloc),
                 body,
-            },
-        }),
+            };
+            let notification = Boxed::new(alloc, notification)?;
+            Ok(Call::NtfSend { notification })
+        }
         _ => {
             drop(body);
             Err(AllocError)
@@ -165,32 +167,33 @@ fn open_filter(alloc: Global) -> Filter {
 }
 
 /// Subscribes to all that is told of states.
-pub(crate) fn subscribe_of(alloc: Global, id: u32) -> Call {
-    Call::NtfSubscribe {
-        id,
-        filters: FilterSet {
-            objects: None,
-            attributes: None,
-            states: Some(open_filter(alloc)),
-            alarms: None,
-            security: None,
-        },
-    }
+pub(crate) fn subscribe_of(alloc: Global, id: u32) -> Result<Call, AllocError> {
+    let filters = FilterSet {
+        objects: None,
+        attributes: None,
+        states: Some(open_filter(alloc)),
+        alarms: None,
+        security: None,
+    };
+    let filters = Boxed::new(alloc, filters)?;
+    Ok(Call::NtfSubscribe { id, filters })
 }
 
 /// Starts a reader of all alarms, at the youngest (1) or at the oldest (7) of them.
-pub(crate) fn start_of(alloc: Global, mode: u32) -> Call {
-    Call::ReaderStart {
+pub(crate) fn start_of(alloc: Global, mode: u32) -> Result<Call, AllocError> {
+    let filters = FilterSet {
+        objects: None,
+        attributes: None,
+        states: None,
+        alarms: Some(open_filter(alloc)),
+        security: None,
+    };
+    let filters = Boxed::new(alloc, filters)?;
+    Ok(Call::ReaderStart {
         mode,
         value: LATE,
-        filters: FilterSet {
-            objects: None,
-            attributes: None,
-            states: None,
-            alarms: Some(open_filter(alloc)),
-            security: None,
-        },
-    }
+        filters,
+    })
 }
 
 /// Reads on, to the older (1) or the younger (2) alarms.

@@ -48,7 +48,7 @@ impl Kind {
             Kind::Write => write_of(alloc, streams, number),
             Kind::Offer => offer_of(alloc),
             Kind::Send => send_of(alloc),
-            Kind::Start if number % 2 == 0 => Ok(start_of(alloc, 1)),
+            Kind::Start if number % 2 == 0 => start_of(alloc, 1),
             Kind::Start => Ok(end_of()),
             Kind::Read => Ok(read_of(1 + number % 2)),
         }

@@ -49,9 +49,12 @@ pub(crate) fn act(
         Call::LogClose { stream } => Ok(log_close(parts, alloc, client, now, stream)?),
         Call::LogFini => Ok(log_fini(parts, alloc, client, now)?),
         Call::NtfInit => Ok(ntf_init(parts, alloc, client)?),
-        Call::NtfSend { notification } => Ok(ntf_send(parts, alloc, client, now, notification)?),
+        Call::NtfSend { notification } => {
+            let acted = ntf_send(parts, alloc, client, now, notification.get())?;
+            Ok(acted)
+        }
         Call::NtfSubscribe { id, filters } => {
-            let acted = ntf_subscribe(parts, alloc, client, seq, *id, filters)?;
+            let acted = ntf_subscribe(parts, alloc, client, seq, *id, filters.get())?;
             Ok(acted)
         }
         Call::NtfUnsubscribe { id } => Ok(ntf_unsubscribe(parts, alloc, client, *id)),
@@ -60,7 +63,7 @@ pub(crate) fn act(
             value,
             filters,
         } => {
-            let acted = reader_start(parts, alloc, client, *mode, *value, filters)?;
+            let acted = reader_start(parts, alloc, client, *mode, *value, filters.get())?;
             Ok(acted)
         }
         Call::ReaderRead { direction } => Ok(reader_read(parts, alloc, client, *direction)?),

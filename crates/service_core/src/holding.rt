@@ -5,7 +5,7 @@ ghost use Rattle.ntf_service.specs.Told.{told};
 ghost use Rattle.service_core.specs.Holding.{items_by, items_in, items_at};
 
 use ais_values::{Duplicate, Seq};
-use calls::Held;
+use calls::{Boxed, Held};
 use ntf_service::{NtfState, Subscription};
 use std::alloc::{AllocError, Global};
 
@@ -15,11 +15,11 @@ fn add_items(alloc: Global, held: &mut Seq<Held>, sub: &Subscription) -> Result<
 {
     let items = sub.queue.items();
     for item in items {
-        let copy = item.copy(alloc)?;
+        let item = Boxed::new(alloc, item.copy(alloc)?)?;
         held.push(Held {
             client: sub.client,
             key: sub.key,
-            item: copy,
+            item,
         })?;
     }
     Ok(())

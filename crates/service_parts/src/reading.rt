@@ -19,7 +19,7 @@ use crate::Told;
 use crate::readers::{add_reader, point_of, reader_of, stop_reader, tell_reader};
 use ais_values::{Duplicate, Status};
 use alarm_view::{AlarmView, Cursor, Direction, SearchMode};
-use calls::{Reply, SavedReader};
+use calls::{Boxed, Reply, SavedReader};
 use ntf_filters::{FilterSet, check_filters};
 use ntf_types::Notification;
 use std::alloc::{AllocError, Global};
@@ -244,18 +244,22 @@ fn read_status(
     }
 }
 
+/// The reply with an alarm.
+fn found(alloc: Global, alarm: &Notification) -> Result<Reply, AllocError>
+    ensures { IfOk result (λ reply. reply ≡ Found alarm.now) }
+{
+    let notification = Boxed::new(alloc, alarm.copy(alloc)?)?;
+    Ok(Reply::Found { notification })
+}
+
 /// The reply with an alarm, twice.
 fn told_alarm(alloc: Global, alarm: &Notification) -> Result<Told, AllocError>
     ensures reply { IfOk result (λ told. told.reply ≡ Found alarm.now) }
     ensures kept { IfOk result (λ told. told.kept ≡ Found alarm.now) }
 {
     Ok(Told {
-        reply: Reply::Found {
-            notification: alarm.copy(alloc)?,
-        },
-        kept: Reply::Found {
-            notification: alarm.copy(alloc)?,
-        },
+        reply: found(alloc, alarm)?,
+        kept: found(alloc, alarm)?,
     })
 }
 

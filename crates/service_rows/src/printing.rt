@@ -27,8 +27,8 @@ fn reply_words(alloc: Global, reply: &Reply) -> Result<String, AllocError> {
         Reply::Done => String::from_str(alloc, Status::Ok.word()),
         Reply::Sent { id } => format!(in alloc; "ok id={id}"),
         Reply::Found { notification } => {
-            let id = notification.id;
-            let time = notification.event_time;
+            let id = notification.get().id;
+            let time = notification.get().event_time;
             format!(in alloc; "ok alarm id={id} time={time}")
         }
     }
@@ -62,10 +62,11 @@ fn put_lost(alloc: Global, lost: &[Lost], out: &mut Vec<u8>) -> Result<(), Alloc
 fn put_item(alloc: Global, held: &Held, out: &mut Vec<u8>) -> Result<(), AllocError> {
     let client = held.client;
     let key = held.key;
-    let number = held.item.number;
+    let item = held.item.get();
+    let number = item.number;
     let front = format!(in alloc; "item {client} {key} {number}")?;
     put(out, front.as_bytes())?;
-    match &held.item.content {
+    match &item.content {
         Content::Notified { notification } => {
             let id = notification.id;
             put_line(out, format!(in alloc; " id={id}")?)

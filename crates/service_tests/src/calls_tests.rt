@@ -41,7 +41,7 @@ fn calls_are_copied(rt: HostRuntime) {
     let reader = Call::ReaderStart {
         mode: 7,
         value: -1,
-        filters: no_filters(),
+        filters: Boxed::new(alloc, no_filters()).expect(&rt, "memory"),
     };
     copied(&rt, alloc, reader);
 }
@@ -65,7 +65,7 @@ fn replies_and_callbacks_are_copied(rt: HostRuntime) {
     let alloc = rt.alloc();
     let status = Status::NoSpace;
     copied(&rt, alloc, Reply::Refused { status });
-    let notification = alarm(&rt, alloc, 1, 0, 2);
+    let notification = Boxed::new(alloc, alarm(&rt, alloc, 1, 0, 2)).expect(&rt, "memory");
     copied(&rt, alloc, Reply::Found { notification });
     let written = Callback::Written {
         invocation: 7,
@@ -84,10 +84,11 @@ fn a_held_item_is_copied(rt: HostRuntime) {
     };
     lost.push(one).expect(&rt, "memory");
     let content = Content::Discarded { lost };
+    let item = Item { number: 3, content };
     let held = Held {
         client: 1,
         key: 2,
-        item: Item { number: 3, content },
+        item: Boxed::new(alloc, item).expect(&rt, "memory"),
     };
     copied(&rt, alloc, held);
 }

@@ -42,7 +42,7 @@ fn start(
 fn read(rt: &impl Abort, alloc: Global, view: &AlarmView, readers: &mut Vec<SavedReader>) -> u64 {
     let told = read_on(alloc, view, readers, true, 5, 2).expect(rt, "memory");
     let id = match &told.reply {
-        Reply::Found { notification } => notification.id,
+        Reply::Found { notification } => notification.get().id,
         Reply::Refused { status } if *status == Status::NotExist => 0,
         _ => 99,
     };

@@ -102,7 +102,7 @@ fn read_ntf_call(alloc: Global, tag: u8, bytes: &[u8]) -> Result<(Call, &[u8]), 
     match tag {
         6 => Ok((Call::NtfInit, bytes)),
         7 => {
-            let (notification, rest) = Notification::read_front(alloc, bytes)?;
+            let (notification, rest) = Wire::read_front(alloc, bytes)?;
             Ok((Call::NtfSend { notification }, rest))
         }
         8 => {
@@ -286,7 +286,7 @@ impl Wire for Reply {
                 Ok((Reply::Sent { id }, rest))
             }
             4 => {
-                let (notification, rest) = Notification::read_front(alloc, rest)?;
+                let (notification, rest) = Wire::read_front(alloc, rest)?;
                 Ok((Reply::Found { notification }, rest))
             }
             _ => Err(Trouble::from(Fault::before(rest))),

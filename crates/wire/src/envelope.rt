@@ -108,7 +108,7 @@ impl Wire for Message {
             3 => {
                 let (client, rest) = read_client(rest)?;
                 let (key, rest) = read_count(rest)?;
-                let (item, rest) = Item::read_front(alloc, rest)?;
+                let (item, rest) = Wire::read_front(alloc, rest)?;
                 Ok((Message::Item { client, key, item }, rest))
             }
             4 => {

@@ -1,10 +1,11 @@
-//! Pairs, options and lists of any values that can be spelled.
+//! Pairs, options, lists and boxes of any values that can be spelled.
 ghost use Rattle.std.specs.Prelude.{◌≡◌, ◌++◌, All, OnOk};
 ghost use Rattle.wire_code.specs.Spelling.{texts};
 ghost use Rattle.wire_code.specs.Reading.{Gives, many_at};
 
 use crate::wire::Wire;
 use ais_values::Seq;
+use calls::Boxed;
 use std::alloc::{AllocError, Global};
 use wire_code::{Fault, Trouble, read_first};
 
@@ -71,6 +72,26 @@ impl<T: Wire + Drop> Wire for Option<T> {
             }
             _ => Err(Trouble::from(Fault::before(rest))),
         }
+    }
+}
+
+impl<T: Wire + Drop> Wire for Boxed<T> {
+    ghost text = { T.text };
+
+    ghost Fits = { T.Fits };
+
+    ghost InRange = { T.InRange };
+
+    ghost at = { T.at };
+
+    fn spell(&self, out: &mut Vec<u8>) -> Result<(), AllocError> {
+        self.get().spell(out)
+    }
+
+    fn read_front(alloc: Global, bytes: &[u8]) -> Result<(Boxed<T>, &[u8]), Trouble> {
+        let (value, rest) = T::read_front(alloc, bytes)?;
+        let value = Boxed::new(alloc, value)?;
+        Ok((value, rest))
     }
 }
 

@@ -1,6 +1,6 @@
 //! The messages of clients and servers, and why bytes are none.
 use ais_values::Duplicate;
-use calls::{Call, Entry, Reply, Saved};
+use calls::{Boxed, Call, Entry, Reply, Saved};
 use std::alloc::{AllocError, Global};
 use sub_queue::Item;
 
@@ -8,21 +8,46 @@ use sub_queue::Item;
 #[derive(PartialEq, Drop)]
 pub enum Message {
     /// The call of a client, under its number.
-    Request { client: u16, seq: u32, call: Call },
+    Request {
+        client: u16,
+        seq: u32,
+        call: Call,
+    },
     /// The answer to the call of this number.
-    Reply { client: u16, seq: u32, reply: Reply },
+    Reply {
+        client: u16,
+        seq: u32,
+        reply: Reply,
+    },
     /// An item of the subscription that the call `key` made.
-    Item { client: u16, key: u32, item: Item },
+    Item {
+        client: u16,
+        key: u32,
+        item: Boxed<Item>,
+    },
     /// The receipt of a client for the items of the subscription `key`, through a number.
-    Receipt { client: u16, key: u32, through: u32 },
+    Receipt {
+        client: u16,
+        key: u32,
+        through: u32,
+    },
     /// The entry of this number, from the active server to its partner.
-    Mirror { number: u64, entry: Entry },
+    Mirror {
+        number: u64,
+        entry: Entry,
+    },
     /// The partner has the entry of this number.
-    MirrorAck { number: u64 },
+    MirrorAck {
+        number: u64,
+    },
     /// The value of the service, for a server that joins.
-    Snapshot { saved: Saved },
+    Snapshot {
+        saved: Saved,
+    },
     /// The server that joined has the value after so many entries.
-    JoinAck { number: u64 },
+    JoinAck {
+        number: u64,
+    },
 }
 
 /// What is wrong at the place where bytes stop to be the front of a message.

@@ -1,6 +1,6 @@
 use Rattle.std.proofs.Common.{◌≡◌, rules, sym, subst, to_z, of_z, w64}
 use Rattle.std.proofs.lemmas.Int.{to_z-of_z}
-use Rattle.calls.specs.declared.call.Call.TheVariants.{LogOpen}
+use Rattle.calls.specs.declared.call.Call.TheVariants.{LogOpen, NtfSend, NtfSubscribe, ReaderStart}
 use Rattle.service_core.specs.Acting.{table_of, HasActed}
 use Rattle.service_core.proofs.acting.act.Goals as goal
 
@@ -29,11 +29,12 @@ returns-in_ok-log_fini-in-LogFini-clause-ok c =
     let done = (simp to_z-of_z at c.in_ok-log_fini-in-LogFini.ensures.ok) c.args.seq in
     subst (λ call. HasActed (table_of c.args.parts.now) c.args.client c.args.seq c.args.now call (table_of c.log_fini.new.parts) c.in_ok-log_fini-in-LogFini.field-0) (sym c.in-LogFini.is) done
 
-pub returns-in_ok-ntf_send-in-NtfSend-clause-ok : goal.returns-in_ok-ntf_send-in-NtfSend-clause-ok
-returns-in_ok-ntf_send-in-NtfSend-clause-ok c =
+pub returns-in_ok-acted-in-NtfSend-clause-ok : goal.returns-in_ok-acted-in-NtfSend-clause-ok
+returns-in_ok-acted-in-NtfSend-clause-ok c =
     let fits = c.ranges.now in
-    let done = (simp to_z-of_z at c.in_ok-ntf_send-in-NtfSend.ensures.ok) c.args.seq in
-    subst (λ call. HasActed (table_of c.args.parts.now) c.args.client c.args.seq c.args.now call (table_of c.ntf_send.new.parts) c.in_ok-ntf_send-in-NtfSend.field-0) (sym c.in-NtfSend.is) done
+    let sent = (simp to_z-of_z at c.in_ok-acted-in-NtfSend.ensures.ok) c.args.seq in
+    let done = subst (λ notification. HasActed (table_of c.args.parts.now) c.args.client c.args.seq c.args.now (NtfSend notification) (table_of c.ntf_send.new.parts) c.in_ok-acted-in-NtfSend.acted) c.get.ensures sent in
+    subst (λ call. HasActed (table_of c.args.parts.now) c.args.client c.args.seq c.args.now call (table_of c.ntf_send.new.parts) c.in_ok-acted-in-NtfSend.acted) (sym c.in-NtfSend.is) done
 
 pub returns-in_ok-acted-in-LogWrite-clause-ok : goal.returns-in_ok-acted-in-LogWrite-clause-ok
 returns-in_ok-acted-in-LogWrite-clause-ok c =
@@ -52,7 +53,8 @@ pub returns-in_ok-acted-in-ReaderStart-clause-ok : goal.returns-in_ok-acted-in-R
 returns-in_ok-acted-in-ReaderStart-clause-ok c =
     let fits = c.ranges.now in
     let values : to_z w64 (of_z w64 c.in-ReaderStart.value) ≡ c.in-ReaderStart.value = search rules in
-    let done = (simp (to_z-of_z, values) at c.in_ok-acted-in-ReaderStart.ensures.ok) c.args.seq c.args.now in
+    let started = (simp (to_z-of_z, values) at c.in_ok-acted-in-ReaderStart.ensures.ok) c.args.seq c.args.now in
+    let done = subst (λ filters. HasActed (table_of c.args.parts.now) c.args.client c.args.seq c.args.now (ReaderStart c.in-ReaderStart.mode c.in-ReaderStart.value filters) (table_of c.reader_start.new.parts) c.in_ok-acted-in-ReaderStart.acted) c.get-in-ReaderStart.ensures started in
     subst (λ call. HasActed (table_of c.args.parts.now) c.args.client c.args.seq c.args.now call (table_of c.reader_start.new.parts) c.in_ok-acted-in-ReaderStart.acted) (sym c.in-ReaderStart.is) done
 
 pub returns-in_ok-reader_read-in-ReaderRead-clause-ok : goal.returns-in_ok-reader_read-in-ReaderRead-clause-ok
@@ -64,7 +66,8 @@ returns-in_ok-reader_read-in-ReaderRead-clause-ok c =
 pub returns-in_ok-acted-in-NtfSubscribe-clause-ok : goal.returns-in_ok-acted-in-NtfSubscribe-clause-ok
 returns-in_ok-acted-in-NtfSubscribe-clause-ok c =
     let fits = c.ranges.now in
-    let done = c.in_ok-acted-in-NtfSubscribe.ensures.ok c.args.now in
+    let begun = c.in_ok-acted-in-NtfSubscribe.ensures.ok c.args.now in
+    let done = subst (λ filters. HasActed (table_of c.args.parts.now) c.args.client c.args.seq c.args.now (NtfSubscribe c.in-NtfSubscribe.id filters) (table_of c.ntf_subscribe.new.parts) c.in_ok-acted-in-NtfSubscribe.acted) c.get-in-NtfSubscribe.ensures begun in
     subst (λ call. HasActed (table_of c.args.parts.now) c.args.client c.args.seq c.args.now call (table_of c.ntf_subscribe.new.parts) c.in_ok-acted-in-NtfSubscribe.acted) (sym c.in-NtfSubscribe.is) done
 
 pub returns-in-NtfUnsubscribe-clause-ok : goal.returns-in-NtfUnsubscribe-clause-ok
