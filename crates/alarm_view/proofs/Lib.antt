@@ -6,3 +6,4 @@ pub mod Listing
 pub mod Ranging
 pub mod Searching
 pub mod Indexing
+pub mod Sorting

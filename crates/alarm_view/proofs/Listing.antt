@@ -49,7 +49,7 @@ module _ {X : Type 0} (before : X → X → Bool) where
   rising-at (x ∷ xs) (suc i) zero d rising below within = absurd (omega arith)
   rising-at (x ∷ xs) (suc i) (suc j) d rising below within = rising-at xs i j d rising.1 (omega arith) (omega arith)
 
-  ComesFirst-each : (x : X) (xs : List X) → ((y : X) → Stands y xs → before x y ≡ true) → ComesFirst before x xs
+  pub ComesFirst-each : (x : X) (xs : List X) → ((y : X) → Stands y xs → before x y ≡ true) → ComesFirst before x xs
   ComesFirst-each x [] each = tt
   ComesFirst-each x (y ∷ ys) each = (each y (inl refl), ComesFirst-each x ys (λ z there. each z (inr there)))
 

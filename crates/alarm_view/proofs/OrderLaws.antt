@@ -6,13 +6,13 @@ use Rattle.alarm_view.specs.declared.mode.Direction.{Direction}
 use Rattle.alarm_view.specs.declared.mode.Direction.TheVariants.{Older, Younger}
 use Rattle.alarm_view.specs.Order.{Point, is_older, comes_before}
 
-is_older-not_between : (one other last : Point) → is_older one other ≡ false → is_older other last ≡ false → is_older one last ≡ false
+pub is_older-not_between : (one other last : Point) → is_older one other ≡ false → is_older other last ≡ false → is_older one last ≡ false
 is_older-not_between one other last first second = grind (arith, ints, nat_tests)
 
 is_older-self : (one : Point) → is_older one one ≡ false
 is_older-self one = grind (arith, ints, nat_tests)
 
-is_older-one_way : (one other : Point) → is_older one other ≡ true → is_older other one ≡ false
+pub is_older-one_way : (one other : Point) → is_older one other ≡ true → is_older other one ≡ false
 is_older-one_way one other older = grind (arith, ints, nat_tests)
 
 is_older-onward : (one other last : Point) → is_older one other ≡ true → is_older other last ≡ true → is_older one last ≡ true

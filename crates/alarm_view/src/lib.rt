@@ -7,6 +7,7 @@ mod cursor;
 mod law;
 mod mode;
 mod place;
+mod rebuilding;
 mod search;
 mod view;
 

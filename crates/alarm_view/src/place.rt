@@ -1,9 +1,11 @@
 //! Where alarms stand in their order.
 ghost use Rattle.std.specs.Prelude.{◌≡◌};
+ghost use Rattle.std.specs.Ordering.{is_lt};
 ghost use Rattle.alarm_view.specs.Order.{is_older};
-ghost use Rattle.alarm_view.specs.Inside.{place_of, point_in, is_below};
+ghost use Rattle.alarm_view.specs.Inside.{place_of, place_first, point_in, is_below};
 
 use crate::KeptAlarm;
+use std::cmp::Ordering;
 
 /// Where an alarm stands in the order of alarms, and the number of its record.
 #[derive(Clone, Copy)]
@@ -32,6 +34,19 @@ fn is_older(time: i64, id: u64, other_time: i64, other_id: u64) -> bool
         ≡ is_older (record { time = time; id = id }) (record { time = other_time; id = other_id }) }
 {
     time < other_time || (other_time >= time && id < other_id)
+}
+
+/// How the first place stands to the second: less where it is older.
+pub(crate) fn compare(one: &Place, other: &Place) -> Ordering
+    ensures { is_lt result ≡ place_first one.now other.now }
+{
+    if is_older(one.time, one.id, other.time, other.id) {
+        Ordering::Less
+    } else if is_older(other.time, other.id, one.time, one.id) {
+        Ordering::Greater
+    } else {
+        Ordering::Equal
+    }
 }
 
 /// The place of an alarm.

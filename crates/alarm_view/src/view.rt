@@ -5,6 +5,7 @@ ghost use Rattle.alarm_view.specs.Nearest.{IsNone, CanStart, CanFollow, IsStartA
 
 use crate::changing::{add_reserved, drop_early};
 use crate::place::Place;
+use crate::rebuilding::order_of;
 use crate::search::{next_in, start_in};
 use crate::{Cursor, Direction, KeptAlarm, SearchMode};
 use ntf_filters::FilterSet;
@@ -42,6 +43,18 @@ impl AlarmView {
             alarms: VecDeque::new(alloc),
             order: Vec::new(alloc),
         }
+    }
+
+    /// These alarms, whose record numbers and ids rise. It takes the memory of their order; an error is want of memory.
+    pub fn rebuild(alloc: Global, alarms: Vec<KeptAlarm>) -> Result<AlarmView, AllocError>
+        requires { AreInOrder alarms.items }
+        ensures { IfOk result (λ view. view.kept ≡ alarms.items) }
+    {
+        let order = order_of(alloc, alarms.as_slice())?;
+        Ok(AlarmView {
+            alarms: VecDeque::from_vec(alarms),
+            order,
+        })
     }
 
     /// Adds the alarm of record `number` of the alarm stream. On an error, which is want of memory, no alarm

@@ -1,9 +1,9 @@
 -- Lists that are read place by place.
-use Rattle.std.proofs.Common.{◌≡◌, ℕ, zero, suc, ◌+◌, ◌<◌, List, [], ◌∷◌, ◌++◌, length, get_or, take, drop, map, refl, ap, sym, ◌∙◌, add-one, drop-cons}
+use Rattle.std.proofs.Common.{◌≡◌, ℕ, zero, suc, ◌+◌, List, [], ◌∷◌, ◌++◌, take, map, refl, ap, ◌∙◌, add-one}
 use Rattle.std.specs.Prelude.{Option, None, Some, slice_get}
 use Rattle.std.specs.Option.{option_map, option_map_or, option_to_list}
 use Rattle.std.specs.List.{flat_map}
-use Rattle.std.proofs.lemmas.List.{map-append, append-nil, take-append-drop}
+use Rattle.std.proofs.lemmas.List.{map-append, append-nil}
 use Rattle.std.proofs.lemmas.Grind.{flat_map-append}
 
 take-next : {X : Type 0} (n : ℕ) (xs : List X) → take (suc n) xs ≡ take n xs ++ option_to_list (slice_get xs n)
@@ -35,9 +35,3 @@ flat-place f n xs =
     ap (flat_map f) (take-place n xs)
     ∙ flat_map-append f (take n xs) (option_to_list (slice_get xs n))
     ∙ ap (λ last. flat_map f (take n xs) ++ last) (flat-option f (slice_get xs n))
-
--- a list parted at a place
-pub parted-at : {X : Type 0} (xs : List X) (n : ℕ) (x : X) → n < length xs → x ≡ get_or xs n x → xs ≡ take n xs ++ x ∷ drop (suc n) xs
-parted-at xs n x within read =
-    sym (take-append-drop n xs)
-    ∙ ap (λ rest. take n xs ++ rest) (drop-cons xs n x within ∙ ap (λ first. first ∷ drop (suc n) xs) (sym read))

@@ -1,10 +1,11 @@
 -- What is made again of a value that is fit.
-use Rattle.std.proofs.Common.{◌≡◌, ℕ, ◌<◌, List, length, get_or, take, drop, suc, map, ap, sym, subst, ◌∙◌}
+use Rattle.std.proofs.Common.{◌≡◌, ℕ, List, [], ◌∷◌, ◌++◌, map, refl, ap, sym, subst, ◌∙◌, append-nil, append_assoc, arith}
+use Rattle.std.proofs.lemmas.List.{map-append}
 use Rattle.std.specs.Prelude.{unsigned_abs}
-use Rattle.ntf_types.specs.declared.notification.Notification.{Notification}
 use Rattle.stream_config.specs.declared.state.StreamState.{StreamState}
 use Rattle.alarm_view.specs.declared.alarm.KeptAlarm.{KeptAlarm}
-use Rattle.alarm_view.specs.Alarms.{CanAdd}
+use Rattle.alarm_view.specs.Alarms.{AreInOrder}
+use Rattle.alarm_view.proofs.Keeping.{AreInOrder-added}
 use Rattle.calls.specs.declared.saved.Saved.{Saved}
 use Rattle.calls.specs.declared.saved.SavedAlarm.{SavedAlarm}
 use Rattle.log_service.specs.State.{IsSoundTable as IsSoundLog, joined_streams, table_with as log_with}
@@ -17,7 +18,6 @@ use Rattle.service_core.specs.declared.kept.Kept.{Kept}
 use Rattle.service_core.specs.Inside.{kept_table, IsKeptAs}
 use Rattle.service_core.specs.Restoring.{states_in, openers_in, CanAddEach}
 use Rattle.service_core.proofs.FitLog.{joined-saved, rebuilt-fit}
-use Rattle.service_core.proofs.ListSteps.{parted-at}
 
 -- the log
 
@@ -49,11 +49,18 @@ module _ (saved : Saved) (users : List ℕ) (subs : List Subscription) (users_ar
 
 -- stored alarms
 
-pub can-add-next : (alarms : List SavedAlarm) (n : ℕ) (alarm : SavedAlarm) (notification : Notification) (view : List KeptAlarm) → CanAddEach alarms → n < length alarms → alarm ≡ get_or alarms n alarm → notification ≡ alarm.notification → view ≡ map kept_alarm_of (take n alarms) → CanAdd alarm.k notification view
-can-add-next alarms n alarm notification view can within read copy is =
-    subst (λ kept. CanAdd alarm.k notification kept) (sym is)
-    (subst (λ told. CanAdd alarm.k told (map kept_alarm_of (take n alarms))) (sym copy)
-    (can (take n alarms) alarm (drop (suc n) alarms) (parted-at alarms n alarm within read)))
+-- those in front are in order, and so are all, as each can be added behind those before it
+in-order-behind : (front rest alarms : List SavedAlarm) → alarms ≡ front ++ rest → CanAddEach alarms → AreInOrder (map kept_alarm_of front) → AreInOrder (map kept_alarm_of alarms)
+in-order-behind front [] alarms are can order =
+    subst (λ these. AreInOrder (map kept_alarm_of these)) (sym (are ∙ append-nil front)) order
+in-order-behind front (alarm ∷ rest) alarms are can order =
+    in-order-behind (front ++ alarm ∷ []) rest alarms (are ∙ sym (append_assoc front (alarm ∷ []) rest)) can
+    (subst AreInOrder (sym (map-append kept_alarm_of front (alarm ∷ [])))
+    (AreInOrder-added alarm.k alarm.notification (map kept_alarm_of front) order (can front alarm rest are)))
+
+pub saved-in-order : (alarms : List SavedAlarm) (kept : List KeptAlarm) → CanAddEach alarms → kept ≡ map kept_alarm_of alarms → AreInOrder kept
+saved-in-order alarms kept can are =
+    subst AreInOrder (sym are) (in-order-behind [] alarms alarms refl can (omega arith))
 
 -- **the service keeps what it must, and has the value**
 

@@ -12,7 +12,7 @@ use crate::kept::Kept;
 use crate::parts::Parts;
 use crate::saving::copied;
 use ais_values::{Duplicate, Seq};
-use alarm_view::AlarmView;
+use alarm_view::{AlarmView, KeptAlarm};
 use calls::{Saved, SavedAlarm, SavedStream, SavedSub, SavedWindow};
 use client_window::Window;
 use log_service::LogState;
@@ -99,16 +99,27 @@ fn restored_ntf(alloc: Global, saved: &Saved) -> Result<NtfState, AllocError>
     Ok(NtfState::rebuild(saved.capacity, saved.last_id, users, subs))
 }
 
+/// The alarms that are kept, as they are saved.
+fn kept_alarms(alloc: Global, alarms: &[SavedAlarm]) -> Result<Vec<KeptAlarm>, AllocError>
+    ensures { IfOk result (λ kept. kept.items ≡ map kept_alarm_of alarms.now) }
+{
+    let mut kept = Vec::with_capacity(alloc, alarms.len())?;
+    for alarm in alarms {
+        kept.push(KeptAlarm {
+            number: alarm.k,
+            notification: alarm.notification.copy(alloc)?,
+        })?;
+    }
+    Ok(kept)
+}
+
 /// The stored alarms.
 fn restored_alarms(alloc: Global, alarms: &[SavedAlarm]) -> Result<AlarmView, AllocError>
     requires { CanAddEach alarms.now }
     ensures { IfOk result (λ view. view.kept ≡ map kept_alarm_of alarms.now) }
 {
-    let mut view = AlarmView::new(alloc);
-    for alarm in alarms {
-        let notification = alarm.notification.copy(alloc)?;
-        view.add(alarm.k, notification)?;
-    }
+    let kept = kept_alarms(alloc, alarms)?;
+    let view = AlarmView::rebuild(alloc, kept)?;
     Ok(view)
 }
 

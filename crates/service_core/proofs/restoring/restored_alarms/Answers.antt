@@ -1,6 +1,6 @@
-use Rattle.service_core.proofs.RestoringLaws.{can-add-next}
+use Rattle.service_core.proofs.RestoringLaws.{saved-in-order}
 use Rattle.service_core.proofs.restoring.restored_alarms.Goals as goal
 
-pub add-requires : goal.add-requires
-add-requires c =
-    can-add-next c.args.alarms.now c.loop-alarm.alarm-index c.alarm-item.result c.in_ok-notification.notification c.loop-alarm.view.kept c.requires c.loop-alarm-test.true c.alarm-item.is c.in_ok-notification.ensures c.loop-alarm.invariant
+pub rebuild-requires : goal.rebuild-requires
+rebuild-requires c =
+    saved-in-order c.args.alarms.now c.in_ok-kept.kept.items c.requires c.in_ok-kept.ensures
