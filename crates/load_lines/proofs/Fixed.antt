@@ -185,7 +185,7 @@ cluster-spelled =
 -- control lines
 pub settle-spelled : Spells Settle (codes "settle")
 unfolding Spells
-settle-spelled = inr (inr (inr (inr (inr (inr (inr (inr (inr (inr (inl ([], refl, (refl, refl))))))))))))
+settle-spelled = inr (inr (inr (inr (inr (inr (inr (inr (inr (inr (inr (inl ([], refl, (refl, refl)))))))))))))
 
 server-spelled : (server : Server) → IsServer server (server_text server)
 unfolding IsServer
@@ -196,14 +196,14 @@ pub crash-spelled : (server : Server) → Spells (Crash server) (codes "crash " 
 unfolding Spells IsCrash
 crash-spelled server =
     let letter = server_text server in
-    inr (inr (inr (inr (inr (inr (inr (inr (inr (inr (inr (inl (letter, refl, (server, letter, [], sym (append-nil letter), server-spelled server, (refl, refl))))))))))))))
+    inr (inr (inr (inr (inr (inr (inr (inr (inr (inr (inr (inr (inl (letter, refl, (server, letter, [], sym (append-nil letter), server-spelled server, (refl, refl)))))))))))))))
 
 pub restart-spelled : (server : Server) → Spells (Restart server) (codes "restart " ++ server_text server)
 unfolding Spells IsRestart
 restart-spelled server =
     let letter = server_text server in
-    inr (inr (inr (inr (inr (inr (inr (inr (inr (inr (inr (inr (inr (inr (inl (letter, refl, (server, letter, [], sym (append-nil letter), server-spelled server, (refl, refl)))))))))))))))))
+    inr (inr (inr (inr (inr (inr (inr (inr (inr (inr (inr (inr (inr (inr (inr (inl (letter, refl, (server, letter, [], sym (append-nil letter), server-spelled server, (refl, refl))))))))))))))))))
 
 pub servers-spelled : Spells Servers (codes "servers")
 unfolding Spells
-servers-spelled = inr (inr (inr (inr (inr (inr (inr (inr (inr (inr (inr (inr (inr (inr (inr (inr (inl ([], refl, (refl, refl))))))))))))))))))
+servers-spelled = inr (inr (inr (inr (inr (inr (inr (inr (inr (inr (inr (inr (inr (inr (inr (inr (inr (inl ([], refl, (refl, refl)))))))))))))))))))

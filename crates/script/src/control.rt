@@ -2,7 +2,7 @@
 ghost use Rattle.std.specs.Prelude.{◌≡◌, IfOk, option_map};
 ghost use Rattle.script.specs.Gives.{Gives};
 ghost use Rattle.script_grammar.specs.Reading.{one_of};
-ghost use Rattle.script_language.specs.ControlReading.{setting_at, has_sound_streams, cluster_at, time_line_at, deliver_at, resend_at, crash_at, arm_at, restart_at, dispatch_at, cat_at, shown_readers, failure_readers, control_readers};
+ghost use Rattle.script_language.specs.ControlReading.{setting_at, has_sound_streams, cluster_at, time_line_at, deliver_at, resend_at, inject_at, crash_at, arm_at, restart_at, dispatch_at, cat_at, shown_readers, failure_readers, control_readers};
 
 use crate::numbers::{client, count, queue_length, script_time, skip, workers};
 use crate::options::{is_sound, options};
@@ -101,6 +101,15 @@ fn resend(bytes: &[u8]) -> Option<(Line, &[u8])>
 {
     let (client, rest) = client(bytes)?;
     Some((Line::Resend { client }, rest))
+}
+
+/// `inject TEXT`
+#[tactic(auto, unfolding(script_language::specs::ControlReading::inject_at))]
+fn inject(alloc: Global, bytes: &[u8]) -> Result<(Line, &[u8]), Trouble>
+    ensures { Gives (λ found. (found.0, found.1.now)) result (inject_at bytes.now) }
+{
+    let (bytes, rest) = quoted(alloc, bytes)?;
+    Ok((Line::Inject { bytes }, rest))
 }
 
 /// `crash SERVER`
@@ -216,6 +225,9 @@ pub(crate) fn control(alloc: Global, bytes: &[u8]) -> Result<(Line, &[u8]), Trou
     }
     if let Some(rest) = skip(bytes, b"push") {
         return Ok((Line::Push, rest));
+    }
+    if let Some(rest) = skip(bytes, b"inject ") {
+        return inject(alloc, rest);
     }
     if let Some(rest) = skip(bytes, b"settle") {
         return Ok((Line::Settle, rest));

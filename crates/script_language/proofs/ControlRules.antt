@@ -3,10 +3,10 @@ use Rattle.std.proofs.Common.{ℕ, List, [], ◌∷◌, refl}
 use Rattle.std.specs.Prelude.{codes}
 use Rattle.stream_config.specs.Attributes.{PassesAttrs}
 use Rattle.script_lines.specs.declared.line.Line.{Line}
-use Rattle.script_lines.specs.declared.line.Line.TheVariants.{Cluster, Time, Deliver, Resend, Mirror, Ack, Work, Push, Settle, Crash, Arm, Disarm, Restart, DispatchOne, DispatchAll, Servers, Files, Cat}
+use Rattle.script_lines.specs.declared.line.Line.TheVariants.{Cluster, Time, Deliver, Resend, Mirror, Ack, Work, Push, Inject, Settle, Crash, Arm, Disarm, Restart, DispatchOne, DispatchAll, Servers, Files, Cat}
 use Rattle.script_language.specs.Streams.{well_attrs}
-use Rattle.script_language.specs.Control.{IsSetting, IsTimeLine, IsDeliver, IsResend, IsCrash, IsArm, IsRestart, dispatch_forms, IsDispatch, IsCat, shown_forms, failure_forms, control_forms, HasSoundStreams, IsCluster}
-use Rattle.script_language.specs.ControlReading.{setting_at, time_line_at, deliver_at, resend_at, crash_at, arm_at, restart_at, dispatch_readers, dispatch_at, cat_at, shown_readers, failure_readers, control_readers, has_sound_streams, cluster_at}
+use Rattle.script_language.specs.Control.{IsSetting, IsTimeLine, IsDeliver, IsResend, IsInject, IsCrash, IsArm, IsRestart, dispatch_forms, IsDispatch, IsCat, shown_forms, failure_forms, control_forms, HasSoundStreams, IsCluster}
+use Rattle.script_language.specs.ControlReading.{setting_at, time_line_at, deliver_at, resend_at, inject_at, crash_at, arm_at, restart_at, dispatch_readers, dispatch_at, cat_at, shown_readers, failure_readers, control_readers, has_sound_streams, cluster_at}
 use Rattle.script_grammar.proofs.Rules.Beginning.{Ends, Begins}
 use Rattle.script_grammar.proofs.Rules.{Beginning, Rule, TableRule, known_rule, word_rule, part_rule, no_form_rule, form_rule, such_rule, anything}
 use Rattle.script_language.proofs.ValueRules.{script_time_rule, client_rule, queue_length_rule, count_rule, server_rule, quoted_rule, small_rule, server_starts}
@@ -60,6 +60,12 @@ unfolding resend_at IsResend
 resend_rule =
     part_rule client_rule (λ client.
     known_rule (Resend client)) refl
+
+pub inject_rule : Rule inject_at IsInject (Ends ∷ []) anything
+unfolding inject_at IsInject
+inject_rule =
+    part_rule quoted_rule (λ bytes.
+    known_rule (Inject bytes)) refl
 
 pub crash_rule : Rule crash_at IsCrash (Ends ∷ []) server_starts
 unfolding crash_at IsCrash
@@ -123,7 +129,7 @@ failure_table =
     shown_table) refl) refl) refl) refl
 
 abbrev pub control_starts : List Beginning
-control_starts = Begins (codes "cluster start=") ∷ Begins (codes "time ") ∷ Begins (codes "deliver ") ∷ Begins (codes "resend ") ∷ Begins (codes "mirror") ∷ Begins (codes "ack") ∷ Begins (codes "work") ∷ Begins (codes "push") ∷ Begins (codes "settle") ∷ failure_starts
+control_starts = Begins (codes "cluster start=") ∷ Begins (codes "time ") ∷ Begins (codes "deliver ") ∷ Begins (codes "resend ") ∷ Begins (codes "mirror") ∷ Begins (codes "ack") ∷ Begins (codes "work") ∷ Begins (codes "push") ∷ Begins (codes "inject ") ∷ Begins (codes "settle") ∷ failure_starts
 
 pub control_table : TableRule control_readers control_forms (Ends ∷ []) control_starts
 control_table =
@@ -135,5 +141,6 @@ control_table =
     form_rule (codes "ack") (known_rule Ack) (
     form_rule (codes "work") (known_rule Work) (
     form_rule (codes "push") (known_rule Push) (
+    form_rule (codes "inject ") inject_rule (
     form_rule (codes "settle") (known_rule Settle) (
-    failure_table) refl) refl) refl) refl) refl) refl) refl) refl) refl
+    failure_table) refl) refl) refl) refl) refl) refl) refl) refl) refl) refl

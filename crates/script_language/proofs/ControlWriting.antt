@@ -1,8 +1,8 @@
 -- That lines are written as they are spelled: the control lines.
 use Rattle.std.proofs.Common.{ℕ, ◌++◌, refl}
 use Rattle.std.specs.Prelude.{codes}
-use Rattle.script_lines.specs.declared.line.Line.TheVariants.{Cluster, Time, Deliver, Resend, Mirror, Ack, Work, Push, Settle, Crash, Arm, Disarm, Restart, DispatchOne, DispatchAll, Servers, Files, Cat}
-use Rattle.script_language.specs.Control.{IsSetting, IsTimeLine, IsDeliver, IsResend, IsCrash, IsArm, IsRestart, dispatch_forms, IsDispatch, IsCat, shown_forms, failure_forms, control_forms, IsCluster}
+use Rattle.script_lines.specs.declared.line.Line.TheVariants.{Cluster, Time, Deliver, Resend, Mirror, Ack, Work, Push, Inject, Settle, Crash, Arm, Disarm, Restart, DispatchOne, DispatchAll, Servers, Files, Cat}
+use Rattle.script_language.specs.Control.{IsSetting, IsTimeLine, IsDeliver, IsResend, IsInject, IsCrash, IsArm, IsRestart, dispatch_forms, IsDispatch, IsCat, shown_forms, failure_forms, control_forms, IsCluster}
 use Rattle.std.specs.Fmt.{decimal}
 use Rattle.script_grammar.proofs.Writing.{WritesBehind, WritesForms, written_known, written_word, written_part, written_no_form, written_form, written_such, number_written, signed_written, quoted_written}
 use Rattle.script_language.specs.Printing.{line_text}
@@ -37,6 +37,12 @@ unfolding IsResend line_text
 resend_written =
     written_part number_written (λ client.
     written_known (Resend client) refl)
+
+inject_written : WritesBehind (λ rest. codes "inject " ++ rest) IsInject line_text
+unfolding IsInject line_text
+inject_written =
+    written_part quoted_written (λ bytes.
+    written_known (Inject bytes) refl)
 
 crash_written : WritesBehind (λ rest. codes "crash " ++ rest) IsCrash line_text
 unfolding IsCrash line_text
@@ -107,5 +113,6 @@ control_writing =
     written_form (codes "ack") (written_known Ack refl) (
     written_form (codes "work") (written_known Work refl) (
     written_form (codes "push") (written_known Push refl) (
+    written_form (codes "inject ") inject_written (
     written_form (codes "settle") (written_known Settle refl) (
-    failure_writing)))))))))
+    failure_writing))))))))))

@@ -3,7 +3,7 @@ use Rattle.std.specs.Prelude.{ℕ, List, [], ◌∷◌, codes}
 use Rattle.ais_values.specs.declared.kind.StreamKind.TheVariants as kinds
 use Rattle.stream_config.specs.Attributes.{PassesAttrs}
 use Rattle.script_lines.specs.declared.line.Line.{Line}
-use Rattle.script_lines.specs.declared.line.Line.TheVariants.{Cluster, Time, Deliver, Resend, Mirror, Ack, Work, Push, Settle}
+use Rattle.script_lines.specs.declared.line.Line.TheVariants.{Cluster, Time, Deliver, Resend, Mirror, Ack, Work, Push, Inject, Settle}
 use Rattle.script_lines.specs.declared.line.Line.TheVariants.{Crash, Arm, Disarm, Restart, DispatchOne, DispatchAll, Servers, Files, Cat}
 use Rattle.script_grammar.specs.Grammar.{Known, Word, Part, OneOf, Such}
 use Rattle.script_grammar.specs.Values.{IsNumber, IsQuoted}
@@ -43,6 +43,10 @@ IsDeliver = Part IsCount (λ place. Known (Deliver place))
 -- resend CLIENT
 unfoldable pub IsResend : Line → List ℕ → Type 0
 IsResend = Part IsClient (λ client. Known (Resend client))
+
+-- inject TEXT
+unfoldable pub IsInject : Line → List ℕ → Type 0
+IsInject = Part IsQuoted (λ bytes. Known (Inject bytes))
 
 -- crash SERVER
 unfoldable pub IsCrash : Line → List ℕ → Type 0
@@ -100,5 +104,6 @@ control_forms =
     ∷ (codes "ack", Known Ack)
     ∷ (codes "work", Known Work)
     ∷ (codes "push", Known Push)
+    ∷ (codes "inject ", IsInject)
     ∷ (codes "settle", Known Settle)
     ∷ failure_forms

@@ -1,7 +1,7 @@
 -- Words of bodies alone: reading of the control lines on lists of bytes.
 use Rattle.std.specs.Prelude.{ℕ, List, [], ◌∷◌, codes, Bool, true, ◌&&◌, Option}
 use Rattle.script_lines.specs.declared.line.Line.{Line}
-use Rattle.script_lines.specs.declared.line.Line.TheVariants.{Cluster, Time, Deliver, Resend, Mirror, Ack, Work, Push, Settle}
+use Rattle.script_lines.specs.declared.line.Line.TheVariants.{Cluster, Time, Deliver, Resend, Mirror, Ack, Work, Push, Inject, Settle}
 use Rattle.script_lines.specs.declared.line.Line.TheVariants.{Crash, Arm, Disarm, Restart, DispatchOne, DispatchAll, Servers, Files, Cat}
 use Rattle.script_grammar.specs.Reading.{known, word, part, one_of, such}
 use Rattle.script_grammar.specs.ValueReading.{number_at, quoted_at}
@@ -39,6 +39,9 @@ deliver_at = part count_at (λ place. known (Deliver place))
 
 unfoldable pub resend_at : List ℕ → Option (Line × List ℕ)
 resend_at = part client_at (λ client. known (Resend client))
+
+unfoldable pub inject_at : List ℕ → Option (Line × List ℕ)
+inject_at = part quoted_at (λ bytes. known (Inject bytes))
 
 unfoldable pub crash_at : List ℕ → Option (Line × List ℕ)
 crash_at = part server_at (λ server. known (Crash server))
@@ -87,5 +90,6 @@ control_readers =
     ∷ (codes "ack", known Ack)
     ∷ (codes "work", known Work)
     ∷ (codes "push", known Push)
+    ∷ (codes "inject ", inject_at)
     ∷ (codes "settle", known Settle)
     ∷ failure_readers

@@ -37,7 +37,7 @@ use Rattle.script_lines.specs.declared.note.NoteKind.{NoteKind}
 use Rattle.script_lines.specs.declared.note.NoteKind.TheVariants as kind
 use Rattle.script_lines.specs.declared.note.Heading.{Heading}
 use Rattle.script_lines.specs.declared.line.Line.{Line}
-use Rattle.script_lines.specs.declared.line.Line.TheVariants.{Cluster, Time, Log, Ntf, Deliver, Resend, Mirror, Ack, Work, Push}
+use Rattle.script_lines.specs.declared.line.Line.TheVariants.{Cluster, Time, Log, Ntf, Deliver, Resend, Mirror, Ack, Work, Push, Inject}
 use Rattle.script_lines.specs.declared.line.Line.TheVariants.{Settle, Crash, Arm, Disarm, Restart, DispatchOne, DispatchAll, Servers, Files, Cat}
 use Rattle.script_grammar.specs.Values.{hex_word}
 use Rattle.script_grammar.specs.Writing.{joined, quoted_text, maybe_text, unless_text, listed_text}
@@ -258,6 +258,7 @@ line_text Mirror = codes "mirror"
 line_text Ack = codes "ack"
 line_text Work = codes "work"
 line_text Push = codes "push"
+line_text (Inject bytes) = joined (codes "inject " ∷ quoted_text bytes ∷ [])
 line_text Settle = codes "settle"
 line_text (Crash server) = joined (codes "crash " ∷ server_text server ∷ [])
 line_text (Arm server count) = joined (codes "arm " ∷ server_text server ∷ codes " " ∷ decimal count ∷ [])

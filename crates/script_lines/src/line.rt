@@ -64,6 +64,10 @@ pub enum Line {
     Ack,
     Work,
     Push,
+    /// Puts this byte string into the net.
+    Inject {
+        bytes: Text,
+    },
     Settle,
     Crash {
         server: Server,
@@ -145,6 +149,9 @@ impl Duplicate for Line {
             Line::Ack => Ok(Line::Ack),
             Line::Work => Ok(Line::Work),
             Line::Push => Ok(Line::Push),
+            Line::Inject { bytes } => Ok(Line::Inject {
+                bytes: bytes.copy(alloc)?,
+            }),
             Line::Settle => Ok(Line::Settle),
             Line::Crash { server } => Ok(Line::Crash { server: *server }),
             Line::Arm { server, count } => Ok(Line::Arm {

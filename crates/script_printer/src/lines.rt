@@ -135,6 +135,11 @@ fn put_line(alloc: Global, out: &mut Vec<u8>, line: &Line) -> Result<(), AllocEr
         Line::Ack => put(out, b"ack"),
         Line::Work => put(out, b"work"),
         Line::Push => put(out, b"push"),
+        Line::Inject { bytes } => put_pieces(
+            alloc,
+            out,
+            &[Piece::Word(b"inject "), Piece::Quoted(bytes.as_slice())],
+        ),
         Line::Settle => put(out, b"settle"),
         Line::Crash { server } => put_word_server(out, b"crash ", *server),
         Line::Arm { server, count } => put_arm(alloc, out, *server, *count),
