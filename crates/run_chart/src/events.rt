@@ -94,6 +94,8 @@ pub(crate) enum Server {
 pub(crate) enum Event {
     /// A message enters the net.
     Posted { number: u64, name: Naming },
+    /// Bytes that are no message enter the net.
+    Injected,
     /// The entry made of a request or a receipt is committed.
     Committed { entry: u64, name: Naming, time: u64 },
     /// A client takes a reply.

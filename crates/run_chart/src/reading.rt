@@ -2,6 +2,9 @@
 use crate::events::{Event, Kind, Naming, Role, Server};
 use crate::words::{Words, are_numbers, last_field, last_word, number_of};
 
+/// The greatest number of bytes that a line of a script puts into the net.
+const LONGEST: u64 = 16_384;
+
 /// What a line tells, if a run prints such a line. What stands in it as in a script is not looked at.
 pub(crate) fn event_of(line: &[u8]) -> Option<Event> {
     if let Some(text) = line.strip_prefix(b"text ") {
@@ -74,9 +77,19 @@ fn at_end(words: Words, event: Event) -> Option<Event> {
 
 fn posted(mut words: Words) -> Option<Event> {
     let number = words.count()?;
-    let kind = kind_of(words.word()?)?;
+    let word = words.word()?;
+    if word == b"raw".as_slice() {
+        return injected(words);
+    }
+    let kind = kind_of(word)?;
     let name = naming(kind, &mut words)?;
     at_end(words, Event::Posted { number, name })
+}
+
+// Of bytes that are no message their number alone is told.
+fn injected(mut words: Words) -> Option<Event> {
+    words.number().filter(|length| *length <= LONGEST)?;
+    at_end(words, Event::Injected)
 }
 
 fn committed(mut words: Words) -> Option<Event> {
@@ -261,10 +274,24 @@ fn ignored(mut words: Words) -> Option<Event> {
         b"busy" => {
             words.count()?;
         }
+        b"bad" => {
+            words.number().filter(|place| *place <= LONGEST)?;
+            if !is_fault(words.word()?) {
+                return None;
+            }
+        }
         b"old" | b"ahead" | b"done" | b"answered" | b"left" | b"taken" | b"gone" => {}
         _ => return None,
     }
     at_end(words, Event::Ignored { number })
+}
+
+// Whether this word tells why bytes are no message.
+fn is_fault(word: &[u8]) -> bool {
+    match word {
+        b"trailing" | b"short" | b"value" => true,
+        _ => false,
+    }
 }
 
 /// Of a refused line the line of the script.

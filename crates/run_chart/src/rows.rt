@@ -42,6 +42,7 @@ pub(crate) fn put_row(
     let place = Place { frame, run, row, y };
     match row.event {
         Event::Posted { number, name } => put_post(pen, &place, number, name),
+        Event::Injected => put_injected(pen, &place, line),
         Event::Committed { entry, name, .. } => put_entry(pen, &place, entry, name),
         Event::Answered { name } => put_reply(pen, &place, name.client, line),
         Event::Told { client } => put_told(pen, &place, client, line),
@@ -209,17 +210,31 @@ fn put_callback(pen: &mut Pen, place: &Place, client: u64, line: &[u8]) -> Resul
     put_client_label(pen, at, b"callback ", behind(line, 2))
 }
 
+// Bytes that are no message: a ring in the net, with their number there and how many they are.
+fn put_injected(pen: &mut Pen, place: &Place, line: &[u8]) -> Result<(), AllocError> {
+    put_ring(pen, At(place.frame.lane(0), place.y))?;
+    put_beside(pen, place, behind(line, 1))
+}
+
+// A word on what has no way in the net, behind its number there.
+fn put_beside(pen: &mut Pen, place: &Place, words: &[u8]) -> Result<(), AllocError> {
+    let mut text = b"#".to_vec(pen.alloc())?;
+    text.extend_from_slice(words)?;
+    let at = At(place.frame.net_end(), place.y).right(4).down(3);
+    pen.label("small", at, text.as_slice(), SERVER_LABEL)
+}
+
 // A message that had no effect: a lighter arrow to who got it, a cross there, and why.
 fn put_ignored(pen: &mut Pen, place: &Place, line: &[u8]) -> Result<(), AllocError> {
+    let frame = place.frame;
+    let Some(message) = place.run.message(place.row.arrival) else {
+        put_cross(pen, At(frame.lane(0), place.y))?;
+        return put_beside(pen, place, behind(line, 1));
+    };
     let mut text = b"#".to_vec(pen.alloc())?;
     text.extend_from_slice(behind(line, 1))?;
     let text = text.as_slice();
-    let frame = place.frame;
     let beside = At(frame.net_end(), place.y).right(4);
-    let Some(message) = place.run.message(place.row.arrival) else {
-        put_cross(pen, At(frame.lane(0), place.y))?;
-        return pen.label("small", beside.down(3), text, SERVER_LABEL);
-    };
     let from = At(frame.lane(message.lane), place.y);
     if message.name.kind.is_of_client() {
         put_light_arrow(pen, from, At(frame.server(place.row.active), place.y), true)?;
