@@ -24,7 +24,7 @@ use Rattle.cluster_facts.proofs.Keeping.{IsSound-start}
 use Rattle.pair_cluster.specs.Pair.{pair_start}
 use Rattle.pair_servers.specs.PairNodes.{standby_by}
 use Rattle.cluster_rounds.specs.Came.{seen}
-use Rattle.mirror.specs.declared.pair_node.PairNode.{PairNode}
+use Rattle.mirror.specs.declared.node.Node.{Node}
 use Rattle.cluster_clients.specs.declared.answer.EventAnswer.{EventAnswer}
 use Rattle.cluster_core.specs.declared.world.World.{World}
 use Rattle.cluster_core.specs.Worlds.{Shows, IsGood, LeavesFiles}
@@ -105,7 +105,7 @@ begins-as one start queue callbacks alarm ntf sys wells is attributes raw spelle
     }
 
 -- and the world at the start
-pub starts-world : (one : Line) (start : ℤ) (queue callbacks : ℕ) (alarm ntf sys : WellOptions) (active partner : PairNode) (deeds : List Deed) (world : World) → one ≡ Cluster start queue callbacks alarm ntf sys → world ≡ world_of active partner start callbacks
+pub starts-world : (one : Line) (start : ℤ) (queue callbacks : ℕ) (alarm ntf sys : WellOptions) (active partner : Node) (deeds : List Deed) (world : World) → one ≡ Cluster start queue callbacks alarm ntf sys → world ≡ world_of active partner start callbacks
     → (setup : Setup) (places : ℕ) → Begins one setup places → StartsBoth setup active partner deeds → StartsWorld setup places world deeds
 starts-world one start queue callbacks alarm ntf sys active partner deeds world is made setup places begins starts =
     let tells : Begins (Cluster start queue callbacks alarm ntf sys) setup places = subst (λ l. Begins l setup places) is begins in

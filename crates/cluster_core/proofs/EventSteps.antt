@@ -13,7 +13,7 @@ use Rattle.cluster_facts.specs.Types.{Entry}
 use Rattle.cluster_facts.specs.History.{Hand, Empty, Waiting, Applied, Ready, committed_by}
 use Rattle.cluster_events.specs.Servers.{State}
 use Rattle.event_text.specs.Texts.{printed}
-use Rattle.mirror.specs.declared.pair_node.PairNode.{PairNode}
+use Rattle.mirror.specs.declared.node.Node.{Node}
 use Rattle.pair_cluster.specs.Peers.{Partner, Down, Owed, Linking, Standby, Peers}
 use Rattle.cluster_rounds.specs.declared.cluster.Cluster.{Cluster}
 use Rattle.cluster_rounds.specs.Broken as cluster
@@ -32,21 +32,21 @@ use Rattle.cluster_core.specs.Parts.{BreaksWhole, PlaysWhole, acting_as, acting_
 
 -- Who is active.
 
-partner-acts : (setup : Setup) (history : List Entry) (keeps : Bool) (partner : Partner) → acting_as (partner_by setup history keeps partner).node.role ≡ A
+partner-acts : (setup : Setup) (history : List Entry) (keeps : Bool) (partner : Partner) → acting_as (partner_by setup history keeps partner).replica.role ≡ A
 partner-acts setup history keeps Down = refl
 partner-acts setup history keeps Owed = refl
 partner-acts setup history keeps Linking = refl
 partner-acts setup history keeps (Standby on_way) = refl
 
-active-acts : (setup : Setup) (past : List Entry) (hand : Hand) (partner : Partner) → acting_as (active_by setup past hand partner).node.role ≡ B
+active-acts : (setup : Setup) (past : List Entry) (hand : Hand) (partner : Partner) → acting_as (active_by setup past hand partner).replica.role ≡ B
 active-acts setup past Empty partner = refl
 active-acts setup past (Waiting entry) partner = refl
 active-acts setup past (Applied entry) partner = refl
 active-acts setup past (Ready entry) partner = refl
 
-acts-by : (acting : Server) (setup : Setup) (past : List Entry) (hand : Hand) (partner : Partner) (keeps : Bool) (a b : PairNode) → named acting a b ≡ active_by setup past hand partner → unnamed acting a b ≡ partner_by setup (committed_by past hand) keeps partner → acting_as b.node.role ≡ acting
-acts-by A setup past hand partner keeps a b active other = ap (λ (node : PairNode). acting_as node.node.role) other ∙ partner-acts setup (committed_by past hand) keeps partner
-acts-by B setup past hand partner keeps a b active other = ap (λ (node : PairNode). acting_as node.node.role) active ∙ active-acts setup past hand partner
+acts-by : (acting : Server) (setup : Setup) (past : List Entry) (hand : Hand) (partner : Partner) (keeps : Bool) (a b : Node) → named acting a b ≡ active_by setup past hand partner → unnamed acting a b ≡ partner_by setup (committed_by past hand) keeps partner → acting_as b.replica.role ≡ acting
+acts-by A setup past hand partner keeps a b active other = ap (λ (node : Node). acting_as node.replica.role) other ∙ partner-acts setup (committed_by past hand) keeps partner
+acts-by B setup past hand partner keeps a b active other = ap (λ (node : Node). acting_as node.replica.role) active ∙ active-acts setup past hand partner
 
 -- **the active server of a world is that of each state that it stands for**
 acts : (setup : Setup) (state : State Peers) (world : World) → Shows setup state world → acting_in world ≡ state.peers.acting

@@ -20,7 +20,7 @@ acting_as Active = B
 acting_as _ = A
 
 abbrev pub acting_in : World → Server
-acting_in world = acting_as world.b.node.role
+acting_in world = acting_as world.b.replica.role
 
 -- the world of these parts
 abbrev pub whole_of : Cluster Pair → World

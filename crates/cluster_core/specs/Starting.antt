@@ -8,7 +8,7 @@ use Rattle.script_lines.specs.declared.line.WellOptions.{WellOptions}
 use Rattle.script_language.specs.Streams.{well_attrs}
 use Rattle.plain_service.specs.Setups.{Setup}
 use Rattle.plain_service.specs.Storing.{opening_of}
-use Rattle.mirror.specs.declared.pair_node.PairNode.{PairNode}
+use Rattle.mirror.specs.declared.node.Node.{Node}
 use Rattle.cluster_facts.specs.History.{Empty}
 use Rattle.pair_cluster.specs.Peers.{Standby}
 use Rattle.pair_servers.specs.PairNodes.{active_by, standby_by}
@@ -23,7 +23,7 @@ abbrev pub wells_of : WellOptions → WellOptions → WellOptions → List Strea
 wells_of alarm ntf sys = well_attrs Alarm alarm ∷ well_attrs Notification ntf ∷ well_attrs System sys ∷ []
 
 -- a world in which nothing was posted, with these servers
-abbrev pub world_of : PairNode → PairNode → ℤ → ℕ → World
+abbrev pub world_of : Node → Node → ℤ → ℕ → World
 world_of active partner start callbacks = record {
   a = active;
   b = partner;
@@ -38,15 +38,15 @@ world_of active partner start callbacks = record {
 }
 
 -- the active server at the start of a setup, tied to its partner
-abbrev pub active_at : Setup → PairNode
+abbrev pub active_at : Setup → Node
 active_at setup = active_by setup [] Empty (Standby None)
 
 -- it, and the deeds of the start
-abbrev pub Starts : Setup → PairNode → List Deed → Type 0
+abbrev pub Starts : Setup → Node → List Deed → Type 0
 Starts setup active deeds = (active ≡ active_at setup) × (deeds ≡ opening_of setup)
 
 -- both servers, and the deeds of the start
-abbrev pub StartsBoth : Setup → PairNode → PairNode → List Deed → Type 0
+abbrev pub StartsBoth : Setup → Node → Node → List Deed → Type 0
 StartsBoth setup active partner deeds = (active ≡ active_at setup) × (partner ≡ standby_by setup [] false) × (deeds ≡ opening_of setup)
 
 -- the world at the start of a setup, and the deeds of the start

@@ -6,7 +6,7 @@ use Rattle.script_lines.specs.declared.line.Server.TheVariants.{A, B}
 use Rattle.plain_service.specs.Setups.{Setup}
 use Rattle.cluster_events.specs.Servers.{State}
 use Rattle.pair_cluster.specs.Peers.{Peers}
-use Rattle.mirror.specs.Nodes.{down}
+use Rattle.mirror.specs.Replicas.{down}
 use Rattle.mirror.specs.Pairing.{alone}
 use Rattle.cluster_rounds.specs.declared.cluster.Cluster.{Cluster}
 use Rattle.cluster_rounds.specs.Worlds as cluster

@@ -17,7 +17,7 @@ use calls::History;
 use cluster_clients::EventAnswer;
 use disk_model::{DiskAnswer, SharedDisk};
 use message_net::Net;
-use mirror::{PairNode, Role};
+use mirror::{Node, Role};
 use script::well_attrs;
 use script_lines::{Line, WellOptions};
 use service_core::Service;
@@ -50,14 +50,14 @@ fn start_active(
     start: i64,
     queue: u32,
     wells: Seq<StreamAttrs>,
-) -> Result<(PairNode, Seq<Deed>), AllocError>
+) -> Result<(Node, Seq<Deed>), AllocError>
     requires { CanBeginAs start queue wells }
     ensures { IfOk result (λ made. (setup : Setup) → BeginsAs setup start queue wells →
         Starts setup made.0 made.1) }
 {
     match Service::new(alloc, start, queue, wells) {
         Ok((service, deeds)) => {
-            let mut node = PairNode::start(alloc, Role::Active, service);
+            let mut node = Node::start(alloc, Role::Active, service);
             match node.begin_join(alloc) {
                 Ok(heard) => {
                     mem::drop(heard);
@@ -80,7 +80,7 @@ fn start_standby(
     start: i64,
     queue: u32,
     wells: Seq<StreamAttrs>,
-) -> Result<PairNode, AllocError>
+) -> Result<Node, AllocError>
     requires { CanBeginAs start queue wells }
     ensures { IfOk result (λ node. (setup : Setup) → BeginsAs setup start queue wells →
         node ≡ standby_by setup [] false) }
@@ -88,7 +88,7 @@ fn start_standby(
     match Service::new(alloc, start, queue, wells) {
         Ok((service, deeds)) => {
             mem::drop(deeds);
-            Ok(PairNode::start(alloc, Role::Standby, service))
+            Ok(Node::start(alloc, Role::Standby, service))
         }
         Err(error) => Err(error),
     }
@@ -101,7 +101,7 @@ fn start_both(
     queue: u32,
     wells: Seq<StreamAttrs>,
     same: Seq<StreamAttrs>,
-) -> Result<(PairNode, PairNode, Seq<Deed>), AllocError>
+) -> Result<(Node, Node, Seq<Deed>), AllocError>
     requires one { CanBeginAs start queue wells }
     requires other { same ≡ wells }
     ensures { IfOk result (λ made. (setup : Setup) → BeginsAs setup start queue wells →
@@ -124,7 +124,7 @@ fn start_both(
 }
 
 /// A world in which nothing was posted, with these servers.
-fn world_of(alloc: Global, active: PairNode, partner: PairNode, start: i64, callbacks: u32) -> World
+fn world_of(alloc: Global, active: Node, partner: Node, start: i64, callbacks: u32) -> World
     ensures { result ≡ world_of active partner start callbacks }
 {
     World {

@@ -16,7 +16,7 @@ use cluster_lines::play;
 use cluster_rounds::Cluster;
 use disk_model::{DiskAnswer, SharedDisk};
 use message_net::Net;
-use mirror::{PairNode, Role};
+use mirror::{Node, Role};
 use pair_servers::Pair;
 use script_lines::{Line, Server};
 use std::alloc::Global;
@@ -35,7 +35,7 @@ fn acting_in(world: &World) -> Server
 }
 
 /// Of two the one that this name has among `a` and `b`, and the other one.
-fn in_order(acting: Server, a: PairNode, b: PairNode) -> (PairNode, PairNode)
+fn in_order(acting: Server, a: Node, b: Node) -> (Node, Node)
     ensures { result ≡ (named acting a b, unnamed acting a b) }
 {
     match acting {
@@ -49,8 +49,8 @@ fn take_parts(alloc: Global, world: &mut World) -> Cluster<Pair>
     ensures { result ≡ parts_of (acting_in world.old) world.old }
 {
     let acting = acting_in(world);
-    let a = mem::replace(&mut world.a, PairNode::down(alloc));
-    let b = mem::replace(&mut world.b, PairNode::down(alloc));
+    let a = mem::replace(&mut world.a, Node::down(alloc));
+    let b = mem::replace(&mut world.b, Node::down(alloc));
     let (active, partner) = in_order(acting, a, b);
     let servers = Pair {
         acting,

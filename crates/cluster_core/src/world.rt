@@ -6,7 +6,7 @@ use ais_values::Seq;
 use calls::History;
 use client_agent::Agent;
 use message_net::Net;
-use mirror::PairNode;
+use mirror::Node;
 use std::alloc::Global;
 use wire::Message;
 
@@ -16,8 +16,8 @@ use wire::Message;
 /// agent's queue holds.
 #[derive(Drop)]
 pub struct World {
-    pub a: PairNode,
-    pub b: PairNode,
+    pub a: Node,
+    pub b: Node,
     pub link: Seq<Message>,
     pub back: Seq<Message>,
     pub net: Net,
@@ -34,8 +34,8 @@ impl World {
         ensures { result ≡ empty_world }
     {
         World {
-            a: PairNode::down(alloc),
-            b: PairNode::down(alloc),
+            a: Node::down(alloc),
+            b: Node::down(alloc),
             link: Seq::new(alloc),
             back: Seq::new(alloc),
             net: Net::new(alloc),

@@ -1,8 +1,16 @@
 //! The laws of the tested crates, which are calls that do nothing.
 
 #[test]
-fn laws_of_lone_cluster() {
-    lone_cluster::law_of_runs();
+fn laws_of_pair_cluster() {
+    pair_cluster::law_of_pairs();
+    pair_cluster::law_of_standing();
+    pair_cluster::law_of_ends();
+}
+
+#[test]
+fn laws_of_pair_files() {
+    pair_files::law_of_files();
+    pair_files::law_of_takeovers();
 }
 
 #[test]

@@ -1,4 +1,4 @@
-//! Tests of a node of the cluster, of lines of a script over one server and of values that are handed to it, and the laws over whole
+//! Tests of a node of the cluster, of lines of a script over two of them and of values that are handed to one, and the laws over whole
 //! histories called once.
 #![tactic(auto)]
 

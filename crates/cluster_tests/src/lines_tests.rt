@@ -1,37 +1,86 @@
-//! Lines of a script over one server, by the calls that serve any servers: that each is done while there is memory, and how many lines
-//! it prints.
-ghost use Rattle.std.specs.Prelude.{◌≡◌, None};
+//! Lines of a script over two servers of which one is down, by the calls that serve any servers: that each is done while there is
+//! memory, and how many lines it prints.
+ghost use Rattle.std.specs.Prelude.{◌≡◌, None, IfOk};
+ghost use Rattle.service_core.specs.Beginning.{CanBeginAs};
 ghost use Rattle.cluster_rounds.specs.Worlds.{HasStateOn, any_state};
 ghost use Rattle.cluster_lines.specs.Lines.{CanPlay, IsInRange};
-ghost use Rattle.lone_servers.specs.LoneKit.{lone_kit, lone_script};
+ghost use Rattle.pair_servers.specs.PairKit.{pair_kit, pair_script};
+ghost use Rattle.cluster_tests.specs.Starting.{cluster_of};
 
 use crate::mirror_tests::{START, default_wells, new_disk};
 use ais_values::Seq;
 use callback_dispatch::OpenGate;
-use calls::{Ask, Call};
+use calls::History;
 use cluster_lines::play;
 use cluster_rounds::Cluster;
 use disk_model::MemDisk;
-use lone_servers::{Lone, begin};
+use message_net::Net;
+use mirror::{Node, Role};
+use pair_servers::Pair;
 use script_lines::{Line, Server};
-use std::alloc::Global;
+use service_core::Service;
+use std::alloc::{AllocError, Global};
 use std::process::Abort;
 use std::sync::Wait;
 use std::thread::Threads;
+use stream_config::StreamAttrs;
+use stream_layout::Deed;
+
+/// A cluster in which nothing was posted: `a` is this server, and `b` is down.
+fn cluster_of(alloc: Global, active: Node, start: i64, callbacks: u32) -> Cluster<Pair>
+    ensures { result ≡ cluster_of active start callbacks }
+{
+    let servers = Pair {
+        acting: Server::A,
+        active,
+        partner: Node::down(alloc),
+        link: Seq::new(alloc),
+        back: Seq::new(alloc),
+        armed: false,
+    };
+    Cluster {
+        servers,
+        net: Net::new(alloc),
+        agents: Seq::new(alloc),
+        history: History::new(alloc),
+        now: start,
+        callbacks,
+    }
+}
+
+/// The same, where `a` is active with the service of a history without entries, and the deeds of its start.
+fn begin(
+    alloc: Global,
+    start: i64,
+    queue: u32,
+    callbacks: u32,
+    wells: Seq<StreamAttrs>,
+) -> Result<(Cluster<Pair>, Seq<Deed>), AllocError>
+    requires { CanBeginAs start queue wells }
+    ensures { IfOk result (λ made. HasStateOn pair_kit any_state made.0 None) }
+{
+    match Service::new(alloc, start, queue, wells) {
+        Ok((service, deeds)) => {
+            let active = Node::start(alloc, Role::Active, service);
+            Ok((cluster_of(alloc, active, start, callbacks), deeds))
+        }
+        Err(error) => Err(error),
+    }
+}
 
 /// Plays a line, which prints so many lines.
 fn plays<R: Abort + Threads + Wait + Sync>(
     rt: &R,
     alloc: Global,
-    cluster: &mut Cluster<Lone>,
+    cluster: &mut Cluster<Pair>,
     disk: &mut MemDisk,
     line: Line,
     count: usize,
 )
-    requires state { HasStateOn lone_kit any_state cluster.old disk.old.tally.armed }
+    requires state { HasStateOn pair_kit any_state cluster.old disk.old.tally.armed }
     requires range { IsInRange line }
-    requires can { CanPlay lone_script cluster.old.now line }
-    ensures { HasStateOn lone_kit any_state cluster.new disk.new.tally.armed }
+    requires can { CanPlay pair_script cluster.old.now line }
+    ensures { HasStateOn pair_kit any_state cluster.new disk.new.tally.armed }
 {
     let mut lines = Vec::new(alloc);
     let done = play(rt, alloc, cluster, &mut lines, &line, disk, &OpenGate);
@@ -41,16 +90,45 @@ fn plays<R: Abort + Threads + Wait + Sync>(
     drop(lines);
 }
 
-/// A line by which a client asks for a call without arguments.
-fn asks(client: u16, call: Call) -> Line {
-    Line::Ntf {
-        client,
-        ask: Ask::Plain { call },
-    }
+/// The server that was down comes back and joins, and takes over.
+fn joins<R: Abort + Threads + Wait + Sync>(
+    rt: &R,
+    alloc: Global,
+    cluster: &mut Cluster<Pair>,
+    disk: &mut MemDisk,
+)
+    requires { HasStateOn pair_kit any_state cluster.old disk.old.tally.armed }
+{
+    plays(
+        rt,
+        alloc,
+        cluster,
+        disk,
+        Line::Crash { server: Server::A },
+        1,
+    );
+    plays(
+        rt,
+        alloc,
+        cluster,
+        disk,
+        Line::Restart { server: Server::B },
+        1,
+    );
+    plays(rt, alloc, cluster, disk, Line::Mirror, 1);
+    plays(rt, alloc, cluster, disk, Line::Ack, 0);
+    plays(
+        rt,
+        alloc,
+        cluster,
+        disk,
+        Line::Crash { server: Server::A },
+        2,
+    );
 }
 
 #[test]
-fn lines_are_played_over_one_server(rt: HostRuntime) {
+fn lines_are_played(rt: HostRuntime) {
     let alloc = rt.alloc();
     let wells = default_wells(&rt, alloc);
     let (mut cluster, deeds) = begin(alloc, START, 4, 4, wells).expect(&rt, "memory");
@@ -68,6 +146,7 @@ fn lines_are_played_over_one_server(rt: HostRuntime) {
         Line::Deliver { place: 1 },
         1,
     );
+    joins(&rt, alloc, &mut cluster, &mut disk);
     drop(disk);
     drop(cluster);
 }

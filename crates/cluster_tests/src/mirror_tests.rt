@@ -5,12 +5,12 @@ ghost use Rattle.calls.specs.declared.entry.Entry.TheVariants.{Called};
 ghost use Rattle.wire.specs.declared.message.Message.TheVariants.{Request, Receipt};
 ghost use Rattle.stream_config.specs.WellKnown.{default_attrs};
 ghost use Rattle.service_core.specs.Beginning.{CanBeginAs};
-ghost use Rattle.mirror.specs.Hearing.{CanHear};
+ghost use Rattle.mirror.specs.Pairing.{CanReceive};
 
 use ais_values::{Seq, StreamKind};
 use calls::{Call, Entry};
 use disk_model::MemDisk;
-use mirror::{Heard, Node, Outcome, PairNode, Role, Why};
+use mirror::{Heard, Node, Outcome, Role, Why};
 use service_core::Service;
 use std::alloc::Global;
 use std::process::Abort;
@@ -63,12 +63,13 @@ fn service(rt: &impl Abort, alloc: Global) -> Service {
     service
 }
 
-/// What a server told: what became of a message or of work, how many messages are to be posted, and whether an entry is
-/// committed.
+/// What a server told: what became of a message or of work, how many messages are to be posted and how many go to its
+/// partner, and whether an entry is committed.
 #[derive(Clone, Copy, PartialEq)]
 struct Told {
     outcome: Outcome,
     posts: usize,
+    for_peer: usize,
     commits: bool,
 }
 
@@ -76,21 +77,41 @@ fn told_by(heard: Heard) -> Told {
     let told = Told {
         outcome: heard.outcome,
         posts: heard.to_net.as_slice().len(),
+        for_peer: heard.to_peer.as_slice().len(),
         commits: heard.committed.is_some(),
     };
     drop(heard);
     told
 }
 
+/// A server without partner commits an entry as it accepts it.
 const ACCEPTED: Told = Told {
     outcome: Outcome::Accepted,
     posts: 0,
+    for_peer: 0,
+    commits: true,
+};
+
+/// A linked server sends it to its partner first.
+const MIRRORED: Told = Told {
+    outcome: Outcome::Accepted,
+    posts: 0,
+    for_peer: 1,
+    commits: false,
+};
+
+/// The standby answers that it has it.
+const APPLIED: Told = Told {
+    outcome: Outcome::Applied,
+    posts: 0,
+    for_peer: 1,
     commits: true,
 };
 
 const REPEATED: Told = Told {
     outcome: Outcome::Repeated,
     posts: 1,
+    for_peer: 0,
     commits: false,
 };
 
@@ -98,6 +119,22 @@ const REPEATED: Told = Told {
 const WORKED: Told = Told {
     outcome: Outcome::Worked,
     posts: 1,
+    for_peer: 0,
+    commits: false,
+};
+
+/// The service goes to a server that joins.
+const JOINS: Told = Told {
+    outcome: Outcome::Changed,
+    posts: 0,
+    for_peer: 1,
+    commits: false,
+};
+
+const TAKEN_OVER: Told = Told {
+    outcome: Outcome::Changed,
+    posts: 0,
+    for_peer: 0,
     commits: false,
 };
 
@@ -105,13 +142,14 @@ fn ignored(why: Why) -> Told {
     Told {
         outcome: Outcome::Ignored { why },
         posts: 0,
+        for_peer: 0,
         commits: false,
     }
 }
 
 /// Hears a message, and tells this.
 fn hears(rt: &impl Abort, alloc: Global, node: &mut Node, message: Message, want: Told)
-    requires { CanHear message (pos 1704067200000000000) }
+    requires { CanReceive message (pos 1704067200000000000) node.old }
 {
     assert!(rt; node.has_room());
     let heard = node.receive(alloc, &message, START);
@@ -121,11 +159,11 @@ fn hears(rt: &impl Abort, alloc: Global, node: &mut Node, message: Message, want
 }
 
 /// Works the entry in hand, and tells this.
-fn works(rt: &impl Abort, alloc: Global, node: &mut Node, disk: &mut MemDisk, want: Told) {
+fn works(rt: &impl Abort, alloc: Global, node: &mut Node, disk: &mut MemDisk) {
     assert!(rt; node.ready());
     let heard = node.work(alloc, disk);
     let told = told_by(heard.expect(rt, "a disk that serves"));
-    assert!(rt; told == want);
+    assert!(rt; told == WORKED);
 }
 
 /// A call by which a client begins to use the Notification Service.
@@ -175,21 +213,22 @@ fn accepts(rt: &impl Abort, alloc: Global, node: &mut Node) {
 
 /// It is answered once it was worked, and its reply is posted again as it comes again.
 fn answers(rt: &impl Abort, alloc: Global, node: &mut Node, disk: &mut MemDisk) {
-    works(rt, alloc, node, disk, WORKED);
+    works(rt, alloc, node, disk);
     assert!(rt; node.in_hand() == None);
     asks(rt, alloc, node, 1, 1, REPEATED);
     receives(rt, alloc, node, ignored(Why::Done));
-    assert!(rt; node.number() == Some(1));
 }
 
-/// A client makes 33 calls, so that the first reply is no longer kept.
-fn forgets(rt: &impl Abort, alloc: Global, node: &mut Node, disk: &mut MemDisk) {
-    for seq in 1..34 {
-        asks(rt, alloc, node, 7, seq, ACCEPTED);
-        works(rt, alloc, node, disk, WORKED);
+/// A client makes calls from this one on, so that the first reply is no longer kept.
+fn forgets(rt: &impl Abort, alloc: Global, node: &mut Node, disk: &mut MemDisk, first: u32)
+    requires { 0 < first }
+{
+    for seq in first..34 {
+        asks(rt, alloc, node, 1, seq, ACCEPTED);
+        works(rt, alloc, node, disk);
     }
-    asks(rt, alloc, node, 7, 1, ignored(Why::Old));
-    asks(rt, alloc, node, 7, 2, REPEATED);
+    asks(rt, alloc, node, 1, 1, ignored(Why::Old));
+    asks(rt, alloc, node, 1, 2, REPEATED);
 }
 
 pub(crate) fn new_disk(alloc: Global) -> MemDisk
@@ -201,7 +240,7 @@ pub(crate) fn new_disk(alloc: Global) -> MemDisk
 #[test]
 fn a_call_is_answered_and_repeated(rt: HostRuntime) {
     let alloc = rt.alloc();
-    let mut node = Node::start(Role::Active, service(&rt, alloc));
+    let mut node = Node::start(alloc, Role::Active, service(&rt, alloc));
     let mut disk = new_disk(alloc);
     accepts(&rt, alloc, &mut node);
     answers(&rt, alloc, &mut node, &mut disk);
@@ -212,9 +251,9 @@ fn a_call_is_answered_and_repeated(rt: HostRuntime) {
 #[test]
 fn a_call_of_long_ago_is_old(rt: HostRuntime) {
     let alloc = rt.alloc();
-    let mut node = Node::start(Role::Active, service(&rt, alloc));
+    let mut node = Node::start(alloc, Role::Active, service(&rt, alloc));
     let mut disk = new_disk(alloc);
-    forgets(&rt, alloc, &mut node, &mut disk);
+    forgets(&rt, alloc, &mut node, &mut disk, 1);
     drop(disk);
     drop(node);
 }
@@ -229,11 +268,12 @@ fn ignores(rt: &impl Abort, alloc: Global, mut node: Node, role: Role) {
 #[test]
 fn other_roles_ignore_all(rt: HostRuntime) {
     let alloc = rt.alloc();
-    ignores(&rt, alloc, Node::down(), Role::Down);
+    ignores(&rt, alloc, Node::down(alloc), Role::Down);
+    ignores(&rt, alloc, Node::joining(alloc), Role::Joining);
     ignores(
         &rt,
         alloc,
-        Node::start(Role::Standby, service(&rt, alloc)),
+        Node::start(alloc, Role::Standby, service(&rt, alloc)),
         Role::Standby,
     );
 }
@@ -241,38 +281,12 @@ fn other_roles_ignore_all(rt: HostRuntime) {
 #[test]
 fn nothing_is_pushed_while_nothing_is_held(rt: HostRuntime) {
     let alloc = rt.alloc();
-    let node = Node::start(Role::Active, service(&rt, alloc));
+    let node = Node::start(alloc, Role::Active, service(&rt, alloc));
     let messages = node.push(alloc).expect(&rt, "memory");
     let count = messages.as_slice().len();
     drop(messages);
     drop(node);
     assert!(rt; count == 0);
-}
-
-/// What a server of a pair told, and how many messages its partner gets.
-#[derive(Clone, Copy, PartialEq)]
-struct PairTold {
-    told: Told,
-    for_peer: usize,
-}
-
-fn pair_told(outcome: Outcome, posts: usize, for_peer: usize, commits: bool) -> PairTold {
-    PairTold {
-        told: Told {
-            outcome,
-            posts,
-            commits,
-        },
-        for_peer,
-    }
-}
-
-fn pair_told_by(heard: Heard) -> PairTold {
-    let for_peer = heard.to_peer.as_slice().len();
-    PairTold {
-        told: told_by(heard),
-        for_peer,
-    }
 }
 
 /// The first call, as it is mirrored.
@@ -289,96 +303,37 @@ fn first_entry() -> Entry
 
 /// The active server's partner joins, and the first call is accepted and waits; then the server is lost.
 fn mirrors(rt: &impl Abort, alloc: Global) {
-    let mut node = PairNode::start(alloc, Role::Active, service(rt, alloc));
-    let begun = node.begin_join(alloc).expect(rt, "memory");
-    let begun = pair_told_by(begun);
-    assert!(rt; begun == pair_told(Outcome::Changed, 0, 1, false));
-    pair_asks(
-        rt,
-        alloc,
-        &mut node,
-        1,
-        1,
-        pair_told(Outcome::Accepted, 0, 1, false),
-    );
+    let mut node = Node::start(alloc, Role::Active, service(rt, alloc));
+    let begun = told_by(node.begin_join(alloc).expect(rt, "memory"));
+    assert!(rt; begun == JOINS);
+    asks(rt, alloc, &mut node, 1, 1, MIRRORED);
     assert!(rt; node.in_hand() == Some(1));
     assert!(rt; !node.ready());
     drop(node);
 }
 
-/// A server of a pair hears a call by which a client begins to use the Notification Service, and tells this.
-fn pair_asks(
-    rt: &impl Abort,
-    alloc: Global,
-    node: &mut PairNode,
-    client: u16,
-    seq: u32,
-    want: PairTold,
-)
-    requires least { 1 ≤ client }
-    requires most { client ≤ 4096 }
-    requires number { 0 < seq }
-{
-    assert!(rt; node.node.has_room());
-    let message = request(client, seq);
-    let heard = node.receive(alloc, &message, START);
-    drop(message);
-    let told = pair_told_by(heard.expect(rt, "memory"));
-    assert!(rt; told == want);
-}
-
 /// A standby hears of the first call, and answers that it has it.
-fn follows(rt: &impl Abort, alloc: Global, service: Service) -> PairNode {
+fn follows(rt: &impl Abort, alloc: Global, service: Service) -> Node {
     assert!(rt; service.next(1) == 1);
     assert!(rt; service.number() == 0);
-    let mut node = PairNode::start(alloc, Role::Standby, service);
+    let mut node = Node::start(alloc, Role::Standby, service);
     let message = Message::Mirror {
         number: 1,
         entry: first_entry(),
     };
-    let heard = node.receive(alloc, &message, START);
-    drop(message);
-    let told = pair_told_by(heard.expect(rt, "memory"));
-    assert!(rt; told == pair_told(Outcome::Applied, 0, 1, true));
+    hears(rt, alloc, &mut node, message, APPLIED);
     node
 }
 
-/// A server of a pair works the entry in hand.
-fn pair_works(rt: &impl Abort, alloc: Global, node: &mut PairNode, disk: &mut MemDisk) {
-    assert!(rt; node.ready());
-    let heard = node.work(alloc, disk);
-    let told = pair_told_by(heard.expect(rt, "a disk that serves"));
-    assert!(rt; told == pair_told(Outcome::Worked, 1, 0, false));
-}
-
 /// The standby is active, and repeats the reply to the first call until it is no longer kept.
-fn takes_over(rt: &impl Abort, alloc: Global, node: &mut PairNode, disk: &mut MemDisk) {
+fn takes_over(rt: &impl Abort, alloc: Global, node: &mut Node, disk: &mut MemDisk) {
     assert!(rt; node.role() == Role::Standby);
     let heard = node.takeover(alloc, disk);
-    let told = pair_told_by(heard.expect(rt, "a disk that serves"));
-    assert!(rt; told == pair_told(Outcome::Changed, 0, 0, false));
+    let told = told_by(heard.expect(rt, "a disk that serves"));
+    assert!(rt; told == TAKEN_OVER);
     assert!(rt; node.role() == Role::Active);
-    pair_asks(
-        rt,
-        alloc,
-        node,
-        1,
-        1,
-        pair_told(Outcome::Repeated, 1, 0, false),
-    );
-    for seq in 2..34 {
-        pair_asks(
-            rt,
-            alloc,
-            node,
-            1,
-            seq,
-            pair_told(Outcome::Accepted, 0, 0, true),
-        );
-        pair_works(rt, alloc, node, disk);
-    }
-    let old = Outcome::Ignored { why: Why::Old };
-    pair_asks(rt, alloc, node, 1, 1, pair_told(old, 0, 0, false));
+    asks(rt, alloc, node, 1, 1, REPEATED);
+    forgets(rt, alloc, node, disk, 2);
 }
 
 #[test]

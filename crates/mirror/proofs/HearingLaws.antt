@@ -20,11 +20,11 @@ use Rattle.cluster_facts.specs.Service.{is_new}
 use Rattle.service_laws.specs.PlainOf.{plain_of}
 use Rattle.mirror.specs.declared.heard.Why.TheVariants.{Old as OldRequest, Ahead as AheadRequest, Done}
 use Rattle.mirror.specs.declared.heard.Heard.{Heard}
-use Rattle.mirror.specs.Nodes.{Server}
+use Rattle.mirror.specs.Replicas.{ReplicaState}
 use Rattle.mirror.specs.Hearing.{IsRequestHeard, IsReceiptHeard, ignored, repeated}
 use Rattle.mirror.specs.Reacting.{serving, IsAccepted, IsHeardAgain}
 use Rattle.mirror.proofs.Judging.{call-new, call-ahead, call-old, call-repeat, next-number, reply-under}
-use Rattle.mirror.proofs.NodeLaws.{count-is, next-of, new-of}
+use Rattle.mirror.proofs.ReplicaLaws.{count-is, next-of, new-of}
 use Rattle.service_laws.proofs.ServiceLaws.{new-receipt}
 
 -- Entries.
@@ -43,7 +43,7 @@ next-is setup past saved client stands = ap (λ value. next_in value client) sta
 -- Requests.
 
 -- the client's next request is new
-pub request-new : (setup : Setup) (past : List Entry) (client number : ℕ) (call : Call) (now : ℤ) (saved : Saved) (heard : Heard) (server : Server) → StandsFor setup past saved → CanAcceptIn saved client now → number ≡ next_in saved client → (CanFollow setup (Called client number now call) past → IsAccepted setup past (Called client number now call) heard server) → IsRequestHeard setup past client number call now (judged_call past client number) heard server
+pub request-new : (setup : Setup) (past : List Entry) (client number : ℕ) (call : Call) (now : ℤ) (saved : Saved) (heard : Heard) (server : ReplicaState) → StandsFor setup past saved → CanAcceptIn saved client now → number ≡ next_in saved client → (CanFollow setup (Called client number now call) past → IsAccepted setup past (Called client number now call) heard server) → IsRequestHeard setup past client number call now (judged_call past client number) heard server
 request-new setup past client number call now saved heard server stands can is accepted =
     let next : number ≡ length (replies_to setup client past) + 1 = is ∙ next-is setup past saved client stands in
     let follows : CanFollow setup (Called client number now call) past = (can-accept setup past saved client now stands can, next ∙ sym (next-number setup client past)) in
@@ -87,7 +87,7 @@ again-rest setup past client number saved heard told.Ahead other judged stands s
 
 -- Receipts.
 
-pub receipt-new : (setup : Setup) (past : List Entry) (client key through : ℕ) (now : ℤ) (saved : Saved) (heard : Heard) (server : Server) → StandsFor setup past saved → CanAcceptIn saved client now → is_new_in saved client key through ≡ true → (CanFollow setup (Receipted client key through now) past → IsAccepted setup past (Receipted client key through now) heard server) → IsReceiptHeard setup past client key through now (is_new (plain_of setup) past client key through) heard server
+pub receipt-new : (setup : Setup) (past : List Entry) (client key through : ℕ) (now : ℤ) (saved : Saved) (heard : Heard) (server : ReplicaState) → StandsFor setup past saved → CanAcceptIn saved client now → is_new_in saved client key through ≡ true → (CanFollow setup (Receipted client key through now) past → IsAccepted setup past (Receipted client key through now) heard server) → IsReceiptHeard setup past client key through now (is_new (plain_of setup) past client key through) heard server
 receipt-new setup past client key through now saved heard server stands can is accepted =
     let new : is_new (plain_of setup) past client key through ≡ true = sym (new-of setup past client key through) ∙ ap (λ value. is_new_in value client key through) (sym stands) ∙ is in
     let follows : CanFollow setup (Receipted client key through now) past = (can-accept setup past saved client now stands can, new-receipt setup past client key through new) in

@@ -1,4 +1,4 @@
 pub mod HearingLaws
 pub mod Judging
-pub mod NodeLaws
 pub mod PairingLaws
+pub mod ReplicaLaws

@@ -17,7 +17,7 @@ use Rattle.mirror.specs.declared.heard.Why.TheVariants.{Old as OldRequest, Ahead
 use Rattle.mirror.specs.declared.heard.Outcome.TheVariants.{Accepted, Repeated, Ignored}
 use Rattle.mirror.specs.declared.heard.Heard.{Heard}
 use Rattle.mirror.specs.declared.heard.Role.TheVariants.{Active}
-use Rattle.mirror.specs.Nodes.{Server, at_rest, at_work}
+use Rattle.mirror.specs.Replicas.{ReplicaState, at_rest, at_work}
 
 -- nothing changes, and nothing is posted
 abbrev pub ignored : Why → Heard
@@ -31,7 +31,7 @@ accepted_alone entry = record { to_net = []; to_peer = []; committed = Some entr
 abbrev pub repeated : Message → Heard
 repeated message = record { to_net = message ∷ []; to_peer = []; committed = None; outcome = Repeated }
 
-abbrev pub IsRequestHeard : Setup → List Entry → ℕ → ℕ → Call → ℤ → Judged → Heard → Server → Type 0
+abbrev pub IsRequestHeard : Setup → List Entry → ℕ → ℕ → Call → ℤ → Judged → Heard → ReplicaState → Type 0
 IsRequestHeard setup past client number call now New heard server =
     let entry = Called client number now call in
     (heard ≡ accepted_alone entry) × (server ≡ at_work setup past entry)
@@ -43,7 +43,7 @@ IsRequestHeard setup past client number call now Old heard server =
 IsRequestHeard setup past client number call now Ahead heard server =
     (heard ≡ ignored AheadRequest) × (server ≡ at_rest setup past)
 
-abbrev pub IsReceiptHeard : Setup → List Entry → ℕ → ℕ → ℕ → ℤ → Bool → Heard → Server → Type 0
+abbrev pub IsReceiptHeard : Setup → List Entry → ℕ → ℕ → ℕ → ℤ → Bool → Heard → ReplicaState → Type 0
 IsReceiptHeard setup past client key through now true heard server =
     let entry = Receipted client key through now in
     (heard ≡ accepted_alone entry) × (server ≡ at_work setup past entry)
@@ -51,7 +51,7 @@ IsReceiptHeard setup past client key through now false heard server =
     (heard ≡ ignored Done) × (server ≡ at_rest setup past)
 
 -- what becomes of a message at the active server of a history that has nothing in hand: only requests and receipts are for it
-abbrev pub IsHeardAtRest : Setup → List Entry → ℤ → Message → Heard → Server → Type 0
+abbrev pub IsHeardAtRest : Setup → List Entry → ℤ → Message → Heard → ReplicaState → Type 0
 IsHeardAtRest setup past now (Request client number call) heard server =
     IsRequestHeard setup past client number call now (judged_call past client number) heard server
 IsHeardAtRest setup past now (Receipt client key through) heard server =

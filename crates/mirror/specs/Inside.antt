@@ -1,6 +1,6 @@
 -- Words of bodies alone: how a server is kept.
-use Rattle.mirror.specs.declared.node.Node.TheInside.{Inside}
-use Rattle.mirror.specs.Nodes.{Server}
+use Rattle.mirror.specs.declared.replica.Replica.TheInside.{Inside}
+use Rattle.mirror.specs.Replicas.{ReplicaState}
 
-abbrev pub server_of : Inside → Server
+abbrev pub server_of : Inside → ReplicaState
 server_of inside = record { role = inside.role; service = inside.service; owed = inside.owed }

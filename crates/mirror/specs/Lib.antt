@@ -1,7 +1,7 @@
 pub mod Hearing
 pub mod Inside
-pub mod Nodes
 pub mod Pairing
 pub mod Preparing
 pub mod Reacting
+pub mod Replicas
 pub mod Working

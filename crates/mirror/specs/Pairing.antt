@@ -17,19 +17,19 @@ use Rattle.mirror.specs.declared.heard.Outcome.TheVariants.{Applied, Confirmed, 
 use Rattle.mirror.specs.declared.heard.Role.{Role}
 use Rattle.mirror.specs.declared.heard.Role.TheVariants.{Active, Standby, Joining}
 use Rattle.mirror.specs.declared.heard.Why.TheVariants.{Busy, NotForRole}
-use Rattle.mirror.specs.declared.pair_node.PairNode.{PairNode}
-use Rattle.mirror.specs.declared.pair_node.Tie.{Tie}
-use Rattle.mirror.specs.declared.pair_node.Tie.TheVariants.{Apart, Owing, Linked}
-use Rattle.mirror.specs.Nodes.{Server, started, at_rest, at_work}
+use Rattle.mirror.specs.declared.node.Node.{Node}
+use Rattle.mirror.specs.declared.node.Tie.{Tie}
+use Rattle.mirror.specs.declared.node.Tie.TheVariants.{Apart, Owing, Linked}
+use Rattle.mirror.specs.Replicas.{ReplicaState, started, at_rest, at_work}
 use Rattle.mirror.specs.Hearing.{CanHear, IsHeardAtRest, ignored}
 use Rattle.mirror.specs.Working.{emptied}
 
 -- a server that has no partner and has applied nothing of one
-abbrev pub alone : Server → PairNode
-alone server = record { node = server; waits = None; tie = Apart; promised = []; kept = [] }
+abbrev pub alone : ReplicaState → Node
+alone server = record { replica = server; waits = None; tie = Apart; promised = []; kept = [] }
 
 -- a server that waits for the value of the service
-abbrev pub joining : Server
+abbrev pub joining : ReplicaState
 joining = record { role = Joining; service = None; owed = None }
 
 -- messages for the partner, and an entry that is committed; nothing is posted
@@ -42,14 +42,14 @@ snapshots None = []
 snapshots (Some saved) = Snapshot saved ∷ []
 
 -- a partner joins: it gets the value at once where nothing is in hand, and else once the entry in hand is worked
-abbrev pub IsJoinBegun : Bool → PairNode → Heard → PairNode → Type 0
+abbrev pub IsJoinBegun : Bool → Node → Heard → Node → Type 0
 IsJoinBegun false old heard new =
-    (heard ≡ sent (snapshots old.node.service) None Changed) × (new ≡ record old { tie = Linked; promised = [] })
+    (heard ≡ sent (snapshots old.replica.service) None Changed) × (new ≡ record old { tie = Linked; promised = [] })
 IsJoinBegun true old heard new =
-    (heard ≡ sent [] None Changed) × (new ≡ record old { tie = Owing; promised = snapshots old.node.service })
+    (heard ≡ sent [] None Changed) × (new ≡ record old { tie = Owing; promised = snapshots old.replica.service })
 
 -- the partner went down: an entry that waits is ready
-abbrev pub parted : PairNode → PairNode
+abbrev pub parted : Node → Node
 parted node = record node { waits = None; tie = Apart; promised = [] }
 
 -- the entry in hand was worked: a partner that joins is linked from then on
@@ -58,19 +58,19 @@ tied_after Apart = Apart
 tied_after Owing = Linked
 tied_after Linked = Linked
 
-abbrev pub worked_out : PairNode → PairNode
-worked_out node = record node { node = emptied node.node; tie = tied_after node.tie; promised = [] }
+abbrev pub worked_out : Node → Node
+worked_out node = record node { replica = emptied node.replica; tie = tied_after node.tie; promised = [] }
 
 -- what worked, with the messages for a partner that joins
 abbrev pub with_peer : Heard → List Message → Heard
 with_peer heard messages = record heard { to_peer = messages }
 
 -- the standby becomes active
-abbrev pub acting : Server → Server
+abbrev pub acting : ReplicaState → ReplicaState
 acting server = record server { role = Active }
 
-abbrev pub taken_over : PairNode → PairNode
-taken_over node = record node { node = acting node.node; kept = [] }
+abbrev pub taken_over : Node → Node
+taken_over node = record node { replica = acting node.replica; kept = [] }
 
 -- an accepted entry goes to the linked partner under its number, and is not committed before the partner has it
 abbrev pub mirrors : ℕ → Option Entry → List Message
@@ -86,32 +86,32 @@ newest None before = before
 newest (Some entry) before = Some entry
 
 -- with nothing in hand and a linked partner: what becomes of a request or a receipt is what becomes of it without one; but an entry is mirrored, and waits
-abbrev pub IsMirrored : Setup → List Entry → ℤ → Message → Option Entry → Heard → Server → Option Entry → Type 0
+abbrev pub IsMirrored : Setup → List Entry → ℤ → Message → Option Entry → Heard → ReplicaState → Option Entry → Type 0
 IsMirrored setup past now message before heard server waits =
     (plain : Heard) × IsHeardAtRest setup past now message plain server × (heard ≡ mirrored (suc (length past)) plain) × (waits ≡ newest plain.committed before)
 
 -- with nothing in hand, by what ties the server to its partner
-abbrev pub IsHeardTied : Tie → Setup → List Entry → ℤ → Message → PairNode → Heard → PairNode → Type 0
+abbrev pub IsHeardTied : Tie → Setup → List Entry → ℤ → Message → Node → Heard → Node → Type 0
 IsHeardTied Linked setup past now message old heard new =
-    IsMirrored setup past now message old.waits heard new.node new.waits × (new ≡ record old { node = new.node; waits = new.waits })
+    IsMirrored setup past now message old.waits heard new.replica new.waits × (new ≡ record old { replica = new.replica; waits = new.waits })
 IsHeardTied tie setup past now message old heard new =
-    IsHeardAtRest setup past now message heard new.node × (new ≡ record old { node = new.node })
+    IsHeardAtRest setup past now message heard new.replica × (new ≡ record old { replica = new.replica })
 
 -- the active server is busy while an entry is in hand
-abbrev pub IsHeard : Message → ℤ → PairNode → Heard → PairNode → Type 0
+abbrev pub IsHeard : Message → ℤ → Node → Heard → Node → Type 0
 IsHeard message now old heard new =
-    ((setup : Setup) (past : List Entry) (entry : Entry) → old.node ≡ at_work setup past entry → (heard ≡ ignored (Busy (suc (length past)))) × (new ≡ old))
-    × ((setup : Setup) (past : List Entry) → IsHistory setup past → old.node ≡ at_rest setup past → IsHeardTied old.tie setup past now message old heard new)
+    ((setup : Setup) (past : List Entry) (entry : Entry) → old.replica ≡ at_work setup past entry → (heard ≡ ignored (Busy (suc (length past)))) × (new ≡ old))
+    × ((setup : Setup) (past : List Entry) → IsHistory setup past → old.replica ≡ at_rest setup past → IsHeardTied old.tie setup past now message old heard new)
 
 -- the standby applies the entry, keeps its deeds, and tells the active server
-abbrev pub IsFollowed : ℕ → Entry → PairNode → Heard → PairNode → Type 0
+abbrev pub IsFollowed : ℕ → Entry → Node → Heard → Node → Type 0
 IsFollowed number entry old heard new =
     (heard ≡ sent (MirrorAck number ∷ []) (Some entry) Applied)
-    × ((setup : Setup) (past : List Entry) → IsHistory setup past → CanFollow setup entry past → old.node ≡ started Standby (saved_of setup past) →
-    new ≡ record old { node = started Standby (saved_of setup (entry ∷ past)); kept = deeds_of setup past entry })
+    × ((setup : Setup) (past : List Entry) → IsHistory setup past → CanFollow setup entry past → old.replica ≡ started Standby (saved_of setup past) →
+    new ≡ record old { replica = started Standby (saved_of setup (entry ∷ past)); kept = deeds_of setup past entry })
 
 -- what becomes of a message, by the server's role; one for another role changes nothing
-abbrev pub IsReceived : Role → Message → ℤ → PairNode → Heard → PairNode → Type 0
+abbrev pub IsReceived : Role → Message → ℤ → Node → Heard → Node → Type 0
 IsReceived Active (Request client number call) now old heard new = IsHeard (Request client number call) now old heard new
 IsReceived Active (Receipt client key through) now old heard new = IsHeard (Receipt client key through) now old heard new
 IsReceived Active (MirrorAck number) now old heard new = (heard ≡ sent [] None Confirmed) × (new ≡ record old { waits = None })
@@ -127,7 +127,7 @@ CanApplyIn entry None = Unit {0}
 CanApplyIn entry (Some saved) = CanApply entry saved
 
 -- what comes from the partner: an entry that can be applied, a value that is fit
-abbrev pub CanReceive : Message → ℤ → PairNode → Type 0
-CanReceive (Mirror number entry) now old = CanApplyIn entry old.node.service
+abbrev pub CanReceive : Message → ℤ → Node → Type 0
+CanReceive (Mirror number entry) now old = CanApplyIn entry old.replica.service
 CanReceive (Snapshot saved) now old = IsFit saved
 CanReceive message now old = CanHear message now

@@ -11,7 +11,7 @@ use Rattle.plain_service.specs.Storing.{deeds_of}
 use Rattle.plain_service.specs.Values.{saved_of}
 use Rattle.mirror.specs.declared.heard.Heard.{Heard}
 use Rattle.mirror.specs.declared.heard.Role.TheVariants.{Standby}
-use Rattle.mirror.specs.Nodes.{Server, started}
+use Rattle.mirror.specs.Replicas.{ReplicaState, started}
 
 -- the entry that a message may become
 abbrev pub entry_by : Message → ℤ → Option Entry
@@ -30,6 +30,6 @@ held_back None messages heard = heard
 held_back (Some entry) messages heard = record { to_net = heard.to_net; to_peer = messages; committed = None; outcome = heard.outcome }
 
 -- the standby applied an entry that follows a history
-abbrev pub HasApplied : Setup → List Entry → Entry → List Deed → Server → Type 0
+abbrev pub HasApplied : Setup → List Entry → Entry → List Deed → ReplicaState → Type 0
 HasApplied setup past entry deeds server =
     (deeds ≡ deeds_of setup past entry) × (server ≡ started Standby (saved_of setup (entry ∷ past)))

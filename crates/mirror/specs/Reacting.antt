@@ -16,11 +16,11 @@ use Rattle.mirror.specs.declared.heard.Role.TheVariants.{Active}
 use Rattle.mirror.specs.declared.heard.Why.TheVariants.{Old as OldRequest, Ahead as AheadRequest}
 use Rattle.mirror.specs.declared.heard.Heard.{Heard}
 use Rattle.mirror.specs.declared.owed.Owed.{Owed}
-use Rattle.mirror.specs.Nodes.{Server, at_work}
+use Rattle.mirror.specs.Replicas.{ReplicaState, at_work}
 use Rattle.mirror.specs.Hearing.{ignored, accepted_alone, repeated}
 
 -- the active server
-abbrev pub serving : Saved → Option Owed → Server
+abbrev pub serving : Saved → Option Owed → ReplicaState
 serving saved owed = record { role = Active; service = Some saved; owed = owed }
 
 -- the message that answers an entry
@@ -30,7 +30,7 @@ replies_for (Called client number time call) None = []
 replies_for (Receipted client key through time) reply = []
 
 -- an entry was accepted
-abbrev pub IsAccepted : Setup → List Entry → Entry → Heard → Server → Type 0
+abbrev pub IsAccepted : Setup → List Entry → Entry → Heard → ReplicaState → Type 0
 IsAccepted setup past entry heard server = (heard ≡ accepted_alone entry) × (server ≡ at_work setup past entry)
 
 -- what becomes of a request that is not new

@@ -5,7 +5,7 @@ use Rattle.wire.specs.declared.message.Message.{Message}
 use Rattle.mirror.specs.declared.heard.Outcome.TheVariants.{Worked}
 use Rattle.mirror.specs.declared.heard.Heard.{Heard}
 use Rattle.mirror.specs.declared.owed.Owed.{Owed}
-use Rattle.mirror.specs.Nodes.{Server}
+use Rattle.mirror.specs.Replicas.{ReplicaState}
 
 -- the deeds of the entry in hand
 abbrev pub deeds_in : Option Owed → List Deed
@@ -22,5 +22,5 @@ abbrev pub worked : List Message → Heard
 worked replies = record { to_net = replies; to_peer = []; committed = None; outcome = Worked }
 
 -- the server once nothing is in hand any more
-abbrev pub emptied : Server → Server
+abbrev pub emptied : ReplicaState → ReplicaState
 emptied server = record { role = server.role; service = server.service; owed = None }

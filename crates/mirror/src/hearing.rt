@@ -13,7 +13,8 @@ ghost use Rattle.cluster_facts.specs.Service.{is_new};
 ghost use Rattle.mirror.specs.Hearing.{CanHear, IsHeardAtRest, IsRequestHeard, IsReceiptHeard, ignored, accepted_alone, repeated};
 ghost use Rattle.mirror.specs.Reacting.{serving, replies_for, IsAccepted, IsHeardAgain};
 
-use crate::{Heard, Outcome, Owed, Role, Why};
+use crate::owed::Owed;
+use crate::{Heard, Outcome, Role, Why};
 use ais_values::{Duplicate, Seq};
 use calls::{Call, Entry, Reply};
 use client_window::Judged;

@@ -5,11 +5,9 @@ mod heard;
 mod hearing;
 mod node;
 mod owed;
-mod pair_node;
 mod pairing;
 mod parts;
+mod replica;
 
 pub use heard::{Heard, Outcome, Role, Why};
 pub use node::Node;
-pub use owed::Owed;
-pub use pair_node::{PairNode, Tie};

@@ -1,236 +1,161 @@
-//! A server of the cluster.
-ghost use Rattle.std.specs.Prelude.{◌≡◌, ◌≢◌, ◌↔◌, IsTrue, ℕ, suc, List, [], ◌∷◌, length, is_some, IsSome, IfOk, OnErr, IsErrOf};
+//! A server of a pair: one is active, and the other follows it and takes over where it goes down.
+ghost use Rattle.std.specs.Prelude.{◌≡◌, ◌↔◌, IsTrue, IsSome, Some, None, List, [], ◌∷◌, is_some, IfOk, OnErr, IsErrOf};
 ghost use Rattle.ais_values.specs.Causes.{RoseExactlyOn};
 ghost use Rattle.disk_model.specs.DeviceCalls.{Performs};
 ghost use Rattle.disk_model.specs.declared.answers.DiskAnswer.{DiskAnswer};
 ghost use Rattle.stream_layout.specs.Deeds.{calls_of_all};
 ghost use Rattle.calls.specs.declared.entry.Entry.{Entry as EntryOf};
 ghost use Rattle.plain_service.specs.Setups.{Setup};
-ghost use Rattle.plain_service.specs.Legal.{IsHistory, CanFollow};
-ghost use Rattle.plain_service.specs.Values.{saved_of};
+ghost use Rattle.plain_service.specs.Fitness.{IsFit};
 ghost use Rattle.service_laws.specs.PlainOf.{plain_of};
-ghost use Rattle.mirror.specs.declared.heard.Role.TheVariants.{Active, Standby};
-ghost use Rattle.mirror.specs.declared.heard.Why.TheVariants.{Busy, NotForRole};
-ghost use Rattle.mirror.specs.Nodes.{HasService, HasRoom, down, started, number_of, number_in_hand, at_rest, at_work};
-ghost use Rattle.mirror.specs.Hearing.{CanHear, IsHeardAtRest, ignored};
-ghost use Rattle.mirror.specs.Working.{deeds_in, replies_in, worked, emptied};
-ghost use Rattle.mirror.specs.Pairing.{joining, snapshots, acting, CanApplyIn};
-ghost use Rattle.mirror.specs.Preparing.{number_next, HasApplied};
+ghost use Rattle.wire.specs.declared.message.Message.TheVariants.{JoinAck};
+ghost use Rattle.mirror.specs.declared.heard.Role.TheVariants as role;
+ghost use Rattle.mirror.specs.declared.heard.Outcome.TheVariants.{Changed, Joined, Confirmed};
+ghost use Rattle.mirror.specs.Replicas.{HasService, HasRoom, down, started, number_in_hand, at_rest};
+ghost use Rattle.mirror.specs.Hearing.{CanHear};
+ghost use Rattle.mirror.specs.Working.{deeds_in, replies_in, worked};
+ghost use Rattle.mirror.specs.Pairing.{alone, joining, sent, IsJoinBegun, parted, worked_out, with_peer, taken_over, IsHeard, IsFollowed, IsReceived, CanApplyIn, CanReceive};
 
 use crate::hearing::ignore;
-use crate::pairing::{apply_mirrored, snapshot_of};
-use crate::parts::{do_deeds, hear_or_ignore, post_owed, push_items};
-use crate::{Heard, Owed, Role, Why};
-use ais_values::Seq;
-use calls::Entry;
+use crate::pairing::{hear_linked, link, one, restored, send, send_also};
+use crate::replica::Replica;
+use crate::{Heard, Outcome, Role, Why};
+use ais_values::{Duplicate, Seq};
+use calls::{Entry, Saved};
 use disk_model::{DiskAnswer, SharedDisk};
 use service_core::Service;
 use std::alloc::{AllocError, Global};
-use std::marker::Model;
 use std::mem::replace;
+use stream_files::perform;
 use stream_layout::Deed;
 use wire::Message;
 
-/// How many entries a service accepts.
-const MOST: u64 = 4_000_000_000;
-
-/// A server: its role, its service, where the role has one, and what the entry in hand asks for. Contracts see the
-/// service by the value that it can hand on.
-#[derive(Drop)]
-pub struct Node {
-    role: Role,
-    service: Option<Service>,
-    owed: Option<Owed>,
+/// What ties the active server to its partner.
+#[derive(Clone, Copy, PartialEq, Eq, Debug)]
+pub enum Tie {
+    /// Nothing.
+    Apart,
+    /// The partner joins, and is promised the value of the service once the entry in hand is worked.
+    Owing,
+    /// Each entry goes to the partner before it is committed.
+    Linked,
 }
 
-impl Model for Node {
-    ghost use Rattle.mirror.specs.Nodes.{Server};
+/// A server of a pair: its replica of the service; the entry in hand while it waits until the partner has it; what ties it to
+/// its partner; the messages that the partner is promised; and the deeds of the last entry that it applied as standby.
+#[derive(Drop)]
+pub struct Node {
+    pub replica: Replica,
+    pub waits: Option<Entry>,
+    pub tie: Tie,
+    pub promised: Seq<Message>,
+    pub kept: Seq<Deed>,
+}
 
-    ghost Value = { Server };
-
-    ghost use Rattle.mirror.specs.Inside.{server_of};
-
-    ghost view = { server_of };
+/// A server with this replica and without partner.
+fn alone(alloc: Global, replica: Replica) -> Node
+    ensures { result ≡ alone replica }
+{
+    Node {
+        replica,
+        waits: None,
+        tie: Tie::Apart,
+        promised: Seq::new(alloc),
+        kept: Seq::new(alloc),
+    }
 }
 
 impl Node {
-    /// A server that is down.
-    pub fn down() -> Node
-        ensures { result ≡ down }
+    /// A server that begins with a service, as the active one or as standby, without link and with nothing in hand.
+    pub fn start(alloc: Global, role: Role, service: Service) -> Node
+        requires { HasService role }
+        ensures { result ≡ alone (started role service) }
     {
-        Node {
-            role: Role::Down,
-            service: None,
-            owed: None,
-        }
+        alone(alloc, Replica::start(role, service))
     }
 
     /// A server that waits for the value of the service.
-    pub(crate) fn joining() -> Node
-        ensures { result ≡ joining }
+    pub fn joining(alloc: Global) -> Node
+        ensures { result ≡ alone joining }
     {
-        Node {
-            role: Role::Joining,
-            service: None,
-            owed: None,
-        }
+        alone(alloc, Replica::joining())
     }
 
-    /// A server that begins with a service, as the active one or as its partner, with nothing in hand.
-    pub fn start(role: Role, service: Service) -> Node
-        requires { HasService role }
-        ensures { result ≡ started role service }
+    /// A server that is down.
+    pub fn down(alloc: Global) -> Node
+        ensures { result ≡ alone down }
     {
-        Node {
-            role,
-            service: Some(service),
-            owed: None,
-        }
+        alone(alloc, Replica::down())
     }
 
     /// The server's role.
     pub fn role(&self) -> Role
-        ensures { result ≡ self.now.role }
+        ensures { result ≡ self.now.replica.role }
     {
-        self.role
-    }
-
-    /// How many entries the server's service has applied, the one in hand included; `None` where it has no service.
-    pub fn number(&self) -> Option<u64>
-        ensures { result ≡ number_of self.now }
-    {
-        match &self.service {
-            None => None,
-            Some(service) => Some(service.number()),
-        }
+        self.replica.role()
     }
 
     /// Whether a further entry can be accepted: fewer than 4,000,000,000 were.
     pub fn has_room(&self) -> bool
-        ensures { IsTrue result ↔ HasRoom self.now.service }
+        ensures { IsTrue result ↔ HasRoom self.now.replica.service }
     {
-        match &self.service {
-            None => true,
-            Some(service) => service.number() < MOST,
-        }
+        self.replica.has_room()
     }
 
     /// The number of the entry in hand: the first that was ever accepted has number 1.
     pub fn in_hand(&self) -> Option<u64>
-        ensures { result ≡ number_in_hand self.now }
+        ensures { result ≡ number_in_hand self.now.replica }
     {
-        if self.owed.is_none() {
-            return None;
-        }
-        self.number()
+        self.replica.in_hand()
     }
 
     /// Whether an entry is in hand that is ready to work.
     pub fn ready(&self) -> bool
-        ensures { result ≡ is_some self.now.owed }
+        ensures { IsTrue result ↔ (IsSome self.now.replica.owed × (self.now.waits ≡ None)) }
     {
-        self.owed.is_some()
-    }
-
-    /// Hears a message at a moment, from 0 to 9,000,000,000,000,000,000; a request or a receipt is that of a client
-    /// from 1 to 4,096, and a request's number is at least 1. Fewer than 4,000,000,000 entries were accepted.
-    ///
-    /// The active server with an entry in hand ignores it as busy. With nothing in hand it accepts the client's next
-    /// request and a new receipt as the next entry of the history, which is committed and in hand from then on; it
-    /// asks for the reply to one of the 32 requests before the client's next to be posted again; and it ignores a
-    /// request before these as old, one behind the next as ahead, a receipt that is not new as done, and any other
-    /// message as not for its role. A server of another role ignores all messages as not for its role. Where a
-    /// message is not accepted nothing changes. `Err` comes only for want of memory, and nothing changes then.
-    pub fn receive(
-        &mut self,
-        alloc: Global,
-        message: &Message,
-        now: i64,
-    ) -> Result<Heard, AllocError>
-        requires hear { CanHear message.now now }
-        requires few { HasRoom self.old.service }
-        ensures role { IfOk result (λ heard. self.old.role ≢ Active →
-            (heard ≡ ignored (NotForRole self.old.role)) × (self.new ≡ self.old)) }
-        ensures busy { IfOk result (λ heard. (setup : Setup) (past : List EntryOf)
-            (entry : EntryOf) → self.old ≡ at_work setup past entry →
-            (heard ≡ ignored (Busy (suc (length past)))) × (self.new ≡ self.old)) }
-        ensures rest { IfOk result (λ heard. (setup : Setup) (past : List EntryOf) →
-            IsHistory setup past → self.old ≡ at_rest setup past →
-            IsHeardAtRest setup past now message.now heard self.new) }
-        ensures err { OnErr result (self.new ≡ self.old) }
-    {
-        let role = self.role;
-        if role != Role::Active {
-            return Ok(ignore(alloc, Why::NotForRole { role }));
-        }
-        match &mut self.service {
-            None => Ok(ignore(alloc, Why::NotForRole { role })),
-            Some(service) => {
-                let heard = hear_or_ignore(service, &mut self.owed, alloc, message, now)?;
-                Ok(heard)
-            }
-        }
-    }
-
-    /// The number of the next entry.
-    pub(crate) fn next_number(&self) -> u64
-        requires { HasRoom self.now.service }
-        ensures { result ≡ number_next self.now.service }
-    {
-        match &self.service {
-            None => 1,
-            Some(service) => service.number() + 1,
-        }
-    }
-
-    /// The message that brings the value of the service to a server that joins; none where there is no service.
-    pub(crate) fn snapshot(&self, alloc: Global) -> Result<Seq<Message>, AllocError>
-        ensures { IfOk result (λ messages. messages ≡ snapshots self.now.service) }
-    {
-        match &self.service {
-            None => Ok(Seq::new(alloc)),
-            Some(service) => {
-                let messages = snapshot_of(service, alloc)?;
-                Ok(messages)
-            }
-        }
-    }
-
-    /// Applies an entry of the partner's, and gives its deeds. On an error nothing changes.
-    pub(crate) fn apply(&mut self, alloc: Global, entry: &Entry) -> Result<Seq<Deed>, AllocError>
-        requires { CanApplyIn entry.now self.old.service }
-        ensures ok { IfOk result (λ deeds. (setup : Setup) (past : List EntryOf) →
-            IsHistory setup past → CanFollow setup entry.now past →
-            self.old ≡ started Standby (saved_of setup past) →
-            HasApplied setup past entry.now deeds self.new) }
-        ensures err { OnErr result (self.new ≡ self.old) }
-    {
-        match &mut self.service {
-            None => Ok(Seq::new(alloc)),
-            Some(service) => {
-                let deeds = apply_mirrored(service, alloc, entry)?;
-                Ok(deeds)
-            }
-        }
-    }
-
-    /// It is the active one from now on.
-    pub(crate) fn act(&mut self)
-        ensures { self.new ≡ acting self.old }
-    {
-        self.role = Role::Active;
+        self.replica.ready() && self.waits.is_none()
     }
 
     // Goes down; what it had is let go.
-    fn go_down(&mut self)
-        ensures { self.new ≡ down }
+    fn go_down(&mut self, alloc: Global)
+        ensures { self.new ≡ alone down }
     {
-        let before = replace(self, Node::down());
+        let before = replace(self, Node::down(alloc));
         drop(before);
     }
 
-    /// Does the deeds of the entry in hand, in order, and then asks for the reply to be posted, if there is one;
-    /// nothing is in hand after it.
+    /// A partner joins the active server. With nothing in hand it gets the value of the service at once and is linked;
+    /// else both come with the work that empties the hand. `Err` comes only for want of memory, and nothing changes then.
+    pub fn begin_join(&mut self, alloc: Global) -> Result<Heard, AllocError>
+        ensures ok { IfOk result (λ heard.
+            IsJoinBegun (is_some self.old.replica.owed) self.old heard self.new) }
+        ensures err { OnErr result (self.new ≡ self.old) }
+    {
+        let snapshot = self.replica.snapshot(alloc)?;
+        if self.replica.ready() {
+            self.promised = snapshot;
+            self.tie = Tie::Owing;
+            return Ok(send(alloc, Seq::new(alloc), None, Outcome::Changed));
+        }
+        self.promised = Seq::new(alloc);
+        self.tie = Tie::Linked;
+        Ok(send(alloc, snapshot, None, Outcome::Changed))
+    }
+
+    /// The partner of the active server went down: there is no link, nothing is promised, and an entry that waits is
+    /// committed and ready.
+    pub fn peer_down(&mut self, alloc: Global) -> Heard
+        ensures heard { result ≡ sent [] self.old.waits Changed }
+        ensures now { self.new ≡ parted self.old }
+    {
+        self.promised = Seq::new(alloc);
+        self.tie = Tie::Apart;
+        let committed = self.waits.take();
+        send(alloc, Seq::new(alloc), committed, Outcome::Changed)
+    }
+
+    /// Does the deeds of the entry in hand, which is ready, in order, and then asks for the reply to be posted, if there
+    /// is one, and for what the partner is promised; nothing is in hand after it.
     ///
     /// It makes the deeds' calls in order, up to the first that is not done, and no others. `Memory`: some of them from
     /// the front are done, fewer than all, and the server is as it was, so that it can work again. `Failed`, which comes
@@ -238,31 +163,77 @@ impl Node {
     /// server is down. `Stopped`, which comes exactly where its count of stops rose: some calls from the front are done,
     /// the armed count was reached in the next one, in which the disk crashed, and the server is down.
     pub fn work<D: SharedDisk>(&mut self, alloc: Global, disk: &mut D) -> Result<Heard, DiskAnswer>
-        requires { IsSome self.old.owed }
-        ensures done { IfOk result (λ heard. (heard ≡ worked (replies_in self.old.owed))
-            × (self.new ≡ emptied self.old)) }
-        ensures performs { Performs (calls_of_all (deeds_in self.old.owed)) result
+        requires hand { IsSome self.old.replica.owed }
+        requires ready { self.old.waits ≡ None }
+        ensures done { IfOk result (λ heard.
+            (heard ≡ with_peer (worked (replies_in self.old.replica.owed)) self.old.promised)
+            × (self.new ≡ worked_out self.old)) }
+        ensures performs { Performs (calls_of_all (deeds_in self.old.replica.owed)) result
             (D.files disk.old) (D.files disk.new) (D.tally disk.old) (D.tally disk.new) }
         ensures memory { IsErrOf result DiskAnswer.Memory → self.new ≡ self.old }
-        ensures failed { IsErrOf result DiskAnswer.Failed → self.new ≡ down }
-        ensures stopped { IsErrOf result DiskAnswer.Stopped → self.new ≡ down }
+        ensures failed { IsErrOf result DiskAnswer.Failed → self.new ≡ alone down }
+        ensures stopped { IsErrOf result DiskAnswer.Stopped → self.new ≡ alone down }
         ensures cause { RoseExactlyOn (D.faults disk.old) (D.faults disk.new) result
             DiskAnswer.Failed }
         ensures stop { RoseExactlyOn (D.stops disk.old) (D.stops disk.new) result
             DiskAnswer.Stopped }
     {
-        match do_deeds(disk, &self.owed) {
-            Ok(()) => {
-                let owed = self.owed.take();
-                Ok(post_owed(alloc, owed))
+        match self.replica.work(alloc, disk) {
+            Ok(heard) => {
+                self.tie = link(self.tie);
+                let promised = replace(&mut self.promised, Seq::new(alloc));
+                Ok(send_also(heard, promised))
             }
             Err(DiskAnswer::Memory) => Err(DiskAnswer::Memory),
             Err(DiskAnswer::Failed) => {
-                self.go_down();
+                self.go_down(alloc);
                 Err(DiskAnswer::Failed)
             }
             Err(DiskAnswer::Stopped) => {
-                self.go_down();
+                self.go_down(alloc);
+                Err(DiskAnswer::Stopped)
+            }
+        }
+    }
+
+    /// The standby becomes active, without link and with nothing in hand: it first does the deeds of the last entry that
+    /// it applied again, in order; none if it applied none since it joined.
+    ///
+    /// It makes the deeds' calls in order, up to the first that is not done, and no others. `Memory`: some of them from
+    /// the front are done, fewer than all, and the server is as it was, so that it can take over again. `Failed` comes
+    /// exactly where the disk's count of faults rose, and `Stopped` exactly where its count of stops rose; the server is
+    /// down then.
+    pub fn takeover<D: SharedDisk>(
+        &mut self,
+        alloc: Global,
+        disk: &mut D,
+    ) -> Result<Heard, DiskAnswer>
+        requires { self.old.replica.role ≡ role.Standby }
+        ensures done { IfOk result (λ heard. (heard ≡ sent [] None Changed)
+            × (self.new ≡ taken_over self.old)) }
+        ensures performs { Performs (calls_of_all self.old.kept) result
+            (D.files disk.old) (D.files disk.new) (D.tally disk.old) (D.tally disk.new) }
+        ensures memory { IsErrOf result DiskAnswer.Memory → self.new ≡ self.old }
+        ensures failed { IsErrOf result DiskAnswer.Failed → self.new ≡ alone down }
+        ensures stopped { IsErrOf result DiskAnswer.Stopped → self.new ≡ alone down }
+        ensures cause { RoseExactlyOn (D.faults disk.old) (D.faults disk.new) result
+            DiskAnswer.Failed }
+        ensures stop { RoseExactlyOn (D.stops disk.old) (D.stops disk.new) result
+            DiskAnswer.Stopped }
+    {
+        match perform(disk, &self.kept) {
+            Ok(()) => {
+                self.replica.act();
+                self.kept = Seq::new(alloc);
+                Ok(send(alloc, Seq::new(alloc), None, Outcome::Changed))
+            }
+            Err(DiskAnswer::Memory) => Err(DiskAnswer::Memory),
+            Err(DiskAnswer::Failed) => {
+                self.go_down(alloc);
+                Err(DiskAnswer::Failed)
+            }
+            Err(DiskAnswer::Stopped) => {
+                self.go_down(alloc);
                 Err(DiskAnswer::Stopped)
             }
         }
@@ -271,17 +242,172 @@ impl Node {
     /// The messages that bring the items without receipt to their clients, in order of client, key and number. An
     /// entry may not be in hand. `Err` comes only for want of memory.
     pub fn push(&self, alloc: Global) -> Result<Seq<Message>, AllocError>
-        requires role { self.now.role ≡ Active }
-        requires idle { self.now.owed ≡ None }
+        requires role { self.now.replica.role ≡ role.Active }
+        requires idle { self.now.replica.owed ≡ None }
         ensures { IfOk result (λ messages. (setup : Setup) (past : List EntryOf) →
-            self.now ≡ at_rest setup past → messages ≡ (plain_of setup).held past) }
+            self.now.replica ≡ at_rest setup past → messages ≡ (plain_of setup).held past) }
     {
-        match &self.service {
-            None => Ok(Seq::new(alloc)),
-            Some(service) => {
-                let messages = push_items(service, alloc)?;
-                Ok(messages)
+        self.replica.push(alloc)
+    }
+
+    // The active server hears a request or a receipt. On an error nothing changes.
+    fn hear(&mut self, alloc: Global, message: &Message, now: i64) -> Result<Heard, AllocError>
+        requires hear { CanHear message.now now }
+        requires few { HasRoom self.old.replica.service }
+        requires role { self.old.replica.role ≡ role.Active }
+        ensures ok { IfOk result (λ heard. IsHeard message.now now self.old heard self.new) }
+        ensures err { OnErr result (self.new ≡ self.old) }
+    {
+        match self.tie {
+            Tie::Linked => hear_linked(&mut self.replica, &mut self.waits, alloc, message, now),
+            _ => self.replica.receive(alloc, message, now),
+        }
+    }
+
+    // The standby applies an entry and keeps its deeds. On an error nothing changes.
+    fn follow(&mut self, alloc: Global, number: u64, entry: &Entry) -> Result<Heard, AllocError>
+        requires { CanApplyIn entry.now self.old.replica.service }
+        ensures ok { IfOk result (λ heard. IsFollowed number entry.now self.old heard self.new) }
+        ensures err { OnErr result (self.new ≡ self.old) }
+    {
+        let to_peer = one(alloc, Message::MirrorAck { number })?;
+        let committed = entry.copy(alloc)?;
+        let deeds = match self.replica.apply(alloc, entry) {
+            Ok(deeds) => deeds,
+            Err(error) => {
+                drop(committed);
+                return Err(error);
             }
+        };
+        self.kept = deeds;
+        Ok(send(alloc, to_peer, Some(committed), Outcome::Applied))
+    }
+
+    // A server that joins gets the value of the service. On an error nothing changes.
+    fn join(&mut self, alloc: Global, saved: &Saved) -> Result<Heard, AllocError>
+        requires { IsFit saved.now }
+        ensures ok { IfOk result (λ heard.
+            (heard ≡ sent (JoinAck saved.now.number ∷ []) None Joined)
+            × (self.new ≡ alone (started role.Standby saved.now))) }
+        ensures err { OnErr result (self.new ≡ self.old) }
+    {
+        let number = saved.number;
+        let to_peer = one(alloc, Message::JoinAck { number })?;
+        let service = restored(alloc, saved)?;
+        let before = replace(self, Node::start(alloc, Role::Standby, service));
+        drop(before);
+        Ok(send(alloc, to_peer, None, Outcome::Joined))
+    }
+
+    // The active server hears a message. On an error nothing changes.
+    fn receive_active(
+        &mut self,
+        alloc: Global,
+        message: &Message,
+        now: i64,
+    ) -> Result<Heard, AllocError>
+        requires receive { CanReceive message.now now self.old }
+        requires few { HasRoom self.old.replica.service }
+        requires role { self.old.replica.role ≡ role.Active }
+        ensures ok { IfOk result (λ heard.
+            IsReceived role.Active message.now now self.old heard self.new) }
+        ensures err { OnErr result (self.new ≡ self.old) }
+    {
+        match message {
+            Message::Request { .. } => self.hear(alloc, message, now),
+            Message::Receipt { .. } => self.hear(alloc, message, now),
+            Message::MirrorAck { .. } => {
+                let confirmed = self.waits.take();
+                drop(confirmed);
+                Ok(send(alloc, Seq::new(alloc), None, Outcome::Confirmed))
+            }
+            Message::JoinAck { .. } => { Ok(send(alloc, Seq::new(alloc), None, Outcome::Joined)) }
+            _ => Ok(ignore(alloc, Why::NotForRole { role: Role::Active })),
+        }
+    }
+
+    // The standby hears a message. On an error nothing changes.
+    fn receive_standby(
+        &mut self,
+        alloc: Global,
+        message: &Message,
+        now: i64,
+    ) -> Result<Heard, AllocError>
+        requires { CanReceive message.now now self.old }
+        ensures ok { IfOk result (λ heard.
+            IsReceived role.Standby message.now now self.old heard self.new) }
+        ensures err { OnErr result (self.new ≡ self.old) }
+    {
+        let _ = now;
+        match message {
+            Message::Mirror { number, entry } => self.follow(alloc, *number, entry),
+            _ => Ok(ignore(
+                alloc,
+                Why::NotForRole {
+                    role: Role::Standby,
+                },
+            )),
+        }
+    }
+
+    // A server that joins hears a message. On an error nothing changes.
+    fn receive_joining(
+        &mut self,
+        alloc: Global,
+        message: &Message,
+        now: i64,
+    ) -> Result<Heard, AllocError>
+        requires { CanReceive message.now now self.old }
+        ensures ok { IfOk result (λ heard.
+            IsReceived role.Joining message.now now self.old heard self.new) }
+        ensures err { OnErr result (self.new ≡ self.old) }
+    {
+        let _ = now;
+        match message {
+            Message::Snapshot { saved } => self.join(alloc, saved),
+            _ => Ok(ignore(
+                alloc,
+                Why::NotForRole {
+                    role: Role::Joining,
+                },
+            )),
+        }
+    }
+
+    /// Hears a message at a moment, from 0 to 9,000,000,000,000,000,000. A request or a receipt is that of a client from
+    /// 1 to 4,096, and a request's number is at least 1; a mirrored entry is one that the server's service can apply, and
+    /// the value of a service is fit. Fewer than 4,000,000,000 entries were accepted.
+    ///
+    /// A message for another role is ignored as such: requests, receipts and the partner's answers are for the active
+    /// server, mirrored entries for the standby, the value of the service for a server that joins, and replies and items
+    /// for none.
+    ///
+    /// A request or a receipt is ignored as busy while an entry is in hand. With nothing in hand the client's next request
+    /// and a new receipt are accepted as the next entry of the history; the reply to one of the 32 requests before the
+    /// client's next is to be posted again; a request before these is ignored as old, one behind the next as ahead, and a
+    /// receipt that is not new as done. An accepted entry is committed at once, and ready; but where a partner is linked
+    /// it goes to the partner and waits, and the partner's answer makes it ready.
+    ///
+    /// The standby applies a mirrored entry, keeps its deeds and answers its number; it is committed with that. A server
+    /// that joins is standby with the value, and answers how many entries it has. Where a message is ignored nothing
+    /// changes. `Err` comes only for want of memory, and nothing changes then.
+    pub fn receive(
+        &mut self,
+        alloc: Global,
+        message: &Message,
+        now: i64,
+    ) -> Result<Heard, AllocError>
+        requires receive { CanReceive message.now now self.old }
+        requires few { HasRoom self.old.replica.service }
+        ensures ok { IfOk result (λ heard.
+            IsReceived self.old.replica.role message.now now self.old heard self.new) }
+        ensures err { OnErr result (self.new ≡ self.old) }
+    {
+        match self.replica.role() {
+            Role::Active => self.receive_active(alloc, message, now),
+            Role::Standby => self.receive_standby(alloc, message, now),
+            Role::Joining => self.receive_joining(alloc, message, now),
+            Role::Down => Ok(ignore(alloc, Why::NotForRole { role: Role::Down })),
         }
     }
 }

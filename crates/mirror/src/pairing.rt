@@ -10,12 +10,14 @@ ghost use Rattle.plain_service.specs.Values.{StandsFor};
 ghost use Rattle.mirror.specs.declared.heard.Role.TheVariants as role;
 ghost use Rattle.service_core.specs.Applying.{CanApply};
 ghost use Rattle.mirror.specs.declared.heard.Why.TheVariants.{Busy};
-ghost use Rattle.mirror.specs.Nodes.{HasRoom, at_rest, at_work};
+ghost use Rattle.mirror.specs.Replicas.{HasRoom, at_rest, at_work};
 ghost use Rattle.mirror.specs.Hearing.{CanHear, ignored};
 ghost use Rattle.mirror.specs.Pairing.{sent, with_peer, tied_after, mirrors, newest, IsMirrored};
 ghost use Rattle.mirror.specs.Preparing.{entry_by, held_back};
 
-use crate::{Heard, Node, Outcome, Tie};
+use crate::node::Tie;
+use crate::replica::Replica;
+use crate::{Heard, Outcome};
 use ais_values::{Duplicate, Seq};
 use calls::{Entry, Saved};
 use service_core::Service;
@@ -164,28 +166,28 @@ fn hold_back(heard: &mut Heard, waits: &mut Option<Entry>, mirror: Seq<Message>)
 
 /// The active server hears a request or a receipt while a partner is linked. On an error nothing changes.
 pub(crate) fn hear_linked(
-    node: &mut Node,
+    replica: &mut Replica,
     waits: &mut Option<Entry>,
     alloc: Global,
     message: &Message,
     now: i64,
 ) -> Result<Heard, AllocError>
     requires hear { CanHear message.now now }
-    requires few { HasRoom node.old.service }
-    requires role { node.old.role ≡ role.Active }
+    requires few { HasRoom replica.old.service }
+    requires role { replica.old.role ≡ role.Active }
     ensures busy { IfOk result (λ heard. (setup : Setup) (past : List EntryOf)
-        (entry : EntryOf) → node.old ≡ at_work setup past entry →
-        (heard ≡ ignored (Busy (suc (length past)))) × (node.new ≡ node.old) × (waits.new
+        (entry : EntryOf) → replica.old ≡ at_work setup past entry →
+        (heard ≡ ignored (Busy (suc (length past)))) × (replica.new ≡ replica.old) × (waits.new
         ≡ waits.old)) }
     ensures rest { IfOk result (λ heard. (setup : Setup) (past : List EntryOf) →
-        IsHistory setup past → node.old ≡ at_rest setup past →
-        IsMirrored setup past now message.now waits.old heard node.new waits.new) }
-    ensures node { OnErr result (node.new ≡ node.old) }
+        IsHistory setup past → replica.old ≡ at_rest setup past →
+        IsMirrored setup past now message.now waits.old heard replica.new waits.new) }
+    ensures replica { OnErr result (replica.new ≡ replica.old) }
     ensures waits { OnErr result (waits.new ≡ waits.old) }
 {
-    let number = node.next_number();
+    let number = replica.next_number();
     let mirror = prepare(alloc, number, message, now)?;
-    let mut heard = node.receive(alloc, message, now)?;
+    let mut heard = replica.receive(alloc, message, now)?;
     hold_back(&mut heard, waits, mirror);
     Ok(heard)
 }

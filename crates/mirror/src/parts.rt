@@ -16,7 +16,8 @@ ghost use Rattle.mirror.specs.Working.{deeds_in, replies_in, worked};
 ghost use Rattle.mirror.specs.Reacting.{serving};
 
 use crate::hearing::{hear, ignore};
-use crate::{Heard, Outcome, Owed, Why};
+use crate::owed::Owed;
+use crate::{Heard, Outcome, Why};
 use ais_values::Seq;
 use calls::Held;
 use disk_model::{DiskAnswer, SharedDisk};

@@ -1,3 +1,4 @@
+pub mod Answering
 pub mod Sounding
 pub mod Stepping
 pub mod Serving
@@ -9,5 +10,6 @@ pub mod Standing
 pub mod Staying
 pub mod Walking
 pub mod Rows
+pub mod ClientRows
 pub mod Ends
 pub mod Ended

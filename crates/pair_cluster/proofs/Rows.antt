@@ -27,7 +27,7 @@ same_message (Request client number call) (Request other index asked) = client =
 same_message (Answer client number reply) (Answer other index told) = client == other && number == index
 same_message _ _ = false
 
-abbrev ready : Plain
+abbrev pub ready : Plain
 ready = record {
   reply = λ past client number time call. Done;
   made = λ past client key. [];
@@ -38,7 +38,7 @@ ready = record {
 }
 
 -- each entry's deeds make one changing call, and the disk fails in the works of these entries
-abbrev device : (ℕ → Bool) → Device
+abbrev pub device : (ℕ → Bool) → Device
 device fails = record { calls = λ past entry. 1; fails = fails }
 
 abbrev calm : Servers Peers
@@ -47,7 +47,7 @@ calm = pair ready (device (λ number. false))
 abbrev header : Header
 header = Generic (record { vendor = 1; major = 2; minor = 3 }) (codes "safApp=web") 6
 
-abbrev write : Call
+abbrev pub write : Call
 write = LogWrite System 7 1 (pos 0) header (codes "service started")
 
 abbrev ask_for : Ask → State Peers → Outcome (State Peers)
@@ -192,7 +192,7 @@ takeover_fails = refl
 
 -- A service with one item, that of the subscription of client 1 by its call 2.
 
-abbrev same_spelling : Message → Message → Bool
+abbrev pub same_spelling : Message → Message → Bool
 same_spelling (Delivery client key item) (Delivery other index asked) = client == other && (key == index && item.number == asked.number)
 same_spelling (Receipt client key through) (Receipt other index asked) = client == other && (key == index && through == asked)
 same_spelling one other = same_message one other

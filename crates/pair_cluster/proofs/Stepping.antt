@@ -18,11 +18,11 @@ use Rattle.cluster_events.specs.Servers.{State, or_else, advance, after_step, ad
 use Rattle.cluster_events.specs.Devices.{Device}
 use Rattle.cluster_events.specs.Serving.{Stays, IsSteady}
 use Rattle.cluster_events.proofs.Carrying.{Stays-same, Stays-both}
-use Rattle.lone_cluster.specs.Lone.{net_answering, lines_answering}
-use Rattle.lone_cluster.proofs.Serving.{answer-facts, answer-net}
+use Rattle.pair_cluster.specs.Answering.{net_answering, lines_answering}
 use Rattle.pair_cluster.specs.Peers.{Partner, Down, Owed, Linking, Standby, Peers, link_of, back_of, Agree, IsArmed, IsPair, other_server}
 use Rattle.pair_cluster.specs.Falling.{with_core, taken_over}
 use Rattle.pair_cluster.specs.Pair.{mirror_by, ack_by, linked, lowered, reaches, is_standby, falls, work_done, work_as, work_by, pair}
+use Rattle.pair_cluster.proofs.Answering.{answer-facts, answer-net}
 use Rattle.pair_cluster.proofs.Sounding.{sound-over}
 
 -- what is asked of a relation of worlds and lines, that the pair keeps it

@@ -1,23 +1,23 @@
 -- A relation of worlds and lines that is kept by each kind of line, and by what two servers make of history and hand, is kept by every line.
-use Rattle.std.proofs.Common.{◌≡◌, ℕ, suc, Bool, true, false, if◌then◌else◌, List, [], ◌∷◌, length, sym, subst}
+use Rattle.std.proofs.Common.{◌≡◌, ℕ, suc, List, [], ◌∷◌, length, sym, subst}
 use Rattle.script_lines.specs.declared.line.Line.{Line}
 use Rattle.script_lines.specs.declared.line.Line.TheVariants as line
-use Rattle.cluster_facts.specs.Types.{Entry, Called, Receipted, Answer}
+use Rattle.cluster_facts.specs.Types.{Entry}
 use Rattle.cluster_facts.specs.Service.{Plain, IsPlain}
 use Rattle.cluster_facts.specs.History.{Hand, Empty, Waiting, Applied, Ready, committed_by, time_of}
-use Rattle.cluster_facts.specs.World.{World, knows}
-use Rattle.cluster_events.specs.Lines.{Told, Posted, Committed, Refused, Stood}
+use Rattle.cluster_facts.specs.World.{World}
+use Rattle.cluster_events.specs.Lines.{Told, Committed, Refused, Stood}
 use Rattle.cluster_events.specs.Outcomes.{Outcome}
 use Rattle.cluster_events.specs.Servers.{State}
 use Rattle.cluster_events.specs.Devices.{Device}
 use Rattle.cluster_events.specs.Running.{Shelf}
 use Rattle.cluster_events.specs.Serving.{IsSteady, IsCarried}
 use Rattle.cluster_events.proofs.Walking.{ByKind, Others, kind_of, IsShow, IsByKind, IsTold, line-walks, told-carried}
-use Rattle.lone_cluster.specs.Lone.{net_answering, lines_answering}
 use Rattle.pair_cluster.specs.Peers.{Peers, IsPair, same_server}
 use Rattle.pair_cluster.specs.Falling.{with_core}
 use Rattle.pair_cluster.specs.Pair.{pair}
 use Rattle.pair_cluster.specs.Running.{PairHappens}
+use Rattle.pair_cluster.proofs.Answering.{answer-goes}
 use Rattle.pair_cluster.proofs.Stepping.{Bears, pair-rests}
 use Rattle.pair_cluster.proofs.Serving.{accept-kept, pair-stepped}
 use Rattle.pair_cluster.proofs.Saying.{pair-serves}
@@ -43,18 +43,6 @@ cored-alone R quiet commits = record {
 }
 
 module _ (plain : Plain) (R : World → World → List Told → Type 0) (told : IsTold plain R) (shows : (world : World) (line : Told) → IsShow line → R world world (line ∷ [])) (cored : IsCored R) where
-  worked-goes : (world : World) (past : List Entry) (entry : Entry) → R (with_core past (Ready entry) world) (record (with_core (entry ∷ past) Empty world) { net = net_answering plain past entry world.net }) (lines_answering plain past entry world.net)
-  worked-goes world past (Called client number time call) =
-      let entry = Called client number time call in
-      let reply = plain.reply past client number time call in
-      let message = Answer client number reply in
-      let done : World = with_core (entry ∷ past) Empty world in
-      elim (knows plain message world.net) as (λ b. R (with_core past (Ready entry) world) (record done { net = if b then world.net else message ∷ world.net }) (if b then [] else Posted (suc (length world.net)) message ∷ [])) [
-        | true ↦ cored.answered world past entry
-        | false ↦ told.both (with_core past (Ready entry) world) done (record done { net = message ∷ world.net }) [] (Posted (suc (length world.net)) message ∷ []) (cored.answered world past entry) (told.answer done client number reply)
-      ]
-  worked-goes world past (Receipted client key through time) = cored.answered world past (Receipted client key through time)
-
   pub told-bears : Bears plain R
   told-bears = record {
     same = told.same;
@@ -64,7 +52,7 @@ module _ (plain : Plain) (R : World → World → List Told → Type 0) (told : 
     taken = cored.taken;
     applied = λ world past entry sound. cored.applied world past entry;
     confirmed = cored.confirmed;
-    worked = worked-goes;
+    worked = answer-goes plain R told.both told.answer cored.answered;
     over = cored.over;
   }
 

@@ -1,4 +1,5 @@
 pub mod Peers
+pub mod Answering
 pub mod Falling
 pub mod Pair
 pub mod Running

@@ -10,7 +10,7 @@ use Rattle.cluster_events.specs.declared.lines.ServerRole.TheVariants as role
 use Rattle.cluster_events.specs.Outcomes.{Outcome, quietly}
 use Rattle.cluster_events.specs.Servers.{State, Servers}
 use Rattle.cluster_events.specs.Devices.{Device}
-use Rattle.lone_cluster.specs.Lone.{net_answering, lines_answering}
+use Rattle.pair_cluster.specs.Answering.{net_answering, lines_answering}
 use Rattle.pair_cluster.specs.Peers.{Partner, Owed, Linking, Standby, Peers, other_server, standing_pair}
 use Rattle.pair_cluster.specs.Falling.{with_core, taken_over}
 

@@ -8,7 +8,6 @@ use Rattle.cluster_events.specs.declared.lines.ServerRole.{ServerRole}
 use Rattle.cluster_events.specs.declared.lines.ServerRole.TheVariants as role
 use Rattle.cluster_events.specs.declared.lines.Standing.{Standing}
 use Rattle.cluster_events.specs.Servers.{State}
-use Rattle.lone_cluster.specs.Lone.{number_in_hand}
 
 -- the partner of the active server
 pub data Partner : Type 0 where
@@ -109,6 +108,11 @@ abbrev pub role_of : Server → Peers → ServerRole
 role_of server peers =
     if same_server server peers.acting then role_of_active peers.armed else role_of_partner peers.partner
 
+-- the number of the entry in hand
+abbrev pub hand_number : ℕ → Hand → Option ℕ
+hand_number answered Empty = None
+hand_number answered _ = Some (suc answered)
+
 abbrev pub standing_pair : State Peers → Standing
 standing_pair state =
     let past = state.world.core.answered in
@@ -119,5 +123,5 @@ standing_pair state =
       net = length state.world.net;
       link = length (link_of state.peers.partner past hand);
       back = length (back_of state.peers.partner past hand);
-      in_hand = number_in_hand (length past) hand;
+      in_hand = hand_number (length past) hand;
     }

@@ -10,7 +10,7 @@ use Rattle.cluster_facts.specs.History.{Hand, Empty, Waiting, Applied, Ready}
 use Rattle.cluster_events.specs.Outcomes.{Outcome}
 use Rattle.cluster_events.specs.Servers.{State, or_else, advance}
 use Rattle.event_text.specs.Texts.{printed}
-use Rattle.mirror.specs.declared.pair_node.PairNode.{PairNode}
+use Rattle.mirror.specs.declared.node.Node.{Node}
 use Rattle.pair_cluster.specs.Peers.{Partner, Down, Owed, Linking, Standby, Peers}
 use Rattle.pair_cluster.specs.Pair.{mirror_by, mirror_pair, ack_by, ack_pair, work_by, work_pair, pair}
 use Rattle.pair_cluster.proofs.Stepping.{pair_at}
@@ -86,7 +86,7 @@ state-on old new armed is has = subst (λ (world : Cluster Pair). HasStateOn pai
 
 -- The entry in hand is worked.
 
-pub work-advances : (old new : Cluster Pair) (before after : List (List ℕ)) (held left : DiskSeen) → NoMessage old → IsSome old.servers.active.node.owed → old.servers.active.waits ≡ None → Comes pair_kit any_state worked_by old new before after (grew old new) held left → Advances pair_kit true old new before after held left
+pub work-advances : (old new : Cluster Pair) (before after : List (List ℕ)) (held left : DiskSeen) → NoMessage old → IsSome old.servers.active.replica.owed → old.servers.active.waits ≡ None → Comes pair_kit any_state worked_by old new before after (grew old new) held left → Advances pair_kit true old new before after held left
 work-advances old new before after held left none some ready comes setup state good shows armed so =
     let found = ready-for setup state old shows some ready in
     let no = none setup state good shows in
@@ -123,15 +123,15 @@ work-off Failed old new before after held left none comes setup state good shows
     }
 
 -- there is none in hand that is ready
-idle-by : (setup : Setup) (state : State Peers) (hand : Hand) (active : PairNode) (fails : ℕ → Bool) → active ≡ active_by setup state.world.core.answered hand state.peers.partner → (IsSome active.node.owed × (active.waits ≡ None) → ⊥) → work_by (plain_of setup) (device_by setup fails) hand (pair_at state.peers.partner hand state) ≡ None
+idle-by : (setup : Setup) (state : State Peers) (hand : Hand) (active : Node) (fails : ℕ → Bool) → active ≡ active_by setup state.world.core.answered hand state.peers.partner → (IsSome active.replica.owed × (active.waits ≡ None) → ⊥) → work_by (plain_of setup) (device_by setup fails) hand (pair_at state.peers.partner hand state) ≡ None
 idle-by setup state Empty active fails is not = refl
 idle-by setup state (Waiting entry) active fails is not = refl
 idle-by setup state (Applied entry) active fails is not = refl
 idle-by setup state (Ready entry) active fails is not =
-    let R : PairNode → Type 0 = λ node. IsSome node.node.owed × (node.waits ≡ None) in
+    let R : Node → Type 0 = λ node. IsSome node.replica.owed × (node.waits ≡ None) in
     absurd (not (subst R (sym is) (refl, refl)))
 
-pub advances-none : (old : Cluster Pair) → NoMessage old → (IsSome old.servers.active.node.owed × (old.servers.active.waits ≡ None) → ⊥) → (setup : Setup) (fails : ℕ → Bool) (state : State Peers) → IsGood pair_kit setup state → Shows pair_kit setup state old → advance (pair (plain_of setup) (device_by setup fails)) state ≡ None
+pub advances-none : (old : Cluster Pair) → NoMessage old → (IsSome old.servers.active.replica.owed × (old.servers.active.waits ≡ None) → ⊥) → (setup : Setup) (fails : ℕ → Bool) (state : State Peers) → IsGood pair_kit setup state → Shows pair_kit setup state old → advance (pair (plain_of setup) (device_by setup fails)) state ≡ None
 advances-none old none not setup fails state good shows =
     let no = none setup state good shows in
     let idle = idle-by setup state state.world.core.hand old.servers.active fails (ap (λ (servers : Pair). servers.active) shows.own) not in

@@ -21,10 +21,10 @@ use Rattle.cluster_events.specs.Servers.{State}
 use Rattle.event_text.specs.Texts.{printed, entry_line, server_line}
 use Rattle.wire.specs.declared.message.Message.{Message}
 use Rattle.mirror.specs.declared.heard.Heard.{Heard}
-use Rattle.mirror.specs.declared.pair_node.PairNode.{PairNode}
-use Rattle.mirror.specs.Nodes.{down}
+use Rattle.mirror.specs.declared.node.Node.{Node}
+use Rattle.mirror.specs.Replicas.{down}
 use Rattle.mirror.specs.Pairing.{IsJoinBegun, alone, joining, parted}
-use Rattle.mirror.proofs.NodeLaws.{count-is}
+use Rattle.mirror.proofs.ReplicaLaws.{count-is}
 use Rattle.pair_cluster.specs.Peers.{Partner, Down, Owed, Linking, Standby, Peers, Agree, IsArmed, other_server, same_server}
 use Rattle.pair_cluster.specs.Falling.{refused, taken_over, readied, commitment, partner_down, crash_active, crash_partner, crash_by, crash, armed_with, arm_by, arm, joining_by, joined, restart_by, restart}
 use Rattle.pair_cluster.specs.Pair.{is_standby}
@@ -57,7 +57,7 @@ abbrev is_down : Partner → Bool
 is_down Down = true
 is_down _ = false
 
-down-tells : (setup : Setup) (state : State Peers) (partner : Partner) → stays_down (partner_by setup (committed state.world.core) state.peers.keeps partner).node.role ≡ is_down partner
+down-tells : (setup : Setup) (state : State Peers) (partner : Partner) → stays_down (partner_by setup (committed state.world.core) state.peers.keeps partner).replica.role ≡ is_down partner
 down-tells setup state Down = refl
 down-tells setup state Owed = refl
 down-tells setup state Linking = refl
@@ -67,16 +67,16 @@ module _ (setup : Setup) (state : State Peers) (old : Cluster Pair) (shows : Sho
   same-shown : same_server server old.servers.acting ≡ same_server server state.peers.acting
   same-shown = ap (λ (servers : Pair). same_server server servers.acting) shows.own
 
-  down-shown : stays_down old.servers.partner.node.role ≡ is_down state.peers.partner
-  down-shown = ap (λ (servers : Pair). stays_down servers.partner.node.role) shows.own ∙ down-tells setup state state.peers.partner
+  down-shown : stays_down old.servers.partner.replica.role ≡ is_down state.peers.partner
+  down-shown = ap (λ (servers : Pair). stays_down servers.partner.replica.role) shows.own ∙ down-tells setup state state.peers.partner
 
-  pub leads-shown : (same_server server old.servers.acting && stands_by old.servers.partner.node.role) ≡ (same_server server state.peers.acting && is_standby state.peers.partner)
+  pub leads-shown : (same_server server old.servers.acting && stands_by old.servers.partner.replica.role) ≡ (same_server server state.peers.acting && is_standby state.peers.partner)
   leads-shown = λ i. same-shown i && standby-shown setup state old shows i
 
-  pub follows-shown : (not (same_server server old.servers.acting) && (not old.servers.armed && not (stays_down old.servers.partner.node.role))) ≡ (not (same_server server state.peers.acting) && (not (is_some state.peers.armed) && not (is_down state.peers.partner)))
+  pub follows-shown : (not (same_server server old.servers.acting) && (not old.servers.armed && not (stays_down old.servers.partner.replica.role))) ≡ (not (same_server server state.peers.acting) && (not (is_some state.peers.armed) && not (is_down state.peers.partner)))
   follows-shown = λ i. not (same-shown i) && (not (ap (λ (servers : Pair). servers.armed) shows.own i) && not (down-shown i))
 
-  pub rests-shown : (not (same_server server old.servers.acting) && stays_down old.servers.partner.node.role) ≡ (not (same_server server state.peers.acting) && is_down state.peers.partner)
+  pub rests-shown : (not (same_server server old.servers.acting) && stays_down old.servers.partner.replica.role) ≡ (not (same_server server state.peers.acting) && is_down state.peers.partner)
   rests-shown = λ i. not (same-shown i) && down-shown i
 
 -- the parts of a test
@@ -126,17 +126,17 @@ restart-refused server false (Standby number) state is = refl
 abbrev HappenedAs : Setup → Cluster Pair → List (List ℕ) → List (List ℕ) → Outcome (State Peers) → Type 0
 HappenedAs setup new before after outcome = Happened pair_kit setup outcome new before after
 
-pub crash-refuses : (server : Server) (world : Cluster Pair) (before after : List (List ℕ)) (disk : DiskSeen) → (same_server server world.servers.acting && stands_by world.servers.partner.node.role) ≡ false → (not (same_server server world.servers.acting) && (not world.servers.armed && not (stays_down world.servers.partner.node.role))) ≡ false → Does pair_kit (refused_by (line.Crash server)) world world before after → DoesOn (crashed_by server) world world before after disk disk
+pub crash-refuses : (server : Server) (world : Cluster Pair) (before after : List (List ℕ)) (disk : DiskSeen) → (same_server server world.servers.acting && stands_by world.servers.partner.replica.role) ≡ false → (not (same_server server world.servers.acting) && (not world.servers.armed && not (stays_down world.servers.partner.replica.role))) ≡ false → Does pair_kit (refused_by (line.Crash server)) world world before after → DoesOn (crashed_by server) world world before after disk disk
 crash-refuses server world before after disk leads follows does setup state good shows armed =
     let is = crash-refused server (same_server server state.peers.acting) state (sym (leads-shown setup state world shows server) ∙ leads) (sym (follows-shown setup state world shows server) ∙ follows) in
     (subst (HappenedAs setup world before after) (sym is) (does setup state good shows), subst (λ (o : Outcome (State Peers)). disk.armed ≡ o.state.peers.armed) (sym is) armed, λ tells. subst (λ (o : Outcome (State Peers)). LeavesFiles setup o.state disk.files disk.files) (sym is) (left-same setup state disk.files tells), refl)
 
-pub arm-refuses : (server : Server) (count : ℕ) (world : Cluster Pair) (before after : List (List ℕ)) (disk : DiskSeen) → (same_server server world.servers.acting && stands_by world.servers.partner.node.role) ≡ false → Does pair_kit (refused_by (line.Arm server count)) world world before after → DoesOn (armed_by server count) world world before after disk disk
+pub arm-refuses : (server : Server) (count : ℕ) (world : Cluster Pair) (before after : List (List ℕ)) (disk : DiskSeen) → (same_server server world.servers.acting && stands_by world.servers.partner.replica.role) ≡ false → Does pair_kit (refused_by (line.Arm server count)) world world before after → DoesOn (armed_by server count) world world before after disk disk
 arm-refuses server count world before after disk leads does setup state good shows armed =
     let is = arm-refused server count (same_server server state.peers.acting) state.peers.partner state (sym (leads-shown setup state world shows server) ∙ leads) in
     (subst (HappenedAs setup world before after) (sym is) (does setup state good shows), subst (λ (o : Outcome (State Peers)). disk.armed ≡ o.state.peers.armed) (sym is) armed, λ tells. subst (λ (o : Outcome (State Peers)). LeavesFiles setup o.state disk.files disk.files) (sym is) (left-same setup state disk.files tells), refl)
 
-pub restart-refuses : (server : Server) (world : Cluster Pair) (before after : List (List ℕ)) → (not (same_server server world.servers.acting) && stays_down world.servers.partner.node.role) ≡ false → Does pair_kit (refused_by (line.Restart server)) world world before after → Does pair_kit (restarted_by server) world world before after
+pub restart-refuses : (server : Server) (world : Cluster Pair) (before after : List (List ℕ)) → (not (same_server server world.servers.acting) && stays_down world.servers.partner.replica.role) ≡ false → Does pair_kit (refused_by (line.Restart server)) world world before after → Does pair_kit (restarted_by server) world world before after
 restart-refuses server world before after rests does setup state good shows =
     let is = restart-refused server (same_server server state.peers.acting) state.peers.partner state (sym (rests-shown setup state world shows server) ∙ rests) in
     subst (HappenedAs setup world before after) (sym is) (does setup state good shows)
@@ -168,7 +168,7 @@ pub record Leads (server : Server) (state : State Peers) : Type 0 where
   pub standby : state.peers.partner ≡ Standby number
   pub is : crash server state ≡ taken_over state
 
-leads-in : (setup : Setup) (state : State Peers) (old : Cluster Pair) (server : Server) → Shows pair_kit setup state old → (same_server server old.servers.acting && stands_by old.servers.partner.node.role) ≡ true → Leads server state
+leads-in : (setup : Setup) (state : State Peers) (old : Cluster Pair) (server : Server) → Shows pair_kit setup state old → (same_server server old.servers.acting && stands_by old.servers.partner.replica.role) ≡ true → Leads server state
 leads-in setup state old server shows leads =
     let both = both-true (same_server server state.peers.acting) (is_standby state.peers.partner) (sym (leads-shown setup state old shows server) ∙ leads) in
     let found = standby-is state.peers.partner both.1 in
@@ -179,7 +179,7 @@ leads-in setup state old server shows leads =
       is = ap (λ same. crash_by server same state) both.0 ∙ crash-over server true state.peers.partner found.0 state refl found.1;
     }
 
-module _ (server : Server) (old : Cluster Pair) (new : Pair) (before after : List (List ℕ)) (held left : DiskSeen) (leads : (same_server server old.servers.acting && stands_by old.servers.partner.node.role) ≡ true) where
+module _ (server : Server) (old : Cluster Pair) (new : Pair) (before after : List (List ℕ)) (held left : DiskSeen) (leads : (same_server server old.servers.acting && stands_by old.servers.partner.replica.role) ≡ true) where
   pub crash-does : (result : Result (Unit {0}) DiskAnswer) → TakesOver result (fell old.servers) new before after held left → OnOk result (DoesOn (crashed_by server) old (with_servers old new) before after held left)
   crash-does (Ok done) takes = λ setup state good shows armed.
       let found = leads-in setup state old server shows leads in
@@ -274,10 +274,10 @@ parted-by setup past (Waiting entry) partner = refl
 parted-by setup past (Applied entry) partner = refl
 parted-by setup past (Ready entry) partner = refl
 
-abbrev pub alone_left : Pair → PairNode → Pair
+abbrev pub alone_left : Pair → Node → Pair
 alone_left servers active = record servers { active = active; partner = alone down; link = []; back = [] }
 
-parted-own : (setup : Setup) (state : State Peers) (old : Pair) (active : PairNode) → old ≡ servers_of setup state → is_some state.peers.armed ≡ false → active ≡ parted old.active → alone_left old active ≡ servers_of setup (partner_down state).state
+parted-own : (setup : Setup) (state : State Peers) (old : Pair) (active : Node) → old ≡ servers_of setup state → is_some state.peers.armed ≡ false → active ≡ parted old.active → alone_left old active ≡ servers_of setup (partner_down state).state
 parted-own setup state old active own unarmed is =
     let core = state.world.core in
     let active_is = is ∙ ap (λ (servers : Pair). parted servers.active) own ∙ parted-by setup core.answered core.hand state.peers.partner in
@@ -289,7 +289,7 @@ pub record Follows (server : Server) (state : State Peers) : Type 0 where
   pub unarmed : is_some state.peers.armed ≡ false
   pub is : crash server state ≡ partner_down state
 
-follows-in : (setup : Setup) (state : State Peers) (old : Cluster Pair) (server : Server) → Shows pair_kit setup state old → (not (same_server server old.servers.acting) && (not old.servers.armed && not (stays_down old.servers.partner.node.role))) ≡ true → Follows server state
+follows-in : (setup : Setup) (state : State Peers) (old : Cluster Pair) (server : Server) → Shows pair_kit setup state old → (not (same_server server old.servers.acting) && (not old.servers.armed && not (stays_down old.servers.partner.replica.role))) ≡ true → Follows server state
 follows-in setup state old server shows follows =
     let partner = state.peers.partner in
     let first = both-true (not (same_server server state.peers.acting)) (not (is_some state.peers.armed) && not (is_down partner)) (sym (follows-shown setup state old shows server) ∙ follows) in
@@ -315,7 +315,7 @@ crash-entries setup state old entries shows is =
     is ∙ (λ i. waiting_entries (is_some (waiting-shown setup state old shows i)) ((shows.own i).active.waits) (shows.history i))
     ∙ committed-then state.world.core.answered state.world.core.hand
 
-pub crash-parts : (server : Server) (old : Cluster Pair) (active partner : PairNode) (link back : List Message) (history : Pushed) (before after : List (List ℕ)) → (not (same_server server old.servers.acting) && (not old.servers.armed && not (stays_down old.servers.partner.node.role))) ≡ true → active ≡ parted old.servers.active → partner ≡ alone down → link ≡ [] → back ≡ [] → history.entries ≡ waiting_entries (is_some (waiting_in old.servers.active (length old.history.entries))) old.servers.active.waits old.history.entries → after ≡ (before ++ waiting_lines (waiting_in old.servers.active (length old.history.entries))) ++ server_line server role.Down ∷ [] → Does pair_kit (crashed_by server) old (record old { servers = record old.servers { active = active; partner = partner; link = link; back = back }; history = history }) before after
+pub crash-parts : (server : Server) (old : Cluster Pair) (active partner : Node) (link back : List Message) (history : Pushed) (before after : List (List ℕ)) → (not (same_server server old.servers.acting) && (not old.servers.armed && not (stays_down old.servers.partner.replica.role))) ≡ true → active ≡ parted old.servers.active → partner ≡ alone down → link ≡ [] → back ≡ [] → history.entries ≡ waiting_entries (is_some (waiting_in old.servers.active (length old.history.entries))) old.servers.active.waits old.history.entries → after ≡ (before ++ waiting_lines (waiting_in old.servers.active (length old.history.entries))) ++ server_line server role.Down ∷ [] → Does pair_kit (crashed_by server) old (record old { servers = record old.servers { active = active; partner = partner; link = link; back = back }; history = history }) before after
 crash-parts server old active partner link back history before after follows is gone no_link no_back entries lines setup state good shows =
     let found = follows-in setup state old server shows follows in
     let new = record old { servers = record old.servers { active = active; partner = partner; link = link; back = back }; history = history } in
@@ -342,7 +342,7 @@ none-is None is = refl
 none-is (Some left) is = cc
 
 -- the disk is left alone
-pub crash-on : (server : Server) (old new : Cluster Pair) (before after : List (List ℕ)) (disk : DiskSeen) → (not (same_server server old.servers.acting) && (not old.servers.armed && not (stays_down old.servers.partner.node.role))) ≡ true → Does pair_kit (crashed_by server) old new before after → DoesOn (crashed_by server) old new before after disk disk
+pub crash-on : (server : Server) (old new : Cluster Pair) (before after : List (List ℕ)) (disk : DiskSeen) → (not (same_server server old.servers.acting) && (not old.servers.armed && not (stays_down old.servers.partner.replica.role))) ≡ true → Does pair_kit (crashed_by server) old new before after → DoesOn (crashed_by server) old new before after disk disk
 crash-on server old new before after disk follows does setup state good shows armed =
     let found = follows-in setup state old server shows follows in (
       does setup state good shows,
@@ -392,7 +392,7 @@ armed-shows setup state armed old shows = record {
   callbacks = shows.callbacks;
 }
 
-pub arms : (server : Server) (count : ℕ) (old : Cluster Pair) (lines : List (List ℕ)) (held left : DiskSeen) → (same_server server old.servers.acting && stands_by old.servers.partner.node.role) ≡ true → 1 ≤ count → left.files ≡ held.files → left.armed ≡ Some count → left.faults ≡ held.faults → DoesOn (armed_by server count) old (with_servers old (record old.servers { armed = true })) lines lines held left
+pub arms : (server : Server) (count : ℕ) (old : Cluster Pair) (lines : List (List ℕ)) (held left : DiskSeen) → (same_server server old.servers.acting && stands_by old.servers.partner.replica.role) ≡ true → 1 ≤ count → left.files ≡ held.files → left.armed ≡ Some count → left.faults ≡ held.faults → DoesOn (armed_by server count) old (with_servers old (record old.servers { armed = true })) lines lines held left
 arms server count old lines held left leads some files armed faults setup state good shows count_is =
     let both = both-true (same_server server state.peers.acting) (is_standby state.peers.partner) (sym (leads-shown setup state old shows server) ∙ leads) in
     let is = arm-is server count (same_server server state.peers.acting) state.peers.partner state both.0 both.1 in
@@ -425,25 +425,25 @@ down-is Owed is = cc
 down-is Linking is = cc
 down-is (Standby number) is = cc
 
-abbrev pub rejoined : Pair → PairNode → List Message → Pair
+abbrev pub rejoined : Pair → Node → List Message → Pair
 rejoined servers active link = record servers { active = active; partner = alone joining; link = link }
 
 -- the servers then
-rejoined-by : (setup : Setup) (state : State Peers) (hand : Hand) (old : Pair) (heard : Heard) (active : PairNode) (link : List Message) → old ≡ servers_of setup (pair_at Down hand state) → Agree Down hand state.peers.keeps → IsJoinBegun (is_some old.active.node.owed) old.active heard active → link ≡ old.link ++ heard.to_peer → rejoined old active link ≡ servers_of setup (joined (pair_at Down hand state))
+rejoined-by : (setup : Setup) (state : State Peers) (hand : Hand) (old : Pair) (heard : Heard) (active : Node) (link : List Message) → old ≡ servers_of setup (pair_at Down hand state) → Agree Down hand state.peers.keeps → IsJoinBegun (is_some old.active.replica.owed) old.active heard active → link ≡ old.link ++ heard.to_peer → rejoined old active link ≡ servers_of setup (joined (pair_at Down hand state))
 rejoined-by setup state Empty old heard active link own agree begun sent =
-    let J : PairNode → Type 0 = λ node. IsJoinBegun (is_some node.node.owed) node heard active in
+    let J : Node → Type 0 = λ node. IsJoinBegun (is_some node.replica.owed) node heard active in
     let is = subst (λ (servers : Pair). J servers.active) own begun in
     let link_is = sent ∙ ap (λ (servers : Pair). servers.link ++ heard.to_peer) own ∙ ap (λ (h : Heard). h.to_peer) is.0 in
     λ i. record (own i) { active = is.1 i; partner = alone joining; link = link_is i }
 rejoined-by setup state (Ready entry) old heard active link own agree begun sent =
-    let J : PairNode → Type 0 = λ node. IsJoinBegun (is_some node.node.owed) node heard active in
+    let J : Node → Type 0 = λ node. IsJoinBegun (is_some node.replica.owed) node heard active in
     let is = subst (λ (servers : Pair). J servers.active) own begun in
     let link_is = sent ∙ ap (λ (servers : Pair). servers.link ++ heard.to_peer) own ∙ ap (λ (h : Heard). h.to_peer) is.0 in
     λ i. record (own i) { active = is.1 i; partner = alone joining; link = link_is i }
 rejoined-by setup state (Waiting entry) old heard active link own agree begun sent = elim agree [ ]
 rejoined-by setup state (Applied entry) old heard active link own agree begun sent = elim agree [ ]
 
-pub restarts : (server : Server) (old : Cluster Pair) (heard : Heard) (active partner : PairNode) (link : List Message) (before after : List (List ℕ)) → partner ≡ alone joining → (not (same_server server old.servers.acting) && stays_down old.servers.partner.node.role) ≡ true → IsJoinBegun (is_some old.servers.active.node.owed) old.servers.active heard active → link ≡ old.servers.link ++ heard.to_peer → after ≡ before ++ server_line server role.Joining ∷ [] → Does pair_kit (restarted_by server) old (with_servers old (record old.servers { active = active; partner = partner; link = link })) before after
+pub restarts : (server : Server) (old : Cluster Pair) (heard : Heard) (active partner : Node) (link : List Message) (before after : List (List ℕ)) → partner ≡ alone joining → (not (same_server server old.servers.acting) && stays_down old.servers.partner.replica.role) ≡ true → IsJoinBegun (is_some old.servers.active.replica.owed) old.servers.active heard active → link ≡ old.servers.link ++ heard.to_peer → after ≡ before ++ server_line server role.Joining ∷ [] → Does pair_kit (restarted_by server) old (with_servers old (record old.servers { active = active; partner = partner; link = link })) before after
 restarts server old heard active partner link before after joins rests begun sent lines setup state good shows =
     let both = both-true (not (same_server server state.peers.acting)) (is_down state.peers.partner) (sym (rests-shown setup state old shows server) ∙ rests) in
     let down = down-is state.peers.partner both.1 in

@@ -22,7 +22,7 @@ use Rattle.cluster_events.specs.Serving.{IsSteady}
 use Rattle.cluster_events.proofs.Carrying.{Goes, hear-goes}
 use Rattle.mirror.specs.declared.heard.Role.TheVariants.{Active}
 use Rattle.mirror.specs.declared.heard.Heard.{Heard}
-use Rattle.mirror.specs.declared.pair_node.PairNode.{PairNode}
+use Rattle.mirror.specs.declared.node.Node.{Node}
 use Rattle.mirror.specs.Hearing.{CanHear}
 use Rattle.mirror.specs.Pairing.{IsHeard}
 use Rattle.pair_cluster.specs.Peers.{Peers, Partner, IsPair}
@@ -55,16 +55,16 @@ answered-history setup state good =
 
 -- The active server's role.
 
-active-by : (setup : Setup) (past : List Entry) (hand : Hand) (partner : Partner) → (active_by setup past hand partner).node.role ≡ Active
+active-by : (setup : Setup) (past : List Entry) (hand : Hand) (partner : Partner) → (active_by setup past hand partner).replica.role ≡ Active
 active-by setup past Empty partner = refl
 active-by setup past (Waiting entry) partner = refl
 active-by setup past (Applied entry) partner = refl
 active-by setup past (Ready entry) partner = refl
 
-pub is-active : (world : Cluster Pair) → HasState pair_kit world → world.servers.active.node.role ≡ Active
+pub is-active : (world : Cluster Pair) → HasState pair_kit world → world.servers.active.replica.role ≡ Active
 is-active world has =
     let core = has.state.world.core in
-    ap (λ (servers : Pair). servers.active.node.role) has.shows.own ∙ active-by has.setup core.answered core.hand has.state.peers.partner
+    ap (λ (servers : Pair). servers.active.replica.role) has.shows.own ∙ active-by has.setup core.answered core.hand has.state.peers.partner
 
 -- The moment that a world is at.
 
@@ -98,7 +98,7 @@ heard-goes setup place message state good stands =
     hear-goes plain (is_plain setup) (servers_at pair_kit setup (λ number. false)) IsPair ((calm-serves pair_kit pair_laws) setup) (SaysUnasked pair_kit.Within plain) ((calm-unasked pair_kit pair_laws) setup) place message state stands good.steady
 
 -- what the active server answered at that moment
-pub heard-then : (world : Cluster Pair) (message : Message) (heard : Heard) (new : PairNode) → HasState pair_kit world → IsHeard message (to_z w64 (of_z w64 world.now)) world.servers.active heard new → IsHeard message world.now world.servers.active heard new
+pub heard-then : (world : Cluster Pair) (message : Message) (heard : Heard) (new : Node) → HasState pair_kit world → IsHeard message (to_z w64 (of_z w64 world.now)) world.servers.active heard new → IsHeard message world.now world.servers.active heard new
 heard-then world message heard new has is =
     subst (λ now. IsHeard message now world.servers.active heard new) (moment-same world.now (moment-of world has)) is
 

@@ -20,14 +20,14 @@ use Rattle.cluster_events.specs.ClientEvents.{post}
 use Rattle.cluster_events.specs.Events.{post_again, request_as, hear_at_rest}
 use Rattle.mirror.specs.declared.heard.Heard.{Heard}
 use Rattle.mirror.specs.declared.heard.Why.TheVariants.{Busy as BusyWith}
-use Rattle.mirror.specs.declared.pair_node.PairNode.{PairNode}
+use Rattle.mirror.specs.declared.node.Node.{Node}
 use Rattle.mirror.specs.declared.heard.Role.TheVariants.{Active}
-use Rattle.mirror.specs.declared.pair_node.Tie.{Tie}
-use Rattle.mirror.specs.declared.pair_node.Tie.TheVariants.{Apart, Owing, Linked}
-use Rattle.mirror.specs.Nodes.{Server as Node, HasRoom, at_rest, at_work}
+use Rattle.mirror.specs.declared.node.Tie.{Tie}
+use Rattle.mirror.specs.declared.node.Tie.TheVariants.{Apart, Owing, Linked}
+use Rattle.mirror.specs.Replicas.{ReplicaState, HasRoom, at_rest, at_work}
 use Rattle.mirror.specs.Hearing.{CanHear, IsRequestHeard, IsReceiptHeard, IsHeardAtRest, ignored, accepted_alone, repeated}
 use Rattle.mirror.specs.Pairing.{CanReceive, IsHeard, IsHeardTied, IsReceived, mirrored, newest}
-use Rattle.mirror.proofs.NodeLaws.{count-is}
+use Rattle.mirror.proofs.ReplicaLaws.{count-is}
 use Rattle.pair_cluster.specs.Peers.{Peers}
 use Rattle.pair_cluster.specs.Pair.{is_linked}
 use Rattle.pair_cluster.proofs.Stepping.{pair_at}
@@ -53,48 +53,48 @@ use Rattle.pair_servers.proofs.HearSteps.{left_as, hears-at, busy-at, told-net}
 abbrev InRange : Heard → Type 0
 InRange heard = AllByRecursion MessageInRange heard.to_net
 
-request-range : (setup : Setup) (past : List Entry) (now : ℤ) (client number : ℕ) (call : Call) (verdict : Judged) (heard : Heard) (node : Node) → MessageInRange (Request client number call) → IsRequestHeard setup past client number call now verdict heard node → InRange heard
+request-range : (setup : Setup) (past : List Entry) (now : ℤ) (client number : ℕ) (call : Call) (verdict : Judged) (heard : Heard) (node : ReplicaState) → MessageInRange (Request client number call) → IsRequestHeard setup past client number call now verdict heard node → InRange heard
 request-range setup past now client number call New heard node range is = subst InRange (sym is.0) tt
 request-range setup past now client number call Repeat heard node range is = subst InRange (sym is.2) ((range.0, range.1), tt)
 request-range setup past now client number call Old heard node range is = subst InRange (sym is.0) tt
 request-range setup past now client number call Ahead heard node range is = subst InRange (sym is.0) tt
 
-receipt-range : (setup : Setup) (past : List Entry) (now : ℤ) (client key through : ℕ) (new : Bool) (heard : Heard) (node : Node) → IsReceiptHeard setup past client key through now new heard node → InRange heard
+receipt-range : (setup : Setup) (past : List Entry) (now : ℤ) (client key through : ℕ) (new : Bool) (heard : Heard) (node : ReplicaState) → IsReceiptHeard setup past client key through now new heard node → InRange heard
 receipt-range setup past now client key through true heard node is = subst InRange (sym is.0) tt
 receipt-range setup past now client key through false heard node is = subst InRange (sym is.0) tt
 
-rest-range : (setup : Setup) (past : List Entry) (now : ℤ) (message : Message) (heard : Heard) (node : Node) → MessageInRange message → IsHeardAtRest setup past now message heard node → InRange heard
+rest-range : (setup : Setup) (past : List Entry) (now : ℤ) (message : Message) (heard : Heard) (node : ReplicaState) → MessageInRange message → IsHeardAtRest setup past now message heard node → InRange heard
 rest-range setup past now (Request client number call) heard node range is = request-range setup past now client number call (judged_call past client number) heard node range is
 rest-range setup past now (Receipt client key through) heard node range is = receipt-range setup past now client key through (is_new (plain_of setup) past client key through) heard node is
 rest-range setup past now _ heard node range is = subst InRange (sym is.0) tt
 
-heard-range-by : (setup : Setup) (state : State Peers) (hand : Hand) (old : Cluster Pair) (heard : Heard) (active : PairNode) (message : Message) → IsGood pair_kit setup (pair_at state.peers.partner hand state) → Shows pair_kit setup (pair_at state.peers.partner hand state) old → MessageInRange message → IsHeard message old.now old.servers.active heard active → InRange heard
+heard-range-by : (setup : Setup) (state : State Peers) (hand : Hand) (old : Cluster Pair) (heard : Heard) (active : Node) (message : Message) → IsGood pair_kit setup (pair_at state.peers.partner hand state) → Shows pair_kit setup (pair_at state.peers.partner hand state) old → MessageInRange message → IsHeard message old.now old.servers.active heard active → InRange heard
 heard-range-by setup state Empty old heard active message good shows range hears =
     let tied = hears-at setup state state.peers.partner old message heard active good shows hears in
     let N : List Message → Type 0 = λ messages. AllByRecursion MessageInRange messages in
     let same : heard.to_net ≡ tied.plain.to_net = ap (λ (h : Heard). h.to_net) tied.heard_is ∙ told-net (is_linked state.peers.partner) (suc (length state.world.core.answered)) tied.plain in
-    subst N (sym same) (rest-range setup state.world.core.answered state.world.now message tied.plain tied.node range tied.at_rest)
+    subst N (sym same) (rest-range setup state.world.core.answered state.world.now message tied.plain tied.replica range tied.at_rest)
 heard-range-by setup state (Waiting entry) old heard active message good shows range hears = subst InRange (sym (busy-at setup state (Waiting entry) entry old message heard active refl shows hears).0) tt
 heard-range-by setup state (Applied entry) old heard active message good shows range hears = subst InRange (sym (busy-at setup state (Applied entry) entry old message heard active refl shows hears).0) tt
 heard-range-by setup state (Ready entry) old heard active message good shows range hears = subst InRange (sym (busy-at setup state (Ready entry) entry old message heard active refl shows hears).0) tt
 
-pub heard-range : (old : Cluster Pair) (heard : Heard) (active : PairNode) (message : Message) → HasState pair_kit old → MessageInRange message → IsHeard message old.now old.servers.active heard active → InRange heard
+pub heard-range : (old : Cluster Pair) (heard : Heard) (active : Node) (message : Message) → HasState pair_kit old → MessageInRange message → IsHeard message old.now old.servers.active heard active → InRange heard
 heard-range old heard active message has range hears =
     heard-range-by has.setup has.state has.state.world.core.hand old heard active message has.good has.shows range hears
 
 -- There is room for an entry where nothing is in hand.
 
-room-by : (setup : Setup) (state : State Peers) (hand : Hand) (old : Cluster Pair) → Shows pair_kit setup (pair_at state.peers.partner hand state) old → HasRoom old.servers.active.node.service → hand ≡ Empty → length state.world.core.answered < 4000000000
+room-by : (setup : Setup) (state : State Peers) (hand : Hand) (old : Cluster Pair) → Shows pair_kit setup (pair_at state.peers.partner hand state) old → HasRoom old.servers.active.replica.service → hand ≡ Empty → length state.world.core.answered < 4000000000
 room-by setup state Empty old shows room empty =
     let past = state.world.core.answered in
     let number = count-is setup past in
-    let below : (saved_of setup past).number < 4000000000 = subst (λ (servers : Pair). HasRoom servers.active.node.service) shows.own room in
+    let below : (saved_of setup past).number < 4000000000 = subst (λ (servers : Pair). HasRoom servers.active.replica.service) shows.own room in
     omega arith
 room-by setup state (Waiting entry) old shows room empty = cc
 room-by setup state (Applied entry) old shows room empty = cc
 room-by setup state (Ready entry) old shows room empty = cc
 
-pub has-room : (setup : Setup) (state : State Peers) (old : Cluster Pair) → Shows pair_kit setup state old → HasRoom old.servers.active.node.service → state.world.core.hand ≡ Empty → length state.world.core.answered < 4000000000
+pub has-room : (setup : Setup) (state : State Peers) (old : Cluster Pair) → Shows pair_kit setup state old → HasRoom old.servers.active.replica.service → state.world.core.hand ≡ Empty → length state.world.core.answered < 4000000000
 has-room setup state old shows room empty = room-by setup state state.world.core.hand old shows room empty
 
 -- Messages that were posted in part.
@@ -122,7 +122,7 @@ posts-one setup message net old new posts spelled =
 
 -- Where memory runs out the history stays, and a reply was posted again or not.
 
-module _ (setup : Setup) (state : State Peers) (old : Cluster Pair) (active : PairNode) (link : List Message) (net : List (List ℕ)) (history : Pushed) (held : Option Files) (good : IsGood pair_kit setup state) (shows : Shows pair_kit setup state old) (same : history.entries ≡ old.history.entries) where
+module _ (setup : Setup) (state : State Peers) (old : Cluster Pair) (active : Node) (link : List Message) (net : List (List ℕ)) (history : Pushed) (held : Option Files) (good : IsGood pair_kit setup state) (shows : Shows pair_kit setup state old) (same : history.entries ≡ old.history.entries) where
   abbrev Breaks : Type 0
   Breaks = Broken pair_kit.Within setup state held held (left_as old active link net history)
 
@@ -147,7 +147,7 @@ module _ (setup : Setup) (state : State Peers) (old : Cluster Pair) (active : Pa
   abbrev servers : Servers Peers
   servers = calm_servers pair_kit setup
 
-  request-breaks : (plain : Heard) (node : Node) (place client number : ℕ) (call : Call) (verdict : Judged) → IsRequestHeard setup state.world.core.answered client number call state.world.now verdict plain node → Posts plain → GoesSo setup state (request_as (plain_of setup) servers place client number call verdict state) → Breaks
+  request-breaks : (plain : Heard) (node : ReplicaState) (place client number : ℕ) (call : Call) (verdict : Judged) → IsRequestHeard setup state.world.core.answered client number call state.world.now verdict plain node → Posts plain → GoesSo setup state (request_as (plain_of setup) servers place client number call verdict state) → Breaks
   request-breaks plain node place client number call New is posts goes = quiet-breaks (subst Posts is.0 posts)
   request-breaks plain node place client number call Repeat is posts goes =
       let G : Option Reply → Type 0 = λ found. GoesSo setup state (in_world (post_again (plain_of setup) client number found) state) in
@@ -155,22 +155,22 @@ module _ (setup : Setup) (state : State Peers) (old : Cluster Pair) (active : Pa
   request-breaks plain node place client number call Old is posts goes = quiet-breaks (subst Posts is.0 posts)
   request-breaks plain node place client number call Ahead is posts goes = quiet-breaks (subst Posts is.0 posts)
 
-  receipt-breaks : (plain : Heard) (node : Node) (client key through : ℕ) (new : Bool) → IsReceiptHeard setup state.world.core.answered client key through state.world.now new plain node → Posts plain → Breaks
+  receipt-breaks : (plain : Heard) (node : ReplicaState) (client key through : ℕ) (new : Bool) → IsReceiptHeard setup state.world.core.answered client key through state.world.now new plain node → Posts plain → Breaks
   receipt-breaks plain node client key through true is posts = quiet-breaks (subst Posts is.0 posts)
   receipt-breaks plain node client key through false is posts = quiet-breaks (subst Posts is.0 posts)
 
-  rest-breaks : (plain : Heard) (node : Node) (place : ℕ) (message : Message) → IsHeardAtRest setup state.world.core.answered state.world.now message plain node → Posts plain → GoesSo setup state (hear_at_rest (plain_of setup) servers place message state) → Breaks
+  rest-breaks : (plain : Heard) (node : ReplicaState) (place : ℕ) (message : Message) → IsHeardAtRest setup state.world.core.answered state.world.now message plain node → Posts plain → GoesSo setup state (hear_at_rest (plain_of setup) servers place message state) → Breaks
   rest-breaks plain node place (Request client number call) is posts goes = request-breaks plain node place client number call (judged_call state.world.core.answered client number) is posts goes
   rest-breaks plain node place (Receipt client key through) is posts goes = receipt-breaks plain node client key through (is_new (plain_of setup) state.world.core.answered client key through) is posts
   rest-breaks plain node place _ is posts goes = quiet-breaks (subst Posts is.0 posts)
 
-hears-break-by : (setup : Setup) (state : State Peers) (hand : Hand) (old : Cluster Pair) (active : PairNode) (link : List Message) (net : List (List ℕ)) (history : Pushed) (heard : Heard) (place : ℕ) (message : Message) (held : Option Files) (new : PairNode) → IsGood pair_kit setup (pair_at state.peers.partner hand state) → Shows pair_kit setup (pair_at state.peers.partner hand state) old → Stands message state.world.net → IsHeard message old.now old.servers.active heard active → PostsSome heard.to_net old.net net → history.entries ≡ old.history.entries → Broken pair_kit.Within setup (pair_at state.peers.partner hand state) held held (left_as old new link net history)
+hears-break-by : (setup : Setup) (state : State Peers) (hand : Hand) (old : Cluster Pair) (active : Node) (link : List Message) (net : List (List ℕ)) (history : Pushed) (heard : Heard) (place : ℕ) (message : Message) (held : Option Files) (new : Node) → IsGood pair_kit setup (pair_at state.peers.partner hand state) → Shows pair_kit setup (pair_at state.peers.partner hand state) old → Stands message state.world.net → IsHeard message old.now old.servers.active heard active → PostsSome heard.to_net old.net net → history.entries ≡ old.history.entries → Broken pair_kit.Within setup (pair_at state.peers.partner hand state) held held (left_as old new link net history)
 hears-break-by setup state Empty old active link net history heard place message held new good shows stands hears posts same =
     let tied = hears-at setup state state.peers.partner old message heard active good shows hears in
     let now = pair_at state.peers.partner Empty state in
     let P : List Message → Type 0 = λ messages. PostsSome messages old.net net in
     let posted_as : heard.to_net ≡ tied.plain.to_net = ap (λ (h : Heard). h.to_net) tied.heard_is ∙ told-net (is_linked state.peers.partner) (suc (length state.world.core.answered)) tied.plain in
-    rest-breaks setup now old new link net history held good shows same tied.plain tied.node place message tied.at_rest (subst P posted_as posts) (heard-goes setup place message now good stands)
+    rest-breaks setup now old new link net history held good shows same tied.plain tied.replica place message tied.at_rest (subst P posted_as posts) (heard-goes setup place message now good stands)
 hears-break-by setup state (Waiting entry) old active link net history heard place message held new good shows stands hears posts same =
     quiet-breaks setup (pair_at state.peers.partner (Waiting entry) state) old new link net history held good shows same (subst (λ (h : Heard). PostsSome h.to_net old.net net) (busy-at setup state (Waiting entry) entry old message heard active refl shows hears).0 posts)
 hears-break-by setup state (Applied entry) old active link net history heard place message held new good shows stands hears posts same =
@@ -179,7 +179,7 @@ hears-break-by setup state (Ready entry) old active link net history heard place
     quiet-breaks setup (pair_at state.peers.partner (Ready entry) state) old new link net history held good shows same (subst (λ (h : Heard). PostsSome h.to_net old.net net) (busy-at setup state (Ready entry) entry old message heard active refl shows hears).0 posts)
 
 -- **what a message is left as that was heard, and told in part**
-pub hears-break : (setup : Setup) (state : State Peers) (old : Cluster Pair) (active : PairNode) (link : List Message) (net : List (List ℕ)) (history : Pushed) (heard : Heard) (place : ℕ) (message : Message) (held : Option Files) → IsGood pair_kit setup state → Shows pair_kit setup state old → Stands message state.world.net → IsHeard message old.now old.servers.active heard active → PostsSome heard.to_net old.net net → history.entries ≡ old.history.entries → Broken pair_kit.Within setup state held held (left_as old active link net history)
+pub hears-break : (setup : Setup) (state : State Peers) (old : Cluster Pair) (active : Node) (link : List Message) (net : List (List ℕ)) (history : Pushed) (heard : Heard) (place : ℕ) (message : Message) (held : Option Files) → IsGood pair_kit setup state → Shows pair_kit setup state old → Stands message state.world.net → IsHeard message old.now old.servers.active heard active → PostsSome heard.to_net old.net net → history.entries ≡ old.history.entries → Broken pair_kit.Within setup state held held (left_as old active link net history)
 hears-break setup state old active link net history heard place message held good shows stands hears posts same =
     hears-break-by setup state state.world.core.hand old active link net history heard place message held active good shows stands hears posts same
 
@@ -198,22 +198,22 @@ IsOwn (Request client number call) = Unit {0}
 IsOwn (Receipt client key through) = Unit {0}
 IsOwn _ = ⊥
 
-pub own-receives : (message : Message) (now : ℤ) (old : PairNode) → IsOwn message → CanHear message now → CanReceive message now old
+pub own-receives : (message : Message) (now : ℤ) (old : Node) → IsOwn message → CanHear message now → CanReceive message now old
 own-receives (Request client number call) now old own can = can
 own-receives (Receipt client key through) now old own can = can
 own-receives _ now old own can = absurd own
 
-own-heard-by : (message : Message) (now : ℤ) (old : PairNode) (heard : Heard) (new : PairNode) → IsOwn message → IsReceived Active message now old heard new → IsHeard message now old heard new
+own-heard-by : (message : Message) (now : ℤ) (old : Node) (heard : Heard) (new : Node) → IsOwn message → IsReceived Active message now old heard new → IsHeard message now old heard new
 own-heard-by (Request client number call) now old heard new own is = is
 own-heard-by (Receipt client key through) now old heard new own is = is
 own-heard-by _ now old heard new own is = absurd own
 
-pub own-heard : (message : Message) (now : ℤ) (old : PairNode) (heard : Heard) (new : PairNode) → old.node.role ≡ Active → IsOwn message → IsReceived old.node.role message now old heard new → IsHeard message now old heard new
+pub own-heard : (message : Message) (now : ℤ) (old : Node) (heard : Heard) (new : Node) → old.replica.role ≡ Active → IsOwn message → IsReceived old.replica.role message now old heard new → IsHeard message now old heard new
 own-heard message now old heard new role own is =
     own-heard-by message now old heard new own (subst (λ r. IsReceived r message now old heard new) role is)
 
 -- any other message is not for its role, or comes while it is busy
-other-tied : (tie : Tie) (setup : Setup) (past : List Entry) (now : ℤ) (message : Message) (old : PairNode) (heard : Heard) (node : Node) → (IsOwn message → ⊥) → IsHeardAtRest setup past now message heard node → IsHeardTied tie setup past now message old heard (record old { node = node })
+other-tied : (tie : Tie) (setup : Setup) (past : List Entry) (now : ℤ) (message : Message) (old : Node) (heard : Heard) (node : ReplicaState) → (IsOwn message → ⊥) → IsHeardAtRest setup past now message heard node → IsHeardTied tie setup past now message old heard (record old { replica = node })
 other-tied Linked setup past now message old heard node not is = ((heard, is, other-mirrored message not is, other-waits message not is), refl)
   where
     other-mirrored : (message : Message) → (IsOwn message → ⊥) → IsHeardAtRest setup past now message heard node → heard ≡ mirrored (suc (length past)) heard
@@ -228,9 +228,9 @@ other-tied Linked setup past now message old heard node not is = ((heard, is, ot
 other-tied Apart setup past now message old heard node not is = (is, refl)
 other-tied Owing setup past now message old heard node not is = (is, refl)
 
-pub other-heard : (message : Message) (now : ℤ) (old : PairNode) (heard : Heard) (node : Node) → (IsOwn message → ⊥) → ((setup : Setup) (past : List Entry) (entry : Entry) → old.node ≡ at_work setup past entry → (heard ≡ ignored (BusyWith (suc (length past)))) × (node ≡ old.node)) → ((setup : Setup) (past : List Entry) → IsHistory setup past → old.node ≡ at_rest setup past → IsHeardAtRest setup past now message heard node) → IsHeard message now old heard (record old { node = node })
+pub other-heard : (message : Message) (now : ℤ) (old : Node) (heard : Heard) (node : ReplicaState) → (IsOwn message → ⊥) → ((setup : Setup) (past : List Entry) (entry : Entry) → old.replica ≡ at_work setup past entry → (heard ≡ ignored (BusyWith (suc (length past)))) × (node ≡ old.replica)) → ((setup : Setup) (past : List Entry) → IsHistory setup past → old.replica ≡ at_rest setup past → IsHeardAtRest setup past now message heard node) → IsHeard message now old heard (record old { replica = node })
 other-heard message now old heard node not busy rest = (
-  λ setup past entry is. ((busy setup past entry is).0, ap (λ (n : Node). record old { node = n }) (busy setup past entry is).1),
+  λ setup past entry is. ((busy setup past entry is).0, ap (λ (n : ReplicaState). record old { replica = n }) (busy setup past entry is).1),
   λ setup past history is. other-tied old.tie setup past now message old heard node not (rest setup past history is),
 )
 

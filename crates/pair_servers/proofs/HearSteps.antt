@@ -26,8 +26,8 @@ use Rattle.mirror.specs.declared.heard.Outcome.{Outcome as Became}
 use Rattle.mirror.specs.declared.heard.Why.{Why as Reason}
 use Rattle.mirror.specs.declared.heard.Why.TheVariants.{Old as OldMessage, Ahead as AheadMessage, Busy as BusyWith, Done, NotForRole}
 use Rattle.mirror.specs.declared.heard.Role.TheVariants.{Active}
-use Rattle.mirror.specs.declared.pair_node.PairNode.{PairNode}
-use Rattle.mirror.specs.Nodes.{Server as Node, at_rest, at_work}
+use Rattle.mirror.specs.declared.node.Node.{Node}
+use Rattle.mirror.specs.Replicas.{ReplicaState, at_rest, at_work}
 use Rattle.mirror.specs.Hearing.{IsRequestHeard, IsReceiptHeard, IsHeardAtRest, ignored, accepted_alone, repeated}
 use Rattle.mirror.specs.Pairing.{IsHeard, IsHeardTied, mirrored, newest}
 use Rattle.pair_cluster.specs.Peers.{Partner, Down, Owed, Linking, Standby, Peers, Agree, IsPair}
@@ -59,29 +59,29 @@ waits_as true committed = newest committed None
 waits_as false committed = None
 
 -- with nothing in hand: what it is without a partner
-pub record HeardTied (setup : Setup) (past : List Entry) (now : ℤ) (message : Message) (partner : Partner) (heard : Heard) (new : PairNode) : Type 0 where
+pub record HeardTied (setup : Setup) (past : List Entry) (now : ℤ) (message : Message) (partner : Partner) (heard : Heard) (new : Node) : Type 0 where
   pub plain : Heard
-  pub node : Node
-  pub at_rest : IsHeardAtRest setup past now message plain node
+  pub replica : ReplicaState
+  pub at_rest : IsHeardAtRest setup past now message plain replica
   pub heard_is : heard ≡ told_as (is_linked partner) (suc (length past)) plain
-  pub new_is : new ≡ record (active_by setup past Empty partner) { node = node; waits = waits_as (is_linked partner) plain.committed }
+  pub new_is : new ≡ record (active_by setup past Empty partner) { replica = replica; waits = waits_as (is_linked partner) plain.committed }
 
-heard-tied : (setup : Setup) (past : List Entry) (now : ℤ) (message : Message) (partner : Partner) (heard : Heard) (new : PairNode) → IsHeardTied (tie_to partner) setup past now message (active_by setup past Empty partner) heard new → HeardTied setup past now message partner heard new
-heard-tied setup past now message Down heard new is = record { plain = heard; node = new.node; at_rest = is.0; heard_is = refl; new_is = is.1 }
-heard-tied setup past now message Owed heard new is = record { plain = heard; node = new.node; at_rest = is.0; heard_is = refl; new_is = is.1 }
+heard-tied : (setup : Setup) (past : List Entry) (now : ℤ) (message : Message) (partner : Partner) (heard : Heard) (new : Node) → IsHeardTied (tie_to partner) setup past now message (active_by setup past Empty partner) heard new → HeardTied setup past now message partner heard new
+heard-tied setup past now message Down heard new is = record { plain = heard; replica = new.replica; at_rest = is.0; heard_is = refl; new_is = is.1 }
+heard-tied setup past now message Owed heard new is = record { plain = heard; replica = new.replica; at_rest = is.0; heard_is = refl; new_is = is.1 }
 heard-tied setup past now message Linking heard new is = record {
   plain = is.0.0;
-  node = new.node;
+  replica = new.replica;
   at_rest = is.0.1;
   heard_is = is.0.2;
-  new_is = is.1 ∙ ap (λ (waits : Option Entry). record (active_by setup past Empty Linking) { node = new.node; waits = waits }) is.0.3;
+  new_is = is.1 ∙ ap (λ (waits : Option Entry). record (active_by setup past Empty Linking) { replica = new.replica; waits = waits }) is.0.3;
 }
 heard-tied setup past now message (Standby on_way) heard new is = record {
   plain = is.0.0;
-  node = new.node;
+  replica = new.replica;
   at_rest = is.0.1;
   heard_is = is.0.2;
-  new_is = is.1 ∙ ap (λ (waits : Option Entry). record (active_by setup past Empty (Standby on_way)) { node = new.node; waits = waits }) is.0.3;
+  new_is = is.1 ∙ ap (λ (waits : Option Entry). record (active_by setup past Empty (Standby on_way)) { replica = new.replica; waits = waits }) is.0.3;
 }
 
 -- what is neither mirrored nor committed is the same either way
@@ -102,15 +102,15 @@ told-net false number plain = refl
 
 -- What the code is left as.
 
-abbrev pub left_as : Cluster Pair → PairNode → List Message → List (List ℕ) → Pushed → Cluster Pair
+abbrev pub left_as : Cluster Pair → Node → List Message → List (List ℕ) → Pushed → Cluster Pair
 left_as old active link net history = record old { servers = record old.servers { active = active; link = link }; net = net; history = history }
 
 -- servers of which nothing changed
-same-own : (setup : Setup) (state : State Peers) (old : Cluster Pair) (active : PairNode) (link : List Message) → Shows pair_kit setup state old → active ≡ old.servers.active → link ≡ old.servers.link → record old.servers { active = active; link = link } ≡ servers_of setup state
+same-own : (setup : Setup) (state : State Peers) (old : Cluster Pair) (active : Node) (link : List Message) → Shows pair_kit setup state old → active ≡ old.servers.active → link ≡ old.servers.link → record old.servers { active = active; link = link } ≡ servers_of setup state
 same-own setup state old active link shows same kept = (λ i. record old.servers { active = same i; link = kept i }) ∙ shows.own
 
 -- What is ignored changes nothing but a line.
-ignored-happens : (setup : Setup) (state : State Peers) (old : Cluster Pair) (active : PairNode) (link : List Message) (net : List (List ℕ)) (history : Pushed) (why : Reason) (place : ℕ) (told : List Told) (before after : List (List ℕ)) → IsGood pair_kit setup state → Shows pair_kit setup state old → active ≡ old.servers.active → IsToldHeard place (ignored why) old.net net old.servers.link link old.history.entries history.entries before after → printed told ≡ reason_lines place (reason_of why) → Happened pair_kit setup (record { state = state; told = told }) (left_as old active link net history) before after
+ignored-happens : (setup : Setup) (state : State Peers) (old : Cluster Pair) (active : Node) (link : List Message) (net : List (List ℕ)) (history : Pushed) (why : Reason) (place : ℕ) (told : List Told) (before after : List (List ℕ)) → IsGood pair_kit setup state → Shows pair_kit setup state old → active ≡ old.servers.active → IsToldHeard place (ignored why) old.net net old.servers.link link old.history.entries history.entries before after → printed told ≡ reason_lines place (reason_of why) → Happened pair_kit setup (record { state = state; told = told }) (left_as old active link net history) before after
 ignored-happens setup state old active link net history why place told before after good shows same tells lines =
     let posts = tells.posts (plain_of setup) state.world.net (is_plain setup) shows.net in
     let between : tells.between ≡ before = posts.1 ∙ append-nil before in (
@@ -128,9 +128,9 @@ ignored-happens setup state old active link net history why place told before af
 
 -- An entry is accepted: it waits for the partner, or is committed at once.
 
-abbrev new_active : Setup → State Peers → Entry → Partner → PairNode
+abbrev new_active : Setup → State Peers → Entry → Partner → Node
 new_active setup state entry partner = record (active_by setup state.world.core.answered Empty partner) {
-  node = at_work setup state.world.core.answered entry;
+  replica = at_work setup state.world.core.answered entry;
   waits = waits_as (is_linked partner) (Some entry);
 }
 
@@ -138,7 +138,7 @@ abbrev accepts_in : Entry → Partner → State Peers → Outcome (State Peers)
 accepts_in entry partner state = accept_by (is_linked partner) entry (pair_at partner Empty state)
 
 -- by what the servers, the history and the lines are
-accepted-with : (setup : Setup) (state : State Peers) (old : Cluster Pair) (active : PairNode) (link : List Message) (net : List (List ℕ)) (history : Pushed) (entry : Entry) (before after : List (List ℕ)) (outcome : Outcome (State Peers)) → Shows pair_kit setup state old → outcome.state.world.net ≡ state.world.net → outcome.state.world.agents ≡ state.world.agents → outcome.state.world.clients ≡ state.world.clients → outcome.state.world.places ≡ state.world.places → outcome.state.world.now ≡ state.world.now → IsGood pair_kit setup outcome.state → AreSpelled state.world.net net → record old.servers { active = active; link = link } ≡ servers_of setup outcome.state → history.entries ≡ committed outcome.state.world.core → after ≡ before ++ printed outcome.told → Happened pair_kit setup outcome (left_as old active link net history) before after
+accepted-with : (setup : Setup) (state : State Peers) (old : Cluster Pair) (active : Node) (link : List Message) (net : List (List ℕ)) (history : Pushed) (entry : Entry) (before after : List (List ℕ)) (outcome : Outcome (State Peers)) → Shows pair_kit setup state old → outcome.state.world.net ≡ state.world.net → outcome.state.world.agents ≡ state.world.agents → outcome.state.world.clients ≡ state.world.clients → outcome.state.world.places ≡ state.world.places → outcome.state.world.now ≡ state.world.now → IsGood pair_kit setup outcome.state → AreSpelled state.world.net net → record old.servers { active = active; link = link } ≡ servers_of setup outcome.state → history.entries ≡ committed outcome.state.world.core → after ≡ before ++ printed outcome.told → Happened pair_kit setup outcome (left_as old active link net history) before after
 accepted-with setup state old active link net history entry before after outcome shows same_net same_agents same_clients same_places same_now good spelled own entries lines = (
   record {
     own = own;
@@ -153,7 +153,7 @@ accepted-with setup state old active link net history entry before after outcome
 )
 
 -- mirrored: the link has one message more
-mirrored-happens : (setup : Setup) (state : State Peers) (old : Cluster Pair) (active : PairNode) (link : List Message) (net : List (List ℕ)) (history : Pushed) (entry : Entry) (place : ℕ) (before after : List (List ℕ)) (partner : Partner) → IsGood pair_kit setup (pair_at partner Empty state) → Shows pair_kit setup (pair_at partner Empty state) old → record old.servers { active = active; link = link } ≡ servers_of setup (accept_by true entry (pair_at partner Empty state)).state → IsToldHeard place (mirrored (suc (length state.world.core.answered)) (accepted_alone entry)) old.net net old.servers.link link old.history.entries history.entries before after → IsSteady (plain_of setup) IsPair (accept_by true entry (pair_at partner Empty state)).state → CanCome entry state.world.core.answered → Happened pair_kit setup (accept_by true entry (pair_at partner Empty state)) (left_as old active link net history) before after
+mirrored-happens : (setup : Setup) (state : State Peers) (old : Cluster Pair) (active : Node) (link : List Message) (net : List (List ℕ)) (history : Pushed) (entry : Entry) (place : ℕ) (before after : List (List ℕ)) (partner : Partner) → IsGood pair_kit setup (pair_at partner Empty state) → Shows pair_kit setup (pair_at partner Empty state) old → record old.servers { active = active; link = link } ≡ servers_of setup (accept_by true entry (pair_at partner Empty state)).state → IsToldHeard place (mirrored (suc (length state.world.core.answered)) (accepted_alone entry)) old.net net old.servers.link link old.history.entries history.entries before after → IsSteady (plain_of setup) IsPair (accept_by true entry (pair_at partner Empty state)).state → CanCome entry state.world.core.answered → Happened pair_kit setup (accept_by true entry (pair_at partner Empty state)) (left_as old active link net history) before after
 mirrored-happens setup state old active link net history entry place before after partner good shows own tells steady can =
     let posts = tells.posts (plain_of setup) state.world.net (is_plain setup) shows.net in
     let between : tells.between ≡ before = posts.1 ∙ append-nil before in
@@ -161,7 +161,7 @@ mirrored-happens setup state old active link net history entry place before afte
     (record { begins = good.begins; steady = steady; range = (can, good.range); moment = good.moment }) posts.0 own (tells.hands.1.0 ∙ shows.history)
     (tells.hands.1.1 ∙ ap (λ lines. lines ++ []) between)
 
-accepted-happens : (setup : Setup) (state : State Peers) (old : Cluster Pair) (active : PairNode) (link : List Message) (net : List (List ℕ)) (history : Pushed) (entry : Entry) (place : ℕ) (before after : List (List ℕ)) (partner : Partner) → IsGood pair_kit setup (pair_at partner Empty state) → Shows pair_kit setup (pair_at partner Empty state) old → active ≡ new_active setup state entry partner → IsToldHeard place (told_as (is_linked partner) (suc (length state.world.core.answered)) (accepted_alone entry)) old.net net old.servers.link link old.history.entries history.entries before after → IsSteady (plain_of setup) IsPair (accepts_in entry partner state).state → CanCome entry state.world.core.answered → Happened pair_kit setup (accepts_in entry partner state) (left_as old active link net history) before after
+accepted-happens : (setup : Setup) (state : State Peers) (old : Cluster Pair) (active : Node) (link : List Message) (net : List (List ℕ)) (history : Pushed) (entry : Entry) (place : ℕ) (before after : List (List ℕ)) (partner : Partner) → IsGood pair_kit setup (pair_at partner Empty state) → Shows pair_kit setup (pair_at partner Empty state) old → active ≡ new_active setup state entry partner → IsToldHeard place (told_as (is_linked partner) (suc (length state.world.core.answered)) (accepted_alone entry)) old.net net old.servers.link link old.history.entries history.entries before after → IsSteady (plain_of setup) IsPair (accepts_in entry partner state).state → CanCome entry state.world.core.answered → Happened pair_kit setup (accepts_in entry partner state) (left_as old active link net history) before after
 accepted-happens setup state old active link net history entry place before after Down good shows is tells steady can =
     let past = state.world.core.answered in
     let posts = tells.posts (plain_of setup) state.world.net (is_plain setup) shows.net in
@@ -185,7 +185,7 @@ accepted-happens setup state old active link net history entry place before afte
     mirrored-happens setup state old active link net history entry place before after (Standby (Some number)) good shows (λ i. record (shows.own i) { active = is i; link = sent i }) tells steady can
 
 -- A reply is posted again.
-repeated-happens : (setup : Setup) (state : State Peers) (old : Cluster Pair) (active : PairNode) (link : List Message) (net : List (List ℕ)) (history : Pushed) (message : Message) (place : ℕ) (before after : List (List ℕ)) → IsGood pair_kit setup state → Shows pair_kit setup state old → active ≡ old.servers.active → IsToldHeard place (repeated message) old.net net old.servers.link link old.history.entries history.entries before after → IsSteady (plain_of setup) IsPair (in_world (post (plain_of setup) message) state).state → Happened pair_kit setup (in_world (post (plain_of setup) message) state) (left_as old active link net history) before after
+repeated-happens : (setup : Setup) (state : State Peers) (old : Cluster Pair) (active : Node) (link : List Message) (net : List (List ℕ)) (history : Pushed) (message : Message) (place : ℕ) (before after : List (List ℕ)) → IsGood pair_kit setup state → Shows pair_kit setup state old → active ≡ old.servers.active → IsToldHeard place (repeated message) old.net net old.servers.link link old.history.entries history.entries before after → IsSteady (plain_of setup) IsPair (in_world (post (plain_of setup) message) state).state → Happened pair_kit setup (in_world (post (plain_of setup) message) state) (left_as old active link net history) before after
 repeated-happens setup state old active link net history message place before after good shows same tells steady =
     let posts = tells.posts (plain_of setup) state.world.net (is_plain setup) shows.net in (
       record {
@@ -202,7 +202,7 @@ repeated-happens setup state old active link net history message place before af
 
 -- With nothing in hand: by the verdict on a request, by whether a receipt is new.
 
-module _ (setup : Setup) (state : State Peers) (partner : Partner) (old : Cluster Pair) (active : PairNode) (node : Node) (link : List Message) (net : List (List ℕ)) (history : Pushed) (plain heard : Heard) (place : ℕ) (before after : List (List ℕ)) (good : IsGood pair_kit setup (pair_at partner Empty state)) (shows : Shows pair_kit setup (pair_at partner Empty state) old) (few : length state.world.core.answered < 4000000000) (heard_is : heard ≡ told_as (is_linked partner) (suc (length state.world.core.answered)) plain) (new_is : active ≡ record (active_by setup state.world.core.answered Empty partner) { node = node; waits = waits_as (is_linked partner) plain.committed }) (tells : IsToldHeard place heard old.net net old.servers.link link old.history.entries history.entries before after) where
+module _ (setup : Setup) (state : State Peers) (partner : Partner) (old : Cluster Pair) (active : Node) (node : ReplicaState) (link : List Message) (net : List (List ℕ)) (history : Pushed) (plain heard : Heard) (place : ℕ) (before after : List (List ℕ)) (good : IsGood pair_kit setup (pair_at partner Empty state)) (shows : Shows pair_kit setup (pair_at partner Empty state) old) (few : length state.world.core.answered < 4000000000) (heard_is : heard ≡ told_as (is_linked partner) (suc (length state.world.core.answered)) plain) (new_is : active ≡ record (active_by setup state.world.core.answered Empty partner) { replica = node; waits = waits_as (is_linked partner) plain.committed }) (tells : IsToldHeard place heard old.net net old.servers.link link old.history.entries history.entries before after) where
   abbrev past : List Entry
   past = state.world.core.answered
 
@@ -222,7 +222,7 @@ module _ (setup : Setup) (state : State Peers) (partner : Partner) (old : Cluste
   unchanged : node ≡ at_rest setup past → plain.committed ≡ None → active ≡ old.servers.active
   unchanged rest none =
       let first = active_by setup past Empty partner in
-      new_is ∙ (λ i. record first { node = rest i; waits = (ap (waits_as (is_linked partner)) none ∙ waits-quiet (is_linked partner)) i })
+      new_is ∙ (λ i. record first { replica = rest i; waits = (ap (waits_as (is_linked partner)) none ∙ waits-quiet (is_linked partner)) i })
       ∙ sym (ap (λ (servers : Pair). servers.active) shows.own)
 
   ignored-so : (why : Reason) (told : List Told) → plain ≡ ignored why → node ≡ at_rest setup past → printed told ≡ reason_lines place (reason_of why) → Leads (record { state = at_once; told = told })
@@ -234,7 +234,7 @@ module _ (setup : Setup) (state : State Peers) (partner : Partner) (old : Cluste
   accepted-so entry is work steady can =
       let first = active_by setup past Empty partner in
       let same = heard_is ∙ ap (told_as (is_linked partner) (suc (length past))) is in
-      let new : active ≡ new_active setup state entry partner = new_is ∙ (λ i. record first { node = work i; waits = waits_as (is_linked partner) (is i).committed }) in
+      let new : active ≡ new_active setup state entry partner = new_is ∙ (λ i. record first { replica = work i; waits = waits_as (is_linked partner) (is i).committed }) in
       accepted-happens setup state old active link net history entry place before after partner good shows new (subst Tells same tells) steady can
 
   request-so : (client number : ℕ) (call : Call) (verdict : Judged) → MessageInRange (Request client number call) → IsRequestHeard setup past client number call state.world.now verdict plain node → IsSteady (plain_of setup) IsPair (request_as (plain_of setup) servers place client number call verdict at_once).state → Leads (request_as (plain_of setup) servers place client number call verdict at_once)
@@ -275,23 +275,23 @@ module _ (setup : Setup) (state : State Peers) (partner : Partner) (old : Cluste
 -- A message is heard, by the hand.
 
 -- what the active server makes of it over this state
-pub hears-at : (setup : Setup) (state : State Peers) (partner : Partner) (old : Cluster Pair) (message : Message) (heard : Heard) (active : PairNode) → IsGood pair_kit setup (pair_at partner Empty state) → Shows pair_kit setup (pair_at partner Empty state) old → IsHeard message old.now old.servers.active heard active → HeardTied setup state.world.core.answered state.world.now message partner heard active
+pub hears-at : (setup : Setup) (state : State Peers) (partner : Partner) (old : Cluster Pair) (message : Message) (heard : Heard) (active : Node) → IsGood pair_kit setup (pair_at partner Empty state) → Shows pair_kit setup (pair_at partner Empty state) old → IsHeard message old.now old.servers.active heard active → HeardTied setup state.world.core.answered state.world.now message partner heard active
 hears-at setup state partner old message heard active good shows hears =
     let past = state.world.core.answered in
-    let H : ℤ → PairNode → Type 0 = λ now before. IsHeard message now before heard active in
+    let H : ℤ → Node → Type 0 = λ now before. IsHeard message now before heard active in
     let is : IsHeard message state.world.now (active_by setup past Empty partner) heard active = subst (λ now. H now (active_by setup past Empty partner)) shows.now (subst (H old.now) (ap (λ (servers : Pair). servers.active) shows.own) hears) in
     heard-tied setup past state.world.now message partner heard active (is.1 setup past (answered-history setup (pair_at partner Empty state) good) refl)
 
 -- while an entry is in hand the server is busy
-pub busy-at : (setup : Setup) (state : State Peers) (hand : Hand) (entry : Entry) (old : Cluster Pair) (message : Message) (heard : Heard) (active : PairNode) → (active_by setup state.world.core.answered hand state.peers.partner).node ≡ at_work setup state.world.core.answered entry → Shows pair_kit setup (pair_at state.peers.partner hand state) old → IsHeard message old.now old.servers.active heard active → (heard ≡ ignored (BusyWith (suc (length state.world.core.answered)))) × (active ≡ old.servers.active)
+pub busy-at : (setup : Setup) (state : State Peers) (hand : Hand) (entry : Entry) (old : Cluster Pair) (message : Message) (heard : Heard) (active : Node) → (active_by setup state.world.core.answered hand state.peers.partner).replica ≡ at_work setup state.world.core.answered entry → Shows pair_kit setup (pair_at state.peers.partner hand state) old → IsHeard message old.now old.servers.active heard active → (heard ≡ ignored (BusyWith (suc (length state.world.core.answered)))) × (active ≡ old.servers.active)
 busy-at setup state hand entry old message heard active works shows hears =
-    hears.0 setup state.world.core.answered entry (ap (λ (servers : Pair). servers.active.node) shows.own ∙ works)
+    hears.0 setup state.world.core.answered entry (ap (λ (servers : Pair). servers.active.replica) shows.own ∙ works)
 
-hears-by : (setup : Setup) (state : State Peers) (hand : Hand) (old : Cluster Pair) (active : PairNode) (link : List Message) (net : List (List ℕ)) (history : Pushed) (heard : Heard) (place : ℕ) (message : Message) (before after : List (List ℕ)) → IsGood pair_kit setup (pair_at state.peers.partner hand state) → Shows pair_kit setup (pair_at state.peers.partner hand state) old → Stands message state.world.net → MessageInRange message → (hand ≡ Empty → length state.world.core.answered < 4000000000) → IsHeard message old.now old.servers.active heard active → IsToldHeard place heard old.net net old.servers.link link old.history.entries history.entries before after → Happened pair_kit setup (heard_by pair_kit place message setup (pair_at state.peers.partner hand state)) (left_as old active link net history) before after
+hears-by : (setup : Setup) (state : State Peers) (hand : Hand) (old : Cluster Pair) (active : Node) (link : List Message) (net : List (List ℕ)) (history : Pushed) (heard : Heard) (place : ℕ) (message : Message) (before after : List (List ℕ)) → IsGood pair_kit setup (pair_at state.peers.partner hand state) → Shows pair_kit setup (pair_at state.peers.partner hand state) old → Stands message state.world.net → MessageInRange message → (hand ≡ Empty → length state.world.core.answered < 4000000000) → IsHeard message old.now old.servers.active heard active → IsToldHeard place heard old.net net old.servers.link link old.history.entries history.entries before after → Happened pair_kit setup (heard_by pair_kit place message setup (pair_at state.peers.partner hand state)) (left_as old active link net history) before after
 hears-by setup state Empty old active link net history heard place message before after good shows stands range few hears tells =
     let tied = hears-at setup state state.peers.partner old message heard active good shows hears in
     let steady = (heard-goes setup place message (pair_at state.peers.partner Empty state) good stands).holds in
-    rest-so setup state state.peers.partner old active tied.node link net history tied.plain heard place before after good shows (few refl) tied.heard_is tied.new_is tells message range tied.at_rest steady
+    rest-so setup state state.peers.partner old active tied.replica link net history tied.plain heard place before after good shows (few refl) tied.heard_is tied.new_is tells message range tied.at_rest steady
 hears-by setup state (Waiting entry) old active link net history heard place message before after good shows stands range few hears tells =
     let is = busy-at setup state (Waiting entry) entry old message heard active refl shows hears in
     let number = suc (length state.world.core.answered) in
@@ -309,6 +309,6 @@ hears-by setup state (Ready entry) old active link net history heard place messa
     ignored-happens setup (pair_at state.peers.partner (Ready entry) state) old active link net history (BusyWith number) place (Ignored place (Busy number) ∷ []) before after good shows is.1 (subst T is.0 tells) refl
 
 -- **a message is heard**
-pub message-happens : (setup : Setup) (state : State Peers) (old : Cluster Pair) (active : PairNode) (link : List Message) (net : List (List ℕ)) (history : Pushed) (heard : Heard) (place : ℕ) (message : Message) (before after : List (List ℕ)) → IsGood pair_kit setup state → Shows pair_kit setup state old → Stands message state.world.net → MessageInRange message → (state.world.core.hand ≡ Empty → length state.world.core.answered < 4000000000) → IsHeard message old.now old.servers.active heard active → IsToldHeard place heard old.net net old.servers.link link old.history.entries history.entries before after → Happened pair_kit setup (heard_by pair_kit place message setup state) (left_as old active link net history) before after
+pub message-happens : (setup : Setup) (state : State Peers) (old : Cluster Pair) (active : Node) (link : List Message) (net : List (List ℕ)) (history : Pushed) (heard : Heard) (place : ℕ) (message : Message) (before after : List (List ℕ)) → IsGood pair_kit setup state → Shows pair_kit setup state old → Stands message state.world.net → MessageInRange message → (state.world.core.hand ≡ Empty → length state.world.core.answered < 4000000000) → IsHeard message old.now old.servers.active heard active → IsToldHeard place heard old.net net old.servers.link link old.history.entries history.entries before after → Happened pair_kit setup (heard_by pair_kit place message setup state) (left_as old active link net history) before after
 message-happens setup state old active link net history heard place message before after good shows stands range few hears tells =
     hears-by setup state state.world.core.hand old active link net history heard place message before after good shows stands range few hears tells

@@ -20,11 +20,11 @@ use Rattle.cluster_events.specs.Servers.{State}
 use Rattle.event_text.specs.Texts.{printed, entry_line}
 use Rattle.mirror.specs.declared.heard.Heard.{Heard}
 use Rattle.mirror.specs.declared.heard.Role.TheVariants.{Active, Standby as StandsBy}
-use Rattle.mirror.specs.declared.pair_node.PairNode.{PairNode}
-use Rattle.mirror.specs.Nodes.{started}
+use Rattle.mirror.specs.declared.node.Node.{Node}
+use Rattle.mirror.specs.Replicas.{started}
 use Rattle.mirror.specs.Pairing.{CanApplyIn, CanReceive, IsReceived, alone, sent}
 use Rattle.mirror.proofs.Judging.{next-number}
-use Rattle.mirror.proofs.NodeLaws.{count-is, next-of, new-of}
+use Rattle.mirror.proofs.ReplicaLaws.{count-is, next-of, new-of}
 use Rattle.pair_cluster.specs.Peers.{Partner, Down, Owed, Linking, Standby, Peers, other_server}
 use Rattle.pair_cluster.specs.Pair.{mirror_by, mirror_pair, ack_by, ack_pair}
 use Rattle.pair_cluster.proofs.Saying.{legal-follows}
@@ -69,7 +69,7 @@ can-apply setup past (Receipted client key through now) can may =
     let few = can.0.few in
     (record { caller = can.0.caller; time = can.0.time; few = omega arith }, new-of setup past client key through ∙ may)
 
-abbrev Receives : Option Message → PairNode → Type 0
+abbrev Receives : Option Message → Node → Type 0
 Receives None node = Unit {0}
 Receives (Some message) node = (now : ℤ) → CanReceive message now node
 
@@ -94,7 +94,7 @@ pub can-receive : (old : Cluster Pair) (message : Message) (rest : List Message)
 can-receive old message rest has is now =
     let state = has.state in
     let core = state.world.core in
-    let R : List Message → PairNode → Type 0 = λ link node. Receives (first_in link) node in
+    let R : List Message → Node → Type 0 = λ link node. Receives (first_in link) node in
     let own : Receives (first_in old.servers.link) old.servers.partner = subst (λ (servers : Pair). R servers.link servers.partner) (sym has.shows.own) (receives-by has.setup state state.peers.partner core.hand has.good) in
     (subst (λ link. R link old.servers.partner) is own) now
 
@@ -141,7 +141,7 @@ joined_now state hand = record {
 }
 
 -- its servers, where the first message was taken from the link
-snapshot-own : (setup : Setup) (state : State Peers) (hand : Hand) (old : Pair) (rest : List Message) (partner : PairNode) (back : List Message) → old ≡ servers_of setup (pair_at Linking hand state) → rest ≡ link_messages setup state.world.core.answered hand (Standby None) → committed_by state.world.core.answered hand ≡ state.world.core.answered → partner ≡ alone (started StandsBy (saved_of setup state.world.core.answered)) → back ≡ old.back ++ wire.JoinAck (saved_of setup state.world.core.answered).number ∷ [] → back_messages state.world.core.answered hand (Standby (Some (length state.world.core.answered))) ≡ wire.JoinAck (length state.world.core.answered) ∷ [] → record old { partner = partner; back = back; link = rest } ≡ servers_of setup (joined_now state hand).state
+snapshot-own : (setup : Setup) (state : State Peers) (hand : Hand) (old : Pair) (rest : List Message) (partner : Node) (back : List Message) → old ≡ servers_of setup (pair_at Linking hand state) → rest ≡ link_messages setup state.world.core.answered hand (Standby None) → committed_by state.world.core.answered hand ≡ state.world.core.answered → partner ≡ alone (started StandsBy (saved_of setup state.world.core.answered)) → back ≡ old.back ++ wire.JoinAck (saved_of setup state.world.core.answered).number ∷ [] → back_messages state.world.core.answered hand (Standby (Some (length state.world.core.answered))) ≡ wire.JoinAck (length state.world.core.answered) ∷ [] → record old { partner = partner; back = back; link = rest } ≡ servers_of setup (joined_now state hand).state
 snapshot-own setup state hand old rest partner back own rest_is committed_is partner_is back_is first =
     let past = state.world.core.answered in
     let number : wire.JoinAck (saved_of setup past).number ∷ [] ≡ back_messages past hand (Standby (Some (length past))) = ap (λ n. wire.JoinAck n ∷ []) (count-is setup past) ∙ sym first in
@@ -155,7 +155,7 @@ mirror-snapshot setup state hand old new rest before after good shows rest_is co
     let saved = saved_of setup past in
     let now = pair_at Linking hand state in
     let outcome = joined_now state hand in
-    let R : PairNode → Type 0 = λ node. IsReceived node.node.role (wire.Snapshot saved) delivers.moment node delivers.heard new.servers.partner in
+    let R : Node → Type 0 = λ node. IsReceived node.replica.role (wire.Snapshot saved) delivers.moment node delivers.heard new.servers.partner in
     let received = subst R (ap (λ (servers : Pair). servers.partner) shows.own) delivers.received in
     let T : Heard → Type 0 = λ heard. HandsOn heard.to_peer heard.committed old.servers.back new.servers.back old.history.entries new.history.entries (before ++ joined_lines (other_server old.servers.acting) heard.outcome) after in
     let told = subst T received.0 delivers.told in
@@ -190,7 +190,7 @@ mirror-entry setup state on_way entry old new rest before after good shows rest_
     let number = suc (length past) in
     let now = pair_at (Standby on_way) (Waiting entry) state in
     let outcome = applied_now state on_way entry in
-    let R : PairNode → Type 0 = λ node. IsReceived node.node.role (wire.Mirror number entry) delivers.moment node delivers.heard new.servers.partner in
+    let R : Node → Type 0 = λ node. IsReceived node.replica.role (wire.Mirror number entry) delivers.moment node delivers.heard new.servers.partner in
     let received = subst R (ap (λ (servers : Pair). servers.partner) shows.own) delivers.received in
     let follows = accepted-history setup now good in
     let partner_is : new.servers.partner ≡ standby_by setup (entry ∷ past) true = received.1 setup past follows.1 follows.0 refl in
@@ -248,7 +248,7 @@ mirrors-none setup state old shows is =
 
 -- A message was delivered to the active server on the way back.
 
-confirms-with : (setup : Setup) (state : State Peers) (outcome : Outcome (State Peers)) (old : Cluster Pair) (active : PairNode) (rest : List Message) (lines : List (List ℕ)) → Shows pair_kit setup state old → IsGood pair_kit setup outcome.state → outcome.state.world.net ≡ state.world.net → outcome.state.world.agents ≡ state.world.agents → outcome.state.world.clients ≡ state.world.clients → outcome.state.world.places ≡ state.world.places → outcome.state.world.now ≡ state.world.now → record old.servers { active = active; back = rest } ≡ servers_of setup outcome.state → committed state.world.core ≡ committed outcome.state.world.core → outcome.told ≡ [] → Happened pair_kit setup outcome (record old { servers = record old.servers { active = active; back = rest } }) lines lines
+confirms-with : (setup : Setup) (state : State Peers) (outcome : Outcome (State Peers)) (old : Cluster Pair) (active : Node) (rest : List Message) (lines : List (List ℕ)) → Shows pair_kit setup state old → IsGood pair_kit setup outcome.state → outcome.state.world.net ≡ state.world.net → outcome.state.world.agents ≡ state.world.agents → outcome.state.world.clients ≡ state.world.clients → outcome.state.world.places ≡ state.world.places → outcome.state.world.now ≡ state.world.now → record old.servers { active = active; back = rest } ≡ servers_of setup outcome.state → committed state.world.core ≡ committed outcome.state.world.core → outcome.told ≡ [] → Happened pair_kit setup outcome (record old { servers = record old.servers { active = active; back = rest } }) lines lines
 confirms-with setup state outcome old active rest lines shows good same_net same_agents same_clients same_places same_now own entries silent =
     let new = record old { servers = record old.servers { active = active; back = rest } } in
     stepped setup state outcome old new lines lines shows good same_net same_agents same_clients same_places same_now refl refl refl refl own (shows.history ∙ entries) (sym (append-nil lines) ∙ ap (λ told. lines ++ printed told) (sym silent))
@@ -257,12 +257,12 @@ confirms-with setup state outcome old active rest lines shows good same_net same
 back-joined : (past : List Entry) (hand : Hand) (number : ℕ) → back_messages past hand (Standby (Some number)) ≡ wire.JoinAck number ∷ back_messages past hand (Standby None)
 back-joined past hand number = refl
 
-confirms-by : (setup : Setup) (state : State Peers) (partner : Partner) (hand : Hand) (old : Cluster Pair) (active : PairNode) (message : Message) (rest : List Message) (lines : List (List ℕ)) → IsGood pair_kit setup (pair_at partner hand state) → Shows pair_kit setup (pair_at partner hand state) old → back_messages state.world.core.answered hand partner ≡ message ∷ rest → IsConfirmed message old.servers.active active → StepHappened setup (ack_pair (pair_at partner hand state)) (record old { servers = record old.servers { active = active; back = rest } }) lines lines
+confirms-by : (setup : Setup) (state : State Peers) (partner : Partner) (hand : Hand) (old : Cluster Pair) (active : Node) (message : Message) (rest : List Message) (lines : List (List ℕ)) → IsGood pair_kit setup (pair_at partner hand state) → Shows pair_kit setup (pair_at partner hand state) old → back_messages state.world.core.answered hand partner ≡ message ∷ rest → IsConfirmed message old.servers.active active → StepHappened setup (ack_pair (pair_at partner hand state)) (record old { servers = record old.servers { active = active; back = rest } }) lines lines
 confirms-by setup state (Standby (Some number)) hand old active message rest lines good shows is confirmed =
     let past = state.world.core.answered in
     let now = pair_at (Standby (Some number)) hand state in
     let outcome : Outcome (State Peers) = record { state = record { world = now.world; peers = record state.peers { partner = Standby None } }; told = [] } in
-    let R : PairNode → Message → Type 0 = λ node m. IsReceived node.node.role m confirmed.moment node confirmed.heard active in
+    let R : Node → Message → Type 0 = λ node m. IsReceived node.replica.role m confirmed.moment node confirmed.heard active in
     let start = active_by setup past hand (Standby (Some number)) in
     let received = subst (λ m. R start m) (sym (first_of is)) (subst (λ (servers : Pair). R servers.active message) shows.own confirmed.received) in
     record {
@@ -272,7 +272,7 @@ confirms-by setup state (Standby (Some number)) hand old active message rest lin
           (λ i. record (shows.own i) { active = (join-same hand received) i; back = (sym (rest_of is)) i }) refl refl;
     }
   where
-    join-same : (hand : Hand) → IsReceived (active_by setup state.world.core.answered hand (Standby (Some number))).node.role (wire.JoinAck number) confirmed.moment (active_by setup state.world.core.answered hand (Standby (Some number))) confirmed.heard active → active ≡ active_by setup state.world.core.answered hand (Standby None)
+    join-same : (hand : Hand) → IsReceived (active_by setup state.world.core.answered hand (Standby (Some number))).replica.role (wire.JoinAck number) confirmed.moment (active_by setup state.world.core.answered hand (Standby (Some number))) confirmed.heard active → active ≡ active_by setup state.world.core.answered hand (Standby None)
     join-same Empty received = received.1
     join-same (Waiting entry) received = received.1
     join-same (Applied entry) received = received.1
@@ -281,7 +281,7 @@ confirms-by setup state (Standby None) (Applied entry) old active message rest l
     let past = state.world.core.answered in
     let now = pair_at (Standby None) (Applied entry) state in
     let outcome : Outcome (State Peers) = record { state = pair_at (Standby None) (Ready entry) state; told = [] } in
-    let R : PairNode → Message → Type 0 = λ node m. IsReceived node.node.role m confirmed.moment node confirmed.heard active in
+    let R : Node → Message → Type 0 = λ node m. IsReceived node.replica.role m confirmed.moment node confirmed.heard active in
     let start = active_by setup past (Applied entry) (Standby None) in
     let received = subst (λ m. R start m) (sym (first_of is)) (subst (λ (servers : Pair). R servers.active message) shows.own confirmed.received) in
     record {
@@ -298,7 +298,7 @@ confirms-by setup state Owed hand old active message rest lines good shows is co
 confirms-by setup state Linking hand old active message rest lines good shows is confirmed = cc
 
 -- **the first message of the way back was delivered**
-pub confirms : (setup : Setup) (state : State Peers) (old : Cluster Pair) (active : PairNode) (message : Message) (rest : List Message) (lines : List (List ℕ)) → IsGood pair_kit setup state → Shows pair_kit setup state old → old.servers.back ≡ message ∷ rest → IsConfirmed message old.servers.active active → StepHappened setup (ack_pair state) (record old { servers = record old.servers { active = active; back = rest } }) lines lines
+pub confirms : (setup : Setup) (state : State Peers) (old : Cluster Pair) (active : Node) (message : Message) (rest : List Message) (lines : List (List ℕ)) → IsGood pair_kit setup state → Shows pair_kit setup state old → old.servers.back ≡ message ∷ rest → IsConfirmed message old.servers.active active → StepHappened setup (ack_pair state) (record old { servers = record old.servers { active = active; back = rest } }) lines lines
 confirms setup state old active message rest lines good shows is confirmed =
     confirms-by setup state state.peers.partner state.world.core.hand old active message rest lines good shows (sym (ap (λ (servers : Pair). servers.back) shows.own) ∙ is) confirmed
 
@@ -318,7 +318,7 @@ confirms-none setup state old shows is =
     unconfirmed-by state.world.core.answered state state.peers.partner state.world.core.hand (sym (ap (λ (servers : Pair). servers.back) shows.own) ∙ is)
 
 -- what the active server can be told: it is a confirmation
-confirmable-by : (past : List Entry) (partner : Partner) (hand : Hand) (node : PairNode) → Receives (first_in (back_messages past hand partner)) node
+confirmable-by : (past : List Entry) (partner : Partner) (hand : Hand) (node : Node) → Receives (first_in (back_messages past hand partner)) node
 confirmable-by past (Standby (Some number)) hand node = λ now. tt
 confirmable-by past (Standby None) (Applied entry) node = λ now. tt
 confirmable-by past (Standby None) Empty node = tt

@@ -7,10 +7,10 @@ use Rattle.plain_service.specs.Setups.{Setup}
 use Rattle.cluster_facts.specs.History.{Hand, committed, committed_by}
 use Rattle.cluster_events.specs.Servers.{State}
 use Rattle.event_text.specs.Texts.{printed}
-use Rattle.mirror.specs.declared.pair_node.PairNode.{PairNode}
+use Rattle.mirror.specs.declared.node.Node.{Node}
 use Rattle.mirror.specs.declared.heard.Role.{Role}
 use Rattle.mirror.specs.declared.heard.Role.TheVariants.{Active, Standby as StandsBy, Joining, Down as GoesDown}
-use Rattle.mirror.specs.Nodes.{down}
+use Rattle.mirror.specs.Replicas.{down}
 use Rattle.mirror.specs.Pairing.{alone}
 use Rattle.pair_cluster.specs.Peers.{Partner, Down, Owed, Linking, Standby, Peers}
 use Rattle.pair_cluster.specs.Falling.{taken_over}
@@ -36,14 +36,14 @@ with_servers old servers = record old { servers = servers }
 
 -- Its partner's role tells the standby.
 
-role-tells : (setup : Setup) (state : State Peers) (partner : Partner) → stands_by (partner_by setup (committed state.world.core) state.peers.keeps partner).node.role ≡ is_standby partner
+role-tells : (setup : Setup) (state : State Peers) (partner : Partner) → stands_by (partner_by setup (committed state.world.core) state.peers.keeps partner).replica.role ≡ is_standby partner
 role-tells setup state Down = refl
 role-tells setup state Owed = refl
 role-tells setup state Linking = refl
 role-tells setup state (Standby on_way) = refl
 
-pub standby-shown : (setup : Setup) (state : State Peers) (old : Cluster Pair) → Shows pair_kit setup state old → stands_by old.servers.partner.node.role ≡ is_standby state.peers.partner
-standby-shown setup state old shows = ap (λ (servers : Pair). stands_by servers.partner.node.role) shows.own ∙ role-tells setup state state.peers.partner
+pub standby-shown : (setup : Setup) (state : State Peers) (old : Cluster Pair) → Shows pair_kit setup state old → stands_by old.servers.partner.replica.role ≡ is_standby state.peers.partner
+standby-shown setup state old shows = ap (λ (servers : Pair). stands_by servers.partner.replica.role) shows.own ∙ role-tells setup state state.peers.partner
 
 -- the deeds that it keeps
 kept-by : (setup : Setup) (state : State Peers) (number : Option ℕ) (partner : Partner) → partner ≡ Standby number → calls_of_all (partner_by setup (committed state.world.core) state.peers.keeps partner).kept ≡ kept_calls setup state
@@ -117,12 +117,12 @@ standby-role Active is = cc
 standby-role Joining is = cc
 standby-role GoesDown is = cc
 
-role-by : (setup : Setup) (state : State Peers) (number : Option ℕ) (partner : Partner) → partner ≡ Standby number → (partner_by setup (committed state.world.core) state.peers.keeps partner).node.role ≡ StandsBy
+role-by : (setup : Setup) (state : State Peers) (number : Option ℕ) (partner : Partner) → partner ≡ Standby number → (partner_by setup (committed state.world.core) state.peers.keeps partner).replica.role ≡ StandsBy
 role-by setup state number (Standby on_way) is = refl
 role-by setup state number Down is = cc
 role-by setup state number Owed is = cc
 role-by setup state number Linking is = cc
 
-pub role-shown : (setup : Setup) (state : State Peers) (number : Option ℕ) (old : Cluster Pair) → Shows pair_kit setup state old → state.peers.partner ≡ Standby number → old.servers.partner.node.role ≡ StandsBy
+pub role-shown : (setup : Setup) (state : State Peers) (number : Option ℕ) (old : Cluster Pair) → Shows pair_kit setup state old → state.peers.partner ≡ Standby number → old.servers.partner.replica.role ≡ StandsBy
 role-shown setup state number old shows standby =
-    ap (λ (servers : Pair). servers.partner.node.role) shows.own ∙ role-by setup state number state.peers.partner standby
+    ap (λ (servers : Pair). servers.partner.replica.role) shows.own ∙ role-by setup state number state.peers.partner standby

@@ -208,16 +208,16 @@ work-line r next old new before after loud held left is has comes off =
     })
 
 -- with nothing ready the line is refused
-idle-by : (setup : Setup) (state : State Peers) (hand : Hand) (partner : Partner) → (IsSome (active_by setup state.world.core.answered hand partner).node.owed × ((active_by setup state.world.core.answered hand partner).waits ≡ None) → ⊥) → refuse (calm_servers pair_kit setup) line.Work state ≡ step_or_refuse (calm_servers pair_kit setup) line.Work (work_by (plain_of setup) (device_by setup (λ number. false)) hand state) state
+idle-by : (setup : Setup) (state : State Peers) (hand : Hand) (partner : Partner) → (IsSome (active_by setup state.world.core.answered hand partner).replica.owed × ((active_by setup state.world.core.answered hand partner).waits ≡ None) → ⊥) → refuse (calm_servers pair_kit setup) line.Work state ≡ step_or_refuse (calm_servers pair_kit setup) line.Work (work_by (plain_of setup) (device_by setup (λ number. false)) hand state) state
 idle-by setup state Empty partner idle = refl
 idle-by setup state (Waiting entry) partner idle = refl
 idle-by setup state (Applied entry) partner idle = refl
 idle-by setup state (Ready entry) partner idle = absurd (idle (refl, refl))
 
-pub idle-line : {T E : Type 0} (r : Result T E) (s : Result T DiskAnswer) (next : Line) (old new : Cluster Pair) (before after : List (List ℕ)) (held : DiskSeen) → next ≡ line.Work → (IsSome old.servers.active.node.owed × (old.servers.active.waits ≡ None) → ⊥) → EndsAs r s → (HasStateOn pair_kit) any_state old held.armed → OnOk r ((Does pair_kit) (refused_by next) old new before after) → OnErr r ((BreaksAlone pair_kit) old new) → PlaysLine pair_kit pair_script s next old new before after held held
+pub idle-line : {T E : Type 0} (r : Result T E) (s : Result T DiskAnswer) (next : Line) (old new : Cluster Pair) (before after : List (List ℕ)) (held : DiskSeen) → next ≡ line.Work → (IsSome old.servers.active.replica.owed × (old.servers.active.waits ≡ None) → ⊥) → EndsAs r s → (HasStateOn pair_kit) any_state old held.armed → OnOk r ((Does pair_kit) (refused_by next) old new before after) → OnErr r ((BreaksAlone pair_kit) old new) → PlaysLine pair_kit pair_script s next old new before after held held
 idle-line r s next old new before after held is idle same has does breaks =
     let R : Line → Type 0 = λ n. OnOk r ((Does pair_kit) (refused_by n) old new before after) in
-    let I : Pair → Type 0 = λ servers. IsSome servers.active.node.owed × (servers.active.waits ≡ None) → ⊥ in
+    let I : Pair → Type 0 = λ servers. IsSome servers.active.replica.owed × (servers.active.waits ≡ None) → ⊥ in
     subst (λ n. PlaysLine pair_kit pair_script s n old new before after held held) (sym is)
     ((alone-line pair_kit pair_laws pair_script pair_follows) r s line.Work (refused_by line.Work) old new before after held same has
     (λ setup state good shows count. idle-by setup state state.world.core.hand state.peers.partner (subst I shows.own idle))

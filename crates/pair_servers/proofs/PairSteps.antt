@@ -14,7 +14,7 @@ use Rattle.script_lines.specs.declared.line.Line.TheVariants.{Work}
 use Rattle.cluster_events.specs.Settling.{is_loud}
 use Rattle.cluster_events.specs.Devices.{Device, EventBy, answered_in, ComesTo}
 use Rattle.event_text.specs.Texts.{printed}
-use Rattle.lone_cluster.specs.Lone.{lines_answering}
+use Rattle.pair_cluster.specs.Answering.{lines_answering}
 use Rattle.pair_cluster.specs.Peers.{Partner, Linking, Standby, Peers}
 use Rattle.pair_cluster.specs.Falling.{taken_over}
 use Rattle.pair_cluster.specs.Pair.{mirror_by, mirror_pair, ack_by, ack_pair, falls, work_as, work_by, work_done, work_pair, pair}

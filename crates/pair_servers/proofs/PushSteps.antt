@@ -16,7 +16,7 @@ use Rattle.cluster_events.specs.Serving.{IsSteady}
 use Rattle.cluster_events.proofs.Carrying.{IsMadeItem, held-made, post_all-goes, push-goes}
 use Rattle.event_text.specs.Texts.{printed}
 use Rattle.mirror.specs.declared.heard.Role.TheVariants.{Active}
-use Rattle.mirror.specs.Nodes.{Server as Node, at_rest}
+use Rattle.mirror.specs.Replicas.{ReplicaState, at_rest}
 use Rattle.pair_cluster.specs.Peers.{Peers, IsPair}
 use Rattle.pair_cluster.proofs.Stepping.{pair_at}
 use Rattle.cluster_clients.specs.Posted.{posted_all, lines_all, PostsAll, PostsSome}
@@ -44,19 +44,19 @@ owes-none setup past (Waiting entry) empty = cc
 owes-none setup past (Applied entry) empty = cc
 owes-none setup past (Ready entry) empty = cc
 
-rests-in : (setup : Setup) (state : State Peers) (old : Cluster Pair) → Shows pair_kit setup state old → IsIdle state → old.servers.active.node ≡ at_rest setup state.world.core.answered
+rests-in : (setup : Setup) (state : State Peers) (old : Cluster Pair) → Shows pair_kit setup state old → IsIdle state → old.servers.active.replica ≡ at_rest setup state.world.core.answered
 rests-in setup state old shows idle =
-    ap (λ (servers : Pair). servers.active.node) shows.own ∙ owes-none setup state.world.core.answered state.world.core.hand idle
+    ap (λ (servers : Pair). servers.active.replica) shows.own ∙ owes-none setup state.world.core.answered state.world.core.hand idle
 
-pub idle-owes : (old : Cluster Pair) → HasStateOf pair_kit IsIdle old → old.servers.active.node.owed ≡ None
-idle-owes old has = ap (λ (node : Node). node.owed) (rests-in has.setup has.state old has.shows has.so)
+pub idle-owes : (old : Cluster Pair) → HasStateOf pair_kit IsIdle old → old.servers.active.replica.owed ≡ None
+idle-owes old has = ap (λ (node : ReplicaState). node.owed) (rests-in has.setup has.state old has.shows has.so)
 
-pub idle-acts : (old : Cluster Pair) → HasStateOf pair_kit IsIdle old → old.servers.active.node.role ≡ Active
-idle-acts old has = ap (λ (node : Node). node.role) (rests-in has.setup has.state old has.shows has.so)
+pub idle-acts : (old : Cluster Pair) → HasStateOf pair_kit IsIdle old → old.servers.active.replica.role ≡ Active
+idle-acts old has = ap (λ (node : ReplicaState). node.role) (rests-in has.setup has.state old has.shows has.so)
 
 -- what the active server pushes
 abbrev pub PushesItems : Cluster Pair → List Message → Type 0
-PushesItems old items = (setup : Setup) (past : List Entry) → old.servers.active.node ≡ at_rest setup past → items ≡ (plain_of setup).held past
+PushesItems old items = (setup : Setup) (past : List Entry) → old.servers.active.replica ≡ at_rest setup past → items ≡ (plain_of setup).held past
 
 -- the items of a push can be posted
 range-by : (setup : Setup) (state : State Peers) (hand : Hand) → hand ≡ Empty → IsGood pair_kit setup (pair_at state.peers.partner hand state) → AllByRecursion MessageInRange ((plain_of setup).held state.world.core.answered)

@@ -13,10 +13,9 @@ use Rattle.cluster_events.specs.declared.lines.ServerRole.{ServerRole}
 use Rattle.cluster_events.specs.declared.lines.Standing.{Standing}
 use Rattle.cluster_events.specs.Servers.{State}
 use Rattle.event_text.specs.Texts.{refused_line}
-use Rattle.lone_cluster.specs.Lone.{number_in_hand as number_alone}
-use Rattle.mirror.specs.Nodes.{number_in_hand}
-use Rattle.mirror.proofs.NodeLaws.{count-is}
-use Rattle.pair_cluster.specs.Peers.{Partner, Down, Owed, Linking, Standby, Peers, link_of, back_of, role_of, role_of_active, role_of_partner, same_server, standing_pair}
+use Rattle.mirror.specs.Replicas.{number_in_hand}
+use Rattle.mirror.proofs.ReplicaLaws.{count-is}
+use Rattle.pair_cluster.specs.Peers.{Partner, Down, Owed, Linking, Standby, Peers, hand_number, link_of, back_of, role_of, role_of_active, role_of_partner, same_server, standing_pair}
 use Rattle.cluster_clients.proofs.PostingSteps.{spelled-length}
 use Rattle.cluster_rounds.specs.declared.cluster.Cluster.{Cluster}
 use Rattle.cluster_rounds.specs.Worlds.{Shows, IsGood, Does}
@@ -28,7 +27,7 @@ use Rattle.pair_servers.specs.Steps.{refused_by}
 
 -- Roles.
 
-active-role : (setup : Setup) (past : List Entry) (hand : Hand) (partner : Partner) (armed : Option ℕ) → role_shown (is_some armed) (active_by setup past hand partner).node.role ≡ role_of_active armed
+active-role : (setup : Setup) (past : List Entry) (hand : Hand) (partner : Partner) (armed : Option ℕ) → role_shown (is_some armed) (active_by setup past hand partner).replica.role ≡ role_of_active armed
 active-role setup past Empty partner None = refl
 active-role setup past Empty partner (Some left) = refl
 active-role setup past (Waiting entry) partner None = refl
@@ -38,7 +37,7 @@ active-role setup past (Applied entry) partner (Some left) = refl
 active-role setup past (Ready entry) partner None = refl
 active-role setup past (Ready entry) partner (Some left) = refl
 
-partner-role : (setup : Setup) (history : List Entry) (keeps armed : Bool) (partner : Partner) → role_shown armed (partner_by setup history keeps partner).node.role ≡ role_of_partner partner
+partner-role : (setup : Setup) (history : List Entry) (keeps armed : Bool) (partner : Partner) → role_shown armed (partner_by setup history keeps partner).replica.role ≡ role_of_partner partner
 partner-role setup history keeps true Down = refl
 partner-role setup history keeps false Down = refl
 partner-role setup history keeps true Owed = refl
@@ -56,7 +55,7 @@ role-is setup state server =
     else partner-role setup (committed_by core.answered core.hand) state.peers.keeps (is_some state.peers.armed) state.peers.partner i
 
 -- the number of the entry in hand
-hand-number : (setup : Setup) (past : List Entry) (hand : Hand) (partner : Partner) → number_in_hand (active_by setup past hand partner).node ≡ number_alone (length past) hand
+hand-number : (setup : Setup) (past : List Entry) (hand : Hand) (partner : Partner) → number_in_hand (active_by setup past hand partner).replica ≡ hand_number (length past) hand
 hand-number setup past Empty partner = refl
 hand-number setup past (Waiting entry) partner = ap Some (count-is setup (entry ∷ past))
 hand-number setup past (Applied entry) partner = ap Some (count-is setup (entry ∷ past))
@@ -73,7 +72,7 @@ standing-is setup state world shows =
       net = net;
       link = length servers.link;
       back = length servers.back;
-      in_hand = number_in_hand servers.active.node;
+      in_hand = number_in_hand servers.active.replica;
     }
     in
     (λ i. S (shows.own i) (sym (spelled-length state.world.net world.net shows.net) i))

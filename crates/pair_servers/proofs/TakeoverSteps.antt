@@ -10,8 +10,8 @@ use Rattle.disk_model.specs.declared.answers.DiskAnswer.{DiskAnswer}
 use Rattle.disk_model.specs.declared.answers.DiskAnswer.TheVariants.{Memory, Failed, Stopped}
 use Rattle.disk_model.specs.declared.tally.Tally.{Tally}
 use Rattle.stream_layout.specs.Deeds.{calls_of_all}
-use Rattle.mirror.specs.declared.pair_node.PairNode.{PairNode}
-use Rattle.mirror.specs.Nodes.{down}
+use Rattle.mirror.specs.declared.node.Node.{Node}
+use Rattle.mirror.specs.Replicas.{down}
 use Rattle.mirror.specs.Pairing.{alone, taken_over}
 use Rattle.cluster_rounds.specs.Came.{seen}
 use Rattle.pair_servers.specs.declared.pair.Pair.{Pair}
@@ -27,9 +27,9 @@ module _ (old : Pair) (before put : List (List ℕ)) (count : ℕ) (is : count �
   unarmed-by more passed_is = (λ i. (passed_is i).armed) ∙ (λ i. (passed more (counted i)).armed)
 
   -- **it is done**
-  pub takes-done : (partner : PairNode) (new : Pair) (after : List (List ℕ)) → partner ≡ taken_over old.partner → new ≡ exchanged (record old { partner = partner }) → after ≡ take (count + 2) put → left ≡ option_map (all_applied (calls_of_all old.partner.kept)) mid → CountsDone (length (calls_of_all old.partner.kept)) between last → left_faults ≡ mid_faults → Ends (Ok tt) new after
+  pub takes-done : (partner : Node) (new : Pair) (after : List (List ℕ)) → partner ≡ taken_over old.partner → new ≡ exchanged (record old { partner = partner }) → after ≡ take (count + 2) put → left ≡ option_map (all_applied (calls_of_all old.partner.kept)) mid → CountsDone (length (calls_of_all old.partner.kept)) between last → left_faults ≡ mid_faults → Ends (Ok tt) new after
   takes-done partner new after over_is new_is after_is files counts stands = (
-    new_is ∙ ap (λ (node : PairNode). exchanged (record old { partner = node })) over_is,
+    new_is ∙ ap (λ (node : Node). exchanged (record old { partner = node })) over_is,
     two-left before put after old.acting count is put_is after_is,
     files ∙ ap (option_map (all_applied (calls_of_all old.partner.kept))) same,
     unarmed-by (length (calls_of_all old.partner.kept)) counts.1,
@@ -45,9 +45,9 @@ module _ (old : Pair) (before put : List (List ℕ)) (count : ℕ) (is : count �
   )
 
   -- **the disk had a fault**
-  pub takes-failed : (partner : PairNode) (new : Pair) (after : List (List ℕ)) → partner ≡ alone down → new ≡ unlinked (record old { partner = partner }) → after ≡ remove put (count + 1) → Breaks Failed (calls_of_all old.partner.kept) mid left between last → mid_faults ≤ left_faults → Rose mid_faults left_faults → Ends (Err Failed) new after
+  pub takes-failed : (partner : Node) (new : Pair) (after : List (List ℕ)) → partner ≡ alone down → new ≡ unlinked (record old { partner = partner }) → after ≡ remove put (count + 1) → Breaks Failed (calls_of_all old.partner.kept) mid left between last → mid_faults ≤ left_faults → Rose mid_faults left_faults → Ends (Err Failed) new after
   takes-failed partner new after down_is new_is after_is broke later rose = (
-    new_is ∙ ap (λ (node : PairNode). unlinked (record old { partner = node })) down_is,
+    new_is ∙ ap (λ (node : Node). unlinked (record old { partner = node })) down_is,
     both-left before put after old.acting count is put_is after_is,
     broke.0,
     subst (λ files. BreaksOff LeftBy (calls_of_all old.partner.kept) broke.0 files left) same broke.1,

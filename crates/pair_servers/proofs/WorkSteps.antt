@@ -23,11 +23,11 @@ use Rattle.cluster_events.specs.Outcomes.{Outcome}
 use Rattle.cluster_events.specs.Servers.{State}
 use Rattle.event_text.specs.Texts.{printed, server_line}
 use Rattle.cluster_events.specs.declared.lines.ServerRole.TheVariants as role
-use Rattle.lone_cluster.specs.Lone.{net_answering, lines_answering}
+use Rattle.pair_cluster.specs.Answering.{net_answering, lines_answering}
 use Rattle.mirror.specs.declared.heard.Heard.{Heard}
-use Rattle.mirror.specs.declared.pair_node.PairNode.{PairNode}
+use Rattle.mirror.specs.declared.node.Node.{Node}
 use Rattle.mirror.specs.declared.heard.Role.TheVariants.{Standby as StandsBy}
-use Rattle.mirror.specs.Nodes.{down, replies_owed}
+use Rattle.mirror.specs.Replicas.{down, replies_owed}
 use Rattle.mirror.specs.Working.{deeds_in, replies_in, worked}
 use Rattle.mirror.specs.Pairing.{alone, tied_after, with_peer, worked_out}
 use Rattle.pair_cluster.specs.Peers.{Partner, Down, Owed, Linking, Standby, Peers, Agree, IsArmed}
@@ -63,18 +63,18 @@ use Rattle.pair_servers.proofs.PairSteps.{calls_for, line-works, work-step}
 -- What is in hand is ready.
 
 -- the entry in hand
-pub record ReadyFor (setup : Setup) (state : State Peers) (active : PairNode) : Type 0 where
+pub record ReadyFor (setup : Setup) (state : State Peers) (active : Node) : Type 0 where
   pub entry : Entry
   pub ready : state.world.core.hand ≡ Ready entry
   pub active_is : active ≡ active_by setup state.world.core.answered (Ready entry) state.peers.partner
 
-ready-by : (setup : Setup) (state : State Peers) (hand : Hand) (active : PairNode) → active ≡ active_by setup state.world.core.answered hand state.peers.partner → IsSome active.node.owed → active.waits ≡ None → ReadyFor setup (pair_at state.peers.partner hand state) active
+ready-by : (setup : Setup) (state : State Peers) (hand : Hand) (active : Node) → active ≡ active_by setup state.world.core.answered hand state.peers.partner → IsSome active.replica.owed → active.waits ≡ None → ReadyFor setup (pair_at state.peers.partner hand state) active
 ready-by setup state (Ready entry) active is some none = record { entry = entry; ready = refl; active_is = is }
-ready-by setup state Empty active is some none = let rest = subst (λ (node : PairNode). IsSome node.node.owed) is some in cc
-ready-by setup state (Waiting entry) active is some none = let waits = sym (ap (λ (node : PairNode). node.waits) is) ∙ none in cc
-ready-by setup state (Applied entry) active is some none = let waits = sym (ap (λ (node : PairNode). node.waits) is) ∙ none in cc
+ready-by setup state Empty active is some none = let rest = subst (λ (node : Node). IsSome node.replica.owed) is some in cc
+ready-by setup state (Waiting entry) active is some none = let waits = sym (ap (λ (node : Node). node.waits) is) ∙ none in cc
+ready-by setup state (Applied entry) active is some none = let waits = sym (ap (λ (node : Node). node.waits) is) ∙ none in cc
 
-pub ready-for : (setup : Setup) (state : State Peers) (old : Cluster Pair) → Shows pair_kit setup state old → IsSome old.servers.active.node.owed → old.servers.active.waits ≡ None → ReadyFor setup state old.servers.active
+pub ready-for : (setup : Setup) (state : State Peers) (old : Cluster Pair) → Shows pair_kit setup state old → IsSome old.servers.active.replica.owed → old.servers.active.waits ≡ None → ReadyFor setup state old.servers.active
 ready-for setup state old shows some none =
     ready-by setup state state.world.core.hand old.servers.active (ap (λ (servers : Pair). servers.active) shows.own) some none
 
@@ -98,21 +98,21 @@ done-by setup state entry (Standby None) calls agree = refl
 done-by setup state entry (Standby (Some number)) calls agree = refl
 
 -- what a server that worked is left as, and what it asks for
-pub record IsWorked (old : PairNode) (heard : Heard) (new : PairNode) : Type 0 where
-  pub heard_is : heard ≡ with_peer (worked (replies_in old.node.owed)) old.promised
+pub record IsWorked (old : Node) (heard : Heard) (new : Node) : Type 0 where
+  pub heard_is : heard ≡ with_peer (worked (replies_in old.replica.owed)) old.promised
   pub new_is : new ≡ worked_out old
 
-abbrev pub worked_as : Cluster Pair → PairNode → List Message → List (List ℕ) → Cluster Pair
+abbrev pub worked_as : Cluster Pair → Node → List Message → List (List ℕ) → Cluster Pair
 worked_as old active link net = record old { servers = record old.servers { active = active; link = link }; net = net }
 
-done-shows : (setup : Setup) (state : State Peers) (entry : Entry) (old : Cluster Pair) (active : PairNode) (link : List Message) (net : List (List ℕ)) (heard : Heard) (before after : List (List ℕ)) (calls : ℕ) → IsGood pair_kit setup (pair_at state.peers.partner (Ready entry) state) → Shows pair_kit setup (pair_at state.peers.partner (Ready entry) state) old → IsWorked old.servers.active heard active → IsToldWorked heard old.net net old.servers.link link before after → Shows pair_kit setup (work_done (plain_of setup) calls entry (pair_at state.peers.partner (Ready entry) state)).state (worked_as old active link net) × (after ≡ before ++ printed (work_done (plain_of setup) calls entry (pair_at state.peers.partner (Ready entry) state)).told)
+done-shows : (setup : Setup) (state : State Peers) (entry : Entry) (old : Cluster Pair) (active : Node) (link : List Message) (net : List (List ℕ)) (heard : Heard) (before after : List (List ℕ)) (calls : ℕ) → IsGood pair_kit setup (pair_at state.peers.partner (Ready entry) state) → Shows pair_kit setup (pair_at state.peers.partner (Ready entry) state) old → IsWorked old.servers.active heard active → IsToldWorked heard old.net net old.servers.link link before after → Shows pair_kit setup (work_done (plain_of setup) calls entry (pair_at state.peers.partner (Ready entry) state)).state (worked_as old active link net) × (after ≡ before ++ printed (work_done (plain_of setup) calls entry (pair_at state.peers.partner (Ready entry) state)).told)
 done-shows setup state entry old active link net heard before after calls good shows is told =
     let past = state.world.core.answered in
     let partner = state.peers.partner in
     let now = pair_at partner (Ready entry) state in
     let start = active_by setup past (Ready entry) partner in
     let active_now = ap (λ (servers : Pair). servers.active) shows.own in
-    let heard_is : heard ≡ with_peer (worked (replies_owed setup past entry)) (promised_to setup (entry ∷ past) partner) = is.heard_is ∙ ap (λ (node : PairNode). with_peer (worked (replies_in node.node.owed)) node.promised) active_now in
+    let heard_is : heard ≡ with_peer (worked (replies_owed setup past entry)) (promised_to setup (entry ∷ past) partner) = is.heard_is ∙ ap (λ (node : Node). with_peer (worked (replies_in node.replica.owed)) node.promised) active_now in
     let T : Heard → Type 0 = λ h. IsToldWorked h old.net net old.servers.link link before after in
     let tells = subst T heard_is told in
     let done = answer-posts setup past entry state.world.net old.net net before after tells.0 shows.net in
@@ -130,10 +130,10 @@ done-shows setup state entry old active link net heard before after calls good s
     )
 
 -- the deeds of what is in hand, and the replies
-owed-calls : (setup : Setup) (state : State Peers) (entry : Entry) (old : Cluster Pair) → Shows pair_kit setup (pair_at state.peers.partner (Ready entry) state) old → calls_of_all (deeds_in old.servers.active.node.owed) ≡ calls_of_all (deeds_of setup state.world.core.answered entry)
-owed-calls setup state entry old shows = ap (λ (servers : Pair). calls_of_all (deeds_in servers.active.node.owed)) shows.own
+owed-calls : (setup : Setup) (state : State Peers) (entry : Entry) (old : Cluster Pair) → Shows pair_kit setup (pair_at state.peers.partner (Ready entry) state) old → calls_of_all (deeds_in old.servers.active.replica.owed) ≡ calls_of_all (deeds_of setup state.world.core.answered entry)
+owed-calls setup state entry old shows = ap (λ (servers : Pair). calls_of_all (deeds_in servers.active.replica.owed)) shows.own
 
-works-by : (setup : Setup) (state : State Peers) (hand : Hand) (entry : Entry) (old : Cluster Pair) (active : PairNode) (link : List Message) (net : List (List ℕ)) (heard : Heard) (before after : List (List ℕ)) (held left : DiskSeen) → hand ≡ Ready entry → IsGood pair_kit setup (pair_at state.peers.partner hand state) → Shows pair_kit setup (pair_at state.peers.partner hand state) old → held.armed ≡ state.peers.armed → IsWorked old.servers.active heard active → IsToldWorked heard old.net net old.servers.link link before after → left.files ≡ option_map (all_applied (calls_of_all (deeds_in old.servers.active.node.owed))) held.files → counts.IsShort (length (calls_of_all (deeds_in old.servers.active.node.owed))) held.armed → left.armed ≡ counts.lowered (length (calls_of_all (deeds_in old.servers.active.node.owed))) held.armed → left.faults ≡ held.faults → Came pair_kit setup (pair_at state.peers.partner hand state) (worked_by setup) (worked_as old active link net) before after (grew old (worked_as old active link net)) held left
+works-by : (setup : Setup) (state : State Peers) (hand : Hand) (entry : Entry) (old : Cluster Pair) (active : Node) (link : List Message) (net : List (List ℕ)) (heard : Heard) (before after : List (List ℕ)) (held left : DiskSeen) → hand ≡ Ready entry → IsGood pair_kit setup (pair_at state.peers.partner hand state) → Shows pair_kit setup (pair_at state.peers.partner hand state) old → held.armed ≡ state.peers.armed → IsWorked old.servers.active heard active → IsToldWorked heard old.net net old.servers.link link before after → left.files ≡ option_map (all_applied (calls_of_all (deeds_in old.servers.active.replica.owed))) held.files → counts.IsShort (length (calls_of_all (deeds_in old.servers.active.replica.owed))) held.armed → left.armed ≡ counts.lowered (length (calls_of_all (deeds_in old.servers.active.replica.owed))) held.armed → left.faults ≡ held.faults → Came pair_kit setup (pair_at state.peers.partner hand state) (worked_by setup) (worked_as old active link net) before after (grew old (worked_as old active link net)) held left
 works-by setup state (Ready other) entry old active link net heard before after held left is good shows count worked told files short armed faults =
     let now = pair_at state.peers.partner (Ready other) state in
     let calls = owed-calls setup state other old shows in
@@ -147,21 +147,21 @@ works-by setup state (Waiting other) entry old active link net heard before afte
 works-by setup state (Applied other) entry old active link net heard before after held left is good shows count worked told files short armed faults = cc
 
 -- **the deeds of the entry in hand are done**
-pub works : (old : Cluster Pair) (active : PairNode) (link : List Message) (net : List (List ℕ)) (heard : Heard) (before after : List (List ℕ)) (held left : DiskSeen) → IsSome old.servers.active.node.owed → old.servers.active.waits ≡ None → IsWorked old.servers.active heard active → IsToldWorked heard old.net net old.servers.link link before after → left.files ≡ option_map (all_applied (calls_of_all (deeds_in old.servers.active.node.owed))) held.files → counts.IsShort (length (calls_of_all (deeds_in old.servers.active.node.owed))) held.armed → left.armed ≡ counts.lowered (length (calls_of_all (deeds_in old.servers.active.node.owed))) held.armed → left.faults ≡ held.faults → Comes pair_kit any_state worked_by old (worked_as old active link net) before after (grew old (worked_as old active link net)) held left
+pub works : (old : Cluster Pair) (active : Node) (link : List Message) (net : List (List ℕ)) (heard : Heard) (before after : List (List ℕ)) (held left : DiskSeen) → IsSome old.servers.active.replica.owed → old.servers.active.waits ≡ None → IsWorked old.servers.active heard active → IsToldWorked heard old.net net old.servers.link link before after → left.files ≡ option_map (all_applied (calls_of_all (deeds_in old.servers.active.replica.owed))) held.files → counts.IsShort (length (calls_of_all (deeds_in old.servers.active.replica.owed))) held.armed → left.armed ≡ counts.lowered (length (calls_of_all (deeds_in old.servers.active.replica.owed))) held.armed → left.faults ≡ held.faults → Comes pair_kit any_state worked_by old (worked_as old active link net) before after (grew old (worked_as old active link net)) held left
 works old active link net heard before after held left some none worked told files short armed faults setup state good shows count so =
     let found = ready-for setup state old shows some none in
     works-by setup state state.world.core.hand found.entry old active link net heard before after held left found.ready good shows count worked told files short armed faults
 
 -- Where a standby takes over.
 
-broke-shown : (setup : Setup) (state : State Peers) (answer : DiskAnswer) (old : Cluster Pair) (entry : Entry) (count : ℕ) (held mid : Option Files) → Shows pair_kit setup state old → state.world.core.hand ≡ Ready entry → BreaksOff (LeftOn answer) (calls_of_all (deeds_in old.servers.active.node.owed)) count held mid → BreaksOff (LeftOn answer) (calls_of_all (deeds_of setup state.world.core.answered entry)) count held mid
+broke-shown : (setup : Setup) (state : State Peers) (answer : DiskAnswer) (old : Cluster Pair) (entry : Entry) (count : ℕ) (held mid : Option Files) → Shows pair_kit setup state old → state.world.core.hand ≡ Ready entry → BreaksOff (LeftOn answer) (calls_of_all (deeds_in old.servers.active.replica.owed)) count held mid → BreaksOff (LeftOn answer) (calls_of_all (deeds_of setup state.world.core.answered entry)) count held mid
 broke-shown setup state answer old entry count held mid shows ready broke =
     let past = state.world.core.answered in
-    let B : PairNode → Type 0 = λ node. BreaksOff (LeftOn answer) (calls_of_all (deeds_in node.node.owed)) count held mid in
+    let B : Node → Type 0 = λ node. BreaksOff (LeftOn answer) (calls_of_all (deeds_in node.replica.owed)) count held mid in
     let own = subst B (ap (λ (servers : Pair). servers.active) shows.own) broke in
     subst (λ (hand : Hand). B (active_by setup past hand state.peers.partner)) ready own
 
-module _ (old : Cluster Pair) (new : Pair) (before after : List (List ℕ)) (held mid left : DiskSeen) (some : IsSome old.servers.active.node.owed) (none : old.servers.active.waits ≡ None) where
+module _ (old : Cluster Pair) (new : Pair) (before after : List (List ℕ)) (held mid left : DiskSeen) (some : IsSome old.servers.active.replica.owed) (none : old.servers.active.waits ≡ None) where
   abbrev now : Cluster Pair
   now = with_servers old new
 
@@ -172,7 +172,7 @@ module _ (old : Cluster Pair) (new : Pair) (before after : List (List ℕ)) (hel
   Breaks answer = ComesOff pair_kit any_state EndsWork answer old now before after held left
 
   -- the disk stopped in the work
-  module _ (count : ℕ) (broke : BreaksOff (LeftOn Stopped) (calls_of_all (deeds_in old.servers.active.node.owed)) count held.files mid.files) (reached : counts.reaches (suc count) held.armed ≡ true) (stands : mid.faults ≡ held.faults) where
+  module _ (count : ℕ) (broke : BreaksOff (LeftOn Stopped) (calls_of_all (deeds_in old.servers.active.replica.owed)) count held.files mid.files) (reached : counts.reaches (suc count) held.armed ≡ true) (stands : mid.faults ≡ held.faults) where
     pub stopped-over : (result : Result (Unit {0}) DiskAnswer) → TakesOver result (fell old.servers) new before after mid left → OnOk result Works
     stopped-over (Ok done) takes = λ setup state good shows armed so.
         let found = ready-for setup state old shows some none in
@@ -209,7 +209,7 @@ module _ (old : Cluster Pair) (new : Pair) (before after : List (List ℕ)) (hel
     stopped-off (Err Stopped) takes = absurd takes
 
   -- it had a fault in the work, and there is a standby
-  module _ (stands : stands_by old.servers.partner.node.role ≡ true) (count : ℕ) (broke : BreaksOff (LeftOn Failed) (calls_of_all (deeds_in old.servers.active.node.owed)) count held.files mid.files) (later : held.faults ≤ mid.faults) (rose : Rose held.faults mid.faults) where
+  module _ (stands : stands_by old.servers.partner.replica.role ≡ true) (count : ℕ) (broke : BreaksOff (LeftOn Failed) (calls_of_all (deeds_in old.servers.active.replica.owed)) count held.files mid.files) (later : held.faults ≤ mid.faults) (rose : Rose held.faults mid.faults) where
     found-standby : (setup : Setup) (state : State Peers) → Shows pair_kit setup state old → (number : Option ℕ) × (state.peers.partner ≡ Standby number)
     found-standby setup state shows = standby-is state.peers.partner (sym (standby-shown setup state old shows) ∙ stands)
 
@@ -273,7 +273,7 @@ alone-fell setup state entry Owed armed count is agree unarmed none = record { a
 alone-fell setup state entry Linking armed count is agree unarmed none = elim agree [ ]
 alone-fell setup state entry (Standby number) armed count is agree unarmed none = cc
 
-alone-by : (setup : Setup) (state : State Peers) (hand : Hand) (entry : Entry) (old : Cluster Pair) (before after : List (List ℕ)) (count : ℕ) (held left : DiskSeen) → hand ≡ Ready entry → IsGood pair_kit setup (pair_at state.peers.partner hand state) → Shows pair_kit setup (pair_at state.peers.partner hand state) old → is_standby state.peers.partner ≡ false → held.armed ≡ state.peers.armed → left.armed ≡ counts.lowered (suc count) held.armed → BreaksOff (LeftOn Failed) (calls_of_all (deeds_in old.servers.active.node.owed)) count held.files left.files → held.faults ≤ left.faults → Rose held.faults left.faults → after ≡ before ++ server_line old.servers.acting role.Down ∷ [] → Ended pair_kit setup (pair_at state.peers.partner hand state) (EndsWork setup) (with_servers old (fell old.servers)) before after held left
+alone-by : (setup : Setup) (state : State Peers) (hand : Hand) (entry : Entry) (old : Cluster Pair) (before after : List (List ℕ)) (count : ℕ) (held left : DiskSeen) → hand ≡ Ready entry → IsGood pair_kit setup (pair_at state.peers.partner hand state) → Shows pair_kit setup (pair_at state.peers.partner hand state) old → is_standby state.peers.partner ≡ false → held.armed ≡ state.peers.armed → left.armed ≡ counts.lowered (suc count) held.armed → BreaksOff (LeftOn Failed) (calls_of_all (deeds_in old.servers.active.replica.owed)) count held.files left.files → held.faults ≤ left.faults → Rose held.faults left.faults → after ≡ before ++ server_line old.servers.acting role.Down ∷ [] → Ended pair_kit setup (pair_at state.peers.partner hand state) (EndsWork setup) (with_servers old (fell old.servers)) before after held left
 alone-by setup state (Ready other) entry old before after count held left is good shows alone armed lowered broke later rose told =
     let partner = state.peers.partner in
     let now = pair_at partner (Ready other) state in
@@ -287,14 +287,14 @@ alone-by setup state Empty entry old before after count held left is good shows 
 alone-by setup state (Waiting other) entry old before after count held left is good shows alone armed lowered broke later rose told = cc
 alone-by setup state (Applied other) entry old before after count held left is good shows alone armed lowered broke later rose told = cc
 
-pub failed-alone : (old : Cluster Pair) (before after : List (List ℕ)) (count : ℕ) (held left : DiskSeen) → IsSome old.servers.active.node.owed → old.servers.active.waits ≡ None → stands_by old.servers.partner.node.role ≡ false → left.armed ≡ counts.lowered (suc count) held.armed → BreaksOff (LeftOn Failed) (calls_of_all (deeds_in old.servers.active.node.owed)) count held.files left.files → held.faults ≤ left.faults → Rose held.faults left.faults → after ≡ before ++ server_line old.servers.acting role.Down ∷ [] → ComesOff pair_kit any_state EndsWork Failed old (with_servers old (fell old.servers)) before after held left
+pub failed-alone : (old : Cluster Pair) (before after : List (List ℕ)) (count : ℕ) (held left : DiskSeen) → IsSome old.servers.active.replica.owed → old.servers.active.waits ≡ None → stands_by old.servers.partner.replica.role ≡ false → left.armed ≡ counts.lowered (suc count) held.armed → BreaksOff (LeftOn Failed) (calls_of_all (deeds_in old.servers.active.replica.owed)) count held.files left.files → held.faults ≤ left.faults → Rose held.faults left.faults → after ≡ before ++ server_line old.servers.acting role.Down ∷ [] → ComesOff pair_kit any_state EndsWork Failed old (with_servers old (fell old.servers)) before after held left
 failed-alone old before after count held left some none alone lowered broke later rose told setup state good shows armed so =
     let found = ready-for setup state old shows some none in
     alone-by setup state state.world.core.hand found.entry old before after count held left found.ready good shows (sym (standby-shown setup state old shows) ∙ alone) armed lowered broke later rose told
 
 -- Where memory runs out in the deeds, or behind them.
 
-pub work-lacks : (old : Cluster Pair) (active : PairNode) (before after : List (List ℕ)) (count : ℕ) (held left : DiskSeen) → IsSome old.servers.active.node.owed → old.servers.active.waits ≡ None → BreaksOff (LeftOn Memory) (calls_of_all (deeds_in old.servers.active.node.owed)) count held.files left.files → left.faults ≡ held.faults → ComesOff pair_kit any_state EndsWork Memory old (with_servers old (record old.servers { active = active })) before after held left
+pub work-lacks : (old : Cluster Pair) (active : Node) (before after : List (List ℕ)) (count : ℕ) (held left : DiskSeen) → IsSome old.servers.active.replica.owed → old.servers.active.waits ≡ None → BreaksOff (LeftOn Memory) (calls_of_all (deeds_in old.servers.active.replica.owed)) count held.files left.files → left.faults ≡ held.faults → ComesOff pair_kit any_state EndsWork Memory old (with_servers old (record old.servers { active = active })) before after held left
 work-lacks old active before after count held left some none broke stands setup state good shows armed so =
     let found = ready-for setup state old shows some none in
     let whole = broke-shown setup state Memory old found.entry count held.files left.files shows found.ready broke in
@@ -310,7 +310,7 @@ answer-breaks setup past (Called client number time call) net old new posts spel
     posts-one setup (Answer client number ((plain_of setup).reply past client number time call)) net old new posts spelled
 answer-breaks setup past (Receipted client key through time) net old new posts spelled = inl (posts-none setup net old new posts spelled)
 
-untold-by : (setup : Setup) (state : State Peers) (hand : Hand) (entry : Entry) (old new : Cluster Pair) (heard : Heard) (active : PairNode) (held left : DiskSeen) → hand ≡ Ready entry → IsGood pair_kit setup (pair_at state.peers.partner hand state) → Shows pair_kit setup (pair_at state.peers.partner hand state) old → held.armed ≡ state.peers.armed → IsWorked old.servers.active heard active → PostsSome heard.to_net old.net new.net → left.files ≡ option_map (all_applied (calls_of_all (deeds_in old.servers.active.node.owed))) held.files → counts.IsShort (length (calls_of_all (deeds_in old.servers.active.node.owed))) held.armed → new.agents ≡ old.agents → new.history.entries ≡ old.history.entries → new.now ≡ old.now → Broken pair_kit.Within setup (pair_at state.peers.partner hand state) held.files left.files new
+untold-by : (setup : Setup) (state : State Peers) (hand : Hand) (entry : Entry) (old new : Cluster Pair) (heard : Heard) (active : Node) (held left : DiskSeen) → hand ≡ Ready entry → IsGood pair_kit setup (pair_at state.peers.partner hand state) → Shows pair_kit setup (pair_at state.peers.partner hand state) old → held.armed ≡ state.peers.armed → IsWorked old.servers.active heard active → PostsSome heard.to_net old.net new.net → left.files ≡ option_map (all_applied (calls_of_all (deeds_in old.servers.active.replica.owed))) held.files → counts.IsShort (length (calls_of_all (deeds_in old.servers.active.replica.owed))) held.armed → new.agents ≡ old.agents → new.history.entries ≡ old.history.entries → new.now ≡ old.now → Broken pair_kit.Within setup (pair_at state.peers.partner hand state) held.files left.files new
 untold-by setup state (Ready other) entry old new heard active held left is good shows armed worked posts files short agents history now =
     let past = state.world.core.answered in
     let before = pair_at state.peers.partner (Ready other) state in
@@ -321,7 +321,7 @@ untold-by setup state (Ready other) entry old new heard active held left is good
     let stands = done-stands state.peers.partner state.peers.armed count false refl good.steady.good.armed short_so in
     let step = work-step setup happened before other false good refl stands in
     let after = work_done (plain_of setup) count other before in
-    let P : PairNode → Type 0 = λ node. PostsSome (replies_in node.node.owed) old.net new.net in
+    let P : Node → Type 0 = λ node. PostsSome (replies_in node.replica.owed) old.net new.net in
     let owed = subst (λ (servers : Pair). P servers.active) shows.own (subst (λ (h : Heard). PostsSome h.to_net old.net new.net) worked.heard_is posts) in
     let between : TellsFiles setup before held.files → LeavesBetween setup (other ∷ past) held.files left.files =
     λ tells. (left-between pair_kit pair_laws) setup after.state held.files left.files step.good (work-files setup before other held.files left.files good refl (files ∙ ap (λ c. option_map (all_applied c) held.files) calls) tells)
@@ -337,7 +337,7 @@ untold-by setup state Empty entry old new heard active held left is good shows a
 untold-by setup state (Waiting other) entry old new heard active held left is good shows armed worked posts files short agents history now = cc
 untold-by setup state (Applied other) entry old new heard active held left is good shows armed worked posts files short agents history now = cc
 
-pub work-untold : (old new : Cluster Pair) (heard : Heard) (active : PairNode) (before after : List (List ℕ)) (held left : DiskSeen) → IsSome old.servers.active.node.owed → old.servers.active.waits ≡ None → IsWorked old.servers.active heard active → PostsSome heard.to_net old.net new.net → left.files ≡ option_map (all_applied (calls_of_all (deeds_in old.servers.active.node.owed))) held.files → counts.IsShort (length (calls_of_all (deeds_in old.servers.active.node.owed))) held.armed → left.faults ≡ held.faults → new.agents ≡ old.agents → new.history.entries ≡ old.history.entries → new.now ≡ old.now → ComesOff pair_kit any_state EndsWork Memory old new before after held left
+pub work-untold : (old new : Cluster Pair) (heard : Heard) (active : Node) (before after : List (List ℕ)) (held left : DiskSeen) → IsSome old.servers.active.replica.owed → old.servers.active.waits ≡ None → IsWorked old.servers.active heard active → PostsSome heard.to_net old.net new.net → left.files ≡ option_map (all_applied (calls_of_all (deeds_in old.servers.active.replica.owed))) held.files → counts.IsShort (length (calls_of_all (deeds_in old.servers.active.replica.owed))) held.armed → left.faults ≡ held.faults → new.agents ≡ old.agents → new.history.entries ≡ old.history.entries → new.now ≡ old.now → ComesOff pair_kit any_state EndsWork Memory old new before after held left
 work-untold old new heard active before after held left some none worked posts files short stands agents history now setup state good shows armed so =
     let found = ready-for setup state old shows some none in (
       untold-by setup state state.world.core.hand found.entry old new heard active held left found.ready good shows armed worked posts files short agents history now,
@@ -361,22 +361,22 @@ replies-range setup state partner (Called client number time call) good =
     ((record { least = can.from; most = can.to }, record { least = omega arith; most = omega arith }), tt)
 replies-range setup state partner (Receipted client key through time) good = tt
 
-worked-range-by : (setup : Setup) (state : State Peers) (hand : Hand) (entry : Entry) (old : Cluster Pair) (heard : Heard) (active : PairNode) → hand ≡ Ready entry → IsGood pair_kit setup (pair_at state.peers.partner hand state) → Shows pair_kit setup (pair_at state.peers.partner hand state) old → IsWorked old.servers.active heard active → AllByRecursion MessageInRange heard.to_net
+worked-range-by : (setup : Setup) (state : State Peers) (hand : Hand) (entry : Entry) (old : Cluster Pair) (heard : Heard) (active : Node) → hand ≡ Ready entry → IsGood pair_kit setup (pair_at state.peers.partner hand state) → Shows pair_kit setup (pair_at state.peers.partner hand state) old → IsWorked old.servers.active heard active → AllByRecursion MessageInRange heard.to_net
 worked-range-by setup state (Ready other) entry old heard active is good shows worked =
     let H : Heard → Type 0 = λ h. AllByRecursion MessageInRange h.to_net in
-    let O : Pair → Type 0 = λ servers. AllByRecursion MessageInRange (replies_in servers.active.node.owed) in
+    let O : Pair → Type 0 = λ servers. AllByRecursion MessageInRange (replies_in servers.active.replica.owed) in
     subst H (sym worked.heard_is) (subst O (sym shows.own) (replies-range setup state state.peers.partner other good))
 worked-range-by setup state Empty entry old heard active is good shows worked = cc
 worked-range-by setup state (Waiting other) entry old heard active is good shows worked = cc
 worked-range-by setup state (Applied other) entry old heard active is good shows worked = cc
 
-pub worked-range : (old : Cluster Pair) (heard : Heard) (active : PairNode) → HasState pair_kit old → IsSome old.servers.active.node.owed → old.servers.active.waits ≡ None → IsWorked old.servers.active heard active → AllByRecursion MessageInRange heard.to_net
+pub worked-range : (old : Cluster Pair) (heard : Heard) (active : Node) → HasState pair_kit old → IsSome old.servers.active.replica.owed → old.servers.active.waits ≡ None → IsWorked old.servers.active heard active → AllByRecursion MessageInRange heard.to_net
 worked-range old heard active has some none worked =
     let found = ready-for has.setup has.state old has.shows some none in
     worked-range-by has.setup has.state has.state.world.core.hand found.entry old heard active found.ready has.good has.shows worked
 
 -- where the disk stops there is a standby
-pub stopped-role : (old : Cluster Pair) (armed : Option ℕ) (count : ℕ) → HasStateOn pair_kit any_state old armed → counts.reaches (suc count) armed ≡ true → old.servers.partner.node.role ≡ StandsBy
+pub stopped-role : (old : Cluster Pair) (armed : Option ℕ) (count : ℕ) → HasStateOn pair_kit any_state old armed → counts.reaches (suc count) armed ≡ true → old.servers.partner.replica.role ≡ StandsBy
 stopped-role old armed count has reached =
     let state = has.state in
     let standby = stop-standby state.peers.partner state.peers.armed count has.good.steady.good.armed (subst (λ (a : Option ℕ). counts.reaches (suc count) a ≡ true) has.count reached) in

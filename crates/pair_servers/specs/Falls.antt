@@ -13,8 +13,8 @@ use Rattle.event_text.specs.Texts.{entry_line, server_line}
 use Rattle.mirror.specs.declared.heard.Heard.{Heard}
 use Rattle.mirror.specs.declared.heard.Role.{Role}
 use Rattle.mirror.specs.declared.heard.Role.TheVariants as role_of
-use Rattle.mirror.specs.declared.pair_node.PairNode.{PairNode}
-use Rattle.mirror.specs.Nodes.{down, number_in_hand}
+use Rattle.mirror.specs.declared.node.Node.{Node}
+use Rattle.mirror.specs.Replicas.{down, number_in_hand}
 use Rattle.mirror.specs.Pairing.{alone, taken_over}
 use Rattle.pair_cluster.specs.Peers.{other_server}
 use Rattle.cluster_clients.specs.Posted.{PostsAll}
@@ -88,8 +88,8 @@ waiting_by None waits entries = None
 waiting_by (Some number) None entries = None
 waiting_by (Some number) (Some entry) entries = if nat_le number entries then None else Some (number, entry)
 
-abbrev pub waiting_in : PairNode → ℕ → Option (ℕ × Entry)
-waiting_in active entries = waiting_by (number_in_hand active.node) active.waits entries
+abbrev pub waiting_in : Node → ℕ → Option (ℕ × Entry)
+waiting_in active entries = waiting_by (number_in_hand active.replica) active.waits entries
 
 abbrev pub waiting_lines : Option (ℕ × Entry) → List (List ℕ)
 waiting_lines None = []

@@ -13,7 +13,7 @@ use Rattle.mirror.specs.declared.heard.Why.TheVariants.{Old, Ahead, Busy as Busy
 use Rattle.mirror.specs.declared.heard.Outcome.{Outcome}
 use Rattle.mirror.specs.declared.heard.Outcome.TheVariants.{Ignored, Joined}
 use Rattle.mirror.specs.declared.heard.Heard.{Heard}
-use Rattle.mirror.specs.declared.pair_node.PairNode.{PairNode}
+use Rattle.mirror.specs.declared.node.Node.{Node}
 use Rattle.mirror.specs.Pairing.{IsReceived}
 use Rattle.pair_cluster.specs.Peers.{other_server}
 use Rattle.cluster_rounds.specs.declared.cluster.Cluster.{Cluster}
@@ -74,7 +74,7 @@ IsToldMirrored server heard old_back new_back old new before after =
 pub record Delivers (message : Message) (old new : Cluster Pair) (before after : List (List ℕ)) : Type 0 where
   pub moment : ℤ
   pub heard : Heard
-  pub received : IsReceived old.servers.partner.node.role message moment old.servers.partner heard new.servers.partner
+  pub received : IsReceived old.servers.partner.replica.role message moment old.servers.partner heard new.servers.partner
   pub told : IsToldMirrored (other_server old.servers.acting) heard old.servers.back new.servers.back old.history.entries new.history.entries before after
   pub rest : new ≡ record old {
     servers = record old.servers { partner = new.servers.partner; back = new.servers.back };
@@ -82,10 +82,10 @@ pub record Delivers (message : Message) (old new : Cluster Pair) (before after :
   }
 
 -- and one to the active server
-pub record IsConfirmed (message : Message) (old new : PairNode) : Type 0 where
+pub record IsConfirmed (message : Message) (old new : Node) : Type 0 where
   pub moment : ℤ
   pub heard : Heard
-  pub received : IsReceived old.node.role message moment old heard new
+  pub received : IsReceived old.replica.role message moment old heard new
 
 -- net, agents, history and time are as they were, whatever the servers are
 pub record IsUntold (old new : Cluster Pair) : Type 0 where

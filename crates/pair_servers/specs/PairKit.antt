@@ -2,7 +2,7 @@
 use Rattle.std.specs.Prelude.{◌≡◌, ℕ, ◌≤◌, ◌≤ℤ◌, false, Option, None, []}
 use Rattle.plain_service.specs.Setups.{Setup}
 use Rattle.cluster_events.specs.Servers.{State}
-use Rattle.mirror.specs.Nodes.{down}
+use Rattle.mirror.specs.Replicas.{down}
 use Rattle.mirror.specs.Pairing.{alone}
 use Rattle.pair_cluster.specs.Peers.{Peers, IsPair}
 use Rattle.pair_cluster.specs.Pair.{pair}

@@ -13,8 +13,8 @@ use Rattle.cluster_events.specs.Devices.{Device}
 use Rattle.cluster_events.specs.Saying.{entries_told}
 use Rattle.cluster_events.specs.Serving.{IsCarried}
 use Rattle.event_text.specs.Texts.{printed}
-use Rattle.lone_cluster.specs.Lone.{lines_answering}
-use Rattle.lone_cluster.proofs.Serving.{posted-sent}
+use Rattle.pair_cluster.specs.Answering.{lines_answering}
+use Rattle.pair_cluster.proofs.Answering.{answer-sent}
 use Rattle.pair_cluster.specs.Peers.{Peers, IsPair}
 use Rattle.pair_cluster.specs.Pair.{is_linked, accept_by, pair}
 use Rattle.pair_cluster.proofs.Stepping.{Bears, pair-rests}
@@ -77,7 +77,7 @@ unasked-borne plain =
       };
       worked = λ world past entry. record {
         says = says.worked world past entry;
-        asks = record { sent = posted-sent plain past entry world.net; now = refl; times = answer-times plain past entry world.net world.now };
+        asks = record { sent = answer-sent plain past entry world.net; now = refl; times = answer-times plain past entry world.net world.now };
       };
       over = λ world past hand. record {
         says = says.over world past hand;

@@ -10,10 +10,10 @@ use Rattle.cluster_facts.specs.Types.{Entry}
 use Rattle.cluster_facts.specs.History.{Hand, Empty, Waiting, Applied, Ready, accepted_by, committed_by}
 use Rattle.cluster_events.specs.Servers.{State}
 use Rattle.mirror.specs.declared.heard.Role.TheVariants as role
-use Rattle.mirror.specs.declared.pair_node.PairNode.{PairNode}
-use Rattle.mirror.specs.declared.pair_node.Tie.{Tie}
-use Rattle.mirror.specs.declared.pair_node.Tie.TheVariants.{Apart, Owing, Linked}
-use Rattle.mirror.specs.Nodes.{Server as Node, down, started, at_rest, at_work}
+use Rattle.mirror.specs.declared.node.Node.{Node}
+use Rattle.mirror.specs.declared.node.Tie.{Tie}
+use Rattle.mirror.specs.declared.node.Tie.TheVariants.{Apart, Owing, Linked}
+use Rattle.mirror.specs.Replicas.{ReplicaState, down, started, at_rest, at_work}
 use Rattle.mirror.specs.Pairing.{alone, joining}
 use Rattle.pair_cluster.specs.Peers.{Partner, Down, Owed, Linking, Standby, Peers, ToPartner, Snapshot, Mirror, FromPartner, JoinAck, MirrorAck, link_of, back_of}
 use Rattle.pair_servers.specs.declared.pair.Pair.{Pair}
@@ -21,7 +21,7 @@ use Rattle.pair_servers.specs.declared.pair.Pair.{Pair}
 -- The active server.
 
 -- by itself: one with an entry in hand has applied it
-abbrev pub serving_by : Setup → List Entry → Hand → Node
+abbrev pub serving_by : Setup → List Entry → Hand → ReplicaState
 serving_by setup past Empty = at_rest setup past
 serving_by setup past (Waiting entry) = at_work setup past entry
 serving_by setup past (Applied entry) = at_work setup past entry
@@ -45,9 +45,9 @@ abbrev pub promised_to : Setup → List Entry → Partner → List Message
 promised_to setup accepted Owed = wire.Snapshot (saved_of setup accepted) ∷ []
 promised_to setup accepted _ = []
 
-abbrev pub active_by : Setup → List Entry → Hand → Partner → PairNode
+abbrev pub active_by : Setup → List Entry → Hand → Partner → Node
 active_by setup past hand partner = record {
-  node = serving_by setup past hand;
+  replica = serving_by setup past hand;
   waits = waits_by hand;
   tie = tie_to partner;
   promised = promised_to setup (accepted_by past hand) partner;
@@ -62,9 +62,9 @@ last_deeds setup [] = []
 last_deeds setup (entry ∷ past) = deeds_of setup past entry
 
 -- the standby after a history
-abbrev pub standby_by : Setup → List Entry → Bool → PairNode
+abbrev pub standby_by : Setup → List Entry → Bool → Node
 standby_by setup history keeps = record {
-  node = started role.Standby (saved_of setup history);
+  replica = started role.Standby (saved_of setup history);
   waits = None;
   tie = Apart;
   promised = [];
@@ -72,7 +72,7 @@ standby_by setup history keeps = record {
 }
 
 -- by all that was committed
-abbrev pub partner_by : Setup → List Entry → Bool → Partner → PairNode
+abbrev pub partner_by : Setup → List Entry → Bool → Partner → Node
 partner_by setup history keeps Down = alone down
 partner_by setup history keeps Owed = alone joining
 partner_by setup history keeps Linking = alone joining

@@ -9,8 +9,7 @@ use Rattle.cluster_events.specs.Outcomes.{Outcome}
 use Rattle.cluster_events.specs.Servers.{State}
 use Rattle.cluster_events.specs.Devices.{Device}
 use Rattle.cluster_events.specs.Running.{Shelf, Happens}
-use Rattle.lone_cluster.specs.Lone.{number_in_hand}
-use Rattle.pair_cluster.specs.Peers.{Peers}
+use Rattle.pair_cluster.specs.Peers.{Peers, hand_number}
 use Rattle.pair_cluster.specs.Pair.{pair}
 use Rattle.pair_cluster.specs.Running.{PairHappens}
 use Rattle.cluster_lines.specs.Following.{IsInHand, IsScript}
@@ -24,7 +23,7 @@ shares plain shelf device line.Disarm state outcome happens = absurd happens
 shares plain shelf device (line.Restart server) state outcome happens = absurd happens
 shares plain shelf device _ state outcome happens = happens
 
-in-hand : (past : ℕ) (hand : Hand) → IsInHand (number_in_hand past hand) hand
+in-hand : (past : ℕ) (hand : Hand) → IsInHand (hand_number past hand) hand
 in-hand past Empty = refl
 in-hand past (Waiting entry) = λ none. cc
 in-hand past (Applied entry) = λ none. cc

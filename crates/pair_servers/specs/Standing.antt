@@ -4,7 +4,7 @@ use Rattle.script_lines.specs.declared.line.Server.{Server}
 use Rattle.script_lines.specs.declared.line.Server.TheVariants as server
 use Rattle.mirror.specs.declared.heard.Role.{Role}
 use Rattle.mirror.specs.declared.heard.Role.TheVariants as role
-use Rattle.mirror.specs.Nodes.{number_in_hand}
+use Rattle.mirror.specs.Replicas.{number_in_hand}
 use Rattle.cluster_events.specs.declared.lines.ServerRole.{ServerRole}
 use Rattle.cluster_events.specs.declared.lines.ServerRole.TheVariants.{Active, Armed, Standby, Joining, Down}
 use Rattle.cluster_events.specs.declared.lines.Standing.{Standing}
@@ -22,8 +22,8 @@ role_shown armed role.Down = Down
 
 abbrev pub role_in : Server → Pair → ServerRole
 role_in one servers =
-    if same_server one servers.acting then role_shown servers.armed servers.active.node.role
-    else role_shown servers.armed servers.partner.node.role
+    if same_server one servers.acting then role_shown servers.armed servers.active.replica.role
+    else role_shown servers.armed servers.partner.replica.role
 
 -- the servers' roles and the lengths of the lists of messages
 abbrev pub standing_as : Cluster Pair → Standing
@@ -33,5 +33,5 @@ standing_as world = record {
   net = length world.net;
   link = length world.servers.link;
   back = length world.servers.back;
-  in_hand = number_in_hand world.servers.active.node;
+  in_hand = number_in_hand world.servers.active.replica;
 }

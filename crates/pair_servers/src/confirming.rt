@@ -11,22 +11,17 @@ ghost use Rattle.pair_servers.specs.Heard.{IsConfirmed};
 use crate::Pair;
 use crate::sending::take_first;
 use cluster_rounds::Cluster;
-use mirror::PairNode;
+use mirror::Node;
 use std::alloc::{AllocError, Global};
 use std::mem;
 use wire::Message;
 
 /// The active server hears a message of its partner's.
-fn confirm(
-    alloc: Global,
-    active: &mut PairNode,
-    message: &Message,
-    now: i64,
-) -> Result<(), AllocError>
+fn confirm(alloc: Global, active: &mut Node, message: &Message, now: i64) -> Result<(), AllocError>
     requires { (moment : ℤ) → CanReceive message.now moment active.old }
     ensures { OnOk result (IsConfirmed message.now active.old active.new) }
 {
-    if !active.node.has_room() {
+    if !active.has_room() {
         return Err(AllocError);
     }
     match active.receive(alloc, message, now) {

@@ -21,7 +21,7 @@ use cluster_events::ServerRole;
 use cluster_rounds::Cluster;
 use disk_model::{DiskAnswer, SharedDisk};
 use event_text::{put_entry, put_server};
-use mirror::{Heard, PairNode};
+use mirror::{Heard, Node};
 use script_lines::{Line, Server};
 use std::alloc::{AllocError, Global};
 use std::mem;
@@ -39,7 +39,7 @@ fn as_answer(done: Result<(), AllocError>) -> Result<(), DiskAnswer>
 /// Whether a server is the active one and its partner is standby.
 fn leads(servers: &Pair, server: Server) -> bool
     ensures { result ≡ (same_server server servers.now.acting && stands_by
-        servers.now.partner.node.role) }
+        servers.now.partner.replica.role) }
 {
     same_server(server, servers.acting) && is_standby(&servers.partner)
 }
@@ -47,7 +47,7 @@ fn leads(servers: &Pair, server: Server) -> bool
 /// Whether a server is not the active one, which is not armed, and is not down.
 fn follows(servers: &Pair, server: Server) -> bool
     ensures { result ≡ (not (same_server server servers.now.acting) && (not servers.now.armed
-        && not (stays_down servers.now.partner.node.role))) }
+        && not (stays_down servers.now.partner.replica.role))) }
 {
     !same_server(server, servers.acting) && (!servers.armed && !is_down(&servers.partner))
 }
@@ -55,7 +55,7 @@ fn follows(servers: &Pair, server: Server) -> bool
 /// Whether a server is not the active one, and is down.
 fn rests(servers: &Pair, server: Server) -> bool
     ensures { result ≡ (not (same_server server servers.now.acting) && stays_down
-        servers.now.partner.node.role) }
+        servers.now.partner.replica.role) }
 {
     !same_server(server, servers.acting) && is_down(&servers.partner)
 }
@@ -70,7 +70,7 @@ fn crash_active<D: SharedDisk>(
 ) -> Result<(), DiskAnswer>
     requires state { HasStateOn pair_kit any_state world.old (D.tally disk.old).armed }
     requires leads { (same_server server world.old.servers.acting && stands_by
-        world.old.servers.partner.node.role) ≡ true }
+        world.old.servers.partner.replica.role) ≡ true }
     ensures ok { OnOk result (DoesOn (crashed_by server) world.old world.new lines.old.items
         lines.new.items (seen (D.files disk.old) (D.tally disk.old) (D.faults disk.old))
         (seen (D.files disk.new) (D.tally disk.new) (D.faults disk.new))) }
@@ -92,7 +92,7 @@ fn crash_active<D: SharedDisk>(
 fn put_waiting(
     alloc: Global,
     lines: &mut Vec<Seq<u8>>,
-    active: &PairNode,
+    active: &Node,
     entries: u64,
 ) -> Result<bool, AllocError>
     ensures { IfOk result (λ waits. (waits ≡ is_some (waiting_in active.now entries))
@@ -140,7 +140,7 @@ fn crash_partner(
     server: Server,
 ) -> Result<(), AllocError>
     requires follows { (not (same_server server world.old.servers.acting) && (not
-        world.old.servers.armed && not (stays_down world.old.servers.partner.node.role))) ≡ true }
+        world.old.servers.armed && not (stays_down world.old.servers.partner.replica.role))) ≡ true }
     ensures ok { OnOk result (Does pair_kit (crashed_by server) world.old world.new lines.old.items
         lines.new.items) }
     ensures err { OnErr result (BreaksAlone pair_kit world.old world.new) }
@@ -235,10 +235,10 @@ pub fn disarm<D: SharedDisk>(world: &mut Cluster<Pair>, disk: &mut D)
 }
 
 /// A server is one that joins; what it had is let go.
-fn go_joining(alloc: Global, node: &mut PairNode)
+fn go_joining(alloc: Global, node: &mut Node)
     ensures { node.new ≡ alone joining }
 {
-    mem::drop(mem::replace(node, PairNode::joining(alloc)));
+    mem::drop(mem::replace(node, Node::joining(alloc)));
 }
 
 /// A server that was down joins: it is sent the value of the service at once where nothing is in hand, and else once that is worked.
@@ -249,7 +249,7 @@ fn rejoin(
     server: Server,
 ) -> Result<(), AllocError>
     requires { (not (same_server server world.old.servers.acting) && stays_down
-        world.old.servers.partner.node.role) ≡ true }
+        world.old.servers.partner.replica.role) ≡ true }
     ensures ok { OnOk result (Does pair_kit (restarted_by server) world.old world.new lines.old.items
         lines.new.items) }
     ensures err { OnErr result (IsUntold world.old world.new) }

@@ -3,7 +3,7 @@ ghost use Rattle.std.specs.Prelude.{◌≡◌, ◌≤◌, IfOk, OnOk, OnErr};
 ghost use Rattle.std.specs.List.{AllByRecursion};
 ghost use Rattle.wire.specs.MessageSpelling.{MessageInRange};
 ghost use Rattle.mirror.specs.declared.heard.Role.TheVariants.{Active};
-ghost use Rattle.mirror.specs.Nodes.{HasRoom};
+ghost use Rattle.mirror.specs.Replicas.{HasRoom};
 ghost use Rattle.mirror.specs.Hearing.{CanHear};
 ghost use Rattle.mirror.specs.Pairing.{IsHeard};
 ghost use Rattle.cluster_clients.specs.Posted.{PostsSome};
@@ -19,7 +19,7 @@ use calls::History;
 use cluster_clients::post_all;
 use cluster_rounds::Cluster;
 use message_net::Net;
-use mirror::{Heard, PairNode};
+use mirror::{Heard, Node};
 use std::alloc::{AllocError, Global};
 use std::mem;
 use wire::Message;
@@ -66,21 +66,21 @@ fn tell_heard(
 
 /// The active server hears a message of the net. On an error nothing changes.
 fn receive(
-    active: &mut PairNode,
+    active: &mut Node,
     alloc: Global,
     message: &Message,
     now: i64,
 ) -> Result<Heard, AllocError>
     requires hear { CanHear message.now now }
-    requires few { HasRoom active.old.node.service }
-    requires role { active.old.node.role ≡ Active }
+    requires few { HasRoom active.old.replica.service }
+    requires role { active.old.replica.role ≡ Active }
     ensures ok { IfOk result (λ heard. IsHeard message.now now active.old heard active.new) }
     ensures err { OnErr result (active.new ≡ active.old) }
 {
     match message {
         Message::Request { .. } => active.receive(alloc, message, now),
         Message::Receipt { .. } => active.receive(alloc, message, now),
-        _ => active.node.receive(alloc, message, now),
+        _ => active.replica.receive(alloc, message, now),
     }
 }
 
@@ -99,7 +99,7 @@ pub(crate) fn hear(
         (heard_by pair_kit place message.now) world.old world.new lines.old.items lines.new.items) }
     ensures err { OnErr result (BreaksAloneIf pair_kit (StandsIn message.now) world.old world.new) }
 {
-    if !world.servers.active.node.has_room() {
+    if !world.servers.active.has_room() {
         return Err(AllocError);
     }
     world.history.reserve()?;

@@ -81,7 +81,7 @@ fn deliver(
         lines.new.items) }
     ensures err { OnErr result (IsUntold world.old world.new) }
 {
-    if !world.servers.partner.node.has_room() {
+    if !world.servers.partner.has_room() {
         return Err(AllocError);
     }
     world.history.reserve()?;

@@ -1,6 +1,6 @@
 //! The servers of a cluster of two.
 use ais_values::Seq;
-use mirror::PairNode;
+use mirror::Node;
 use script_lines::Server;
 use wire::Message;
 
@@ -10,8 +10,8 @@ use wire::Message;
 #[derive(Drop)]
 pub struct Pair {
     pub acting: Server,
-    pub active: PairNode,
-    pub partner: PairNode,
+    pub active: Node,
+    pub partner: Node,
     pub link: Seq<Message>,
     pub back: Seq<Message>,
     pub armed: bool,

@@ -23,7 +23,7 @@ pub(crate) fn push(
         lines.new.items) }
     ensures err { OnErr result (BreaksAloneIf pair_kit IsIdle world.old world.new) }
 {
-    let items = world.servers.active.node.push(alloc)?;
+    let items = world.servers.active.push(alloc)?;
     match post_all(alloc, &mut world.net, lines, items.as_slice()) {
         Ok(()) => Ok(items),
         Err(error) => {

@@ -12,7 +12,7 @@ use ais_values::Seq;
 use cluster_events::{ServerRole, Standing};
 use cluster_rounds::Cluster;
 use event_text::put_refused;
-use mirror::{PairNode, Role};
+use mirror::{Node, Role};
 use script_lines::{Line, Server};
 use std::alloc::{AllocError, Global};
 
@@ -43,8 +43,8 @@ pub(crate) fn other_server(server: Server) -> Server
 }
 
 /// Whether a server is standby.
-pub(crate) fn is_standby(node: &PairNode) -> bool
-    ensures { result ≡ stands_by node.now.node.role }
+pub(crate) fn is_standby(node: &Node) -> bool
+    ensures { result ≡ stands_by node.now.replica.role }
 {
     match node.role() {
         Role::Standby => true,
@@ -53,8 +53,8 @@ pub(crate) fn is_standby(node: &PairNode) -> bool
 }
 
 /// Whether a server is down.
-pub(crate) fn is_down(node: &PairNode) -> bool
-    ensures { result ≡ stays_down node.now.node.role }
+pub(crate) fn is_down(node: &Node) -> bool
+    ensures { result ≡ stays_down node.now.replica.role }
 {
     match node.role() {
         Role::Down => true,

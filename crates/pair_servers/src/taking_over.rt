@@ -1,7 +1,7 @@
 //! A standby that takes over.
 ghost use Rattle.std.specs.Prelude.{◌≡◌, ◌+◌, ◌++◌, ℕ, List, length, OnOk};
 ghost use Rattle.mirror.specs.declared.heard.Role.TheVariants as role;
-ghost use Rattle.mirror.specs.Nodes.{down};
+ghost use Rattle.mirror.specs.Replicas.{down};
 ghost use Rattle.mirror.specs.Pairing.{alone};
 ghost use Rattle.cluster_rounds.specs.Came.{seen};
 ghost use Rattle.pair_servers.specs.Falls.{TakesOver, end_lines, unlinked, exchanged};
@@ -13,7 +13,7 @@ use ais_values::Seq;
 use cluster_events::ServerRole;
 use disk_model::{DiskAnswer, SharedDisk};
 use event_text::put_server;
-use mirror::PairNode;
+use mirror::Node;
 use script_lines::Server;
 use std::alloc::{AllocError, Global};
 use std::mem;
@@ -33,10 +33,10 @@ pub(crate) fn put_ends(
 }
 
 /// A server goes down; what it had is let go.
-pub(crate) fn go_down(alloc: Global, node: &mut PairNode)
+pub(crate) fn go_down(alloc: Global, node: &mut Node)
     ensures { node.new ≡ alone down }
 {
-    mem::drop(mem::replace(node, PairNode::down(alloc)));
+    mem::drop(mem::replace(node, Node::down(alloc)));
 }
 
 /// Nothing is on the way any more, and no server is armed.
@@ -68,7 +68,7 @@ pub(crate) fn take_over<D: SharedDisk>(
     count: usize,
     disk: &mut D,
 ) -> Result<(), DiskAnswer>
-    requires standby { servers.old.partner.node.role ≡ role.Standby }
+    requires standby { servers.old.partner.replica.role ≡ role.Standby }
     requires lines { count + 3 ≡ length lines.old.items }
     ensures { (before : List (List ℕ)) → count ≡ length before →
         lines.old.items ≡ before ++ end_lines servers.old.acting → TakesOver result servers.old

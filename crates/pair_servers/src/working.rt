@@ -70,7 +70,7 @@ pub fn work<D: SharedDisk>(
     disk: &mut D,
 ) -> Result<(), DiskAnswer>
     requires state { HasStateOn pair_kit any_state world.old (D.tally disk.old).armed }
-    requires hand { IsSome world.old.servers.active.node.owed }
+    requires hand { IsSome world.old.servers.active.replica.owed }
     requires ready { world.old.servers.active.waits ≡ None }
     ensures ok { OnOk result (Comes pair_kit any_state worked_by world.old world.new lines.old.items
         lines.new.items (grew world.old world.new)

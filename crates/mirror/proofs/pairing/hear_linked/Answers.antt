@@ -11,4 +11,4 @@ returns-clause-rest c =
     let later = c.hold_back.new.heard in
     λ setup past history same.
     subst (λ moment. IsMirrored setup past moment a.message.now a.waits.now later c.receive.new.self c.hold_back.new.waits) (to_z-of_z w64 a.now c.ranges.now)
-    (mirrored-by setup past (to_z w64 (of_z w64 a.now)) a.message.now a.node.now c.receive.new.self c.next_number-number.result c.in_ok-mirror.mirror heard later a.waits.now c.hold_back.new.waits same c.next_number-number.ensures c.in_ok-mirror.ensures (c.in_ok-heard.ensures.rest setup past history same) c.hold_back.ensures.heard c.hold_back.ensures.waits)
+    (mirrored-by setup past (to_z w64 (of_z w64 a.now)) a.message.now a.replica.now c.receive.new.self c.next_number-number.result c.in_ok-mirror.mirror heard later a.waits.now c.hold_back.new.waits same c.next_number-number.ensures c.in_ok-mirror.ensures (c.in_ok-heard.ensures.rest setup past history same) c.hold_back.ensures.heard c.hold_back.ensures.waits)

@@ -1,5 +1,5 @@
 use Rattle.std.proofs.Common.{◌≡◌, length, ap, subst}
-use Rattle.mirror.specs.declared.pair_node.PairNode.{PairNode}
+use Rattle.mirror.specs.declared.node.Node.{Node}
 use Rattle.cluster_rounds.specs.Worlds.{any_state}
 use Rattle.cluster_rounds.specs.Came.{seen}
 use Rattle.cluster_rounds.proofs.BrokenClients.{same-breaks-if}
@@ -23,7 +23,7 @@ pub take_over-requires : goal.take_over-requires
 take_over-requires g c =
     let old = c.args.world.now in
     record {
-      standby = standby-role old.servers.partner.node.role (both-true (same_server c.args.server old.servers.acting) (stands_by old.servers.partner.node.role) c.requires.leads).1;
+      standby = standby-role old.servers.partner.replica.role (both-true (same_server c.args.server old.servers.acting) (stands_by old.servers.partner.replica.role) c.requires.leads).1;
       lines = put-length c.args.lines.now.items c.put_ends.new.lines.items c.put_ends.new.lines.items old.servers.acting _ (ap length c.as_slice-count.ensures.value) c.in-Ok.ensures;
     }
 
@@ -31,7 +31,7 @@ pub returns-clause-ok : goal.returns-clause-ok
 returns-clause-ok g c =
     let old = c.args.world.now in
     let before = c.args.lines.now.items in
-    let T : PairNode → Type 0 = λ node. TakesOver c.take_over.result (record old.servers { active = node }) c.take_over.new.servers before c.take_over.new.lines.items (seen (g.D.SharedDisk.files c.args.disk.now) (g.D.SharedDisk.tally c.args.disk.now) (g.D.SharedDisk.faults c.args.disk.now)) (seen (g.D.SharedDisk.files c.take_over.new.disk) (g.D.SharedDisk.tally c.take_over.new.disk) (g.D.SharedDisk.faults c.take_over.new.disk)) in
+    let T : Node → Type 0 = λ node. TakesOver c.take_over.result (record old.servers { active = node }) c.take_over.new.servers before c.take_over.new.lines.items (seen (g.D.SharedDisk.files c.args.disk.now) (g.D.SharedDisk.tally c.args.disk.now) (g.D.SharedDisk.faults c.args.disk.now)) (seen (g.D.SharedDisk.files c.take_over.new.disk) (g.D.SharedDisk.tally c.take_over.new.disk) (g.D.SharedDisk.faults c.take_over.new.disk)) in
     let takes = subst T c.go_down.ensures (c.take_over.ensures before (ap length c.as_slice-count.ensures.value) c.in-Ok.ensures) in
     crash-does c.args.server old c.take_over.new.servers before c.take_over.new.lines.items (seen (g.D.SharedDisk.files c.args.disk.now) (g.D.SharedDisk.tally c.args.disk.now) (g.D.SharedDisk.faults c.args.disk.now)) (seen (g.D.SharedDisk.files c.take_over.new.disk) (g.D.SharedDisk.tally c.take_over.new.disk) (g.D.SharedDisk.faults c.take_over.new.disk)) c.requires.leads c.take_over.result takes
 
@@ -39,6 +39,6 @@ pub returns-clause-err : goal.returns-clause-err
 returns-clause-err g c =
     let old = c.args.world.now in
     let before = c.args.lines.now.items in
-    let T : PairNode → Type 0 = λ node. TakesOver c.take_over.result (record old.servers { active = node }) c.take_over.new.servers before c.take_over.new.lines.items (seen (g.D.SharedDisk.files c.args.disk.now) (g.D.SharedDisk.tally c.args.disk.now) (g.D.SharedDisk.faults c.args.disk.now)) (seen (g.D.SharedDisk.files c.take_over.new.disk) (g.D.SharedDisk.tally c.take_over.new.disk) (g.D.SharedDisk.faults c.take_over.new.disk)) in
+    let T : Node → Type 0 = λ node. TakesOver c.take_over.result (record old.servers { active = node }) c.take_over.new.servers before c.take_over.new.lines.items (seen (g.D.SharedDisk.files c.args.disk.now) (g.D.SharedDisk.tally c.args.disk.now) (g.D.SharedDisk.faults c.args.disk.now)) (seen (g.D.SharedDisk.files c.take_over.new.disk) (g.D.SharedDisk.tally c.take_over.new.disk) (g.D.SharedDisk.faults c.take_over.new.disk)) in
     let takes = subst T c.go_down.ensures (c.take_over.ensures before (ap length c.as_slice-count.ensures.value) c.in-Ok.ensures) in
     crash-off c.args.server old c.take_over.new.servers before c.take_over.new.lines.items (seen (g.D.SharedDisk.files c.args.disk.now) (g.D.SharedDisk.tally c.args.disk.now) (g.D.SharedDisk.faults c.args.disk.now)) (seen (g.D.SharedDisk.files c.take_over.new.disk) (g.D.SharedDisk.tally c.take_over.new.disk) (g.D.SharedDisk.faults c.take_over.new.disk)) c.requires.leads c.take_over.result takes

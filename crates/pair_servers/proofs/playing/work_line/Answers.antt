@@ -23,7 +23,7 @@ returns-then-ready g c =
 pub returns : goal.returns
 returns g c =
     let old = c.args.world.now in
-    let idle : IsSome old.servers.active.node.owed × (old.servers.active.waits ≡ None) → ⊥ = λ ready.
+    let idle : IsSome old.servers.active.replica.owed × (old.servers.active.waits ≡ None) → ⊥ = λ ready.
     let is = c.ready.ensures.1 ready in let no = c.if-ready.false in cc
     in
     let held = seen (g.D.SharedDisk.files c.args.disk.now) (g.D.SharedDisk.tally c.args.disk.now) (g.D.SharedDisk.faults c.args.disk.now) in

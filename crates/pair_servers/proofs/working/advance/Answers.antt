@@ -67,7 +67,7 @@ returns-in-Ok-work-clause-ok g c =
     let ready = c.if-ready.ensures.0 refl in
     let C : Cluster Pair → Type 0 = λ world. Comes pair_kit any_state worked_by world c.work.new.world lines after (grew world c.work.new.world) (seen (g.D.SharedDisk.files c.args.disk.now) (g.D.SharedDisk.tally c.args.disk.now) (g.D.SharedDisk.faults c.args.disk.now)) (seen (g.D.SharedDisk.files c.work.new.disk) (g.D.SharedDisk.tally c.work.new.disk) (g.D.SharedDisk.faults c.work.new.disk)) in
     let comes = subst C same c.in-Ok-work.ensures.ok in
-    let some = subst (λ (world : Cluster Pair). IsSome world.servers.active.node.owed) same ready.0 in
+    let some = subst (λ (world : Cluster Pair). IsSome world.servers.active.replica.owed) same ready.0 in
     let left = subst (λ (world : Cluster Pair). world.servers.active.waits ≡ None) same ready.1 in
     let does = work-advances c.args.world.now c.work.new.world lines after (seen (g.D.SharedDisk.files c.args.disk.now) (g.D.SharedDisk.tally c.args.disk.now) (g.D.SharedDisk.faults c.args.disk.now)) (seen (g.D.SharedDisk.files c.work.new.disk) (g.D.SharedDisk.tally c.work.new.disk) (g.D.SharedDisk.faults c.work.new.disk)) none some left comes in
     subst (λ (start : List (List ℕ)). Advances pair_kit true c.args.world.now c.work.new.world start after (seen (g.D.SharedDisk.files c.args.disk.now) (g.D.SharedDisk.tally c.args.disk.now) (g.D.SharedDisk.faults c.args.disk.now)) (seen (g.D.SharedDisk.files c.work.new.disk) (g.D.SharedDisk.tally c.work.new.disk) (g.D.SharedDisk.faults c.work.new.disk))) mirrors.1 does
@@ -98,6 +98,6 @@ returns-clause-ok g c =
     let acks = subst A c.if-confirmed.false (c.in-Ok-ack.ensures.ok lines) in
     let same = acks.0 ∙ mirrors.0 in
     let none = no-message c.args.world.now c.mirror.new.world c.ack.new.world first lines lines mirrors acks in
-    let R : Cluster Pair → Type 0 = λ world. IsSome world.servers.active.node.owed × (world.servers.active.waits ≡ None) → ⊥ in
+    let R : Cluster Pair → Type 0 = λ world. IsSome world.servers.active.replica.owed × (world.servers.active.waits ≡ None) → ⊥ in
     let not : R c.ack.new.world = λ ready. let is = c.ready.ensures.1 ready in let no = c.if-ready.false in cc in
     (same, mirrors.1, refl, advances-none c.args.world.now none (subst R same not))

@@ -1,7 +1,7 @@
 use Rattle.std.proofs.Common.{◌≡◌, ℕ, inl, inr, ◌++◌, List, length, refl, sym, ◌∙◌, Err, ap, subst}
 use Rattle.disk_model.specs.declared.answers.DiskAnswer.TheVariants.{Failed}
 use Rattle.disk_model.specs.declared.tally.Tally.{Tally}
-use Rattle.mirror.specs.declared.pair_node.PairNode.{PairNode}
+use Rattle.mirror.specs.declared.node.Node.{Node}
 use Rattle.cluster_rounds.specs.Worlds.{any_state}
 use Rattle.cluster_rounds.specs.Came.{seen, ComesOff}
 use Rattle.cluster_rounds.proofs.ArmedSteps.{state-told}
@@ -57,7 +57,7 @@ returns-in-Err-Memory-clause-err g c =
 -- the disk had a fault, and a standby takes over
 pub take_over-requires : goal.take_over-requires
 take_over-requires g c = record {
-  standby = standby-role c.args.world.now.servers.partner.node.role (sym c.if-is_standby.ensures);
+  standby = standby-role c.args.world.now.servers.partner.replica.role (sym c.if-is_standby.ensures);
   lines = put-length c.args.lines.now.items c.put_ends.new.lines.items c.put_ends.new.lines.items c.args.world.now.servers.acting _ (ap length c.as_slice-count.ensures.value) c.in-Ok.ensures;
 }
 
@@ -70,7 +70,7 @@ returns-then-is_standby-clause-ok g c =
     let failed = ap Err c.in-Err-Failed.field-0-is in
     let broke = rw c.in-Err-Failed.field-0-is at c.in-Err-Failed.ensures.performs in
     let cause = c.in-Err-Failed.ensures.cause in
-    let T : PairNode → Type 0 = λ node. TakesOver c.take_over.result (record old.servers { active = node }) new before after (seen (g.D.SharedDisk.files c.work.new.disk) (g.D.SharedDisk.tally c.work.new.disk) (g.D.SharedDisk.faults c.work.new.disk)) (seen (g.D.SharedDisk.files c.take_over.new.disk) (g.D.SharedDisk.tally c.take_over.new.disk) (g.D.SharedDisk.faults c.take_over.new.disk)) in
+    let T : Node → Type 0 = λ node. TakesOver c.take_over.result (record old.servers { active = node }) new before after (seen (g.D.SharedDisk.files c.work.new.disk) (g.D.SharedDisk.tally c.work.new.disk) (g.D.SharedDisk.faults c.work.new.disk)) (seen (g.D.SharedDisk.files c.take_over.new.disk) (g.D.SharedDisk.tally c.take_over.new.disk) (g.D.SharedDisk.faults c.take_over.new.disk)) in
     let takes = subst T (c.in-Err-Failed.ensures.failed failed) (c.take_over.ensures before (ap length c.as_slice-count.ensures.value) c.in-Ok.ensures) in
     failed-over old new before after (seen (g.D.SharedDisk.files c.args.disk.now) (g.D.SharedDisk.tally c.args.disk.now) (g.D.SharedDisk.faults c.args.disk.now)) (seen (g.D.SharedDisk.files c.work.new.disk) (g.D.SharedDisk.tally c.work.new.disk) (g.D.SharedDisk.faults c.work.new.disk)) (seen (g.D.SharedDisk.files c.take_over.new.disk) (g.D.SharedDisk.tally c.take_over.new.disk) (g.D.SharedDisk.faults c.take_over.new.disk)) c.requires.hand c.requires.ready (sym c.if-is_standby.ensures) broke.0 broke.1 cause.later (cause.rose failed) c.take_over.result takes
 
@@ -83,7 +83,7 @@ returns-then-is_standby-clause-err g c =
     let failed = ap Err c.in-Err-Failed.field-0-is in
     let broke = rw c.in-Err-Failed.field-0-is at c.in-Err-Failed.ensures.performs in
     let cause = c.in-Err-Failed.ensures.cause in
-    let T : PairNode → Type 0 = λ node. TakesOver c.take_over.result (record old.servers { active = node }) new before after (seen (g.D.SharedDisk.files c.work.new.disk) (g.D.SharedDisk.tally c.work.new.disk) (g.D.SharedDisk.faults c.work.new.disk)) (seen (g.D.SharedDisk.files c.take_over.new.disk) (g.D.SharedDisk.tally c.take_over.new.disk) (g.D.SharedDisk.faults c.take_over.new.disk)) in
+    let T : Node → Type 0 = λ node. TakesOver c.take_over.result (record old.servers { active = node }) new before after (seen (g.D.SharedDisk.files c.work.new.disk) (g.D.SharedDisk.tally c.work.new.disk) (g.D.SharedDisk.faults c.work.new.disk)) (seen (g.D.SharedDisk.files c.take_over.new.disk) (g.D.SharedDisk.tally c.take_over.new.disk) (g.D.SharedDisk.faults c.take_over.new.disk)) in
     let takes = subst T (c.in-Err-Failed.ensures.failed failed) (c.take_over.ensures before (ap length c.as_slice-count.ensures.value) c.in-Ok.ensures) in
     failed-off old new before after (seen (g.D.SharedDisk.files c.args.disk.now) (g.D.SharedDisk.tally c.args.disk.now) (g.D.SharedDisk.faults c.args.disk.now)) (seen (g.D.SharedDisk.files c.work.new.disk) (g.D.SharedDisk.tally c.work.new.disk) (g.D.SharedDisk.faults c.work.new.disk)) (seen (g.D.SharedDisk.files c.take_over.new.disk) (g.D.SharedDisk.tally c.take_over.new.disk) (g.D.SharedDisk.faults c.take_over.new.disk)) c.requires.hand c.requires.ready (sym c.if-is_standby.ensures) broke.0 broke.1 cause.later (cause.rose failed) c.take_over.result takes
 
@@ -97,7 +97,7 @@ returns-else-is_standby-clause-err g c =
     let cause = c.in-Err-Failed.ensures.cause in
     let told = one-left before c.put_ends.new.lines.items c.truncate-in-Err-Failed.new.self.items old.servers.acting _ (ap length c.as_slice-count.ensures.value) c.in-Ok.ensures c.truncate-in-Err-Failed.ensures.items in
     let off = failed-alone old before c.truncate-in-Err-Failed.new.self.items broke.0 (seen (g.D.SharedDisk.files c.args.disk.now) (g.D.SharedDisk.tally c.args.disk.now) (g.D.SharedDisk.faults c.args.disk.now)) (seen (g.D.SharedDisk.files c.work.new.disk) (g.D.SharedDisk.tally c.work.new.disk) (g.D.SharedDisk.faults c.work.new.disk)) c.requires.hand c.requires.ready (sym c.if-is_standby.ensures) (ap (λ (t : Tally). t.armed) broke.2.1) broke.1 cause.later (cause.rose failed) told in
-    let O : PairNode → Type 0 = λ node. ComesOff pair_kit any_state EndsWork Failed old (record old { servers = record old.servers { active = node } }) before c.truncate-in-Err-Failed.new.self.items (seen (g.D.SharedDisk.files c.args.disk.now) (g.D.SharedDisk.tally c.args.disk.now) (g.D.SharedDisk.faults c.args.disk.now)) (seen (g.D.SharedDisk.files c.work.new.disk) (g.D.SharedDisk.tally c.work.new.disk) (g.D.SharedDisk.faults c.work.new.disk)) in
+    let O : Node → Type 0 = λ node. ComesOff pair_kit any_state EndsWork Failed old (record old { servers = record old.servers { active = node } }) before c.truncate-in-Err-Failed.new.self.items (seen (g.D.SharedDisk.files c.args.disk.now) (g.D.SharedDisk.tally c.args.disk.now) (g.D.SharedDisk.faults c.args.disk.now)) (seen (g.D.SharedDisk.files c.work.new.disk) (g.D.SharedDisk.tally c.work.new.disk) (g.D.SharedDisk.faults c.work.new.disk)) in
     subst O (sym (c.in-Err-Failed.ensures.failed failed)) off
 
 -- it stopped
@@ -122,7 +122,7 @@ returns-in-Err-Stopped-clause-ok g c =
       | inl failed ↦ let is = c.in-Err-Stopped.field-0-is in cc
       | inr same ↦ same
     ] in
-    let T : PairNode → Type 0 = λ node. TakesOver again.result (record old.servers { active = node }) new before after (seen (g.D.SharedDisk.files c.work.new.disk) (g.D.SharedDisk.tally c.work.new.disk) (g.D.SharedDisk.faults c.work.new.disk)) (seen (g.D.SharedDisk.files again.new.disk) (g.D.SharedDisk.tally again.new.disk) (g.D.SharedDisk.faults again.new.disk)) in
+    let T : Node → Type 0 = λ node. TakesOver again.result (record old.servers { active = node }) new before after (seen (g.D.SharedDisk.files c.work.new.disk) (g.D.SharedDisk.tally c.work.new.disk) (g.D.SharedDisk.faults c.work.new.disk)) (seen (g.D.SharedDisk.files again.new.disk) (g.D.SharedDisk.tally again.new.disk) (g.D.SharedDisk.faults again.new.disk)) in
     let takes = subst T (c.in-Err-Stopped.ensures.stopped stopped) (again.ensures before (ap length c.as_slice-count.ensures.value) c.in-Ok.ensures) in
     stopped-over old new before after (seen (g.D.SharedDisk.files c.args.disk.now) (g.D.SharedDisk.tally c.args.disk.now) (g.D.SharedDisk.faults c.args.disk.now)) (seen (g.D.SharedDisk.files c.work.new.disk) (g.D.SharedDisk.tally c.work.new.disk) (g.D.SharedDisk.faults c.work.new.disk)) (seen (g.D.SharedDisk.files again.new.disk) (g.D.SharedDisk.tally again.new.disk) (g.D.SharedDisk.faults again.new.disk)) c.requires.hand c.requires.ready broke.0 broke.1 broke.2.1 stands again.result takes
 
@@ -139,6 +139,6 @@ returns-in-Err-Stopped-clause-err g c =
       | inl failed ↦ let is = c.in-Err-Stopped.field-0-is in cc
       | inr same ↦ same
     ] in
-    let T : PairNode → Type 0 = λ node. TakesOver again.result (record old.servers { active = node }) new before after (seen (g.D.SharedDisk.files c.work.new.disk) (g.D.SharedDisk.tally c.work.new.disk) (g.D.SharedDisk.faults c.work.new.disk)) (seen (g.D.SharedDisk.files again.new.disk) (g.D.SharedDisk.tally again.new.disk) (g.D.SharedDisk.faults again.new.disk)) in
+    let T : Node → Type 0 = λ node. TakesOver again.result (record old.servers { active = node }) new before after (seen (g.D.SharedDisk.files c.work.new.disk) (g.D.SharedDisk.tally c.work.new.disk) (g.D.SharedDisk.faults c.work.new.disk)) (seen (g.D.SharedDisk.files again.new.disk) (g.D.SharedDisk.tally again.new.disk) (g.D.SharedDisk.faults again.new.disk)) in
     let takes = subst T (c.in-Err-Stopped.ensures.stopped stopped) (again.ensures before (ap length c.as_slice-count.ensures.value) c.in-Ok.ensures) in
     stopped-off old new before after (seen (g.D.SharedDisk.files c.args.disk.now) (g.D.SharedDisk.tally c.args.disk.now) (g.D.SharedDisk.faults c.args.disk.now)) (seen (g.D.SharedDisk.files c.work.new.disk) (g.D.SharedDisk.tally c.work.new.disk) (g.D.SharedDisk.faults c.work.new.disk)) (seen (g.D.SharedDisk.files again.new.disk) (g.D.SharedDisk.tally again.new.disk) (g.D.SharedDisk.faults again.new.disk)) c.requires.hand c.requires.ready broke.0 broke.1 broke.2.1 stands again.result takes

@@ -1,8 +1,0 @@
-pub mod ServerSteps
-pub mod WorkSteps
-mod HeldSteps
-mod PartlySteps
-mod BrokenServers
-mod OwnSteps
-mod StandSteps
-mod BeginSteps
