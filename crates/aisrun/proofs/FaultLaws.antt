@@ -8,7 +8,7 @@ use Rattle.plain_service.specs.Setups.{Setup, CanBegin}
 use Rattle.plain_service.specs.Storing.{files_of}
 use Rattle.cluster_facts.specs.Types.{Call, Reply, Entry, Called, Receipted, Answer}
 use Rattle.cluster_facts.specs.Lists.{Stands, EndsIn}
-use Rattle.cluster_facts.specs.Messages.{sent_by, calls_in}
+use Rattle.cluster_facts.specs.Messages.{messages_in, sent_by, calls_in}
 use Rattle.cluster_facts.specs.Service.{answers_in}
 use Rattle.cluster_facts.specs.Storage.{Between}
 use Rattle.cluster_facts.specs.Agents.{kept_call}
@@ -69,7 +69,7 @@ module _ (setup : Setup) (start world : WorldOf) (told : List Told) (sound : IsS
   legal-now = subst (λ (hand : Hand). IsLegal (plain_of setup) world.now (accepted_by world.core.answered hand)) empty sound.facts.legal
 
   -- where a reply was told, one to the same call stands in the net
-  told-posted : (client number : ℕ) (reply : Reply) → Stands (number, reply) (replies_told client told) → (other : Reply) × Stands (Answer client number other) world.net
+  told-posted : (client number : ℕ) (reply : Reply) → Stands (number, reply) (replies_told client told) → (other : Reply) × Stands (Answer client number other) (messages_in world.net)
   told-posted client number reply stands =
       let plain = plain_of setup in
       let past = world.core.answered in
@@ -78,12 +78,12 @@ module _ (setup : Setup) (start world : WorldOf) (told : List Told) (sound : IsS
       let right = All-at (λ (one : ℕ × Reply). Stands one (answers_in plain client past)) (number, reply) (replies_told client told) tells.right stands in
       let called = answers-called plain client number reply past right in
       let facts = sound.facts.clients client in
-      let first = subst (λ (hand : Hand). EndsIn (sent_by client world.net) (calls_in client (accepted_by past hand))) empty facts.sends.first in
-      let sent = EndsIn-stands (number, called.0) (sent_by client world.net) (calls_in client past) first called.1 in
+      let first = subst (λ (hand : Hand). EndsIn (sent_by client (messages_in world.net)) (calls_in client (accepted_by past hand))) empty facts.sends.first in
+      let sent = EndsIn-stands (number, called.0) (sent_by client (messages_in world.net)) (calls_in client past) first called.1 in
       let heard = done-heard number called.0 facts.awaits.keeps sent done.taken in
-      (heard.0, answers_to-posted client number heard.0 world.net heard.1)
+      (heard.0, answers_to-posted client number heard.0 (messages_in world.net) heard.1)
 
-  unanswered : (past : List Entry) → LacksLast past world.net → IsUnanswered past world.net told
+  unanswered : (past : List Entry) → LacksLast past (messages_in world.net) → IsUnanswered past (messages_in world.net) told
   unanswered [] lacks = tt
   unanswered (Called client number time call ∷ past) lacks = λ reply. (
     λ stands. lacks reply stands,
@@ -93,7 +93,7 @@ module _ (setup : Setup) (start world : WorldOf) (told : List Told) (sound : IsS
 
   answers-only : AnswersOnly setup world
   answers-only client number reply posted =
-      answers-dealt (plain_of setup) client number reply world.core.answered (All-at (IsOfRun (plain_of setup) world.core.answered) (Answer client number reply) world.net sound.facts.run posted)
+      answers-dealt (plain_of setup) client number reply world.core.answered (All-at (IsOfRun (plain_of setup) world.core.answered) (Answer client number reply) (messages_in world.net) sound.facts.run posted)
 
 -- Records.
 
@@ -127,7 +127,7 @@ module _ (setup : Setup) (places : ℕ) (held : Option Files) (first : ℕ) (pla
       played-files setup places held first goes.good.begins goes.run (answered-range core.answered core.hand goes.good.range)
 
   -- the last entry is unanswered, but behind a crash
-  leaves-unanswered : (next : Line) (world : WorldOf) (told : List Told) → (is_crash next ≡ false → IsUnanswered world.core.answered world.net told) → LeavesUnanswered next world told
+  leaves-unanswered : (next : Line) (world : WorldOf) (told : List Told) → (is_crash next ≡ false → IsUnanswered world.core.answered (messages_in world.net) told) → LeavesUnanswered next world told
   leaves-unanswered (line.Crash server) world told lacks = tt
   leaves-unanswered next world told lacks = lacks refl
 

@@ -7,7 +7,7 @@ use Rattle.script_lines.specs.declared.line.Line.{Line}
 use Rattle.script_lines.specs.declared.line.Line.TheVariants as line
 use Rattle.plain_service.specs.Setups.{Setup}
 use Rattle.cluster_facts.specs.Types.{Which, Log, Ntf, Status, VersionRefused, TryAgain, BadHandle, Ask, Start, Other, Call}
-use Rattle.cluster_facts.specs.Messages.{sent_by}
+use Rattle.cluster_facts.specs.Messages.{messages_in, sent_by}
 use Rattle.cluster_facts.specs.Service.{Plain}
 use Rattle.cluster_facts.specs.Agents.{Agent, can_serve, service_of, has_handle, is_shut, refusal, dispatch_refusal}
 use Rattle.cluster_facts.specs.Facts.{Sends}
@@ -74,6 +74,7 @@ refuses-by-kind plain = record {
   handed = λ client callbacks after world sound is hands.
       gathered-handed refusal_in client (length (world.agents client).handed) callbacks (λ number callback. refl)
       ∙ ap (λ (found : Option Status). refused_as client found) (sym is);
+  injected = λ bytes front why world sound. refl;
   shows = λ world line shows. show-refuses line shows;
   printed = λ old new told refuses. gathered-without refusal_in (λ place why. refl) told ∙ refuses;
 }
@@ -103,17 +104,17 @@ dispatch-refused agent sent calls sends =
 
 -- Each line.
 
-asked-due : (setup : Setup) (client : ℕ) (asked : Ask) (told : List Told) (world : World) → IsSound (plain_of setup) world → KeepsWaiting world told → refused_as client (refusal asked (world.agents client)) ≡ call_refused client asked (replies_told client told) (sent_by client world.net)
+asked-due : (setup : Setup) (client : ℕ) (asked : Ask) (told : List Told) (world : World) → IsSound (plain_of setup) world → KeepsWaiting world told → refused_as client (refusal asked (world.agents client)) ≡ call_refused client asked (replies_told client told) (sent_by client (messages_in world.net))
 asked-due setup client asked told world sound waits =
-    let sent = sent_by client world.net in
+    let sent = sent_by client (messages_in world.net) in
     ap (λ (status : Option Status). refused_as client status) (ask-refused asked (world.agents client) sent _ (sound.facts.clients client).sends)
     ∙ ap (λ (waiting : List (ℕ × Call)). refused_as client (first_row (rows_of_refusal asked sent waiting))) (waits client)
 
-dispatched-due : (setup : Setup) (client : ℕ) (world : World) → IsSound (plain_of setup) world → refused_as client (dispatch_refusal (world.agents client)) ≡ refused_by client (rows_of_dispatch (sent_by client world.net))
+dispatched-due : (setup : Setup) (client : ℕ) (world : World) → IsSound (plain_of setup) world → refused_as client (dispatch_refusal (world.agents client)) ≡ refused_by client (rows_of_dispatch (sent_by client (messages_in world.net)))
 dispatched-due setup client world sound =
-    ap (λ (status : Option Status). refused_as client status) (dispatch-refused (world.agents client) (sent_by client world.net) _ (sound.facts.clients client).sends)
+    ap (λ (status : Option Status). refused_as client status) (dispatch-refused (world.agents client) (sent_by client (messages_in world.net)) _ (sound.facts.clients client).sends)
 
-refused-due : (setup : Setup) (next : Line) (told : List Told) (world : World) → IsSound (plain_of setup) world → KeepsWaiting world told → refused_of (kind_of next) world ≡ refusals_due next told world.net
+refused-due : (setup : Setup) (next : Line) (told : List Told) (world : World) → IsSound (plain_of setup) world → KeepsWaiting world told → refused_of (kind_of next) world ≡ refusals_due next told (messages_in world.net)
 refused-due setup (line.Log client asked) told world sound waits = asked-due setup client asked told world sound waits
 refused-due setup (line.Ntf client asked) told world sound waits = asked-due setup client asked told world sound waits
 refused-due setup (line.DispatchOne client) told world sound waits = dispatched-due setup client world sound

@@ -2,7 +2,7 @@
 use Rattle.std.proofs.Common.{Option}
 use Rattle.disk_model.specs.Disk.{Files}
 use Rattle.plain_service.specs.Setups.{Setup}
-use Rattle.cluster_facts.specs.Messages.{sent_by, receipts_of}
+use Rattle.cluster_facts.specs.Messages.{messages_in, sent_by, receipts_of}
 use Rattle.cluster_facts.specs.Agents.{fed_of}
 use Rattle.cluster_facts.specs.World.{World as WorldOf}
 use Rattle.cluster_rounds.specs.Came.{DiskSeen}
@@ -18,7 +18,7 @@ use Rattle.aisrun.proofs.PromiseLaws.{throughout}
 
 pub each-told : (setup : Setup) (world : WorldOf) → ItemsInOrder (plain_of setup) world → TellsEach setup world
 each-told setup world items client key =
-    first-told setup world.core.answered (sent_by client world.net) client key (taken_of key (receipts_of client world.net) (items_in (fed_of (world.agents client)))) (items client key)
+    first-told setup world.core.answered (sent_by client (messages_in world.net)) client key (taken_of key (receipts_of client (messages_in world.net)) (items_in (fed_of (world.agents client)))) (items client key)
 
 pub tells-once : (held : Option Files) → Throughout held TellsOnce
 tells-once held = throughout held TellsOnce (λ setup places told_first first can lines state told files run range. each-told setup state.world (played-keeps setup places told_first first run).items)
@@ -27,7 +27,7 @@ pub tells-at-want : (held : Option Files) (left : DiskSeen) (world : World) → 
 tells-at-want held left world first script done rest next text front broken client key =
     let state = front.goes.state in
     let fed = broken.fed client in
-    fed-told front.setup broken.rest.core.answered (sent_by client state.world.net) client key fed.marks (fed_of (broken.rest.agents client)) (record {
+    fed-told front.setup broken.rest.core.answered (sent_by client (messages_in state.world.net)) client key fed.marks (fed_of (broken.rest.agents client)) (record {
       numbered = (front.goes.good.steady.sound.facts.clients client).sends.numbered;
       counted = fed.counted;
       items = fed.items;

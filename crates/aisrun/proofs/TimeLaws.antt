@@ -129,6 +129,7 @@ in_time-by-kind plain = record {
   refused = λ client status world sound is. in_time-quiet _ world world _ refl refl refl;
   handed = λ client callbacks after world sound is hands.
       in_time-quiet _ world _ _ refl refl (gathered-handed entry_in client (length (world.agents client).handed) callbacks (λ number callback. refl));
+  injected = λ bytes front why world sound. in_time-quiet Others world _ _ refl refl refl;
   shows = λ world line shows. in_time-quiet Others world world (line ∷ []) refl refl (show-none line shows);
   printed = λ old new told goes. record {
     now = goes.now;

@@ -6,12 +6,12 @@ use Rattle.script_lines.specs.declared.line.Line.{Line}
 use Rattle.plain_service.specs.Setups.{Setup}
 use Rattle.cluster_facts.specs.Types.{Call, Reply, Callback, Request}
 use Rattle.cluster_facts.specs.Lists.{without}
-use Rattle.cluster_facts.specs.Messages.{sent_by}
+use Rattle.cluster_facts.specs.Messages.{messages_in, Spelled, sent_by}
 use Rattle.cluster_facts.specs.Service.{Plain}
 use Rattle.cluster_facts.specs.Agents.{Agent, call_of, after_call, after_reply}
 use Rattle.cluster_facts.specs.World.{World, with_agent, enlisted}
 use Rattle.cluster_facts.proofs.Words.{by_test, each_client, All-map}
-use Rattle.cluster_events.specs.Lines.{Told, Posted, Committed, Replied, Declined, Ignored, Refused, Stood, Listed, Shown, is_ignored}
+use Rattle.cluster_events.specs.Lines.{Told, Posted, Injected, Committed, Replied, Declined, Ignored, Refused, Stood, Listed, Shown, is_ignored}
 use Rattle.cluster_events.specs.Servers.{State}
 use Rattle.cluster_events.specs.ClientEvents.{hand_out}
 use Rattle.cluster_events.specs.Saying.{reply_in, replies_told, IsDone}
@@ -91,7 +91,7 @@ not-replied (reply ∷ replies) call below =
 
 record Passes (old new : World) (told : List Told) : Type 0 where
   pub kept : (client : ℕ) → (new.agents client).kept ≡ waiting_of (replies_told client told) (old.agents client).kept
-  pub sent : (client : ℕ) → sent_by client new.net ≡ sent_by client old.net
+  pub sent : (client : ℕ) → sent_by client (messages_in new.net) ≡ sent_by client (messages_in old.net)
 
 Passes-both : (one two three : World) (first second : List Told) → Passes one two first → Passes two three second → Passes one three (second ++ first)
 Passes-both one two three first second before after = record {
@@ -107,7 +107,7 @@ Passes-both one two three first second before after = record {
 }
 
 -- lines that tell no reply
-passes-quiet : (old new : World) (told : List Told) → ((client : ℕ) → (new.agents client).kept ≡ (old.agents client).kept) → ((client : ℕ) → sent_by client new.net ≡ sent_by client old.net) → ((client : ℕ) → replies_told client told ≡ []) → Passes old new told
+passes-quiet : (old new : World) (told : List Told) → ((client : ℕ) → (new.agents client).kept ≡ (old.agents client).kept) → ((client : ℕ) → sent_by client (messages_in new.net) ≡ sent_by client (messages_in old.net)) → ((client : ℕ) → replies_told client told ≡ []) → Passes old new told
 passes-quiet old new told kept sent quiet = record {
   kept = λ client.
       let calls = (old.agents client).kept in
@@ -124,7 +124,7 @@ passes-reply world client number call reply = record {
 }
 
 -- an agent that keeps its calls in place of another
-passes-agent : (world new : World) (client : ℕ) (after : Agent) (told : List Told) → after.kept ≡ (world.agents client).kept → new.agents ≡ with_agent client after world.agents → ((other : ℕ) → sent_by other new.net ≡ sent_by other world.net) → ((other : ℕ) → replies_told other told ≡ []) → Passes world new told
+passes-agent : (world new : World) (client : ℕ) (after : Agent) (told : List Told) → after.kept ≡ (world.agents client).kept → new.agents ≡ with_agent client after world.agents → ((other : ℕ) → sent_by other (messages_in new.net) ≡ sent_by other (messages_in world.net)) → ((other : ℕ) → replies_told other told ≡ []) → Passes world new told
 passes-agent world new client after told same agents sent quiet =
     passes-quiet world new told (λ other.
     ap (λ (all : ℕ → Agent). (all other).kept) agents
@@ -165,13 +165,13 @@ hand_out-passes client callbacks after world same =
 -- What agents keep, behind all lines that were told.
 
 abbrev pub KeepsWaiting : World → List Told → Type 0
-KeepsWaiting world told = (client : ℕ) → (world.agents client).kept ≡ waiting_of (replies_told client told) (sent_by client world.net)
+KeepsWaiting world told = (client : ℕ) → (world.agents client).kept ≡ waiting_of (replies_told client told) (sent_by client (messages_in world.net))
 
 waits-on : (old new : World) (before told : List Told) → KeepsWaiting old before → Passes old new told → KeepsWaiting new (told ++ before)
 waits-on old new before told waits passes client =
     let later = replies_told client told in
     let early = replies_told client before in
-    let calls = sent_by client old.net in
+    let calls = sent_by client (messages_in old.net) in
     passes.kept client
     ∙ ap (λ (kept : List Sent). waiting_of later kept) (waits client)
     ∙ waiting-both later early calls
@@ -183,13 +183,13 @@ abbrev AreBelow : World → List Told → Type 0
 AreBelow world told = (client : ℕ) → AllByRecursion (λ (reply : ℕ × Reply). reply.0 < (world.agents client).next) (replies_told client told)
 
 -- a call that is sent waits
-sent-waits : (world : World) (client : ℕ) (call : Call) (clients : List ℕ) (before : List Told) → AreBelow world before → KeepsWaiting world before → KeepsWaiting (record world { net = Request client (world.agents client).next call ∷ world.net; agents = with_agent client (after_call call (world.agents client)) world.agents; clients = clients }) before
+sent-waits : (world : World) (client : ℕ) (call : Call) (clients : List ℕ) (before : List Told) → AreBelow world before → KeepsWaiting world before → KeepsWaiting (record world { net = Spelled (Request client (world.agents client).next call) ∷ world.net; agents = with_agent client (after_call call (world.agents client)) world.agents; clients = clients }) before
 sent-waits world client call clients before below waits =
     let agent = world.agents client in
     let asked : Sent = (agent.next, call) in
     let replies = replies_told client before in
-    let rest = waiting_of replies (sent_by client world.net) in
-    each_client (λ other b. (if b then after_call call agent else world.agents other).kept ≡ waiting_of (replies_told other before) (if b then asked ∷ sent_by other world.net else sent_by other world.net)) client
+    let rest = waiting_of replies (sent_by client (messages_in world.net)) in
+    each_client (λ other b. (if b then after_call call agent else world.agents other).kept ≡ waiting_of (replies_told other before) (if b then asked ∷ sent_by other (messages_in world.net) else sent_by other (messages_in world.net))) client
     (ap (λ (kept : List Sent). asked ∷ kept) (waits client) ∙ ap (λ (b : Bool). if b then rest else asked ∷ rest) (sym (not-replied replies asked (below client))))
     waits
 
@@ -206,6 +206,7 @@ waits-by-kind plain = record {
   asked = λ client asked world sound is before below waits. sent-waits world client (call_of asked) (enlisted client world.clients) before below waits;
   refused = λ client status world sound is. passes-quiet world world (Declined client status ∷ []) (λ other. refl) (λ other. refl) (λ other. refl);
   handed = λ client callbacks after world sound is hands. hand_out-passes client callbacks after world hands.kept;
+  injected = λ bytes front why world sound. passes-quiet world _ (Injected _ bytes front why ∷ []) (λ other. refl) (λ other. refl) (λ other. refl);
   shows = λ world line shows. passes-quiet world world (line ∷ []) (λ client. refl) (λ client. refl) (show-quiet line shows);
   printed = passes-without;
 }

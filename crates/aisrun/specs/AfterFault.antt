@@ -7,6 +7,7 @@ use Rattle.plain_service.specs.Setups.{Setup}
 use Rattle.plain_service.specs.Records.{StoredRecord, record_of, place_of, is_stored}
 use Rattle.cluster_facts.specs.Types.{Call, Reply, Entry, Called, Message, Answer}
 use Rattle.cluster_facts.specs.Lists.{Stands}
+use Rattle.cluster_facts.specs.Messages.{messages_in}
 use Rattle.cluster_facts.specs.Storage.{dealt_in}
 use Rattle.cluster_facts.specs.World.{World as WorldOf}
 use Rattle.cluster_events.specs.Lines.{Told}
@@ -36,20 +37,20 @@ RecordsKept setup (entry ∷ past) files =
 -- each reply of the net is the plain service's to an entry of the history
 abbrev pub AnswersOnly : Setup → WorldOf → Type 0
 AnswersOnly setup world =
-    (client number : ℕ) (reply : Reply) → Stands (Answer client number reply) world.net → (call : Call)
+    (client number : ℕ) (reply : Reply) → Stands (Answer client number reply) (messages_in world.net) → (call : Call)
     × Stands (number, call, reply) (dealt_in (plain_of setup) client world.core.answered)
 
--- the net has no reply to the last entry, and no `reply` line of it was printed
+-- none of these messages is a reply to the last entry, and no `reply` line of it was printed
 abbrev pub IsUnanswered : List Entry → List Message → List Told → Type 0
-IsUnanswered (Called client number time call ∷ past) net told =
-    (reply : Reply) → ¬ Stands (Answer client number reply) net × ¬ Stands (number, reply) (replies_told client told)
-IsUnanswered _ net told = Unit {0}
+IsUnanswered (Called client number time call ∷ past) messages told =
+    (reply : Reply) → ¬ Stands (Answer client number reply) messages × ¬ Stands (number, reply) (replies_told client told)
+IsUnanswered _ messages told = Unit {0}
 
 -- where the fault came in an entry's work, or in the takeover behind it, that entry is the last one. Where it came in the takeover behind a
 -- crash, the last entry may be answered, though its own record may be unfinished
 abbrev pub LeavesUnanswered : Line → WorldOf → List Told → Type 0
 LeavesUnanswered (line.Crash server) world told = Unit {0}
-LeavesUnanswered next world told = IsUnanswered world.core.answered world.net told
+LeavesUnanswered next world told = IsUnanswered world.core.answered (messages_in world.net) told
 
 -- the disk had a fault that left no server active: history, replies, callbacks and posts are as at the end of a line, with all lines
 -- that were told, and the disk, where it tells its files, keeps what was answered before the last entry

@@ -10,7 +10,7 @@ use Rattle.plain_service.specs.Setups.{Setup}
 use Rattle.plain_service.specs.Records.{StoredRecord, record_of, place_of}
 use Rattle.cluster_facts.specs.Types.{Which, Log, Ntf, Status, VersionRefused, TryAgain, BadHandle, Ask, Start, Other, Call, Reply, Entry, Message}
 use Rattle.cluster_facts.specs.Lists.{without}
-use Rattle.cluster_facts.specs.Messages.{sent_by}
+use Rattle.cluster_facts.specs.Messages.{sent_by, messages_in}
 use Rattle.cluster_facts.specs.Agents.{can_serve, service_of, is_shut}
 use Rattle.cluster_facts.specs.Facts.{log_by, ntf_by}
 use Rattle.cluster_facts.specs.History.{Hand, Waiting, time_of}
@@ -80,7 +80,7 @@ abbrev pub CallsBack : Setup → Sentence
 CallsBack setup lines state told files =
     ItemsInOrder (plain_of setup) state.world × WritesCalledBack state.world told × CallbacksPrinted state.world told
 
--- the `post` lines are the messages of the net, in order
+-- the `post` lines are the byte strings of the net, in order
 abbrev pub PrintsPosts : Setup → Sentence
 PrintsPosts setup lines state told files = PostsPrinted state.world told
 
@@ -177,11 +177,11 @@ call_refused client asked replies sent = refused_by client (rows_of_refusal aske
 
 -- what is refused of a line, and to which client, by the lines told and the messages of the net before it
 abbrev pub refusals_due : Line → List Told → List Message → List (ℕ × Status)
-refusals_due (line.Log client asked) told net = call_refused client asked (replies_told client told) (sent_by client net)
-refusals_due (line.Ntf client asked) told net = call_refused client asked (replies_told client told) (sent_by client net)
-refusals_due (line.DispatchOne client) told net = refused_by client (rows_of_dispatch (sent_by client net))
-refusals_due (line.DispatchAll client workers) told net = refused_by client (rows_of_dispatch (sent_by client net))
-refusals_due _ told net = []
+refusals_due (line.Log client asked) told messages = call_refused client asked (replies_told client told) (sent_by client messages)
+refusals_due (line.Ntf client asked) told messages = call_refused client asked (replies_told client told) (sent_by client messages)
+refusals_due (line.DispatchOne client) told messages = refused_by client (rows_of_dispatch (sent_by client messages))
+refusals_due (line.DispatchAll client workers) told messages = refused_by client (rows_of_dispatch (sent_by client messages))
+refusals_due _ told messages = []
 
 -- the refusals among lines that are told
 abbrev pub refusal_in : Told → List (ℕ × Status)
@@ -193,4 +193,4 @@ refusals_told told = gathered refusal_in told
 
 -- a line tells a refusal exactly where one is due
 abbrev pub DeclinesRightly : LineSentence
-DeclinesRightly before next told state outcome after = refusals_told outcome.told ≡ refusals_due next told state.world.net
+DeclinesRightly before next told state outcome after = refusals_told outcome.told ≡ refusals_due next told (messages_in state.world.net)

@@ -4,7 +4,7 @@ use Rattle.disk_model.specs.Disk.{Files}
 use Rattle.script_lines.specs.declared.line.Line.{Line}
 use Rattle.plain_service.specs.Setups.{Setup}
 use Rattle.cluster_facts.specs.Types.{Callback}
-use Rattle.cluster_facts.specs.Messages.{receipts_of}
+use Rattle.cluster_facts.specs.Messages.{receipts_of, messages_in}
 use Rattle.cluster_facts.specs.Agents.{fed_of}
 use Rattle.cluster_facts.specs.World.{World as WorldOf}
 use Rattle.cluster_events.specs.Servers.{State}
@@ -19,7 +19,7 @@ use Rattle.aisrun.specs.Promises.{Sentence}
 -- the callbacks that a client got of its subscription of this key, handed out or not, the first one first; each of an item came
 -- with its receipt, so none is left out
 abbrev pub callbacks_got : WorldOf → (client key : ℕ) → List Callback
-callbacks_got world client key = callbacks_of key (receipts_of client world.net) (fed_of (world.agents client))
+callbacks_got world client key = callbacks_of key (receipts_of client (messages_in world.net)) (fed_of (world.agents client))
 
 -- of every subscription ever made, the callbacks that its client got tell of the first ok sends for which it asked while it lasted,
 -- each once and in order, and tell as lost the first of those that were dropped

@@ -1,10 +1,10 @@
 -- The reply to a call is found in the net by how its spelling begins.
-use Rattle.std.proofs.Common.{◌≡◌, ℕ, zero, suc, ◌-◌, ◌<◌, ◌≤◌, Bool, true, false, ◌==◌, if◌then◌else◌, Option, Some, None, List, [], ◌∷◌, ◌++◌, length, take, nat_eq, refl, ap, sym, ◌∙◌, subst, arith, append_assoc, length-append}
+use Rattle.std.proofs.Common.{◌≡◌, ℕ, zero, suc, ◌-◌, ◌<◌, ◌≤◌, Bool, true, false, ◌==◌, if◌then◌else◌, Option, Some, None, List, [], ◌∷◌, ◌++◌, length, take, nat_eq, inl, inr, refl, ap, sym, ◌∙◌, subst, arith, append_assoc, length-append}
 use Rattle.std.specs.List.{starts_with}
 use Rattle.std.specs.Str.{bytes_eq}
 use Rattle.std.specs.Cmp.Lexicographic.{bytes_decides}
 use Rattle.std.proofs.Math.Seq.{take-append_seam}
-use Rattle.std.proofs.lemmas.Bool.{false_from_ne_true}
+use Rattle.std.proofs.lemmas.Bool.{cases_Bool, false_from_ne_true}
 use Rattle.wire_code.specs.Spelling.{number_text, IsNumber, IsClient, IsCount}
 use Rattle.wire_code.specs.Reading.{number_at}
 use Rattle.wire_code.proofs.Codes.{ok_is}
@@ -17,11 +17,11 @@ use Rattle.wire.proofs.MessageCodes.{message_code}
 use Rattle.message_net.specs.Nets.{bytes_at}
 use Rattle.cluster_facts.specs.Types.{Reply, Message, Request, Answer, Delivery, Receipt}
 use Rattle.wire.specs.declared.message.Message.TheVariants.{Mirror, MirrorAck, Snapshot, JoinAck}
-use Rattle.cluster_facts.specs.Messages.{answers_to}
+use Rattle.cluster_facts.specs.Messages.{Spelled, Raw, answers_to, messages_in}
 use Rattle.cluster_facts.proofs.Words.{by_test}
 use Rattle.cluster_events.specs.Events.{reply_at}
-use Rattle.cluster_clients.specs.Spelled.{AreSpelled}
-use Rattle.cluster_clients.specs.Replies.{reply_front, first_with, FindsReply}
+use Rattle.cluster_clients.specs.Replies.{reply_front, IsReplyIn, FindsFirst, IsReplyFound, FindsReply}
+use Rattle.cluster_clients.specs.Replies.FindsFirst.{Nothing, Here, Passed}
 
 -- The search goes from the newest place down: so many of the oldest strings are left.
 
@@ -73,20 +73,30 @@ oldest-next place (known ∷ net) bytes found =
     oldest-next place net bytes there ∙ ap (λ n. bytes ∷ n) (sym (older place known net (omega arith))))
     found
 
--- the string at the greatest place left is the one or not
-pub first-next : (front : List ℕ) (place : ℕ) (net : List (List ℕ)) (bytes : List ℕ) → bytes_at (suc place) net ≡ Some bytes → first_with front (oldest (suc place) net) ≡ (if starts_with nat_eq bytes front then Some bytes else first_with front (oldest place net))
-first-next front place net bytes found = ap (first_with front) (oldest-next place net bytes found)
+-- The search goes on below a string that is none.
 
-pub first-here : (front : List ℕ) (place : ℕ) (net : List (List ℕ)) (bytes : List ℕ) → 0 < place → bytes_at place net ≡ Some bytes → starts_with nat_eq bytes front ≡ true → first_with front (oldest place net) ≡ Some bytes
-first-here front zero net bytes some found begins = absurd (omega arith)
-first-here front (suc place) net bytes some found begins =
-    first-next front place net bytes found ∙ ap (λ b. if b then Some bytes else first_with front (oldest place net)) begins
+abbrev pub FindsBelow : List ℕ → ℕ → List (List ℕ) → Type 0
+FindsBelow front place net = (found : Option Message) → FindsFirst front (oldest place net) found → FindsFirst front net found
 
-pub first-passed : (front : List ℕ) (place : ℕ) (net : List (List ℕ)) (bytes : List ℕ) → 0 < place → bytes_at place net ≡ Some bytes → starts_with nat_eq bytes front ≡ false → first_with front (oldest place net) ≡ first_with front (oldest (place - 1) net)
-first-passed front zero net bytes some found begins = absurd (omega arith)
-first-passed front (suc place) net bytes some found begins =
-    let less : place ≡ suc place - 1 = omega arith in
-    first-next front place net bytes found ∙ ap (λ b. if b then Some bytes else first_with front (oldest place net)) begins ∙ ap (λ n. first_with front (oldest n net)) less
+pub finds-start : (front : List ℕ) (net : List (List ℕ)) (place : ℕ) → place ≡ length net → FindsBelow front place net
+finds-start front net place all found finds =
+    subst (λ n. FindsFirst front n found) (ap (λ p. oldest p net) all ∙ oldest-all net) finds
+
+pub finds-passed : (front : List ℕ) (place : ℕ) (net : List (List ℕ)) (bytes : List ℕ) → 0 < place → bytes_at place net ≡ Some bytes → IsReplyIn front bytes None → FindsBelow front place net → FindsBelow front (place - 1) net
+finds-passed front zero net bytes some there none so_far found finds = absurd (omega arith)
+finds-passed front (suc place) net bytes some there none so_far found finds =
+    let less : suc place - 1 ≡ place = omega arith in
+    let below : FindsFirst front (oldest place net) found = subst (λ p. FindsFirst front (oldest p net) found) less finds in
+    so_far found (subst (λ n. FindsFirst front n found) (sym (oldest-next place net bytes there)) (Passed bytes none below))
+
+pub finds-here : (front : List ℕ) (place : ℕ) (net : List (List ℕ)) (bytes : List ℕ) (message : Message) → 0 < place → bytes_at place net ≡ Some bytes → IsReplyIn front bytes (Some message) → FindsBelow front place net → FindsFirst front net (Some message)
+finds-here front zero net bytes message some there is so_far = absurd (omega arith)
+finds-here front (suc place) net bytes message some there is so_far =
+    so_far (Some message) (subst (λ n. FindsFirst front n (Some message)) (sym (oldest-next place net bytes there)) (Here bytes message is))
+
+pub finds-nothing : (front : List ℕ) (place : ℕ) (net : List (List ℕ)) → place ≡ 0 → FindsBelow front place net → FindsFirst front net None
+finds-nothing front place net done so_far =
+    so_far None (subst (λ n. FindsFirst front n None) (sym (ap (λ p. oldest p net) done ∙ oldest-none net)) Nothing)
 
 pub first-there : (place : ℕ) (net : List (List ℕ)) → 0 < place → place ≤ length net → bytes_at place net ≡ None → ⊥
 first-there zero net some within none = absurd (omega arith)
@@ -136,37 +146,34 @@ starts-by client number receiver other reply =
     ap (λ n. bytes_eq (reply_front client number) (take n (message_text (Answer receiver other reply)))) (front-length client number)
     ∙ ap (bytes_eq (reply_front client number)) (front-taken receiver other reply)
 
--- what was found, beside what the messages give
-abbrev pub IsReplyAs : ℕ → ℕ → Option Reply → Option (List ℕ) → Type 0
-IsReplyAs client number value None = value ≡ None
-IsReplyAs client number value (Some bytes) =
-    (reply : Reply) × Spells (Answer client number reply) bytes × (value ≡ Some reply)
+-- a message whose spelling begins so is the reply, and another one changes nothing
+abbrev pub IsNextAs : Message → ℕ → ℕ → (value rest : Option Reply) → Bool → Type 0
+IsNextAs message client number value rest true =
+    (reply : Reply) × (message ≡ Answer client number reply) × (value ≡ Some reply)
+IsNextAs message client number value rest false = value ≡ rest
 
-abbrev pub IsReplyTo : ℕ → ℕ → List Message → Option (List ℕ) → Type 0
-IsReplyTo client number messages found = IsReplyAs client number (reply_at number (answers_to client messages)) found
-
-reply-here : (client number receiver other : ℕ) (reply : Reply) (messages : List Message) (bytes : List ℕ) (found : Option (List ℕ)) → IsClient client → IsCount number → Spells (Answer receiver other reply) bytes → IsReplyTo client number messages found → IsReplyTo client number (Answer receiver other reply ∷ messages) (if starts_with nat_eq bytes (reply_front client number) then Some bytes else found)
-reply-here client number receiver other reply messages bytes found is_client is_count spells rest =
+reply-next : (client number receiver other : ℕ) (reply : Reply) (messages : List Message) (bytes : List ℕ) → IsClient client → IsCount number → Spells (Answer receiver other reply) bytes → IsNextAs (Answer receiver other reply) client number (reply_at number (answers_to client (Answer receiver other reply ∷ messages))) (reply_at number (answers_to client messages)) (starts_with nat_eq bytes (reply_front client number))
+reply-next client number receiver other reply messages bytes is_client is_count spells =
+    let message = Answer receiver other reply in
     let front = reply_front client number in
     let own = reply_front receiver other in
     let answers = answers_to client messages in
+    let rest = reply_at number answers in
     let begins : starts_with nat_eq bytes front ≡ bytes_eq front own = ap (λ b. starts_with nat_eq b front) spells.is ∙ starts-by client number receiver other reply in
     let apart : ((front ≡ own) → ⊥) → starts_with nat_eq bytes front ≡ false = λ never. begins ∙ false_from_ne_true (bytes_eq front own) (λ is. never ((bytes_decides front own).0 is)) in
-    let F : Option Reply → Bool → Type 0 = λ value c. IsReplyAs client number value (if c then Some bytes else found) in
+    let F : Option Reply → Bool → Type 0 = λ value c. IsNextAs message client number value rest c in
     let P : Bool → Type 0 = λ a. F (reply_at number (if a then (other, reply) ∷ answers else answers)) (starts_with nat_eq bytes front) in
-    let Q : Bool → Type 0 = λ b. F (if b then Some reply else reply_at number answers) (starts_with nat_eq bytes front) in
+    let Q : Bool → Type 0 = λ b. F (if b then Some reply else rest) (starts_with nat_eq bytes front) in
     let same-fronts : front ≡ own → (client ≡ receiver) × (number ≡ other) = front-same client number receiver other is_client is_count spells.fits.0 spells.fits.1 in
     by_test P receiver client
     (λ clients. by_test Q other number
     (λ numbers.
     let equal : front ≡ own = λ i. reply_front (sym clients i) (sym numbers i) in
     let on : starts_with nat_eq bytes front ≡ true = begins ∙ (bytes_decides front own).1 equal in
-    let S : ℕ → ℕ → Type 0 = λ c n. Spells (Answer c n reply) bytes in
-    let spelled : S client number = subst (λ n. S client n) numbers (subst (λ c. S c other) clients spells) in
-    let done : F (Some reply) true = (reply, spelled, refl) in
+    let done : F (Some reply) true = (reply, (λ i. Answer (clients i) (numbers i) reply), refl) in
     subst (F (Some reply)) (sym on) done)
-    (λ different. subst (F (reply_at number answers)) (sym (apart (λ e. different (sym (same-fronts e).1)))) rest))
-    (λ different. subst (F (reply_at number answers)) (sym (apart (λ e. different (sym (same-fronts e).0)))) rest)
+    (λ different. subst (F rest) (sym (apart (λ e. different (sym (same-fronts e).1)))) refl))
+    (λ different. subst (F rest) (sym (apart (λ e. different (sym (same-fronts e).0)))) refl)
 
 -- other messages begin with another byte
 request-not : (client number receiver other : ℕ) (call : Rattle.cluster_facts.specs.Types.Call) → starts_with nat_eq (message_text (Request receiver other call)) (reply_front client number) ≡ false
@@ -197,31 +204,28 @@ join-not : (client number place : ℕ) → starts_with nat_eq (message_text (Joi
 unfolding message_text
 join-not client number place = refl
 
-beside : (client number : ℕ) (message : Message) (messages : List Message) (bytes : List ℕ) (found : Option (List ℕ)) → Spells message bytes → starts_with nat_eq (message_text message) (reply_front client number) ≡ false → IsReplyTo client number messages found → IsReplyTo client number messages (if starts_with nat_eq bytes (reply_front client number) then Some bytes else found)
-beside client number message messages bytes found spells not rest =
-    let F : Bool → Type 0 = λ c. IsReplyTo client number messages (if c then Some bytes else found) in
-    subst F (sym (ap (λ b. starts_with nat_eq b (reply_front client number)) spells.is ∙ not)) rest
+beside : (client number : ℕ) (message : Message) (rest : Option Reply) (bytes : List ℕ) → Spells message bytes → starts_with nat_eq (message_text message) (reply_front client number) ≡ false → IsNextAs message client number rest rest (starts_with nat_eq bytes (reply_front client number))
+beside client number message rest bytes spells not =
+    let F : Bool → Type 0 = λ c. IsNextAs message client number rest rest c in
+    subst F (sym (ap (λ b. starts_with nat_eq b (reply_front client number)) spells.is ∙ not)) refl
 
-pub reply-found : (client number : ℕ) (messages : List Message) (net : List (List ℕ)) → IsClient client → IsCount number → AreSpelled messages net → IsReplyTo client number messages (first_with (reply_front client number) net)
-reply-found client number [] [] is_client is_count spelled = refl
-reply-found client number [] (bytes ∷ net) is_client is_count spelled = elim spelled [ ]
-reply-found client number (message ∷ messages) [] is_client is_count spelled = elim spelled [ ]
-reply-found client number (Answer receiver other reply ∷ messages) (bytes ∷ net) is_client is_count spelled =
-    reply-here client number receiver other reply messages bytes (first_with (reply_front client number) net) is_client is_count spelled.0 (reply-found client number messages net is_client is_count spelled.1)
-reply-found client number (Request receiver other call ∷ messages) (bytes ∷ net) is_client is_count spelled =
-    beside client number (Request receiver other call) messages bytes (first_with (reply_front client number) net) spelled.0 (request-not client number receiver other call) (reply-found client number messages net is_client is_count spelled.1)
-reply-found client number (Delivery receiver other item ∷ messages) (bytes ∷ net) is_client is_count spelled =
-    beside client number (Delivery receiver other item) messages bytes (first_with (reply_front client number) net) spelled.0 (item-not client number receiver other item) (reply-found client number messages net is_client is_count spelled.1)
-reply-found client number (Receipt receiver other through ∷ messages) (bytes ∷ net) is_client is_count spelled =
-    beside client number (Receipt receiver other through) messages bytes (first_with (reply_front client number) net) spelled.0 (receipt-not client number receiver other through) (reply-found client number messages net is_client is_count spelled.1)
-reply-found client number (Mirror place entry ∷ messages) (bytes ∷ net) is_client is_count spelled =
-    beside client number (Mirror place entry) messages bytes (first_with (reply_front client number) net) spelled.0 (mirror-not client number place entry) (reply-found client number messages net is_client is_count spelled.1)
-reply-found client number (MirrorAck place ∷ messages) (bytes ∷ net) is_client is_count spelled =
-    beside client number (MirrorAck place) messages bytes (first_with (reply_front client number) net) spelled.0 (ack-not client number place) (reply-found client number messages net is_client is_count spelled.1)
-reply-found client number (Snapshot saved ∷ messages) (bytes ∷ net) is_client is_count spelled =
-    beside client number (Snapshot saved) messages bytes (first_with (reply_front client number) net) spelled.0 (snapshot-not client number saved) (reply-found client number messages net is_client is_count spelled.1)
-reply-found client number (JoinAck place ∷ messages) (bytes ∷ net) is_client is_count spelled =
-    beside client number (JoinAck place) messages bytes (first_with (reply_front client number) net) spelled.0 (join-not client number place) (reply-found client number messages net is_client is_count spelled.1)
+next-string : (client number : ℕ) (message : Message) (messages : List Message) (bytes : List ℕ) → IsClient client → IsCount number → Spells message bytes → IsNextAs message client number (reply_at number (answers_to client (message ∷ messages))) (reply_at number (answers_to client messages)) (starts_with nat_eq bytes (reply_front client number))
+next-string client number (Answer receiver other reply) messages bytes is_client is_count spells =
+    reply-next client number receiver other reply messages bytes is_client is_count spells
+next-string client number (Request receiver other call) messages bytes is_client is_count spells =
+    beside client number (Request receiver other call) (reply_at number (answers_to client messages)) bytes spells (request-not client number receiver other call)
+next-string client number (Delivery receiver other item) messages bytes is_client is_count spells =
+    beside client number (Delivery receiver other item) (reply_at number (answers_to client messages)) bytes spells (item-not client number receiver other item)
+next-string client number (Receipt receiver other through) messages bytes is_client is_count spells =
+    beside client number (Receipt receiver other through) (reply_at number (answers_to client messages)) bytes spells (receipt-not client number receiver other through)
+next-string client number (Mirror place entry) messages bytes is_client is_count spells =
+    beside client number (Mirror place entry) (reply_at number (answers_to client messages)) bytes spells (mirror-not client number place entry)
+next-string client number (MirrorAck place) messages bytes is_client is_count spells =
+    beside client number (MirrorAck place) (reply_at number (answers_to client messages)) bytes spells (ack-not client number place)
+next-string client number (Snapshot saved) messages bytes is_client is_count spells =
+    beside client number (Snapshot saved) (reply_at number (answers_to client messages)) bytes spells (snapshot-not client number saved)
+next-string client number (JoinAck place) messages bytes is_client is_count spells =
+    beside client number (JoinAck place) (reply_at number (answers_to client messages)) bytes spells (join-not client number place)
 
 -- What is found in the net.
 
@@ -232,11 +236,26 @@ same-spelled one other bytes spells also =
     let pairs : ◌≡◌ {A = Message × List ℕ} (one, []) (other, []) = ok_is (one, []) (other, []) read in
     ap (λ (p : Message × List ℕ). p.0) pairs
 
-pub finds-none : (client number : ℕ) (net : List (List ℕ)) → IsClient client → IsCount number → first_with (reply_front client number) net ≡ None → FindsReply client number net None
-finds-none client number net is_client is_count none messages spelled =
-    subst (IsReplyTo client number messages) none (reply-found client number messages net is_client is_count spelled)
-
-pub finds-some : (client number : ℕ) (net : List (List ℕ)) (bytes : List ℕ) (message : Message) → IsClient client → IsCount number → first_with (reply_front client number) net ≡ Some bytes → Spells message bytes → FindsReply client number net (Some message)
-finds-some client number net bytes message is_client is_count some spells messages spelled =
-    let found = subst (IsReplyTo client number messages) some (reply-found client number messages net is_client is_count spelled) in
-    (found.0, same-spelled message (Answer client number found.0) bytes spells found.1, found.2)
+pub finds-reply : (client number : ℕ) (net : List (List ℕ)) (found : Option Message) → IsClient client → IsCount number → FindsFirst (reply_front client number) net found → FindsReply client number net found
+finds-reply client number net found is_client is_count Nothing [] spelled = refl
+finds-reply client number net found is_client is_count Nothing (posting ∷ postings) spelled = elim spelled [ ]
+finds-reply client number net found is_client is_count (Here bytes message is) [] spelled = elim spelled [ ]
+finds-reply client number net found is_client is_count (Passed bytes none finds) [] spelled = elim spelled [ ]
+finds-reply client number net found is_client is_count (Here bytes message is) (Raw raw front why ∷ postings) spelled =
+    absurd (spelled.0.2.unspelled message (subst (Spells message) spelled.0.0 is.1))
+finds-reply client number net found is_client is_count (Here bytes message is) (Spelled first ∷ postings) spelled =
+    let F : Bool → Type 0 = IsNextAs first client number (reply_at number (answers_to client (first ∷ messages_in postings))) (reply_at number (answers_to client (messages_in postings))) in
+    let next = subst F is.0 (next-string client number first (messages_in postings) bytes is_client is_count spelled.0) in
+    (next.0, same-spelled message first bytes is.1 spelled.0 ∙ next.1, next.2)
+finds-reply client number net found is_client is_count (Passed {net = rest} bytes none finds) (Raw raw front why ∷ postings) spelled =
+    finds-reply client number rest found is_client is_count finds postings spelled.1
+finds-reply client number net found is_client is_count (Passed {net = rest} bytes none finds) (Spelled first ∷ postings) spelled =
+    let front = reply_front client number in
+    let value = reply_at number (answers_to client (messages_in postings)) in
+    let F : Bool → Type 0 = IsNextAs first client number (reply_at number (answers_to client (first ∷ messages_in postings))) value in
+    let next = next-string client number first (messages_in postings) bytes is_client is_count spelled.0 in
+    let deeper = finds-reply client number rest found is_client is_count finds postings spelled.1 in
+    elim (cases_Bool (starts_with nat_eq bytes front)) [
+      | inl begins ↦ absurd (none begins first spelled.0)
+      | inr apart ↦ subst (λ told. IsReplyFound client number told found) (sym (subst F apart next)) deeper
+    ]

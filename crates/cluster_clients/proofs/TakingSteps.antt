@@ -3,6 +3,7 @@ use Rattle.std.proofs.Common.{◌≡◌, ℕ, suc, ◌⊎◌, slice_get, inl, in
 use Rattle.cluster_facts.specs.Types.{Call, Reply, Item, Message, Answer, Delivery, Receipt}
 use Rattle.cluster_facts.specs.Service.{Plain}
 use Rattle.cluster_facts.specs.Agents.{Living, Agent, fresh, kept_call, callbacks_of, lacks_place, find_living}
+use Rattle.cluster_facts.specs.Messages.{Posting, Spelled}
 use Rattle.cluster_facts.specs.World.{World, knows, posted}
 use Rattle.cluster_events.specs.Lines.{Told, Posted, Ignored, Replied}
 use Rattle.cluster_events.specs.declared.lines.Why.{Why}
@@ -157,10 +158,10 @@ receipt-lines (Receipt client key through) told number true is e = ap kept_lines
 receipt-lines (Receipt client key through) told number false is e = ap kept_lines e ∙ sym (ap printed e)
 receipt-lines _ told number known is e = elim is [ ]
 
-receipt-loud : (plain : Plain) (receipt : Message) (net : List Message) → IsReceipt receipt → nat_lt (length net) (length (posted plain receipt net)) ≡ is_loud (post_lines plain receipt net)
+receipt-loud : (plain : Plain) (receipt : Message) (net : List Posting) → IsReceipt receipt → nat_lt (length net) (length (posted plain receipt net)) ≡ is_loud (post_lines plain receipt net)
 receipt-loud plain (Receipt client key through) net is =
     let receipt = Receipt client key through in
-    elim (knows plain receipt net) as (λ b. nat_lt (length net) (length (if b then net else receipt ∷ net)) ≡ is_loud (if b then [] else Posted (suc (length net)) receipt ∷ [])) [
+    elim (knows plain receipt net) as (λ b. nat_lt (length net) (length (if b then net else Spelled receipt ∷ net)) ≡ is_loud (if b then [] else Posted (suc (length net)) receipt ∷ [])) [
       | true ↦ not-less (length net)
       | false ↦ less-one (length net)
     ]

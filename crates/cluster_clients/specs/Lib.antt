@@ -1,4 +1,5 @@
 pub mod Spelled
+pub mod Fetching
 pub mod Posted
 pub mod Clients
 pub mod Files

@@ -1,15 +1,17 @@
-//! Messages that enter the net.
+//! Messages and other byte strings that enter the net.
 ghost use Rattle.std.specs.Prelude.{◌≡◌, IfOk, OnOk, OnErr};
 ghost use Rattle.std.specs.List.{AllByRecursion};
 ghost use Rattle.wire.specs.MessageSpelling.{MessageInRange};
-ghost use Rattle.cluster_clients.specs.Spelled.{Posts, PostsOrNot, IsNumberIn};
+ghost use Rattle.cluster_clients.specs.Spelled.{Posts, PostsOrNot, IsNumberIn, IsRaw, InjectsRaw, Injects, InjectsOrNot};
 ghost use Rattle.cluster_clients.specs.Posted.{PostsAll};
 ghost use Rattle.cluster_clients.specs.Posted.{PostsSome};
 
+use crate::fetching::{Fetched, read_string};
 use ais_values::Seq;
-use event_text::put_post;
+use event_text::{put_post, put_raw};
 use message_net::Net;
 use std::alloc::{AllocError, Global};
+use std::mem;
 use wire::{Message, encode, law_of_spellings};
 
 /// Posts a message, and adds its line where the net did not have it. Where memory runs out the net may have the message.
@@ -52,6 +54,52 @@ pub fn post_all(
         }
     }
     Ok(())
+}
+
+/// Injects bytes that no message spells.
+fn inject_raw(
+    alloc: Global,
+    net: &mut Net,
+    lines: &mut Vec<Seq<u8>>,
+    bytes: &[u8],
+) -> Result<(), AllocError>
+    requires { IsRaw bytes.now }
+    ensures ok { OnOk result (InjectsRaw bytes.now net.old net.new lines.old.items lines.new.items) }
+    ensures err { OnErr result (InjectsOrNot bytes.now net.old net.new) }
+{
+    let posted = net.post(alloc, bytes)?;
+    if !posted.new {
+        return Ok(());
+    }
+    put_raw(alloc, lines, posted.place, bytes.len() as u64)?;
+    Ok(())
+}
+
+/// Injects bytes that no message spells, and adds their line where the net did not have them.
+///
+/// It answers whether they are such: `false` exactly where a message spells them, and then nothing was done. Where memory runs out
+/// the net may have the bytes; more than 4,294,967,294 bytes count as that.
+pub fn inject(
+    alloc: Global,
+    net: &mut Net,
+    lines: &mut Vec<Seq<u8>>,
+    bytes: &[u8],
+) -> Result<bool, AllocError>
+    ensures ok { IfOk result (λ done. Injects bytes.now done net.old net.new lines.old.items
+        lines.new.items) }
+    ensures err { OnErr result (InjectsOrNot bytes.now net.old net.new) }
+{
+    match read_string(alloc, bytes) {
+        Ok(Fetched::Whole { message }) => {
+            mem::drop(message);
+            Ok(false)
+        }
+        Ok(Fetched::Bad { .. }) => match inject_raw(alloc, net, lines, bytes) {
+            Ok(()) => Ok(true),
+            Err(error) => Err(error),
+        },
+        Err(error) => Err(error),
+    }
 }
 
 /// The number of a message of the net, and 0 of one that does not stand there.

@@ -1,10 +1,9 @@
 //! Replies in the net, by the calls that they answer.
 ghost use Rattle.std.specs.Prelude.{◌≡◌, IfOk};
-ghost use Rattle.std.specs.Option.{option_copied};
 ghost use Rattle.wire_code.specs.Spelling.{IsClient, IsCount};
-ghost use Rattle.cluster_clients.specs.Replies.{reply_front, first_with, FindsReply};
+ghost use Rattle.cluster_clients.specs.Replies.{reply_front, IsReplyIn, FindsFirst, FindsReply};
 
-use crate::fetching::read_message;
+use crate::fetching::{Fetched, read_string};
 use calls::Reply;
 use message_net::Net;
 use std::alloc::{AllocError, Global};
@@ -36,23 +35,38 @@ fn reply_front(alloc: Global, client: u16, seq: u32) -> Result<Vec<u8>, AllocErr
     }
 }
 
-/// The newest byte string of the net that begins so.
-fn first_with<'a>(net: &'a Net, front: &[u8]) -> Option<&'a [u8]>
-    ensures { option_copied result ≡ first_with front.now net.now }
+/// The message of these bytes, where they begin so and one spells them. A string of more than 4,294,967,294 bytes counts as want of
+/// memory.
+fn reply_in(alloc: Global, bytes: &[u8], front: &[u8]) -> Result<Option<Message>, AllocError>
+    ensures { IfOk result (λ found. IsReplyIn front.now bytes.now found) }
+{
+    if !bytes.starts_with(front) {
+        return Ok(None);
+    }
+    match read_string(alloc, bytes) {
+        Ok(Fetched::Whole { message }) => Ok(Some(message)),
+        Ok(Fetched::Bad { .. }) => Ok(None),
+        Err(error) => Err(error),
+    }
+}
+
+/// The newest message of the net whose spelling begins so.
+fn first_with(alloc: Global, net: &Net, front: &[u8]) -> Result<Option<Message>, AllocError>
+    ensures { IfOk result (λ found. FindsFirst front.now net.now found) }
 {
     let mut place = net.len();
     while place > 0 {
         match net.at(place) {
-            Some(bytes) => {
-                if bytes.starts_with(front) {
-                    return Some(bytes);
-                }
-            }
-            None => return None,
+            Some(bytes) => match reply_in(alloc, bytes, front) {
+                Ok(Some(message)) => return Ok(Some(message)),
+                Ok(None) => {}
+                Err(error) => return Err(error),
+            },
+            None => return Ok(None),
         }
         place -= 1;
     }
-    None
+    Ok(None)
 }
 
 /// The newest reply to a client's call that stands in the net, if there is one. A string of more than 4,294,967,294 bytes counts as
@@ -68,11 +82,5 @@ pub fn reply_to(
     ensures { IfOk result (λ found. FindsReply client seq net.now found) }
 {
     let front = reply_front(alloc, client, seq)?;
-    match first_with(net, front.as_slice()) {
-        None => Ok(None),
-        Some(bytes) => match read_message(alloc, bytes) {
-            Ok(message) => Ok(Some(message)),
-            Err(error) => Err(error),
-        },
-    }
+    first_with(alloc, net, front.as_slice())
 }

@@ -1,7 +1,7 @@
 -- Events that break off leave what they must.
 use Rattle.std.proofs.Common.{ℕ, List, ◌++◌, ap, sym, ◌∙◌, subst, append_assoc}
 use Rattle.cluster_facts.specs.Types.{Reply}
-use Rattle.cluster_facts.specs.Messages.{sent_by}
+use Rattle.cluster_facts.specs.Messages.{sent_by, messages_in}
 use Rattle.cluster_facts.specs.Service.{Plain, answers_in}
 use Rattle.cluster_facts.specs.Agents.{fed_of}
 use Rattle.cluster_facts.specs.History.{committed}
@@ -33,10 +33,10 @@ Tells-both plain one two three first second tells more = record {
 pub Sound-holds : (plain : Plain) (world : World) → IsSound plain world → Holds plain world
 Sound-holds plain world sound = record {
   legal = committed-legal plain world.now world.core.answered world.core.hand sound.facts.legal;
-  calls = λ client. committed-order client (sent_by client world.net) world.core.answered world.core.hand (sound.facts.clients client).sends.first;
+  calls = λ client. committed-order client (sent_by client (messages_in world.net)) world.core.answered world.core.hand (sound.facts.clients client).sends.first;
   fed = λ client. record {
-    sent = sent_by client world.net;
-    marks = Rattle.cluster_facts.specs.Messages.receipts_of client world.net;
+    sent = sent_by client (messages_in world.net);
+    marks = Rattle.cluster_facts.specs.Messages.receipts_of client (messages_in world.net);
     counted = (sound.facts.clients client).follows.counted;
     items = sound.facts.told client;
   };

@@ -4,7 +4,7 @@ use Rattle.std.specs.List.{AllByRecursion}
 use Rattle.std.proofs.lemmas.Bool.{cases_Bool}
 use Rattle.cluster_facts.specs.Types.{Call, Reply, Item, Entry, Called, Receipted, Message, Request, Answer, Delivery, Receipt}
 use Rattle.cluster_facts.specs.Lists.{Stands, EndsIn, IsCounted, count_of}
-use Rattle.cluster_facts.specs.Messages.{sent_by, answers_to, receipts_of, message_of}
+use Rattle.cluster_facts.specs.Messages.{Posting, Spelled, messages_in, sent_by, answers_to, receipts_of, message_of}
 use Rattle.cluster_facts.specs.Service.{Plain, IsPlain, IsMade, IsHeldItem, answers_in, is_new}
 use Rattle.cluster_facts.specs.Agents.{Living, kept_call, callbacks_of, lacks_place, after_reply, find_living, after_item, requests_of, greatest_receipt, greatest_receipts, resent}
 use Rattle.cluster_facts.specs.History.{Hand, Empty, Core, Judged, New, Repeat, Old, Ahead, judged_call, accepted, MayFollow}
@@ -47,7 +47,7 @@ Stays-both one two three first second = record {
 }
 
 -- a longer net, and other agents
-Stays-net : (world new : World) → new.core ≡ world.core → new.clients ≡ world.clients → new.now ≡ world.now → new.places ≡ world.places → ((message : Message) → Stands message world.net → Stands message new.net) → Stays world new
+Stays-net : (world new : World) → new.core ≡ world.core → new.clients ≡ world.clients → new.now ≡ world.now → new.places ≡ world.places → ((message : Message) → Stands message (messages_in world.net) → Stands message (messages_in new.net)) → Stays world new
 Stays-net world new core clients now places net = record {
   net = net;
   answered = ([], ap (λ (c : Core). c.answered) core);
@@ -83,11 +83,11 @@ pub held-made : (plain : Plain) → IsPlain plain → (past : List Entry) → Al
 held-made plain is_plain past = All-map (IsHeldItem plain past) (IsMadeItem plain past) (plain.held past) (IsHeldItem-made plain past) (is_plain.held_of past)
 
 -- a message that posting puts in front was not known
-pub posted-unknown : (plain : Plain) (message : Message) (net : List Message) → posted plain message net ≡ message ∷ net → knows plain message net ≡ false
+pub posted-unknown : (plain : Plain) (message : Message) (net : List Posting) → posted plain message net ≡ Spelled message ∷ net → knows plain message net ≡ false
 posted-unknown plain message net new =
     elim (cases_Bool (knows plain message net)) [
       | inl known ↦
-          let P : Bool → List Message = λ b. if b then net else message ∷ net in
+          let P : Bool → List Posting = λ b. if b then net else Spelled message ∷ net in
           let longer : length net ≡ suc (length net) = ap length (sym (ap P known) ∙ new) in
           absurd (omega arith)
       | inr unknown ↦ unknown
@@ -139,12 +139,12 @@ greatest_receipts-posted client net counted (lives {living = living} subscriptio
     (greatest_receipt-posted client subscription.key subscription.next net counted next_is)
 greatest_receipts-posted client net counted (refused subscription status told rest) = greatest_receipts-posted client net counted rest
 
-pub resent-posted : (plain : Plain) (client : ℕ) (world : World) → IsSound plain world → AllByRecursion (λ message. Stands message world.net) (resent client (world.agents client))
+pub resent-posted : (plain : Plain) (client : ℕ) (world : World) → IsSound plain world → AllByRecursion (λ message. Stands message (messages_in world.net)) (resent client (world.agents client))
 resent-posted plain client world sound =
     let own = sound.facts.clients client in
-    All-append (λ message. Stands message world.net) (requests_of client (world.agents client).kept) (greatest_receipts client (world.agents client).living)
-    (requests_of-posted client world.net (world.agents client).kept (λ x stands. Keeps-sent x own.awaits.keeps stands))
-    (greatest_receipts-posted client world.net own.follows.counted own.follows.lives)
+    All-append (λ message. Stands message (messages_in world.net)) (requests_of client (world.agents client).kept) (greatest_receipts client (world.agents client).living)
+    (requests_of-posted client (messages_in world.net) (world.agents client).kept (λ x stands. Keeps-sent x own.awaits.keeps stands))
+    (greatest_receipts-posted client (messages_in world.net) own.follows.counted own.follows.lives)
 
 -- Events of agents and net.
 
@@ -181,7 +181,7 @@ module _ {P : Type 0} (plain : Plain) (is_plain : IsPlain plain) (servers : Serv
       let message = Answer client number reply in
       record {
         sound = post-answer-sound plain is_plain client number reply world stands sound;
-        carried = elim (knows plain message world.net) as (λ b. R world (record world { net = if b then world.net else message ∷ world.net }) (if b then [] else Posted (suc (length world.net)) message ∷ [])) [
+        carried = elim (knows plain message world.net) as (λ b. R world (record world { net = if b then world.net else Spelled message ∷ world.net }) (if b then [] else Posted (suc (length world.net)) message ∷ [])) [
           | true ↦ carried.same world
           | false ↦ carried.answer world client number reply sound stands
         ];
@@ -194,7 +194,7 @@ module _ {P : Type 0} (plain : Plain) (is_plain : IsPlain plain) (servers : Serv
       let message = Delivery client key item in
       record {
         sound = post-item-sound plain is_plain client key item world is sound;
-        carried = elim (knows plain message world.net) as (λ b. R world (record world { net = if b then world.net else message ∷ world.net }) (if b then [] else Posted (suc (length world.net)) message ∷ [])) [
+        carried = elim (knows plain message world.net) as (λ b. R world (record world { net = if b then world.net else Spelled message ∷ world.net }) (if b then [] else Posted (suc (length world.net)) message ∷ [])) [
           | true ↦ carried.same world
           | false ↦ carried.pushed world client key item sound is
         ];
@@ -202,7 +202,7 @@ module _ {P : Type 0} (plain : Plain) (is_plain : IsPlain plain) (servers : Serv
         core = refl;
       }
 
-  reply_by-goes : (place client number : ℕ) (reply : Reply) (found : Option Call) (world : World) → kept_call number (world.agents client).kept ≡ found → Stands (Answer client number reply) world.net → IsSound plain world → WorldGoes plain R world (reply_by place client number reply found world)
+  reply_by-goes : (place client number : ℕ) (reply : Reply) (found : Option Call) (world : World) → kept_call number (world.agents client).kept ≡ found → Stands (Answer client number reply) (messages_in world.net) → IsSound plain world → WorldGoes plain R world (reply_by place client number reply found world)
   reply_by-goes place client number reply None world kept stands sound = world-ignored world place because.AnsweredReply sound
   reply_by-goes place client number reply (Some call) world kept stands sound =
       let agent = world.agents client in
@@ -219,17 +219,17 @@ module _ {P : Type 0} (plain : Plain) (is_plain : IsPlain plain) (servers : Serv
         })
       ]
 
-  pub take_reply-goes : (place client number : ℕ) (reply : Reply) (world : World) → Stands (Answer client number reply) world.net → IsSound plain world → WorldGoes plain R world (take_reply place client number reply world)
+  pub take_reply-goes : (place client number : ℕ) (reply : Reply) (world : World) → Stands (Answer client number reply) (messages_in world.net) → IsSound plain world → WorldGoes plain R world (take_reply place client number reply world)
   take_reply-goes place client number reply world stands sound =
       reply_by-goes place client number reply (kept_call number (world.agents client).kept) world refl stands sound
 
-  item_takes-goes : (place client key : ℕ) (item : Item) (found : Living) (world : World) → find_living key (world.agents client).living ≡ Some found → item.number ≡ found.next → nat_le world.places (length (world.agents client).queue) ≡ false → Stands (Delivery client key item) world.net → IsSound plain world → WorldGoes plain R world (item_as plain place client key item found Takes world)
+  item_takes-goes : (place client key : ℕ) (item : Item) (found : Living) (world : World) → find_living key (world.agents client).living ≡ Some found → item.number ≡ found.next → nat_le world.places (length (world.agents client).queue) ≡ false → Stands (Delivery client key item) (messages_in world.net) → IsSound plain world → WorldGoes plain R world (item_as plain place client key item found Takes world)
   item_takes-goes place client key item found world here next has_place stands sound =
       let message = Receipt client key item.number in
       let after = with_agent client (after_item key found.id item.content (world.agents client)) world.agents in
       let new = receipt-new plain is_plain world.now (accepted world.core) world.core.answered world.net world.agents client key item.number found here next sound.facts in
       let unknown = posted-unknown plain message world.net new in
-      let G : Bool → Type 0 = λ b. R world (record world { net = if b then world.net else message ∷ world.net; agents = after }) (if b then [] else Posted (suc (length world.net)) message ∷ []) in
+      let G : Bool → Type 0 = λ b. R world (record world { net = if b then world.net else Spelled message ∷ world.net; agents = after }) (if b then [] else Posted (suc (length world.net)) message ∷ []) in
       record {
         sound = item-sound plain is_plain client key item found world here next stands sound;
         carried = subst G (sym unknown) (carried.item world client key item found sound here next has_place stands);
@@ -237,18 +237,18 @@ module _ {P : Type 0} (plain : Plain) (is_plain : IsPlain plain) (servers : Serv
         core = refl;
       }
 
-  item_as-goes : (place client key : ℕ) (item : Item) (found : Living) (fate : Fate) (world : World) → find_living key (world.agents client).living ≡ Some found → fate_of item.number found.next (nat_le world.places (length (world.agents client).queue)) ≡ fate → Stands (Delivery client key item) world.net → IsSound plain world → WorldGoes plain R world (item_as plain place client key item found fate world)
+  item_as-goes : (place client key : ℕ) (item : Item) (found : Living) (fate : Fate) (world : World) → find_living key (world.agents client).living ≡ Some found → fate_of item.number found.next (nat_le world.places (length (world.agents client).queue)) ≡ fate → Stands (Delivery client key item) (messages_in world.net) → IsSound plain world → WorldGoes plain R world (item_as plain place client key item found fate world)
   item_as-goes place client key item found (Misses why) world here is stands sound = world-ignored world place why sound
   item_as-goes place client key item found Takes world here is stands sound =
       let taken = fate_of-takes item.number found.next (nat_le world.places (length (world.agents client).queue)) is in
       item_takes-goes place client key item found world here taken.0 taken.1 stands sound
 
-  item_by-goes : (place client key : ℕ) (item : Item) (found : Option Living) (world : World) → find_living key (world.agents client).living ≡ found → Stands (Delivery client key item) world.net → IsSound plain world → WorldGoes plain R world (item_by plain place client key item found world)
+  item_by-goes : (place client key : ℕ) (item : Item) (found : Option Living) (world : World) → find_living key (world.agents client).living ≡ found → Stands (Delivery client key item) (messages_in world.net) → IsSound plain world → WorldGoes plain R world (item_by plain place client key item found world)
   item_by-goes place client key item None world here stands sound = world-ignored world place because.GoneItem sound
   item_by-goes place client key item (Some found) world here stands sound =
       item_as-goes place client key item found (fate_of item.number found.next (nat_le world.places (length (world.agents client).queue))) world here refl stands sound
 
-  pub take_item-goes : (place client key : ℕ) (item : Item) (world : World) → Stands (Delivery client key item) world.net → IsSound plain world → WorldGoes plain R world (take_item plain place client key item world)
+  pub take_item-goes : (place client key : ℕ) (item : Item) (world : World) → Stands (Delivery client key item) (messages_in world.net) → IsSound plain world → WorldGoes plain R world (take_item plain place client key item world)
   take_item-goes place client key item world stands sound =
       item_by-goes place client key item (find_living key (world.agents client).living) world refl stands sound
 
@@ -290,7 +290,7 @@ module _ {P : Type 0} (plain : Plain) (is_plain : IsPlain plain) (servers : Serv
       let others = All-map (λ y. C y state.world) (λ y. C y (event x state).state.world) xs (λ y. keep y state.world (event x state).state.world first.stays) all.1 in
       both-goes Inv Inv state (event x state) (for_each event xs) first (for_each-goes Inv C event step keep xs (event x state).state first.holds others)
 
-  accept-goes : (entry : Entry) (state : State P) → IsSteady plain Good state → state.world.core.hand ≡ Empty → MayFollow plain state.world.core.answered entry → Rattle.cluster_facts.specs.History.time_of entry ≡ state.world.now → Stands (message_of entry) state.world.net → Goes R (IsSteady plain Good) state (servers.accept entry state)
+  accept-goes : (entry : Entry) (state : State P) → IsSteady plain Good state → state.world.core.hand ≡ Empty → MayFollow plain state.world.core.answered entry → Rattle.cluster_facts.specs.History.time_of entry ≡ state.world.now → Stands (message_of entry) (messages_in state.world.net) → Goes R (IsSteady plain Good) state (servers.accept entry state)
   accept-goes entry state steady empty may at stands =
       let accepts = serving.accepts entry state empty steady.good in
       let after : World = record state.world { core = record { answered = state.world.core.answered; hand = accepts.hand } } in
@@ -310,7 +310,7 @@ module _ {P : Type 0} (plain : Plain) (is_plain : IsPlain plain) (servers : Serv
   post_again-goes client number (Some reply) world is sound =
       post_answer-goes client number reply world sound (reply_at-stands number (answers_in plain client world.core.answered) reply is)
 
-  request_as-goes : (place client number : ℕ) (call : Call) (verdict : Judged) (state : State P) → judged_call state.world.core.answered client number ≡ verdict → state.world.core.hand ≡ Empty → Stands (Request client number call) state.world.net → IsSteady plain Good state → Goes R (IsSteady plain Good) state (request_as plain servers place client number call verdict state)
+  request_as-goes : (place client number : ℕ) (call : Call) (verdict : Judged) (state : State P) → judged_call state.world.core.answered client number ≡ verdict → state.world.core.hand ≡ Empty → Stands (Request client number call) (messages_in state.world.net) → IsSteady plain Good state → Goes R (IsSteady plain Good) state (request_as plain servers place client number call verdict state)
   request_as-goes place client number call New state is empty stands steady =
       accept-goes (Called client number state.world.now call) state steady empty is refl stands
   request_as-goes place client number call Repeat state is empty stands steady =
@@ -319,23 +319,23 @@ module _ {P : Type 0} (plain : Plain) (is_plain : IsPlain plain) (servers : Serv
   request_as-goes place client number call Old state is empty stands steady = state-ignored state place because.OldRequest steady
   request_as-goes place client number call Ahead state is empty stands steady = state-ignored state place because.AheadRequest steady
 
-  receipt_as-goes : (place client key through : ℕ) (new : Bool) (state : State P) → is_new plain state.world.core.answered client key through ≡ new → state.world.core.hand ≡ Empty → Stands (Receipt client key through) state.world.net → IsSteady plain Good state → Goes R (IsSteady plain Good) state (receipt_as servers place client key through new state)
+  receipt_as-goes : (place client key through : ℕ) (new : Bool) (state : State P) → is_new plain state.world.core.answered client key through ≡ new → state.world.core.hand ≡ Empty → Stands (Receipt client key through) (messages_in state.world.net) → IsSteady plain Good state → Goes R (IsSteady plain Good) state (receipt_as servers place client key through new state)
   receipt_as-goes place client key through true state is empty stands steady =
       accept-goes (Receipted client key through state.world.now) state steady empty is refl stands
   receipt_as-goes place client key through false state is empty stands steady = state-ignored state place because.DoneReceipt steady
 
-  hear_at_rest-goes : (place : ℕ) (message : Message) (state : State P) → state.world.core.hand ≡ Empty → Stands message state.world.net → IsSteady plain Good state → Goes R (IsSteady plain Good) state (hear_at_rest plain servers place message state)
+  hear_at_rest-goes : (place : ℕ) (message : Message) (state : State P) → state.world.core.hand ≡ Empty → Stands message (messages_in state.world.net) → IsSteady plain Good state → Goes R (IsSteady plain Good) state (hear_at_rest plain servers place message state)
   hear_at_rest-goes place (Request client number call) state empty stands steady =
       request_as-goes place client number call (judged_call state.world.core.answered client number) state refl empty stands steady
   hear_at_rest-goes place (Receipt client key through) state empty stands steady =
       receipt_as-goes place client key through (is_new plain state.world.core.answered client key through) state refl empty stands steady
   hear_at_rest-goes place _ state empty stands steady = state-same (IsSteady plain Good) state steady
 
-  hear_by-goes : (place : ℕ) (message : Message) (hand : Hand) (state : State P) → state.world.core.hand ≡ hand → Stands message state.world.net → IsSteady plain Good state → Goes R (IsSteady plain Good) state (hear_by plain servers place message hand state)
+  hear_by-goes : (place : ℕ) (message : Message) (hand : Hand) (state : State P) → state.world.core.hand ≡ hand → Stands message (messages_in state.world.net) → IsSteady plain Good state → Goes R (IsSteady plain Good) state (hear_by plain servers place message hand state)
   hear_by-goes place message Empty state is stands steady = hear_at_rest-goes place message state is stands steady
   hear_by-goes place message _ state is stands steady = state-ignored state place (because.Busy (suc (length state.world.core.answered))) steady
 
-  pub hear-goes : (place : ℕ) (message : Message) (state : State P) → Stands message state.world.net → IsSteady plain Good state → Goes R (IsSteady plain Good) state (hear plain servers place message state)
+  pub hear-goes : (place : ℕ) (message : Message) (state : State P) → Stands message (messages_in state.world.net) → IsSteady plain Good state → Goes R (IsSteady plain Good) state (hear plain servers place message state)
   hear-goes place message state stands steady = hear_by-goes place message state.world.core.hand state refl stands steady
 
   pub drain-goes : (state : State P) → IsSteady plain Good state → Goes R (IsAtRest plain Good) state (drain servers state)
@@ -347,16 +347,16 @@ module _ {P : Type 0} (plain : Plain) (is_plain : IsPlain plain) (servers : Serv
         stays = drains.stays;
       }
 
-  take_answer_by-goes : (client number : ℕ) (found : Option Reply) (world : World) → reply_at number (answers_to client world.net) ≡ found → IsSound plain world → WorldGoes plain R world (take_answer_by plain client number found world)
+  take_answer_by-goes : (client number : ℕ) (found : Option Reply) (world : World) → reply_at number (answers_to client (messages_in world.net)) ≡ found → IsSound plain world → WorldGoes plain R world (take_answer_by plain client number found world)
   take_answer_by-goes client number None world is sound = world-same world sound
   take_answer_by-goes client number (Some reply) world is sound =
-      take_reply-goes (number_of plain (Answer client number reply) world.net) client number reply world (answers_to-posted client number reply world.net (reply_at-stands number (answers_to client world.net) reply is)) sound
+      take_reply-goes (number_of plain (Answer client number reply) world.net) client number reply world (answers_to-posted client number reply (messages_in world.net) (reply_at-stands number (answers_to client (messages_in world.net)) reply is)) sound
 
   pub take_answer-goes : (message : Message) (world : World) → IsSound plain world → WorldGoes plain R world (take_answer plain message world)
-  take_answer-goes (Request client number call) world sound = take_answer_by-goes client number (reply_at number (answers_to client world.net)) world refl sound
+  take_answer-goes (Request client number call) world sound = take_answer_by-goes client number (reply_at number (answers_to client (messages_in world.net))) world refl sound
   take_answer-goes _ world sound = world-same world sound
 
-  pub turn-goes : (message : Message) (state : State P) → IsAtRest plain Good state → Stands message state.world.net → Goes R (IsAtRest plain Good) state (turn plain servers message state)
+  pub turn-goes : (message : Message) (state : State P) → IsAtRest plain Good state → Stands message (messages_in state.world.net) → Goes R (IsAtRest plain Good) state (turn plain servers message state)
   turn-goes message state rest stands =
       let heard = hear plain servers (number_of plain message state.world.net) message state in
       let hears = hear-goes (number_of plain message state.world.net) message state stands rest.steady in
@@ -368,7 +368,7 @@ module _ {P : Type 0} (plain : Plain) (is_plain : IsPlain plain) (servers : Serv
 
   pub client_turns-goes : (client : ℕ) (state : State P) → IsAtRest plain Good state → Goes R (IsAtRest plain Good) state (client_turns plain servers client state)
   client_turns-goes client state rest =
-      for_each-goes (IsAtRest plain Good) (λ message world. Stands message world.net) (turn plain servers) turn-goes (λ message old new stays stands. stays.net message stands) (resent client (state.world.agents client)) state rest (resent-posted plain client state.world rest.steady.sound)
+      for_each-goes (IsAtRest plain Good) (λ message world. Stands message (messages_in world.net)) (turn plain servers) turn-goes (λ message old new stays stands. stays.net message stands) (resent client (state.world.agents client)) state rest (resent-posted plain client state.world rest.steady.sound)
 
   -- the items of a push are posted
   post_held-goes : (message : Message) (state : State P) → IsAtRest plain Good state → IsMadeItem plain state.world.core.answered message → Goes R (IsAtRest plain Good) state (in_world (post plain message) state)
@@ -379,7 +379,7 @@ module _ {P : Type 0} (plain : Plain) (is_plain : IsPlain plain) (servers : Serv
   post_all-goes items state rest made =
       for_each-goes (IsAtRest plain Good) (λ message world. IsMadeItem plain world.core.answered message) (λ item. in_world (post plain item)) post_held-goes (λ message old new stays is. IsMadeItem-stays plain is_plain old new message stays is) items state rest made
 
-  pub post_all-stands : (items : List Message) (state : State P) → IsAtRest plain Good state → AllByRecursion (IsMadeItem plain state.world.core.answered) items → AllByRecursion (λ message. Stands message (for_each (λ item. in_world (post plain item)) items state).state.world.net) items
+  pub post_all-stands : (items : List Message) (state : State P) → IsAtRest plain Good state → AllByRecursion (IsMadeItem plain state.world.core.answered) items → AllByRecursion (λ message. Stands message (messages_in (for_each (λ item. in_world (post plain item)) items state).state.world.net)) items
   post_all-stands [] state rest made = tt
   post_all-stands (item ∷ items) state rest made =
       let first = post_held-goes item state rest made.0 in
@@ -392,16 +392,16 @@ module _ {P : Type 0} (plain : Plain) (is_plain : IsPlain plain) (servers : Serv
       let G : Hand → Type 0 = λ hand. Goes R (IsAtRest plain Good) state (push_by plain servers hand state) in
       subst G (sym rest.empty) (post_all-goes (plain.held state.world.core.answered) state rest (held-made plain is_plain state.world.core.answered))
 
-  pub push-stands : (state : State P) → IsAtRest plain Good state → AllByRecursion (λ message. Stands message (push plain servers state).state.world.net) (plain.held state.world.core.answered)
+  pub push-stands : (state : State P) → IsAtRest plain Good state → AllByRecursion (λ message. Stands message (messages_in (push plain servers state).state.world.net)) (plain.held state.world.core.answered)
   push-stands state rest =
-      let G : Hand → Type 0 = λ hand. AllByRecursion (λ message. Stands message (push_by plain servers hand state).state.world.net) (plain.held state.world.core.answered) in
+      let G : Hand → Type 0 = λ hand. AllByRecursion (λ message. Stands message (messages_in (push_by plain servers hand state).state.world.net)) (plain.held state.world.core.answered) in
       subst G (sym rest.empty) (post_all-stands (plain.held state.world.core.answered) state rest (held-made plain is_plain state.world.core.answered))
 
-  take_pushed-goes : (message : Message) (world : World) → Stands message world.net → IsSound plain world → WorldGoes plain R world (take_pushed plain message world)
+  take_pushed-goes : (message : Message) (world : World) → Stands message (messages_in world.net) → IsSound plain world → WorldGoes plain R world (take_pushed plain message world)
   take_pushed-goes (Delivery client key item) world stands sound = take_item-goes (number_of plain (Delivery client key item) world.net) client key item world stands sound
   take_pushed-goes _ world stands sound = world-same world sound
 
-  pub take_pushed-rests : (message : Message) (state : State P) → IsAtRest plain Good state → Stands message state.world.net → Goes R (IsAtRest plain Good) state (in_world (take_pushed plain message) state)
+  pub take_pushed-rests : (message : Message) (state : State P) → IsAtRest plain Good state → Stands message (messages_in state.world.net) → Goes R (IsAtRest plain Good) state (in_world (take_pushed plain message) state)
   take_pushed-rests message state rest stands = in_world-rests (take_pushed plain message) state rest (take_pushed-goes message state.world stands rest.steady.sound)
 
   pub push_round-goes : (state : State P) → IsAtRest plain Good state → Goes R (IsAtRest plain Good) state (push_round plain servers state)
@@ -409,7 +409,7 @@ module _ {P : Type 0} (plain : Plain) (is_plain : IsPlain plain) (servers : Serv
       let pushed = push-goes state rest in
       let items = plain.held state.world.core.answered in
       both-goes (IsAtRest plain Good) (IsAtRest plain Good) state (push plain servers state) (for_each (λ item. in_world (take_pushed plain item)) items) pushed
-      (for_each-goes (IsAtRest plain Good) (λ message world. Stands message world.net) (λ item. in_world (take_pushed plain item)) take_pushed-rests (λ message old new stays stands. stays.net message stands) items (push plain servers state).state pushed.holds (push-stands state rest))
+      (for_each-goes (IsAtRest plain Good) (λ message world. Stands message (messages_in world.net)) (λ item. in_world (take_pushed plain item)) take_pushed-rests (λ message old new stays stands. stays.net message stands) items (push plain servers state).state pushed.holds (push-stands state rest))
 
   pub all_turns-goes : (clients : List ℕ) (state : State P) → IsAtRest plain Good state → Goes R (IsAtRest plain Good) state (for_each (client_turns plain servers) clients state)
   all_turns-goes clients state rest =
@@ -435,7 +435,7 @@ module _ {P : Type 0} (plain : Plain) (is_plain : IsPlain plain) (servers : Serv
       record { holds = both.holds.steady; carried = both.carried; stays = both.stays }
 
   -- events of a script line: a delivery, and messages sent again
-  pub delivered-goes : (place : ℕ) (message : Message) (state : State P) → Stands message state.world.net → IsSteady plain Good state → Goes R (IsSteady plain Good) state (delivered plain servers place message state)
+  pub delivered-goes : (place : ℕ) (message : Message) (state : State P) → Stands message (messages_in state.world.net) → IsSteady plain Good state → Goes R (IsSteady plain Good) state (delivered plain servers place message state)
   delivered-goes place (Answer client number reply) state stands steady = in_world-goes (take_reply place client number reply) state steady (take_reply-goes place client number reply state.world stands steady.sound)
   delivered-goes place (Delivery client key item) state stands steady = in_world-goes (take_item plain place client key item) state steady (take_item-goes place client key item state.world stands steady.sound)
   delivered-goes place (Request client number call) state stands steady = hear-goes place (Request client number call) state stands steady
@@ -444,4 +444,4 @@ module _ {P : Type 0} (plain : Plain) (is_plain : IsPlain plain) (servers : Serv
 
   pub resend-goes : (client : ℕ) (state : State P) → IsSteady plain Good state → Goes R (IsSteady plain Good) state (resend plain servers client state)
   resend-goes client state steady =
-      for_each-goes (IsSteady plain Good) (λ message world. Stands message world.net) (λ message now. hear plain servers (number_of plain message now.world.net) message now) (λ message now held stands. hear-goes (number_of plain message now.world.net) message now stands held) (λ message old new stays stands. stays.net message stands) (resent client (state.world.agents client)) state steady (resent-posted plain client state.world steady.sound)
+      for_each-goes (IsSteady plain Good) (λ message world. Stands message (messages_in world.net)) (λ message now. hear plain servers (number_of plain message now.world.net) message now) (λ message now held stands. hear-goes (number_of plain message now.world.net) message now stands held) (λ message old new stays stands. stays.net message stands) (resent client (state.world.agents client)) state steady (resent-posted plain client state.world steady.sound)

@@ -3,7 +3,7 @@ use Rattle.std.proofs.Common.{◌≡◌, ℕ, ℤ, inl, inr, Bool, true, false, 
 use Rattle.std.specs.List.{AllByRecursion}
 use Rattle.cluster_facts.specs.Types.{Call, Reply, Entry, Called, Receipted, Answer}
 use Rattle.cluster_facts.specs.Lists.{Stands}
-use Rattle.cluster_facts.specs.Messages.{sent_by, calls_in}
+use Rattle.cluster_facts.specs.Messages.{sent_by, calls_in, messages_in}
 use Rattle.cluster_facts.specs.Service.{Plain, answers_in}
 use Rattle.cluster_facts.specs.Storage.{dealt_in}
 use Rattle.cluster_facts.specs.Agents.{kept_call}
@@ -61,12 +61,12 @@ calls-accepted client x past (Applied entry) stands = calls-grow client x entry 
 calls-accepted client x past (Ready entry) stands = calls-grow client x entry past stands
 
 -- the reply that is posted to a call that the agent keeps is the service's to that call
-pub reply-dealt : (plain : Plain) (world : World) (client number : ℕ) (call : Call) (reply : Reply) → IsSound plain world → kept_call number (world.agents client).kept ≡ Some call → Stands (Answer client number reply) world.net → Stands (number, call, reply) (dealt_in plain client world.core.answered)
+pub reply-dealt : (plain : Plain) (world : World) (client number : ℕ) (call : Call) (reply : Reply) → IsSound plain world → kept_call number (world.agents client).kept ≡ Some call → Stands (Answer client number reply) (messages_in world.net) → Stands (number, call, reply) (dealt_in plain client world.core.answered)
 reply-dealt plain world client number call reply sound kept stands =
     let past = world.core.answered in
     let own = sound.facts.clients client in
-    let sent = sent_by client world.net in
-    let dealt = answers-dealt plain client number reply past (All-at (IsOfRun plain past) (Answer client number reply) world.net sound.facts.run stands) in
+    let sent = sent_by client (messages_in world.net) in
+    let dealt = answers-dealt plain client number reply past (All-at (IsOfRun plain past) (Answer client number reply) (messages_in world.net) sound.facts.run stands) in
     let here : Stands (number, call) sent = Keeps-sent (number, call) own.awaits.keeps (kept_call-stands number (world.agents client).kept call kept) in
     let heard = calls-accepted client (number, dealt.0) past world.core.hand (dealt-called plain client (number, dealt.0, reply) past dealt.1) in
     let there : Stands (number, dealt.0) sent = EndsIn-stands (number, dealt.0) sent (calls_in client (accepted_by past world.core.hand)) own.sends.first heard in

@@ -1,6 +1,7 @@
 -- What the files promise, wherever the world is sound.
 use Rattle.std.proofs.Common.{ℤ, inr, List, [], ◌∷◌, refl, sym, subst}
 use Rattle.cluster_facts.specs.Types.{Entry, Answer}
+use Rattle.cluster_facts.specs.Messages.{messages_in}
 use Rattle.cluster_facts.specs.Service.{Plain}
 use Rattle.cluster_facts.specs.Storage.{Disk, Storage, all_applied, Attempt, Attempts, Between}
 use Rattle.cluster_facts.specs.Storage.Attempts.{none as no_attempt, more as one_more}
@@ -25,7 +26,7 @@ pub records-stay : (plain : Plain) (disk : Disk) (storage : Storage disk) → Is
 records-stay plain disk storage is_storage world files sound range stand client number reply posted =
     let past = world.core.answered in
     let legal = answered-legal plain world.now past world.core.hand sound.facts.legal in
-    let dealt = answers-dealt plain client number reply past (All-at (IsOfRun plain past) (Answer client number reply) world.net sound.facts.run posted) in
+    let dealt = answers-dealt plain client number reply past (All-at (IsOfRun plain past) (Answer client number reply) (messages_in world.net) sound.facts.run posted) in
     record {
       call = dealt.0;
       dealt = dealt.1;

@@ -4,7 +4,7 @@ use Rattle.std.proofs.lemmas.Bool.Decides.{leb_tells}
 use Rattle.std.proofs.lemmas.Bool.{and_parts, eqb-true, cases_Bool}
 use Rattle.cluster_facts.specs.Types.{Call, Reply, Item, Entry, Called, Receipted, Message, Request, Receipt}
 use Rattle.cluster_facts.specs.Lists.{Stands, IsNumbered, without}
-use Rattle.cluster_facts.specs.Messages.{calls_in, message_of}
+use Rattle.cluster_facts.specs.Messages.{Spelled, messages_in, calls_in, message_of}
 use Rattle.cluster_facts.specs.Service.{Plain, IsPlain, is_new}
 use Rattle.cluster_facts.specs.Agents.{Living, Agent, fresh, kept_call, callbacks_of, after_reply, find_living, after_item}
 use Rattle.cluster_facts.specs.History.{Empty, committed, MayFollow, ReceiptsAreNew, IsLegal}
@@ -234,7 +234,7 @@ spends-reply plain world client number call reply sound kept =
     let all = all_untaken-less world.places 1 client (after_reply number call reply agent) world.agents world.clients listed less in
     record { paid = omega arith }
 
-spends-item : (plain : Plain) (world : World) (client key : ℕ) (item : Item) (found : Living) → IsSound plain world → find_living key (world.agents client).living ≡ Some found → nat_le world.places (length (world.agents client).queue) ≡ false → Spends world (record world { net = Receipt client key item.number ∷ world.net; agents = with_agent client (after_item key found.id item.content (world.agents client)) world.agents }) (Posted (suc (length world.net)) (Receipt client key item.number) ∷ [])
+spends-item : (plain : Plain) (world : World) (client key : ℕ) (item : Item) (found : Living) → IsSound plain world → find_living key (world.agents client).living ≡ Some found → nat_le world.places (length (world.agents client).queue) ≡ false → Spends world (record world { net = Spelled (Receipt client key item.number) ∷ world.net; agents = with_agent client (after_item key found.id item.content (world.agents client)) world.agents }) (Posted (suc (length world.net)) (Receipt client key item.number) ∷ [])
 spends-item plain world client key item found sound here has_place =
     let agent = world.agents client in
     let room : length agent.queue < world.places = elim (leb_tells world.places (length agent.queue)) [ inl full ↦ let never = full.0 in cc | inr free ↦ free.1 ] in
@@ -255,7 +255,7 @@ Spends-both one two three first second spends more =
     record { paid = omega arith }
 
 -- what is spent is carried through rounds, where accepting and draining pay for what they commit
-pub Spends-carried : {P : Type 0} (plain : Plain) (servers : Servers P) (Good : State P → Type 0) → ((entry : Entry) (state : State P) → IsSteady plain Good state → state.world.core.hand ≡ Empty → MayFollow plain state.world.core.answered entry → Stands (message_of entry) state.world.net → Spends state.world (servers.accept entry state).state.world (servers.accept entry state).told) → ((state : State P) → IsSteady plain Good state → Spends state.world (drain servers state).state.world (drain servers state).told) → IsCarried plain servers Good Spends
+pub Spends-carried : {P : Type 0} (plain : Plain) (servers : Servers P) (Good : State P → Type 0) → ((entry : Entry) (state : State P) → IsSteady plain Good state → state.world.core.hand ≡ Empty → MayFollow plain state.world.core.answered entry → Stands (message_of entry) (messages_in state.world.net) → Spends state.world (servers.accept entry state).state.world (servers.accept entry state).told) → ((state : State P) → IsSteady plain Good state → Spends state.world (drain servers state).state.world (drain servers state).told) → IsCarried plain servers Good Spends
 Spends-carried plain servers Good accepts drains = record {
   same = λ world. record { paid = omega arith };
   both = Spends-both;

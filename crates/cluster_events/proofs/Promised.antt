@@ -5,7 +5,7 @@ use Rattle.std.proofs.lemmas.Bool.Decides.{eqb_tells}
 use Rattle.script_lines.specs.declared.line.Line.{Line}
 use Rattle.cluster_facts.specs.Types.{Call, ReaderRead, Reply, Status, Entry, Callback}
 use Rattle.cluster_facts.specs.Lists.{Stands, EndsIn, without}
-use Rattle.cluster_facts.specs.Messages.{sent_by, receipts_of, calls_in}
+use Rattle.cluster_facts.specs.Messages.{sent_by, receipts_of, calls_in, messages_in}
 use Rattle.cluster_facts.specs.Service.{Plain, IsPlain, answers_in}
 use Rattle.cluster_facts.specs.Storage.{dealt_in}
 use Rattle.cluster_facts.specs.Agents.{Agent, fed_of, call_of}
@@ -25,7 +25,7 @@ use Rattle.cluster_events.specs.Promises.{AtEnd}
 use Rattle.cluster_events.proofs.Walking.{IsShow, HandsOut, IsByKind, line-walks}
 use Rattle.cluster_events.proofs.Items.{taken-begins}
 use Rattle.cluster_events.proofs.Dealing.{dealt-answered, deals-answered}
-use Rattle.cluster_events.proofs.Telling.{Grows-same, TellsReplies-none, Says-send}
+use Rattle.cluster_events.proofs.Telling.{Grows-same, TellsReplies-none, Says-injected, Says-send}
 
 -- Lines that say nothing of history, net and callbacks.
 
@@ -184,7 +184,7 @@ at-end plain world told now places sound says = record {
     legal = committed-legal plain world.now world.core.answered world.core.hand sound.facts.legal;
     printed = says.entries;
   };
-  order = λ client. committed-order client (sent_by client world.net) world.core.answered world.core.hand (sound.facts.clients client).sends.first;
+  order = λ client. committed-order client (sent_by client (messages_in world.net)) world.core.answered world.core.hand (sound.facts.clients client).sends.first;
   posts = says.posts;
   replies = record {
     once = λ client. (says.replies client).once;
@@ -192,7 +192,7 @@ at-end plain world told now places sound says = record {
   };
   readers = λ client number direction reply stands. dealt-answered plain client world.core.answered (number, ReaderRead direction, reply) (All-at (λ (deal : ℕ × Call × Reply). Stands deal (dealt_in plain client world.core.answered)) (number, ReaderRead direction, reply) (deals_told client told) (says.deals client) stands);
   callbacks = says.callbacks;
-  items = λ client key. taken-begins plain world.core.answered (sent_by client world.net) client key (receipts_of client world.net) (fed_of (world.agents client)) (sound.facts.clients client).sends.numbered (sound.facts.clients client).follows.counted (sound.facts.told client);
+  items = λ client key. taken-begins plain world.core.answered (sent_by client (messages_in world.net)) client key (receipts_of client (messages_in world.net)) (fed_of (world.agents client)) (sound.facts.clients client).sends.numbered (sound.facts.clients client).follows.counted (sound.facts.told client);
   writes = λ client. says.writes client ∙ append-nil (writes_told client told);
 }
 
@@ -205,6 +205,7 @@ says-by-kind plain = record {
   asked = λ client asked world sound is. Says-send plain world client (call_of asked) (enlisted client world.clients);
   refused = λ client status world sound is. Says-line plain world (Declined client status) (declined-silent client status);
   handed = λ client callbacks after world sound is hands. hand_out-says plain client callbacks after world hands;
+  injected = λ bytes front why world sound. Says-injected plain world bytes front why;
   shows = λ world line shows. Says-line plain world line (show-silent line shows);
   printed = Says-printed plain;
 }

@@ -6,7 +6,7 @@ use Rattle.std.proofs.lemmas.Bool.{le-leb, cases_Bool}
 use Rattle.std.proofs.lemmas.Option.{slice_get_within}
 use Rattle.cluster_facts.specs.Types.{Call, Reply, Refused, Status, Item, Entry, Called, Receipted, Callback, Message, Request, Answer, Delivery, Receipt}
 use Rattle.cluster_facts.specs.Lists.{Stands, count_of}
-use Rattle.cluster_facts.specs.Messages.{sent_by, answers_to, receipts_of, calls_in, message_of}
+use Rattle.cluster_facts.specs.Messages.{messages_in, sent_by, answers_to, receipts_of, calls_in, message_of}
 use Rattle.cluster_facts.specs.Service.{Plain, IsPlain, IsHeldItem, answers_in, is_new, subscribed}
 use Rattle.cluster_facts.specs.Agents.{Living, Agent, fresh, kept_call, callbacks_of, lacks_place, after_reply, find_living, requests_of, greatest_receipt, greatest_receipts, resent}
 use Rattle.cluster_facts.specs.History.{Hand, Empty, Core, Judged, New, Repeat, Old, Ahead, judged, judged_call, accepted, accepted_by}
@@ -202,7 +202,7 @@ pub record SawAll (plain : Plain) (world : World) : Type 0 where
   pub items : AllByRecursion (Saw plain world) (plain.held world.core.answered)
 
 -- Where a quiet round saw all of this, everything is settled.
-module _ (plain : Plain) (is_plain : IsPlain plain) (world : World) (facts : Facts plain world.now world.core.answered world.core.answered world.net world.agents) (listed : (client : ℕ) → Stands client world.clients ⊎ (world.agents client ≡ fresh)) (saw : SawAll plain world) where
+module _ (plain : Plain) (is_plain : IsPlain plain) (world : World) (facts : Facts plain world.now world.core.answered world.core.answered (messages_in world.net) world.agents) (listed : (client : ℕ) → Stands client world.clients ⊎ (world.agents client ≡ fresh)) (saw : SawAll plain world) where
   saw-resent : (client : ℕ) (message : Message) → ((world.agents client ≡ fresh) → ⊥) → Stands message (resent client (world.agents client)) → Saw plain world message
   saw-resent client message used stands =
       elim (listed client) [
@@ -220,11 +220,11 @@ module _ (plain : Plain) (is_plain : IsPlain plain) (world : World) (facts : Fac
   saw-request client x stands =
       saw-resent client (Request client x.0 x.1) (kept-used client x stands) (Stands-left (Request client x.0 x.1) (requests_of client (world.agents client).kept) (greatest_receipts client (world.agents client).living) (requests_of-stands client x (world.agents client).kept stands))
 
-  heard-run : (client number : ℕ) (reply : Reply) → Stands (number, reply) (answers_to client world.net) → Stands (number, reply) (answers_in plain client world.core.answered)
+  heard-run : (client number : ℕ) (reply : Reply) → Stands (number, reply) (answers_to client (messages_in world.net)) → Stands (number, reply) (answers_in plain client world.core.answered)
   heard-run client number reply stands =
-      All-at (IsOfRun plain world.core.answered) (Answer client number reply) world.net facts.run (answers_to-posted client number reply world.net stands)
+      All-at (IsOfRun plain world.core.answered) (Answer client number reply) (messages_in world.net) facts.run (answers_to-posted client number reply (messages_in world.net) stands)
 
-  heard-by : (client : ℕ) (more : List (ℕ × Call)) → sent_by client world.net ≡ more ++ calls_in client world.core.answered → calls_in client world.core.answered ≡ sent_by client world.net
+  heard-by : (client : ℕ) (more : List (ℕ × Call)) → sent_by client (messages_in world.net) ≡ more ++ calls_in client world.core.answered → calls_in client world.core.answered ≡ sent_by client (messages_in world.net)
   heard-by client [] is = sym is
   heard-by client (first ∷ more) is =
       let past = world.core.answered in
@@ -232,7 +232,7 @@ module _ (plain : Plain) (is_plain : IsPlain plain) (world : World) (facts : Fac
       let count = length (calls_in client past) in
       let whole = ap length is in
       let longer = length-append more (calls_in client past) in
-      let next = IsNumbered-at (suc count) (sent_by client world.net) own.sends.numbered (omega arith) (omega arith) in
+      let next = IsNumbered-at (suc count) (sent_by client (messages_in world.net)) own.sends.numbered (omega arith) (omega arith) in
       let x : ℕ × Call = (suc count, next.0) in
       elim (Keeps-cases x own.awaits.keeps next.1) [
         | inl kept ↦ absurd ((saw-request client x kept).not_new (judged-next count))
@@ -243,7 +243,7 @@ module _ (plain : Plain) (is_plain : IsPlain plain) (world : World) (facts : Fac
       ]
 
   -- every call that was sent was accepted
-  all-heard : (client : ℕ) → calls_in client world.core.answered ≡ sent_by client world.net
+  all-heard : (client : ℕ) → calls_in client world.core.answered ≡ sent_by client (messages_in world.net)
   all-heard client = heard-by client (facts.clients client).sends.first.0 (facts.clients client).sends.first.1
 
   all-taken : (client number : ℕ) (call : Call) → kept_call number (world.agents client).kept ≡ Some call → (reply : Reply) × Stands (number, reply) (answers_in plain client world.core.answered) × (lacks_place world.places (world.agents client).queue (callbacks_of call reply) ≡ true)
@@ -252,7 +252,7 @@ module _ (plain : Plain) (is_plain : IsPlain plain) (world : World) (facts : Fac
       let own = facts.clients client in
       let stands = kept_call-stands number (world.agents client).kept call kept in
       let sent = Keeps-sent (number, call) own.awaits.keeps stands in
-      let bound = IsNumbered-bound (number, call) (sent_by client world.net) own.sends.numbered sent in
+      let bound = IsNumbered-bound (number, call) (sent_by client (messages_in world.net)) own.sends.numbered sent in
       let lengths = ap length (all-heard client) in
       let near : (world.agents client).next ≤ number + 32 = All-at (λ (c : ℕ × Call). (world.agents client).next ≤ c.0 + 32) (number, call) (world.agents client).kept own.awaits.window stands in
       let next_is = own.sends.next_is in
@@ -262,10 +262,10 @@ module _ (plain : Plain) (is_plain : IsPlain plain) (world : World) (facts : Fac
       (saw-request client (number, call) stands).left call told.0 kept again told.1
 
   -- the receipts of a subscription that lives were all accepted
-  receipts-passed : (client key : ℕ) (found : Living) → find_living key (world.agents client).living ≡ Some found → plain.lasts world.core.answered client key ≡ true → count_of key (receipts_of client world.net) ≤ plain.through world.core.answered client key
+  receipts-passed : (client key : ℕ) (found : Living) → find_living key (world.agents client).living ≡ Some found → plain.lasts world.core.answered client key ≡ true → count_of key (receipts_of client (messages_in world.net)) ≤ plain.through world.core.answered client key
   receipts-passed client key found here lasts =
       let past = world.core.answered in
-      let marks = receipts_of client world.net in
+      let marks = receipts_of client (messages_in world.net) in
       let count = count_of key marks in
       let own = facts.clients client in
       elim (leb_tells count (plain.through past client key)) [
@@ -273,7 +273,7 @@ module _ (plain : Plain) (is_plain : IsPlain plain) (world : World) (facts : Fac
         | inr beyond ↦
             let above = beyond.1 in
             let mark = IsCounted-at key count marks own.follows.counted (omega arith) (omega arith) in
-            let told = Fits-at (IsToldItem plain past (sent_by client world.net) client) (key, count) (facts.told client) mark in
+            let told = Fits-at (IsToldItem plain past (sent_by client (messages_in world.net)) client) (key, count) (facts.told client) mark in
             let made = told.1.made in
             let number = made.1 in
             let place = slice_get_within (plain.made past client key) made.0 told.1.content made.2 in
@@ -283,14 +283,14 @@ module _ (plain : Plain) (is_plain : IsPlain plain) (world : World) (facts : Fac
             absurd (saw-resent client (Receipt client key count) used (Stands-right (Receipt client key count) (requests_of client (world.agents client).kept) (greatest_receipts client (world.agents client).living) (greatest_receipts-stands client key count found (world.agents client).living here is_found.next_is (omega arith))) new)
       ]
 
-  receipts-posted : (client key : ℕ) → plain.through world.core.answered client key ≤ count_of key (receipts_of client world.net)
+  receipts-posted : (client key : ℕ) → plain.through world.core.answered client key ≤ count_of key (receipts_of client (messages_in world.net))
   receipts-posted client key =
       let past = world.core.answered in
       let through = plain.through past client key in
       elim (leb_tells 1 through) [
         | inl some ↦
-            let posted_ = through-posted plain is_plain client key world.net past facts.heard some.1 in
-            let bound = IsCounted-bound key through (receipts_of client world.net) (facts.clients client).follows.counted (receipts_of-stands client key through world.net posted_) in
+            let posted_ = through-posted plain is_plain client key (messages_in world.net) past facts.heard some.1 in
+            let bound = IsCounted-bound key through (receipts_of client (messages_in world.net)) (facts.clients client).follows.counted (receipts_of-stands client key through (messages_in world.net) posted_) in
             bound.1
         | inr none ↦ let below = none.1 in omega arith
       ]
@@ -373,9 +373,9 @@ reply_by-quiet place client number reply (Some call) world quiet =
 -- a reply that is delivered quietly leaves the world, and was left for want of a place if its call is unanswered
 record TakenQuietly (client number : ℕ) (world : World) (outcome : Outcome World) : Type 0 where
   state : outcome.state ≡ world
-  left : (call : Call) (reply : Reply) → kept_call number (world.agents client).kept ≡ Some call → reply_at number (answers_to client world.net) ≡ Some reply → lacks_place world.places (world.agents client).queue (callbacks_of call reply) ≡ true
+  left : (call : Call) (reply : Reply) → kept_call number (world.agents client).kept ≡ Some call → reply_at number (answers_to client (messages_in world.net)) ≡ Some reply → lacks_place world.places (world.agents client).queue (callbacks_of call reply) ≡ true
 
-take_answer_by-quiet : (plain : Plain) (client number : ℕ) (found : Option Reply) (world : World) → reply_at number (answers_to client world.net) ≡ found → is_loud (take_answer_by plain client number found world).told ≡ false → TakenQuietly client number world (take_answer_by plain client number found world)
+take_answer_by-quiet : (plain : Plain) (client number : ℕ) (found : Option Reply) (world : World) → reply_at number (answers_to client (messages_in world.net)) ≡ found → is_loud (take_answer_by plain client number found world).told ≡ false → TakenQuietly client number world (take_answer_by plain client number found world)
 take_answer_by-quiet plain client number None world is quiet = record { state = refl; left = λ call reply kept told. cc }
 take_answer_by-quiet plain client number (Some reply) world is quiet =
     let taken = reply_by-quiet (number_of plain (Answer client number reply) world.net) client number reply (kept_call number (world.agents client).kept) world quiet in
@@ -504,14 +504,14 @@ module _ {P : Type 0} (plain : Plain) (is_plain : IsPlain plain) (servers : Serv
 
   -- what a reply that is taken quietly tells of a world
   abbrev IsLeftIn : ℕ → ℕ → World → Type 0
-  IsLeftIn client number world = (call : Call) (reply : Reply) → kept_call number (world.agents client).kept ≡ Some call → reply_at number (answers_to client world.net) ≡ Some reply → lacks_place world.places (world.agents client).queue (callbacks_of call reply) ≡ true
+  IsLeftIn client number world = (call : Call) (reply : Reply) → kept_call number (world.agents client).kept ≡ Some call → reply_at number (answers_to client (messages_in world.net)) ≡ Some reply → lacks_place world.places (world.agents client).queue (callbacks_of call reply) ≡ true
 
   request_after : (client number : ℕ) (call : Call) (base : World) (heard : Outcome (State P)) → IsAtRest plain Good heard.state → Same base heard.state.world → is_loud (turn_after (Request client number call) heard).told ≡ false → IsLeftIn client number heard.state.world × Same base (turn_after (Request client number call) heard).state.world
   request_after client number call base heard rest same quiet =
       let drained = drain servers heard.state in
       let world = drained.state.world in
       let idle = (serving.drains heard.state rest.steady).idle rest.empty in
-      let found = reply_at number (answers_to client world.net) in
+      let found = reply_at number (answers_to client (messages_in world.net)) in
       let take = take_answer_by plain client number found world in
       let taken = take_answer_by-quiet plain client number found world refl (loud-split take.told (drained.told ++ heard.told) quiet).0 in
       (subst (IsLeftIn client number) idle taken.left, Same-both base heard.state.world take.state same (Same-equal heard.state.world take.state (taken.state ∙ idle)))
@@ -527,7 +527,7 @@ module _ {P : Type 0} (plain : Plain) (is_plain : IsPlain plain) (servers : Serv
       let goes = in_world-rests plain is_plain servers Good serving Anything (anything plain servers Good) (post plain message) state rest (post_answer-goes plain is_plain servers Good serving Anything (anything plain servers Good) client number reply state.world rest.steady.sound stands) in
       let heard = in_world (post plain message) state in
       let after = request_after client number call state.world heard goes.holds (record { core = refl; agents = refl; stays = goes.stays }) quiet in
-      let net = heard.state.world.net in
+      let net = messages_in heard.state.world.net in
       let there = reply_at-some number reply (answers_to client net) (answers_to-stands client number reply net (posted-stands plain is_plain message state.world.net)) in
       let run = All-at (IsOfRun plain past) (Answer client number there.0) net goes.holds.steady.sound.facts.run (answers_to-posted client number there.0 net (reply_at-stands number (answers_to client net) there.0 there.1)) in (
         record {
@@ -579,7 +579,7 @@ module _ {P : Type 0} (plain : Plain) (is_plain : IsPlain plain) (servers : Serv
       subst T (sym rest.empty) (receipt-saw place client key through (is_new plain state.world.core.answered client key through) state rest refl) quiet
   turn-saw _ state rest asked quiet = elim asked [ ]
 
-  turn-visit : (base : World) (message : Message) (state : State P) → IsSince plain Good base state → (IsAsked message × Stands message base.net) → is_loud (turn plain servers message state).told ≡ false → Saw plain base message × IsSince plain Good base (turn plain servers message state).state
+  turn-visit : (base : World) (message : Message) (state : State P) → IsSince plain Good base state → (IsAsked message × Stands message (messages_in base.net)) → is_loud (turn plain servers message state).told ≡ false → Saw plain base message × IsSince plain Good base (turn plain servers message state).state
   turn-visit base message state since asked quiet =
       let goes = turn-goes plain is_plain servers Good serving Anything (anything plain servers Good) message state since.rest (since.same.stays.net message asked.1) in
       let saw = turn-saw message state since.rest asked.0 quiet in
@@ -590,7 +590,7 @@ module _ {P : Type 0} (plain : Plain) (is_plain : IsPlain plain) (servers : Serv
       let M : Agent → List Message = λ agent. resent client agent in
       let same : state.world.agents client ≡ base.agents client = ap (λ (agents : ℕ → Agent). agents client) since.same.agents in
       let W : Agent → Type 0 = λ agent. is_loud (for_each (turn plain servers) (resent client agent) state).told ≡ false → AllByRecursion (Saw plain base) (resent client (base.agents client)) × IsSince plain Good base (for_each (turn plain servers) (resent client agent) state).state in
-      subst W (sym same) (visits (IsSince plain Good base) (λ message. IsAsked message × Stands message base.net) (Saw plain base) (turn plain servers) (turn-visit base) (resent client (base.agents client)) state since (All-both IsAsked (λ message. Stands message base.net) (resent client (base.agents client)) (resent-asked client (base.agents client)) (resent-posted plain client base sound))) quiet
+      subst W (sym same) (visits (IsSince plain Good base) (λ message. IsAsked message × Stands message (messages_in base.net)) (Saw plain base) (turn plain servers) (turn-visit base) (resent client (base.agents client)) state since (All-both IsAsked (λ message. Stands message (messages_in base.net)) (resent client (base.agents client)) (resent-asked client (base.agents client)) (resent-posted plain client base sound))) quiet
 
   item-saw : (message : Message) (state : State P) → IsAtRest plain Good state → IsItem message → is_loud (in_world (take_pushed plain message) state).told ≡ false → Saw plain state.world message × ((take_pushed plain message state.world).state ≡ state.world)
   item-saw (Delivery client key item) state rest is quiet =
@@ -599,7 +599,7 @@ module _ {P : Type 0} (plain : Plain) (is_plain : IsPlain plain) (servers : Serv
       (taken.1, taken.0)
   item-saw _ state rest is quiet = elim is [ ]
 
-  item-visit : (base : World) (message : Message) (state : State P) → IsSince plain Good base state → (IsItem message × Stands message base.net) → is_loud (in_world (take_pushed plain message) state).told ≡ false → Saw plain base message × IsSince plain Good base (in_world (take_pushed plain message) state).state
+  item-visit : (base : World) (message : Message) (state : State P) → IsSince plain Good base state → (IsItem message × Stands message (messages_in base.net)) → is_loud (in_world (take_pushed plain message) state).told ≡ false → Saw plain base message × IsSince plain Good base (in_world (take_pushed plain message) state).state
   item-visit base message state since is quiet =
       let goes = take_pushed-rests plain is_plain servers Good serving Anything (anything plain servers Good) message state since.rest (since.same.stays.net message is.1) in
       let saw = item-saw message state since.rest is.0 quiet in
@@ -622,10 +622,10 @@ module _ {P : Type 0} (plain : Plain) (is_plain : IsPlain plain) (servers : Serv
       let items = plain.held state.world.core.answered in
       let take = for_each (λ item. in_world (take_pushed plain item)) items pushed_state in
       let split = loud-split take.told (push plain servers state).told quiet in
-      let asked = All-both IsItem (λ message. Stands message pushed_state.world.net) items
+      let asked = All-both IsItem (λ message. Stands message (messages_in pushed_state.world.net)) items
       (All-map (IsHeldItem plain state.world.core.answered) IsItem items (IsHeldItem-item plain state.world.core.answered) (is_plain.held_of state.world.core.answered))
       (push-stands plain is_plain servers Good serving Anything (anything plain servers Good) state since.rest) in
-      let saw = visits (IsSince plain Good pushed_state.world) (λ message. IsItem message × Stands message pushed_state.world.net) (Saw plain pushed_state.world) (λ item. in_world (take_pushed plain item)) (item-visit pushed_state.world) items pushed_state (record { rest = goes.holds; same = Same-same pushed_state.world }) asked split.0 in
+      let saw = visits (IsSince plain Good pushed_state.world) (λ message. IsItem message × Stands message (messages_in pushed_state.world.net)) (Saw plain pushed_state.world) (λ item. in_world (take_pushed plain item)) (item-visit pushed_state.world) items pushed_state (record { rest = goes.holds; same = Same-same pushed_state.world }) asked split.0 in
       let first = Same-both base state.world pushed_state.world since.same same in
       let back = All-map (Saw plain pushed_state.world) (Saw plain base) items (λ message. Saw-back plain base pushed_state.world message first) saw.0 in
       let H : Core → Type 0 = λ core. AllByRecursion (Saw plain base) (plain.held core.answered) in
@@ -647,7 +647,7 @@ module _ {P : Type 0} (plain : Plain) (is_plain : IsPlain plain) (servers : Serv
       let same = since.same in
       let sound = since.rest.steady.sound in
       let past = final.core.answered in
-      let A : List Entry → Type 0 = λ accepted_. Facts plain final.now accepted_ past final.net final.agents in
+      let A : List Entry → Type 0 = λ accepted_. Facts plain final.now accepted_ past (messages_in final.net) final.agents in
       let facts = subst A (ap (λ (hand : Hand). accepted_by past hand) since.rest.empty) sound.facts in
       let moves = λ (message : Message). Saw-move plain base final message same.core same.agents same.stays.places in
       let C : List ℕ → Type 0 = λ clients. AllByRecursion (λ client. AllByRecursion (Saw plain final) (resent client (final.agents client))) clients in

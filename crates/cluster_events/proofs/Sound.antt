@@ -1,19 +1,19 @@
 -- Each event of agents, net and history leaves a sound world.
 use Rattle.std.proofs.Common.{◌≡◌, ℕ, suc, ◌⊎◌, inl, inr, Bool, true, false, not, nat_lt, cond, if◌then◌else◌, ℤ, ◌≤ℤ◌, Option, Some, None, List, [], ◌∷◌, refl, ap, sym, subst, arith}
 use Rattle.std.proofs.lemmas.Bool.Decides.{leb_tells}
-use Rattle.cluster_facts.specs.Types.{Ask, Start, Other, VersionRefused, TryAgain, BadHandle, Call, Reply, Status, Item, Entry, Message, Answer, Delivery, Receipt}
+use Rattle.cluster_facts.specs.Types.{Ask, Start, Other, VersionRefused, TryAgain, BadHandle, Call, Reply, Status, Item, Entry, Answer, Delivery, Receipt, WireWhy}
 use Rattle.cluster_facts.specs.Lists.{Stands, put}
-use Rattle.cluster_facts.specs.Messages.{message_of}
+use Rattle.cluster_facts.specs.Messages.{Posting, Raw, messages_in, message_of}
 use Rattle.cluster_facts.specs.Service.{Plain, IsPlain, answers_in}
 use Rattle.cluster_facts.specs.Agents.{Living, Agent, fresh, is_shut, can_serve, service_of, has_handle, call_of, refusal, dispatch_refusal, after_call, kept_call, after_reply, find_living, after_item, after_dispatch_all, after_dispatch_one}
 use Rattle.cluster_facts.specs.History.{Hand, Empty, accepted, accepted_by, MayFollow, time_of}
-use Rattle.cluster_facts.specs.World.{World, posted, with_agent, enlisted}
+use Rattle.cluster_facts.specs.World.{World, posted, knows_raw, with_agent, enlisted}
 use Rattle.cluster_facts.specs.Facts.{Facts, IsSound, IsOfRun}
 use Rattle.cluster_facts.proofs.Words.{each_client}
 use Rattle.cluster_facts.proofs.Posting.{answers_to-stands}
 use Rattle.cluster_facts.proofs.Keeping.{Facts-call, call-new, Facts-reply, Facts-item, receipt-new, Facts-post_answer, Facts-post_item, Facts-accept, Facts-dispatch_all, Facts-dispatch_one, Facts-later}
 use Rattle.cluster_events.specs.declared.lines.Why.TheVariants as because
-use Rattle.cluster_events.specs.ClientEvents.{post, send, ask_by, ask, fate_of, dispatch_all_by, dispatch_all, dispatch_one_by, dispatch_one, set_time}
+use Rattle.cluster_events.specs.ClientEvents.{post, inject, send, ask_by, ask, fate_of, dispatch_all_by, dispatch_all, dispatch_one_by, dispatch_one, set_time}
 use Rattle.cluster_events.specs.ClientEvents.Fate.{Takes, Misses}
 
 -- What is posted by servers.
@@ -29,6 +29,15 @@ post-item-sound plain is_plain client key item world is sound = record {
   facts = Facts-post_item plain is_plain world.now (accepted world.core) world.core.answered world.net world.agents client key item is sound.facts;
   listed = sound.listed;
 }
+
+-- Bytes are injected: the net has the messages that it had.
+
+pub inject-sound : (plain : Plain) (bytes : List ℕ) (front : ℕ) (why : WireWhy) (world : World) → IsSound plain world → IsSound plain (inject bytes front why world).state
+inject-sound plain bytes front why world sound =
+    elim (knows_raw bytes world.net) as (λ b. IsSound plain (record world { net = if b then world.net else Raw bytes front why ∷ world.net })) [
+      | true ↦ sound
+      | false ↦ record { facts = sound.facts; listed = sound.listed }
+    ]
 
 -- A call is asked.
 
@@ -69,9 +78,9 @@ pub send-sound : (plain : Plain) → IsPlain plain → (client : ℕ) (call : Ca
 send-sound plain is_plain client call world open_ sound =
     let agent = world.agents client in
     let after = after_call call agent in
-    let F : List Message → Type 0 = λ net. Facts plain world.now (accepted world.core) world.core.answered net (with_agent client after world.agents) in
+    let F : List Posting → Type 0 = λ net. Facts plain world.now (accepted world.core) world.core.answered (messages_in net) (with_agent client after world.agents) in
     record {
-      facts = subst F (sym (call-new plain is_plain world.now (accepted world.core) world.core.answered world.net world.agents client call sound.facts)) (Facts-call plain world.now (accepted world.core) world.core.answered world.net world.agents client call open_ sound.facts);
+      facts = subst F (sym (call-new plain is_plain world.now (accepted world.core) world.core.answered world.net world.agents client call sound.facts)) (Facts-call plain world.now (accepted world.core) world.core.answered (messages_in world.net) world.agents client call open_ sound.facts);
       listed = each_client (λ other b. Stands other (enlisted client world.clients) ⊎ ((if b then after else world.agents other) ≡ fresh)) client
           (inl (put-stands client world.clients))
           (λ other. elim (sound.listed other) [ inl stands ↦ inl (put-keeps client other world.clients stands) | inr new ↦ inr new ]);
@@ -94,9 +103,9 @@ listed-change plain client after world used sound =
 
 -- A reply is taken.
 
-pub reply-sound : (plain : Plain) (client number : ℕ) (call : Call) (reply : Reply) (world : World) → kept_call number (world.agents client).kept ≡ Some call → Stands (Answer client number reply) world.net → IsSound plain world → IsSound plain (record world { agents = with_agent client (after_reply number call reply (world.agents client)) world.agents })
+pub reply-sound : (plain : Plain) (client number : ℕ) (call : Call) (reply : Reply) (world : World) → kept_call number (world.agents client).kept ≡ Some call → Stands (Answer client number reply) (messages_in world.net) → IsSound plain world → IsSound plain (record world { agents = with_agent client (after_reply number call reply (world.agents client)) world.agents })
 reply-sound plain client number call reply world kept stands sound = record {
-  facts = Facts-reply plain world.now (accepted world.core) world.core.answered world.net world.agents client number call reply (answers_to-stands client number reply world.net stands) sound.facts;
+  facts = Facts-reply plain world.now (accepted world.core) world.core.answered (messages_in world.net) world.agents client number call reply (answers_to-stands client number reply (messages_in world.net) stands) sound.facts;
   listed = listed-change plain client (after_reply number call reply (world.agents client)) world (λ new. let none : kept_call number (world.agents client).kept ≡ None = ap (λ (agent : Agent). kept_call number agent.kept) new in cc) sound;
 }
 
@@ -116,12 +125,12 @@ fate_of-takes number next full is =
       ]) is
     ]
 
-pub item-sound : (plain : Plain) → IsPlain plain → (client key : ℕ) (item : Item) (found : Living) (world : World) → find_living key (world.agents client).living ≡ Some found → item.number ≡ found.next → Stands (Delivery client key item) world.net → IsSound plain world → IsSound plain (record world { net = posted plain (Receipt client key item.number) world.net; agents = with_agent client (after_item key found.id item.content (world.agents client)) world.agents })
+pub item-sound : (plain : Plain) → IsPlain plain → (client key : ℕ) (item : Item) (found : Living) (world : World) → find_living key (world.agents client).living ≡ Some found → item.number ≡ found.next → Stands (Delivery client key item) (messages_in world.net) → IsSound plain world → IsSound plain (record world { net = posted plain (Receipt client key item.number) world.net; agents = with_agent client (after_item key found.id item.content (world.agents client)) world.agents })
 item-sound plain is_plain client key item found world here next stands sound =
     let after = after_item key found.id item.content (world.agents client) in
-    let F : List Message → Type 0 = λ net. Facts plain world.now (accepted world.core) world.core.answered net (with_agent client after world.agents) in
+    let F : List Posting → Type 0 = λ net. Facts plain world.now (accepted world.core) world.core.answered (messages_in net) (with_agent client after world.agents) in
     record {
-      facts = subst F (sym (receipt-new plain is_plain world.now (accepted world.core) world.core.answered world.net world.agents client key item.number found here next sound.facts)) (Facts-item plain world.now (accepted world.core) world.core.answered world.net world.agents client key item found here next stands sound.facts);
+      facts = subst F (sym (receipt-new plain is_plain world.now (accepted world.core) world.core.answered world.net world.agents client key item.number found here next sound.facts)) (Facts-item plain world.now (accepted world.core) world.core.answered (messages_in world.net) world.agents client key item found here next stands sound.facts);
       listed = listed-change plain client after world (λ new. let none : find_living key (world.agents client).living ≡ None = ap (λ (agent : Agent). find_living key agent.living) new in cc) sound;
     }
 
@@ -135,7 +144,7 @@ dispatch_refusal-used agent none new =
 dispatch_all_by-sound : (plain : Plain) (client : ℕ) (status : Option Status) (world : World) → dispatch_refusal (world.agents client) ≡ status → IsSound plain world → IsSound plain (dispatch_all_by client status world).state
 dispatch_all_by-sound plain client (Some status) world is sound = sound
 dispatch_all_by-sound plain client None world is sound = record {
-  facts = Facts-dispatch_all plain world.now (accepted world.core) world.core.answered world.net world.agents client sound.facts;
+  facts = Facts-dispatch_all plain world.now (accepted world.core) world.core.answered (messages_in world.net) world.agents client sound.facts;
   listed = listed-change plain client (after_dispatch_all (world.agents client)) world (dispatch_refusal-used (world.agents client) is) sound;
 }
 
@@ -145,7 +154,7 @@ dispatch_all-sound plain client world sound = dispatch_all_by-sound plain client
 dispatch_one_by-sound : (plain : Plain) (client : ℕ) (status : Option Status) (world : World) → dispatch_refusal (world.agents client) ≡ status → IsSound plain world → IsSound plain (dispatch_one_by client status world).state
 dispatch_one_by-sound plain client (Some status) world is sound = sound
 dispatch_one_by-sound plain client None world is sound = record {
-  facts = Facts-dispatch_one plain world.now (accepted world.core) world.core.answered world.net world.agents client sound.facts;
+  facts = Facts-dispatch_one plain world.now (accepted world.core) world.core.answered (messages_in world.net) world.agents client sound.facts;
   listed = listed-change plain client (after_dispatch_one (world.agents client)) world (dispatch_refusal-used (world.agents client) is) sound;
 }
 
@@ -156,18 +165,18 @@ dispatch_one-sound plain client world sound = dispatch_one_by-sound plain client
 
 pub set_time-sound : (plain : Plain) (now : ℤ) (world : World) → world.now ≤ℤ now → IsSound plain world → IsSound plain (set_time now world).state
 set_time-sound plain now world after sound = record {
-  facts = Facts-later plain world.now now (accepted world.core) world.core.answered world.net world.agents after sound.facts;
+  facts = Facts-later plain world.now now (accepted world.core) world.core.answered (messages_in world.net) world.agents after sound.facts;
   listed = sound.listed;
 }
 
 -- An entry is accepted, in whatever way it is then in hand.
 
-pub accept-sound : (plain : Plain) (entry : Entry) (hand : Hand) (world : World) → world.core.hand ≡ Empty → accepted_by world.core.answered hand ≡ entry ∷ world.core.answered → MayFollow plain world.core.answered entry → time_of entry ≡ world.now → Stands (message_of entry) world.net → IsSound plain world → IsSound plain (record world { core = record { answered = world.core.answered; hand = hand } })
+pub accept-sound : (plain : Plain) (entry : Entry) (hand : Hand) (world : World) → world.core.hand ≡ Empty → accepted_by world.core.answered hand ≡ entry ∷ world.core.answered → MayFollow plain world.core.answered entry → time_of entry ≡ world.now → Stands (message_of entry) (messages_in world.net) → IsSound plain world → IsSound plain (record world { core = record { answered = world.core.answered; hand = hand } })
 accept-sound plain entry hand world empty holds may at stands sound =
     let past = world.core.answered in
     let none : accepted world.core ≡ past = ap (λ h. accepted_by past h) empty in
-    let F : List Entry → Type 0 = λ accepted. Facts plain world.now accepted past world.net world.agents in
+    let F : List Entry → Type 0 = λ accepted. Facts plain world.now accepted past (messages_in world.net) world.agents in
     record {
-      facts = subst F (sym holds) (Facts-accept plain world.now past past world.net world.agents entry may at stands (subst F none sound.facts));
+      facts = subst F (sym holds) (Facts-accept plain world.now past past (messages_in world.net) world.agents entry may at stands (subst F none sound.facts));
       listed = sound.listed;
     }

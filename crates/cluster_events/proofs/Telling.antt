@@ -1,9 +1,9 @@
 -- What lines say goes on from one event to the next.
 use Rattle.std.proofs.Common.{◌≡◌, ℕ, suc, ◌+◌, ◌<◌, Bool, true, false, ◌==◌, if◌then◌else◌, Some, None, List, [], ◌∷◌, ◌++◌, length, refl, ap, sym, ◌∙◌, subst, arith, append_assoc, append-nil, length-append}
 use Rattle.std.specs.List.{AllByRecursion}
-use Rattle.cluster_facts.specs.Types.{Call, LogWrite, Reply, Item, Content, Single, Losses, Entry, Called, Callback, Written, Message, Request, Answer, Delivery, Receipt}
+use Rattle.cluster_facts.specs.Types.{Call, LogWrite, Reply, Item, Content, Single, Losses, Entry, Called, Callback, Written, Message, Request, Answer, Delivery, Receipt, WireWhy}
 use Rattle.cluster_facts.specs.Lists.{Stands, EndsIn, without}
-use Rattle.cluster_facts.specs.Messages.{sent_by}
+use Rattle.cluster_facts.specs.Messages.{Spelled, Raw, messages_in, sent_by}
 use Rattle.cluster_facts.specs.Service.{Plain, answers_in}
 use Rattle.cluster_facts.specs.Storage.{dealt_in}
 use Rattle.cluster_facts.specs.Agents.{Living, Agent, fed_of, kept_call, callbacks_of, after_call, after_reply, after_item, callback_of, status_of}
@@ -12,7 +12,7 @@ use Rattle.cluster_facts.specs.World.{World, with_agent}
 use Rattle.cluster_facts.specs.Facts.{IsSound, IsOfRun}
 use Rattle.cluster_facts.proofs.Words.{by_test, each_client, All-at, All-map, All-append, EndsIn-same, EndsIn-stands, IsNumbered-bound}
 use Rattle.cluster_facts.proofs.Clients.{kept_call-stands}
-use Rattle.cluster_events.specs.Lines.{Told, Posted, Replied, Ignored, Why}
+use Rattle.cluster_events.specs.Lines.{Told, Posted, Injected, Replied, Ignored, Why}
 use Rattle.cluster_events.specs.Saying.{gathered, post_in, entry_in, reply_in, deal_in, callback_in, write_in, replies_told, deals_told, writes_told, IsNumberedFrom, seconds, Grows, IsDone, IsOnce, TellsReplies, of_write, writes_in, Says}
 use Rattle.cluster_events.specs.Servers.{State, Servers, drain}
 use Rattle.cluster_events.specs.Serving.{IsSteady, IsCarried}
@@ -148,11 +148,11 @@ kept_call-sent : (plain : Plain) (client number : ℕ) (call : Call) (world : Wo
 kept_call-sent plain client number call world sound kept =
     let own = sound.facts.clients client in
     let stands = Keeps-sent (number, call) own.awaits.keeps (kept_call-stands number (world.agents client).kept call kept) in
-    let bound = IsNumbered-bound (number, call) (sent_by client world.net) own.sends.numbered stands in
+    let bound = IsNumbered-bound (number, call) (sent_by client (messages_in world.net)) own.sends.numbered stands in
     let next_is = own.sends.next_is in
     omega arith
 
-TellsReplies-reply : (plain : Plain) (client number : ℕ) (call : Call) (reply : Reply) (world : World) → IsSound plain world → kept_call number (world.agents client).kept ≡ Some call → Stands (Answer client number reply) world.net → TellsReplies (world.agents client) (after_reply number call reply (world.agents client)) (answers_in plain client world.core.answered) ((number, reply) ∷ [])
+TellsReplies-reply : (plain : Plain) (client number : ℕ) (call : Call) (reply : Reply) (world : World) → IsSound plain world → kept_call number (world.agents client).kept ≡ Some call → Stands (Answer client number reply) (messages_in world.net) → TellsReplies (world.agents client) (after_reply number call reply (world.agents client)) (answers_in plain client world.core.answered) ((number, reply) ∷ [])
 TellsReplies-reply plain client number call reply world sound kept stands =
     let agent = world.agents client in
     record {
@@ -160,7 +160,7 @@ TellsReplies-reply plain client number call reply world sound kept stands =
       fresh = (λ done. let none = done.taken in cc, tt);
       done = (record { sent = kept_call-sent plain client number call world sound kept; taken = kept_call-taken number agent.kept }, tt);
       once = (tt, tt);
-      right = (All-at (IsOfRun plain world.core.answered) (Answer client number reply) world.net sound.facts.run stands, tt);
+      right = (All-at (IsOfRun plain world.core.answered) (Answer client number reply) (messages_in world.net) sound.facts.run stands, tt);
     }
 
 pub IsDone-call : (agent : Agent) (call : Call) (number : ℕ) → IsDone agent number → IsDone (after_call call agent) number
@@ -187,9 +187,20 @@ of_write-item id (Losses lost) = refl
 -- What lines say.
 
 -- events that leave agents and history, and whose lines are posts at most
-says-net : (plain : Plain) (world : World) (message : Message) → Says plain world (record world { net = message ∷ world.net }) (Posted (suc (length world.net)) message ∷ [])
+says-net : (plain : Plain) (world : World) (message : Message) → Says plain world (record world { net = Spelled message ∷ world.net }) (Posted (suc (length world.net)) message ∷ [])
 says-net plain world message = record {
-  posts = Grows-one message world.net;
+  posts = Grows-one (Spelled message) world.net;
+  entries = Grows-same (committed world.core);
+  answers = EndsIn-same world.core.answered;
+  replies = λ client. TellsReplies-none (world.agents client) (world.agents client) (answers_in plain client world.core.answered) (λ number done. done);
+  callbacks = λ client. Grows-same (world.agents client).handed;
+  writes = λ client. refl;
+  deals = λ client. tt;
+}
+
+pub Says-injected : (plain : Plain) (world : World) (bytes : List ℕ) (front : ℕ) (why : WireWhy) → Says plain world (record world { net = Raw bytes front why ∷ world.net }) (Injected (suc (length world.net)) bytes front why ∷ [])
+Says-injected plain world bytes front why = record {
+  posts = Grows-one (Raw bytes front why) world.net;
   entries = Grows-same (committed world.core);
   answers = EndsIn-same world.core.answered;
   replies = λ client. TellsReplies-none (world.agents client) (world.agents client) (answers_in plain client world.core.answered) (λ number done. done);
@@ -239,7 +250,7 @@ Says-both plain one two three first second says more = record {
       more.writes client ∙ ap (λ rest. writes_told client second ++ rest) (says.writes client) ∙ sym (append_assoc (writes_told client second) (writes_told client first) (writes_in (fed_of (one.agents client)))) ∙ ap (λ lines. lines ++ writes_in (fed_of (one.agents client))) (sym (gathered-append (write_in client) second first));
 }
 
-says-reply : (plain : Plain) (world : World) (client number : ℕ) (call : Call) (reply : Reply) → IsSound plain world → kept_call number (world.agents client).kept ≡ Some call → Stands (Answer client number reply) world.net → Says plain world (record world { agents = with_agent client (after_reply number call reply (world.agents client)) world.agents }) (Replied client number call reply ∷ [])
+says-reply : (plain : Plain) (world : World) (client number : ℕ) (call : Call) (reply : Reply) → IsSound plain world → kept_call number (world.agents client).kept ≡ Some call → Stands (Answer client number reply) (messages_in world.net) → Says plain world (record world { agents = with_agent client (after_reply number call reply (world.agents client)) world.agents }) (Replied client number call reply ∷ [])
 says-reply plain world client number call reply sound kept stands =
     let agent = world.agents client in
     let after = after_reply number call reply agent in
@@ -259,12 +270,12 @@ says-reply plain world client number call reply sound kept stands =
           (λ other. refl);
     }
 
-says-item : (plain : Plain) (world : World) (client key : ℕ) (item : Item) (found : Living) → Says plain world (record world { net = Receipt client key item.number ∷ world.net; agents = with_agent client (after_item key found.id item.content (world.agents client)) world.agents }) (Posted (suc (length world.net)) (Receipt client key item.number) ∷ [])
+says-item : (plain : Plain) (world : World) (client key : ℕ) (item : Item) (found : Living) → Says plain world (record world { net = Spelled (Receipt client key item.number) ∷ world.net; agents = with_agent client (after_item key found.id item.content (world.agents client)) world.agents }) (Posted (suc (length world.net)) (Receipt client key item.number) ∷ [])
 says-item plain world client key item found =
     let agent = world.agents client in
     let after = after_item key found.id item.content agent in
     record {
-      posts = Grows-one (Receipt client key item.number) world.net;
+      posts = Grows-one (Spelled (Receipt client key item.number)) world.net;
       entries = Grows-same (committed world.core);
       answers = EndsIn-same world.core.answered;
       replies = each_client (λ other b. TellsReplies (world.agents other) (if b then after else world.agents other) (answers_in plain other world.core.answered) []) client
@@ -293,12 +304,12 @@ Says-carried plain servers Good accepts drains = record {
 
 -- Events that no round has.
 
-pub Says-send : (plain : Plain) (world : World) (client : ℕ) (call : Call) (clients : List ℕ) → Says plain world (record world { net = Request client (world.agents client).next call ∷ world.net; agents = with_agent client (after_call call (world.agents client)) world.agents; clients = clients }) (Posted (suc (length world.net)) (Request client (world.agents client).next call) ∷ [])
+pub Says-send : (plain : Plain) (world : World) (client : ℕ) (call : Call) (clients : List ℕ) → Says plain world (record world { net = Spelled (Request client (world.agents client).next call) ∷ world.net; agents = with_agent client (after_call call (world.agents client)) world.agents; clients = clients }) (Posted (suc (length world.net)) (Request client (world.agents client).next call) ∷ [])
 Says-send plain world client call clients =
     let agent = world.agents client in
     let after = after_call call agent in
     record {
-      posts = Grows-one (Request client agent.next call) world.net;
+      posts = Grows-one (Spelled (Request client agent.next call)) world.net;
       entries = Grows-same (committed world.core);
       answers = EndsIn-same world.core.answered;
       replies = each_client (λ other b. TellsReplies (world.agents other) (if b then after else world.agents other) (answers_in plain other world.core.answered) []) client

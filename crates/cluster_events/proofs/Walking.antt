@@ -1,28 +1,29 @@
 -- The walk over the kinds of a script's lines: a relation of worlds and lines that is kept by rounds, by steps of the servers and by
 -- each kind of line is kept by every line.
-use Rattle.std.proofs.Common.{◌≡◌, ℕ, suc, Bool, false, nat_le, if◌then◌else◌, ℤ, ◌≤ℤ◌, Option, Some, None, List, [], ◌∷◌, ◌++◌, length, refl, sym, subst}
+use Rattle.std.proofs.Common.{◌≡◌, ℕ, suc, Bool, false, nat_le, if◌then◌else◌, ℤ, ◌≤ℤ◌, inl, inr, true, Option, Some, None, List, [], ◌∷◌, ◌++◌, length, refl, sym, subst}
 use Rattle.std.specs.List.{AllByRecursion}
 use Rattle.script_lines.specs.declared.line.Line.{Line}
 use Rattle.script_lines.specs.declared.line.Line.TheVariants as line
-use Rattle.cluster_facts.specs.Types.{Ask, Call, Reply, Status, Item, Entry, Callback, Message, Request, Answer, Delivery, Receipt}
+use Rattle.cluster_facts.specs.Types.{Ask, Call, Reply, Status, Item, Entry, Callback, Request, Answer, Delivery, Receipt, WireWhy}
 use Rattle.cluster_facts.specs.Lists.{Stands, without}
-use Rattle.cluster_facts.specs.Messages.{message_of}
+use Rattle.cluster_facts.specs.Messages.{Posting, Spelled, Raw, messages_in, message_of}
 use Rattle.cluster_facts.specs.Service.{Plain, IsPlain}
 use Rattle.cluster_facts.specs.Agents.{Agent, Living, fed_of, call_of, refusal, dispatch_refusal, after_call, kept_call, callbacks_of, lacks_place, after_reply, find_living, after_item, oldest, after_dispatch_all, after_dispatch_one}
 use Rattle.cluster_facts.specs.History.{Hand, Empty, MayFollow, accepted, time_of}
-use Rattle.cluster_facts.specs.World.{World, with_agent, enlisted, message_at}
+use Rattle.cluster_facts.specs.World.{World, with_agent, enlisted, knows_raw, posting_at}
 use Rattle.cluster_facts.specs.Facts.{IsSound}
 use Rattle.cluster_facts.proofs.Clients.{oldest-append}
 use Rattle.cluster_facts.proofs.Keeping.{call-new}
-use Rattle.cluster_facts.proofs.Posting.{message_at-stands}
-use Rattle.cluster_events.specs.Lines.{Told, Posted, Replied, Declined, Ignored, Refused, Stood, Listed, Shown, Why, is_ignored}
+use Rattle.cluster_facts.proofs.Posting.{posting_at-stands}
+use Rattle.cluster_events.specs.Lines.{Told, Posted, Injected, Replied, Declined, Ignored, Refused, Stood, Listed, Shown, Why, is_ignored}
+use Rattle.cluster_events.specs.declared.lines.Why.TheVariants.{Bad}
 use Rattle.cluster_events.specs.Outcomes.{Outcome}
-use Rattle.cluster_events.specs.ClientEvents.{ask_by, ask, hand_out, dispatch_all_by, dispatch_all, dispatch_one_by, dispatch_one, set_time}
+use Rattle.cluster_events.specs.ClientEvents.{inject, ask_by, ask, hand_out, dispatch_all_by, dispatch_all, dispatch_one_by, dispatch_one, set_time}
 use Rattle.cluster_events.specs.Servers.{State, Servers, in_world, drain}
 use Rattle.cluster_events.specs.Events.{deliver_by, resend, step_or_refuse, push_by, list_servers, refuse}
 use Rattle.cluster_events.specs.Serving.{IsSteady, IsServing, IsCarried, IsStepped, AreStepped}
 use Rattle.cluster_events.specs.Running.{Shelf, listed, shown, show_by, Happens}
-use Rattle.cluster_events.proofs.Sound.{ask-sound, dispatch_all-sound, dispatch_one-sound, set_time-sound}
+use Rattle.cluster_events.proofs.Sound.{inject-sound, ask-sound, dispatch_all-sound, dispatch_one-sound, set_time-sound}
 use Rattle.cluster_events.proofs.Carrying.{posted-unknown, delivered-goes, resend-goes, post_all-goes, held-made, rounds-carry}
 
 -- what a line is to the clients: it sets the time, asks a client's agent for a call, has it hand out callbacks, or is another line
@@ -63,9 +64,10 @@ ByKind = Kind → World → World → List Told → Type 0
 pub record IsByKind (plain : Plain) (R : ByKind) : Type 0 where
   pub time : (now : ℤ) (world : World) → IsSound plain world → world.now ≤ℤ now → R (Times now) world (record world { now = now }) []
   pub declined : (client : ℕ) (asked : Ask) (status : Status) (world : World) → IsSound plain world → refusal asked (world.agents client) ≡ Some status → R (Asks client asked) world world (Declined client status ∷ [])
-  pub asked : (client : ℕ) (asked : Ask) (world : World) → IsSound plain world → refusal asked (world.agents client) ≡ None → R (Asks client asked) world (record world { net = Request client (world.agents client).next (call_of asked) ∷ world.net; agents = with_agent client (after_call (call_of asked) (world.agents client)) world.agents; clients = enlisted client world.clients }) (Posted (suc (length world.net)) (Request client (world.agents client).next (call_of asked)) ∷ [])
+  pub asked : (client : ℕ) (asked : Ask) (world : World) → IsSound plain world → refusal asked (world.agents client) ≡ None → R (Asks client asked) world (record world { net = Spelled (Request client (world.agents client).next (call_of asked)) ∷ world.net; agents = with_agent client (after_call (call_of asked) (world.agents client)) world.agents; clients = enlisted client world.clients }) (Posted (suc (length world.net)) (Request client (world.agents client).next (call_of asked)) ∷ [])
   pub refused : (client : ℕ) (status : Status) (world : World) → IsSound plain world → dispatch_refusal (world.agents client) ≡ Some status → R (Dispatches client) world world (Declined client status ∷ [])
   pub handed : (client : ℕ) (callbacks : List Callback) (after : Agent) (world : World) → IsSound plain world → dispatch_refusal (world.agents client) ≡ None → HandsOut callbacks (world.agents client) after → R (Dispatches client) world (hand_out client callbacks after world).state (hand_out client callbacks after world).told
+  pub injected : (bytes : List ℕ) (front : ℕ) (why : WireWhy) (world : World) → IsSound plain world → R Others world (record world { net = Raw bytes front why ∷ world.net }) (Injected (suc (length world.net)) bytes front why ∷ [])
   pub shows : (world : World) (line : Told) → IsShow line → R Others world world (line ∷ [])
   -- lines on messages without effect may be left out
   pub printed : (old new : World) (told : List Told) → R Others old new told → R Others old new (without is_ignored told)
@@ -129,7 +131,7 @@ module _ {P : Type 0} (plain : Plain) (is_plain : IsPlain plain) (shelf : Shelf)
       let request = Request client (world.agents client).next call in
       let unknown = posted-unknown plain request world.net (call-new plain is_plain world.now (accepted world.core) world.core.answered world.net world.agents client call sound.facts) in
       let after = with_agent client (after_call call (world.agents client)) world.agents in
-      let G : Bool → Type 0 = λ b. R (Asks client asked) world (record world { net = if b then world.net else request ∷ world.net; agents = after; clients = enlisted client world.clients }) (if b then [] else Posted (suc (length world.net)) request ∷ []) in
+      let G : Bool → Type 0 = λ b. R (Asks client asked) world (record world { net = if b then world.net else Spelled request ∷ world.net; agents = after; clients = enlisted client world.clients }) (if b then [] else Posted (suc (length world.net)) request ∷ []) in
       subst G (sym unknown) (by_kind.asked client asked world sound is)
 
   ask-walks : (client : ℕ) (asked : Ask) (state : State P) → IsSteady plain Good state → Walks (Asks client asked) state (in_world (ask plain client asked) state)
@@ -149,11 +151,24 @@ module _ {P : Type 0} (plain : Plain) (is_plain : IsPlain plain) (shelf : Shelf)
       let agent = world.agents client in
       by_kind.handed client agent.queue (after_dispatch_all agent) world sound is (record { handed = refl; fed = refl; next = refl; kept = refl })
 
-  deliver_by-walks : (place : ℕ) (found : Option Message) (state : State P) → message_at place state.world.net ≡ found → IsSteady plain Good state → Walks Others state (deliver_by plain servers place found state)
+  deliver_by-walks : (place : ℕ) (found : Option Posting) (state : State P) → posting_at place state.world.net ≡ found → IsSteady plain Good state → Walks Others state (deliver_by plain servers place found state)
   deliver_by-walks place None state is steady = refuse-walks state (line.Deliver place) steady
-  deliver_by-walks place (Some message) state is steady =
-      let goes = delivered-goes plain is_plain servers Good serving (R Others) carried place message state (message_at-stands place state.world.net message is) steady in
+  deliver_by-walks place (Some (Raw bytes front why)) state is steady =
+      (steady, carried.ignored state.world place (Bad front why))
+  deliver_by-walks place (Some (Spelled message)) state is steady =
+      let goes = delivered-goes plain is_plain servers Good serving (R Others) carried place message state (posting_at-stands place state.world.net message is) steady in
       (goes.holds, goes.carried)
+
+  inject-goes : (bytes : List ℕ) (front : ℕ) (why : WireWhy) (world : World) → IsSound plain world → R Others world (inject bytes front why world).state (inject bytes front why world).told
+  inject-goes bytes front why world sound =
+      elim (knows_raw bytes world.net) as (λ b. R Others world (record world { net = if b then world.net else Raw bytes front why ∷ world.net }) (if b then [] else Injected (suc (length world.net)) bytes front why ∷ [])) [
+        | true ↦ carried.same world
+        | false ↦ by_kind.injected bytes front why world sound
+      ]
+
+  inject-walks : (bytes : List ℕ) (front : ℕ) (why : WireWhy) (state : State P) → IsSteady plain Good state → Walks Others state (in_world (inject bytes front why) state)
+  inject-walks bytes front why state steady =
+      world-walks Others (inject bytes front why) state steady (inject-sound plain bytes front why state.world steady.sound) refl (inject-goes bytes front why state.world steady.sound)
 
   push_by-walks : (hand : Hand) (state : State P) → state.world.core.hand ≡ hand → IsSteady plain Good state → Walks Others state (push_by plain servers hand state)
   push_by-walks Empty state is steady =
@@ -174,7 +189,7 @@ module _ {P : Type 0} (plain : Plain) (is_plain : IsPlain plain) (shelf : Shelf)
   line-walks (line.Ntf client asked) state outcome steady happens =
       subst (Walks (Asks client asked) state) (sym happens) (ask-walks client asked state steady)
   line-walks (line.Deliver place) state outcome steady happens =
-      subst (Walks Others state) (sym happens) (deliver_by-walks place (message_at place state.world.net) state refl steady)
+      subst (Walks Others state) (sym happens) (deliver_by-walks place (posting_at place state.world.net) state refl steady)
   line-walks (line.Resend client) state outcome steady happens =
       let goes = resend-goes plain is_plain servers Good serving (R Others) carried client state steady in
       let walks : Walks Others state (resend plain servers client state) = (goes.holds, goes.carried) in
@@ -187,6 +202,11 @@ module _ {P : Type 0} (plain : Plain) (is_plain : IsPlain plain) (shelf : Shelf)
       subst (Walks Others state) (sym happens) (step-walks line.Work servers.work stepped.work (servers.work state) state refl steady)
   line-walks line.Push state outcome steady happens =
       subst (Walks Others state) (sym happens) (push_by-walks state.world.core.hand state refl steady)
+  line-walks (line.Inject bytes) state outcome steady happens =
+      elim happens [
+        | inl refuses ↦ subst (Walks Others state) (sym refuses.is) (refuse-walks state (line.Inject bytes) steady)
+        | inr injects ↦ subst (Walks Others state) (sym injects.is) (inject-walks bytes injects.front injects.why state steady)
+      ]
   line-walks line.Settle state outcome steady happens =
       let goes = rounds-carry plain is_plain servers Good serving (R Others) carried state steady happens.rounds in
       let T : List Told → Type 0 = λ told. R Others state.world outcome.state.world told in
@@ -212,13 +232,13 @@ pub record IsTold (plain : Plain) (R : World → World → List Told → Type 0)
   pub same : (world : World) → R world world []
   pub both : (one two three : World) (first second : List Told) → R one two first → R two three second → R one three (second ++ first)
   pub ignored : (world : World) (place : ℕ) (why : Why) → R world world (Ignored place why ∷ [])
-  pub answer : (world : World) (client number : ℕ) (reply : Reply) → R world (record world { net = Answer client number reply ∷ world.net }) (Posted (suc (length world.net)) (Answer client number reply) ∷ [])
-  pub pushed : (world : World) (client key : ℕ) (item : Item) → R world (record world { net = Delivery client key item ∷ world.net }) (Posted (suc (length world.net)) (Delivery client key item) ∷ [])
-  pub reply : (world : World) (client number : ℕ) (call : Call) (reply : Reply) → IsSound plain world → kept_call number (world.agents client).kept ≡ Some call → lacks_place world.places (world.agents client).queue (callbacks_of call reply) ≡ false → Stands (Answer client number reply) world.net → R world (record world { agents = with_agent client (after_reply number call reply (world.agents client)) world.agents }) (Replied client number call reply ∷ [])
-  pub item : (world : World) (client key : ℕ) (item : Item) (found : Living) → IsSound plain world → find_living key (world.agents client).living ≡ Some found → item.number ≡ found.next → nat_le world.places (length (world.agents client).queue) ≡ false → Stands (Delivery client key item) world.net → R world (record world { net = Receipt client key item.number ∷ world.net; agents = with_agent client (after_item key found.id item.content (world.agents client)) world.agents }) (Posted (suc (length world.net)) (Receipt client key item.number) ∷ [])
+  pub answer : (world : World) (client number : ℕ) (reply : Reply) → R world (record world { net = Spelled (Answer client number reply) ∷ world.net }) (Posted (suc (length world.net)) (Answer client number reply) ∷ [])
+  pub pushed : (world : World) (client key : ℕ) (item : Item) → R world (record world { net = Spelled (Delivery client key item) ∷ world.net }) (Posted (suc (length world.net)) (Delivery client key item) ∷ [])
+  pub reply : (world : World) (client number : ℕ) (call : Call) (reply : Reply) → IsSound plain world → kept_call number (world.agents client).kept ≡ Some call → lacks_place world.places (world.agents client).queue (callbacks_of call reply) ≡ false → Stands (Answer client number reply) (messages_in world.net) → R world (record world { agents = with_agent client (after_reply number call reply (world.agents client)) world.agents }) (Replied client number call reply ∷ [])
+  pub item : (world : World) (client key : ℕ) (item : Item) (found : Living) → IsSound plain world → find_living key (world.agents client).living ≡ Some found → item.number ≡ found.next → nat_le world.places (length (world.agents client).queue) ≡ false → Stands (Delivery client key item) (messages_in world.net) → R world (record world { net = Spelled (Receipt client key item.number) ∷ world.net; agents = with_agent client (after_item key found.id item.content (world.agents client)) world.agents }) (Posted (suc (length world.net)) (Receipt client key item.number) ∷ [])
 
 -- with an acceptance and a drain
-pub told-carried : {P : Type 0} (plain : Plain) (servers : Servers P) (Good : State P → Type 0) (R : World → World → List Told → Type 0) → IsTold plain R → ((entry : Entry) (state : State P) → IsSteady plain Good state → state.world.core.hand ≡ Empty → MayFollow plain state.world.core.answered entry → time_of entry ≡ state.world.now → Stands (message_of entry) state.world.net → R state.world (servers.accept entry state).state.world (servers.accept entry state).told) → ((state : State P) → IsSteady plain Good state → R state.world (drain servers state).state.world (drain servers state).told) → IsCarried plain servers Good R
+pub told-carried : {P : Type 0} (plain : Plain) (servers : Servers P) (Good : State P → Type 0) (R : World → World → List Told → Type 0) → IsTold plain R → ((entry : Entry) (state : State P) → IsSteady plain Good state → state.world.core.hand ≡ Empty → MayFollow plain state.world.core.answered entry → time_of entry ≡ state.world.now → Stands (message_of entry) (messages_in state.world.net) → R state.world (servers.accept entry state).state.world (servers.accept entry state).told) → ((state : State P) → IsSteady plain Good state → R state.world (drain servers state).state.world (drain servers state).told) → IsCarried plain servers Good R
 told-carried plain servers Good R told accept drains = record {
   same = told.same;
   both = told.both;

@@ -2,7 +2,7 @@
 use Rattle.std.specs.Prelude.{◌≡◌, ℕ, List, ◌++◌}
 use Rattle.cluster_facts.specs.Types.{Call, Entry, Callback}
 use Rattle.cluster_facts.specs.Lists.{EndsIn, IsCounted}
-use Rattle.cluster_facts.specs.Messages.{sent_by, calls_in}
+use Rattle.cluster_facts.specs.Messages.{sent_by, calls_in, messages_in}
 use Rattle.cluster_facts.specs.Service.{Plain, answers_in}
 use Rattle.cluster_facts.specs.Agents.{fed_of}
 use Rattle.cluster_facts.specs.History.{IsLegal, committed}
@@ -30,5 +30,5 @@ pub record IsFed (plain : Plain) (past : List Entry) (client : ℕ) (fed : List 
 -- the history is legal and has each client's first calls, and what each client got is the beginning of its items
 pub record Holds (plain : Plain) (world : World) : Type 0 where
   pub legal : IsLegal plain world.now (committed world.core)
-  pub calls : (client : ℕ) → EndsIn (sent_by client world.net) (calls_in client (committed world.core))
+  pub calls : (client : ℕ) → EndsIn (sent_by client (messages_in world.net)) (calls_in client (committed world.core))
   pub fed : (client : ℕ) → IsFed plain world.core.answered client (fed_of (world.agents client))

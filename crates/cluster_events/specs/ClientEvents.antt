@@ -1,16 +1,18 @@
--- Words of public clauses: what agents do: they send calls, take replies and items, and hand out callbacks.
+-- Words of public clauses: what agents do: they send calls, take replies and items, and hand out callbacks; and how byte strings
+-- enter the net.
 use Rattle.std.specs.Prelude.{ℕ, suc, ◌+◌, Bool, nat_lt, nat_le, if◌then◌else◌, ℤ, Option, Some, None, List, [], ◌∷◌, length}
-use Rattle.cluster_facts.specs.Types.{Ask, Call, Reply, Status, Item, Callback, Message, Request, Receipt}
+use Rattle.cluster_facts.specs.Types.{Ask, Call, Reply, Status, Item, Callback, Message, Request, Receipt, WireWhy}
 use Rattle.cluster_facts.specs.Service.{Plain}
 use Rattle.cluster_facts.specs.Agents.{Living, Agent, call_of, refusal, dispatch_refusal, after_call, kept_call, callbacks_of}
 use Rattle.cluster_facts.specs.Agents.{lacks_place, after_reply, find_living, after_item, oldest, after_dispatch_all, after_dispatch_one}
-use Rattle.cluster_facts.specs.World.{World, knows, posted, with_agent, enlisted}
-use Rattle.cluster_events.specs.Lines.{Told, Posted, Replied, Declined, HandedOut, Dispatched, Ignored, Why}
+use Rattle.cluster_facts.specs.Messages.{Posting}
+use Rattle.cluster_facts.specs.World.{World, knows, posted, knows_raw, injected, with_agent, enlisted}
+use Rattle.cluster_events.specs.Lines.{Told, Posted, Injected, Replied, Declined, HandedOut, Dispatched, Ignored, Why}
 use Rattle.cluster_events.specs.declared.lines.Why.TheVariants.{AnsweredReply, Left, TakenItem, AheadItem, GoneItem}
 use Rattle.cluster_events.specs.Outcomes.{Outcome, quietly, telling}
 
 -- the line of a message that is posted: none where the net knows it
-abbrev pub post_lines : Plain → Message → List Message → List Told
+abbrev pub post_lines : Plain → Message → List Posting → List Told
 post_lines plain message net = if knows plain message net then [] else Posted (suc (length net)) message ∷ []
 
 -- a message is posted
@@ -18,6 +20,18 @@ abbrev pub post : Plain → Message → World → Outcome World
 post plain message world = record {
   state = record world { net = posted plain message world.net };
   told = post_lines plain message world.net;
+}
+
+-- the line of bytes that are injected: none where the net knows them
+abbrev pub inject_lines : List ℕ → ℕ → WireWhy → List Posting → List Told
+inject_lines bytes front why net =
+    if knows_raw bytes net then [] else Injected (suc (length net)) bytes front why ∷ []
+
+-- bytes are injected that no message spells
+abbrev pub inject : List ℕ → ℕ → WireWhy → World → Outcome World
+inject bytes front why world = record {
+  state = record world { net = injected bytes front why world.net };
+  told = inject_lines bytes front why world.net;
 }
 
 -- A call is asked of a client's agent.

@@ -7,9 +7,10 @@ use Rattle.cluster_facts.specs.Types.{Call, Reply, Called, Receipted, Message, R
 use Rattle.cluster_facts.specs.Service.{Plain, answers_in, is_new}
 use Rattle.cluster_facts.specs.Agents.{resent}
 use Rattle.cluster_facts.specs.History.{Hand, Empty, Judged, New, Repeat, Old, Ahead, judged_call}
-use Rattle.cluster_facts.specs.World.{World, message_at, number_of}
+use Rattle.cluster_facts.specs.Messages.{Posting, Spelled, Raw}
+use Rattle.cluster_facts.specs.World.{World, posting_at, number_of}
 use Rattle.cluster_events.specs.Lines.{Ignored, Refused, Stood}
-use Rattle.cluster_events.specs.declared.lines.Why.TheVariants.{OldRequest, AheadRequest, Busy, DoneReceipt}
+use Rattle.cluster_events.specs.declared.lines.Why.TheVariants.{OldRequest, AheadRequest, Busy, DoneReceipt, Bad}
 use Rattle.cluster_events.specs.Outcomes.{Outcome, quietly, telling, for_each}
 use Rattle.cluster_events.specs.Servers.{State, Servers, in_world}
 use Rattle.cluster_events.specs.ClientEvents.{post, take_reply, take_item}
@@ -61,13 +62,15 @@ delivered plain servers place message state = hear plain servers place message s
 abbrev pub refuse : {P : Type 0} → Servers P → Line → State P → Outcome (State P)
 refuse servers line state = telling state (Refused line (servers.standing state))
 
-abbrev pub deliver_by : {P : Type 0} → Plain → Servers P → ℕ → Option Message → State P → Outcome (State P)
+-- bytes that no message spells have no effect, whatever is in hand
+abbrev pub deliver_by : {P : Type 0} → Plain → Servers P → ℕ → Option Posting → State P → Outcome (State P)
 deliver_by plain servers place None state = refuse servers (Deliver place) state
-deliver_by plain servers place (Some message) state = delivered plain servers place message state
+deliver_by plain servers place (Some (Spelled message)) state = delivered plain servers place message state
+deliver_by plain servers place (Some (Raw bytes front why)) state = telling state (Ignored place (Bad front why))
 
 -- `deliver K`
 abbrev pub deliver : {P : Type 0} → Plain → Servers P → ℕ → State P → Outcome (State P)
-deliver plain servers place state = deliver_by plain servers place (message_at place state.world.net) state
+deliver plain servers place state = deliver_by plain servers place (posting_at place state.world.net) state
 
 -- `resend C`: the server hears each message that the agent sends again
 abbrev pub resend : {P : Type 0} → Plain → Servers P → ℕ → State P → Outcome (State P)

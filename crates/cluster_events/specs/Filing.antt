@@ -2,6 +2,7 @@
 use Rattle.std.specs.Prelude.{◌≡◌, ℕ, ℤ, true, ◌⊎◌, Some, None, List, [], ◌∷◌}
 use Rattle.cluster_facts.specs.Types.{Call, Reply, Entry, Answer}
 use Rattle.cluster_facts.specs.Lists.{Stands}
+use Rattle.cluster_facts.specs.Messages.{messages_in}
 use Rattle.cluster_facts.specs.Service.{Plain}
 use Rattle.cluster_facts.specs.Storage.{Disk, Storage, all_applied, Between, dealt_in}
 use Rattle.cluster_facts.specs.History.{IsLegal}
@@ -45,7 +46,7 @@ pub record RecordStays (plain : Plain) (disk : Disk) (storage : Storage disk) (p
 -- what was answered as stored stands at its place, until the service gives the place away
 abbrev pub RecordsStay : (plain : Plain) (disk : Disk) (storage : Storage disk) → World → disk.Files → Type 0
 RecordsStay plain disk storage world files =
-    (client number : ℕ) (reply : Reply) → Stands (Answer client number reply) world.net
+    (client number : ℕ) (reply : Reply) → Stands (Answer client number reply) (messages_in world.net)
     → RecordStays plain disk storage world.core.answered files client number reply
 
 -- the files are those of the history without the entry in hand

@@ -5,12 +5,15 @@ use Rattle.script_lines.specs.declared.line.Server.{Server}
 pub use Rattle.cluster_events.specs.declared.lines.ServerRole.{ServerRole}
 pub use Rattle.cluster_events.specs.declared.lines.Why.{Why}
 pub use Rattle.cluster_events.specs.declared.lines.Standing.{Standing}
-use Rattle.cluster_facts.specs.Types.{Call, Reply, Status, Entry, Callback, Message, Receipt}
+use Rattle.cluster_facts.specs.Types.{Call, Reply, Status, Entry, Callback, Message, Receipt, WireWhy}
 
 -- a line
 pub data Told : Type 0 where
   -- a message enters the net under this number
   Posted : (number : ℕ) (message : Message) → Told
+  -- injected bytes that no message spells enter the net under this number; the front that they share with spellings, and what is
+  -- wrong behind it, are not printed
+  Injected : (number : ℕ) (bytes : List ℕ) (front : ℕ) (why : WireWhy) → Told
   -- the entry of this number is committed
   Committed : (number : ℕ) (entry : Entry) → Told
   -- a client's agent takes the reply to its call of this number; the call itself is not printed
@@ -20,7 +23,7 @@ pub data Told : Type 0 where
   -- a client's callback of this number is handed out; a dispatch handed out so many
   HandedOut : (client number : ℕ) (callback : Callback) → Told
   Dispatched : (client count : ℕ) → Told
-  -- the delivered message of this number had no effect
+  -- the delivered byte string of this number had no effect
   Ignored : (place : ℕ) (why : Why) → Told
   -- the event of a script's line is refused
   Refused : (line : Line) (standing : Standing) → Told

@@ -1,6 +1,7 @@
 -- Words of public clauses: a number that falls with each round that is not the last of `settle`.
 use Rattle.std.specs.Prelude.{ℕ, ◌+◌, ◌-◌, ◌*◌, ◌≤◌, Bool, false, ◌&&◌, ◌||◌, ◌==◌, if◌then◌else◌, List, [], ◌∷◌, length}
 use Rattle.cluster_facts.specs.Types.{Entry, Called, Receipted, Message, Request, Receipt}
+use Rattle.cluster_facts.specs.Messages.{messages_in}
 use Rattle.cluster_facts.specs.Agents.{Agent}
 use Rattle.cluster_facts.specs.History.{committed}
 use Rattle.cluster_facts.specs.World.{World}
@@ -22,7 +23,7 @@ waiting (Request client number call) past = if is_accepted (Request client numbe
 waiting (Receipt client key through) past = if is_accepted (Receipt client key through) past then 0 else 1
 waiting _ past = 0
 
--- how many requests and receipts of the net the history lacks
+-- how many requests and receipts among the messages of a net the history lacks
 abbrev pub unheard : List Message → List Entry → ℕ
 unheard [] past = 0
 unheard (message ∷ net) past = waiting message past + unheard net past
@@ -37,7 +38,7 @@ all_untaken places agents (client ∷ clients) = untaken places (agents client) 
 
 -- what is left to do at most
 abbrev pub potential : World → ℕ
-potential world = unheard world.net (committed world.core) + all_untaken world.places world.agents world.clients
+potential world = unheard (messages_in world.net) (committed world.core) + all_untaken world.places world.agents world.clients
 
 -- how many lines tell that something went on
 abbrev pub progress : List Told → ℕ

@@ -3,7 +3,7 @@ use Rattle.std.specs.Prelude.{◌≡◌, ℕ, ℤ, List, [], ◌∷◌, ◌++◌
 use Rattle.std.specs.List.{AllByRecursion}
 use Rattle.cluster_facts.specs.Types.{Call, ReaderRead, Reply, Entry, Called}
 use Rattle.cluster_facts.specs.Lists.{Stands, EndsIn}
-use Rattle.cluster_facts.specs.Messages.{sent_by, receipts_of, calls_in}
+use Rattle.cluster_facts.specs.Messages.{sent_by, receipts_of, calls_in, messages_in}
 use Rattle.cluster_facts.specs.Service.{Plain}
 use Rattle.cluster_facts.specs.Agents.{fed_of}
 use Rattle.cluster_facts.specs.History.{IsLegal, committed}
@@ -23,9 +23,9 @@ pub record OneHistory (plain : Plain) (world : World) (told : List Told) : Type 
 
 -- each client's calls stand in the history in their order: they are the first of those that it sent
 abbrev pub InOrder : World → Type 0
-InOrder world = (client : ℕ) → EndsIn (sent_by client world.net) (calls_in client (committed world.core))
+InOrder world = (client : ℕ) → EndsIn (sent_by client (messages_in world.net)) (calls_in client (committed world.core))
 
--- the `post` lines are the messages of the net, in order
+-- the `post` lines are the byte strings of the net, in order
 abbrev pub PostsPrinted : World → List Told → Type 0
 PostsPrinted world told = Prints world.net (posts_told told)
 
@@ -55,8 +55,8 @@ CallbacksPrinted world told = (client : ℕ) → Prints (world.agents client).ha
 -- of each subscription a client got its first items, in order, each once
 abbrev pub ItemsInOrder : Plain → World → Type 0
 ItemsInOrder plain world =
-    (client key : ℕ) → AreFirstItems plain world.core.answered (sent_by client world.net) client key
-    (taken_of key (receipts_of client world.net) (items_in (fed_of (world.agents client))))
+    (client key : ℕ) → AreFirstItems plain world.core.answered (sent_by client (messages_in world.net)) client key
+    (taken_of key (receipts_of client (messages_in world.net)) (items_in (fed_of (world.agents client))))
 
 -- the callbacks of writes that a client got are, in order, one for each `reply` line of a write that asked for one
 abbrev pub WritesCalledBack : World → List Told → Type 0

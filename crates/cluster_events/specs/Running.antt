@@ -1,13 +1,14 @@
 -- Words of public clauses: what the lines of a script do where no server fails, and whole runs.
-use Rattle.std.specs.Prelude.{◌≡◌, ℕ, ◌≤ℤ◌, Option, Some, None, List, [], ◌∷◌}
+use Rattle.std.specs.Prelude.{◌≡◌, ℕ, ◌≤ℤ◌, ◌⊎◌, Option, Some, None, List, [], ◌∷◌}
 use Rattle.script_lines.specs.declared.line.Line.{Line}
 use Rattle.script_lines.specs.declared.line.Line.TheVariants as line
-use Rattle.cluster_facts.specs.Types.{Entry}
+use Rattle.wire.specs.Messages.{Spells, IsRefusedAt}
+use Rattle.cluster_facts.specs.Types.{Entry, Message, WireWhy}
 use Rattle.cluster_facts.specs.Service.{Plain}
 use Rattle.cluster_events.specs.Lines.{Told, Listed, Shown}
 use Rattle.cluster_events.specs.Outcomes.{Outcome}
 use Rattle.cluster_events.specs.Servers.{State, Servers, in_world}
-use Rattle.cluster_events.specs.ClientEvents.{ask, dispatch_one, dispatch_all, set_time}
+use Rattle.cluster_events.specs.ClientEvents.{ask, dispatch_one, dispatch_all, set_time, inject}
 use Rattle.cluster_events.specs.Events.{deliver, resend, mirror_next, ack_next, work_next, push, list_servers, refuse}
 use Rattle.cluster_events.specs.Settling.{Settles}
 use Rattle.cluster_events.specs.Runs.{StepBy, RunBy}
@@ -36,6 +37,19 @@ show_by servers name (Some texts) state = record { state = state; told = shown t
 abbrev pub show_file : {P : Type 0} → Shelf → Servers P → List ℕ → State P → Outcome (State P)
 show_file shelf servers name state = show_by servers name (shelf.text name state.world.core.answered) state
 
+-- bytes that a message spells are refused
+pub record RefusesSpelling {P : Type 0} (servers : Servers P) (bytes : List ℕ) (state : State P) (outcome : Outcome (State P)) : Type 0 where
+  pub message : Message
+  pub spells : Spells message bytes
+  pub is : outcome ≡ refuse servers (line.Inject bytes) state
+
+-- bytes that no message spells are injected
+pub record InjectsRaw {P : Type 0} (bytes : List ℕ) (state : State P) (outcome : Outcome (State P)) : Type 0 where
+  pub front : ℕ
+  pub why : WireWhy
+  pub refused : IsRefusedAt bytes front why
+  pub is : outcome ≡ in_world (inject bytes front why) state
+
 -- what a line leads to and prints. Lines on failing servers have no place here, nor has the line that begins a script
 abbrev pub Happens : {P : Type 0} → Plain → Shelf → Servers P → Line → State P → Outcome (State P) → Type 0
 Happens plain shelf servers (line.Time now) state outcome = (state.world.now ≤ℤ now) × (outcome ≡ in_world (set_time now) state)
@@ -47,6 +61,7 @@ Happens plain shelf servers line.Mirror state outcome = outcome ≡ mirror_next 
 Happens plain shelf servers line.Ack state outcome = outcome ≡ ack_next servers state
 Happens plain shelf servers line.Work state outcome = outcome ≡ work_next servers state
 Happens plain shelf servers line.Push state outcome = outcome ≡ push plain servers state
+Happens plain shelf servers (line.Inject bytes) state outcome = RefusesSpelling servers bytes state outcome ⊎ InjectsRaw bytes state outcome
 Happens plain shelf servers line.Settle state outcome = Settles plain servers state outcome.state outcome.told
 Happens plain shelf servers (line.DispatchOne client) state outcome = outcome ≡ in_world (dispatch_one client) state
 Happens plain shelf servers (line.DispatchAll client workers) state outcome = outcome ≡ in_world (dispatch_all client) state

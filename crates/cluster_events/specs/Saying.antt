@@ -1,22 +1,24 @@
 -- Words of public clauses: what the lines of events say of history, replies, callbacks and net.
 use Rattle.std.specs.Prelude.{◌≡◌, ℕ, suc, ◌+◌, ◌<◌, ◌==◌, if◌then◌else◌, None, List, [], ◌∷◌, ◌++◌, length}
 use Rattle.std.specs.List.{AllByRecursion}
-use Rattle.cluster_facts.specs.Types.{Call, Reply, Entry, Callback, Written, Message}
+use Rattle.cluster_facts.specs.Types.{Call, Reply, Entry, Callback, Written}
 use Rattle.cluster_facts.specs.Lists.{Stands, EndsIn}
+use Rattle.cluster_facts.specs.Messages.{Posting, Spelled, Raw}
 use Rattle.cluster_facts.specs.Service.{Plain, answers_in}
 use Rattle.cluster_facts.specs.Storage.{dealt_in}
 use Rattle.cluster_facts.specs.Agents.{Agent, fed_of, kept_call, callbacks_of}
 use Rattle.cluster_facts.specs.History.{committed}
 use Rattle.cluster_facts.specs.World.{World}
-use Rattle.cluster_events.specs.Lines.{Told, Posted, Committed, Replied, HandedOut}
+use Rattle.cluster_events.specs.Lines.{Told, Posted, Injected, Committed, Replied, HandedOut}
 
 -- what is read of each line, joined
 abbrev pub gathered : {X : Type 0} → (Told → List X) → List Told → List X
 gathered read [] = []
 gathered read (line ∷ told) = read line ++ gathered read told
 
-abbrev pub post_in : Told → List (ℕ × Message)
-post_in (Posted number message) = (number, message) ∷ []
+abbrev pub post_in : Told → List (ℕ × Posting)
+post_in (Posted number message) = (number, Spelled message) ∷ []
+post_in (Injected number bytes front why) = (number, Raw bytes front why) ∷ []
 post_in _ = []
 
 abbrev pub entry_in : Told → List (ℕ × Entry)
@@ -41,7 +43,7 @@ write_in client _ = []
 
 -- the `post` lines, the `acc` lines, and the client's `reply` and `callback` lines, each with its number; the calls of the client's
 -- `reply` lines with their numbers and replies; and the callbacks that these replies gave
-abbrev pub posts_told : List Told → List (ℕ × Message)
+abbrev pub posts_told : List Told → List (ℕ × Posting)
 posts_told told = gathered post_in told
 
 abbrev pub entries_told : List Told → List (ℕ × Entry)

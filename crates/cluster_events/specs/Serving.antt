@@ -2,7 +2,7 @@
 use Rattle.std.specs.Prelude.{◌≡◌, ℕ, suc, true, false, nat_le, Option, Some, List, [], ◌∷◌, ◌++◌, length}
 use Rattle.cluster_facts.specs.Types.{Call, Reply, Item, Entry, Message, Answer, Delivery, Receipt}
 use Rattle.cluster_facts.specs.Lists.{Stands, EndsIn}
-use Rattle.cluster_facts.specs.Messages.{message_of}
+use Rattle.cluster_facts.specs.Messages.{message_of, Spelled, messages_in}
 use Rattle.cluster_facts.specs.Service.{Plain, answers_in}
 use Rattle.cluster_facts.specs.Agents.{Living, kept_call, callbacks_of, lacks_place, after_reply, find_living, after_item}
 use Rattle.cluster_facts.specs.History.{Hand, Empty, accepted, accepted_by, MayFollow, time_of}
@@ -15,7 +15,7 @@ use Rattle.cluster_events.specs.Settling.{is_loud}
 
 -- what was posted stays posted, answered entries stay, and clients, time and places are the same
 pub record Stays (old new : World) : Type 0 where
-  pub net : (message : Message) → Stands message old.net → Stands message new.net
+  pub net : (message : Message) → Stands message (messages_in old.net) → Stands message (messages_in new.net)
   pub answered : EndsIn new.core.answered old.core.answered
   pub clients : new.clients ≡ old.clients
   pub now : new.now ≡ old.now
@@ -58,23 +58,23 @@ pub record IsCarried {P : Type 0} (plain : Plain) (servers : Servers P) (Good : 
   pub ignored : (world : World) (place : ℕ) (why : Why) → R world world (Ignored place why ∷ [])
   pub answer : (world : World) (client number : ℕ) (reply : Reply) → IsSound plain world
       → Stands (number, reply) (answers_in plain client world.core.answered)
-      → R world (record world { net = Answer client number reply ∷ world.net }) (Posted (suc (length world.net)) (Answer client number reply) ∷ [])
+      → R world (record world { net = Spelled (Answer client number reply) ∷ world.net }) (Posted (suc (length world.net)) (Answer client number reply) ∷ [])
   pub pushed : (world : World) (client key : ℕ) (item : Item) → IsSound plain world → IsOfRun plain world.core.answered (Delivery client key item)
-      → R world (record world { net = Delivery client key item ∷ world.net }) (Posted (suc (length world.net)) (Delivery client key item) ∷ [])
+      → R world (record world { net = Spelled (Delivery client key item) ∷ world.net }) (Posted (suc (length world.net)) (Delivery client key item) ∷ [])
   pub reply : (world : World) (client number : ℕ) (call : Call) (reply : Reply) → IsSound plain world
       → kept_call number (world.agents client).kept ≡ Some call
-      → lacks_place world.places (world.agents client).queue (callbacks_of call reply) ≡ false → Stands (Answer client number reply) world.net
+      → lacks_place world.places (world.agents client).queue (callbacks_of call reply) ≡ false → Stands (Answer client number reply) (messages_in world.net)
       → R world (record world { agents = with_agent client (after_reply number call reply (world.agents client)) world.agents })
       (Replied client number call reply ∷ [])
   pub item : (world : World) (client key : ℕ) (item : Item) (found : Living) → IsSound plain world
       → find_living key (world.agents client).living ≡ Some found → item.number ≡ found.next
-      → nat_le world.places (length (world.agents client).queue) ≡ false → Stands (Delivery client key item) world.net
+      → nat_le world.places (length (world.agents client).queue) ≡ false → Stands (Delivery client key item) (messages_in world.net)
       → R world (record world {
-        net = Receipt client key item.number ∷ world.net;
+        net = Spelled (Receipt client key item.number) ∷ world.net;
         agents = with_agent client (after_item key found.id item.content (world.agents client)) world.agents;
       }) (Posted (suc (length world.net)) (Receipt client key item.number) ∷ [])
   pub accept : (entry : Entry) (state : State P) → IsSteady plain Good state → state.world.core.hand ≡ Empty
-      → MayFollow plain state.world.core.answered entry → time_of entry ≡ state.world.now → Stands (message_of entry) state.world.net
+      → MayFollow plain state.world.core.answered entry → time_of entry ≡ state.world.now → Stands (message_of entry) (messages_in state.world.net)
       → R state.world (servers.accept entry state).state.world (servers.accept entry state).told
   pub drain : (state : State P) → IsSteady plain Good state → R state.world (drain servers state).state.world (drain servers state).told
 

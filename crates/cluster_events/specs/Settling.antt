@@ -3,7 +3,7 @@ use Rattle.std.specs.Prelude.{ℕ, Bool, true, false, ◌≡◌, Option, Some, N
 use Rattle.std.specs.List.{list_any}
 use Rattle.cluster_facts.specs.Types.{Reply, Message, Request, Answer, Delivery}
 use Rattle.cluster_facts.specs.Lists.{without}
-use Rattle.cluster_facts.specs.Messages.{answers_to}
+use Rattle.cluster_facts.specs.Messages.{answers_to, messages_in}
 use Rattle.cluster_facts.specs.Service.{Plain}
 use Rattle.cluster_facts.specs.Agents.{resent}
 use Rattle.cluster_facts.specs.World.{World, number_of}
@@ -20,7 +20,7 @@ take_answer_by plain client number (Some reply) world =
 
 -- the reply to a request is delivered, if the net has one
 abbrev pub take_answer : Plain → Message → World → Outcome World
-take_answer plain (Request client number call) world = take_answer_by plain client number (reply_at number (answers_to client world.net)) world
+take_answer plain (Request client number call) world = take_answer_by plain client number (reply_at number (answers_to client (messages_in world.net))) world
 take_answer plain _ world = quietly world
 
 -- one message of a client is delivered, the servers drain, and the reply to it is delivered

@@ -1,4 +1,5 @@
 //! What the lines of events tell.
+use wire::WireWhy;
 
 /// What a line tells of a server.
 #[derive(Clone, Copy, Debug, PartialEq, Eq)]
@@ -11,7 +12,7 @@ pub enum ServerRole {
     Down,
 }
 
-/// Why a delivered message had no effect.
+/// Why a delivered byte string had no effect.
 #[derive(Clone, Copy, Debug, PartialEq, Eq)]
 pub enum Why {
     /// The request is older than those whose replies are saved.
@@ -32,6 +33,8 @@ pub enum Why {
     AheadItem,
     /// The subscription does not live in the agent.
     GoneItem,
+    /// No message has these bytes: so many of them are the front of one.
+    Bad { front: u32, why: WireWhy },
 }
 
 /// What the line on a refused event tells.

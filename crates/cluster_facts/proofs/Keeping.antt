@@ -2,7 +2,7 @@
 use Rattle.std.proofs.Common.{◌≡◌, ℕ, inl, inr, Bool, false, if◌then◌else◌, ℤ, ◌≤ℤ◌, Some, List, [], ◌∷◌, ◌++◌, length, refl, sym, ◌∙◌, subst, arith, append_assoc}
 use Rattle.cluster_facts.specs.Types.{Call, Reply, Item, Entry, Called, Receipted, Callback, Message, Request, Answer, Delivery, Receipt}
 use Rattle.cluster_facts.specs.Lists.{Stands, EndsIn, IsNumbered}
-use Rattle.cluster_facts.specs.Messages.{sent_by, answers_to, receipts_of, calls_in, message_of}
+use Rattle.cluster_facts.specs.Messages.{Posting, Spelled, messages_in, sent_by, answers_to, receipts_of, calls_in, message_of}
 use Rattle.cluster_facts.specs.Service.{Plain, IsPlain, answers_in}
 use Rattle.cluster_facts.specs.Agents.{Living, Agent, fresh, fed_of, is_shut, after_call, after_reply, callbacks_of, find_living, after_item, callback_of, after_dispatch_all, after_dispatch_one}
 use Rattle.cluster_facts.specs.History.{MayFollow, time_of}
@@ -34,12 +34,12 @@ Facts-call plain now accepted answered net agents client call open_ facts =
     }
 
 -- the request of a call that is sent is new to the net
-pub call-new : (plain : Plain) → IsPlain plain → (now : ℤ) (accepted answered : List Entry) (net : List Message) (agents : ℕ → Agent) (client : ℕ) (call : Call) → Facts plain now accepted answered net agents → posted plain (Request client (agents client).next call) net ≡ Request client (agents client).next call ∷ net
+pub call-new : (plain : Plain) → IsPlain plain → (now : ℤ) (accepted answered : List Entry) (net : List Posting) (agents : ℕ → Agent) (client : ℕ) (call : Call) → Facts plain now accepted answered (messages_in net) agents → posted plain (Request client (agents client).next call) net ≡ Spelled (Request client (agents client).next call) ∷ net
 call-new plain is_plain now accepted answered net agents client call facts =
     let sends = (facts.clients client).sends in
     let next_is = sends.next_is in
     posted-new plain is_plain (Request client (agents client).next call) net (λ stands.
-    let bound = IsNumbered-bound ((agents client).next, call) (sent_by client net) sends.numbered (sent_by-stands client (agents client).next call net stands) in
+    let bound = IsNumbered-bound ((agents client).next, call) (sent_by client (messages_in net)) sends.numbered (sent_by-stands client (agents client).next call (messages_in net) stands) in
     absurd (omega arith))
 
 -- An agent takes a reply that stands in the net.
@@ -88,13 +88,13 @@ Facts-item plain now accepted answered net agents client key item found here nex
     }
 
 -- the receipt of an item that is taken is new to the net
-pub receipt-new : (plain : Plain) → IsPlain plain → (now : ℤ) (accepted answered : List Entry) (net : List Message) (agents : ℕ → Agent) (client key number : ℕ) (found : Living) → find_living key (agents client).living ≡ Some found → number ≡ found.next → Facts plain now accepted answered net agents → posted plain (Receipt client key number) net ≡ Receipt client key number ∷ net
+pub receipt-new : (plain : Plain) → IsPlain plain → (now : ℤ) (accepted answered : List Entry) (net : List Posting) (agents : ℕ → Agent) (client key number : ℕ) (found : Living) → find_living key (agents client).living ≡ Some found → number ≡ found.next → Facts plain now accepted answered (messages_in net) agents → posted plain (Receipt client key number) net ≡ Spelled (Receipt client key number) ∷ net
 receipt-new plain is_plain now accepted answered net agents client key number found here next facts =
     let follows = (facts.clients client).follows in
     let is_found = find_living-found key found follows.lives here in
     let next_is = is_found.next_is in
     posted-new plain is_plain (Receipt client key number) net (λ stands.
-    let bound = IsCounted-bound key number (receipts_of client net) follows.counted (receipts_of-stands client key number net stands) in
+    let bound = IsCounted-bound key number (receipts_of client (messages_in net)) follows.counted (receipts_of-stands client key number (messages_in net) stands) in
     absurd (omega arith))
 
 -- A server posts a reply or an item.
@@ -110,24 +110,24 @@ Facts-answer plain now accepted answered net agents client number reply is facts
       legal = facts.legal;
     }
 
-pub Facts-post_answer : (plain : Plain) → IsPlain plain → (now : ℤ) (accepted answered : List Entry) (net : List Message) (agents : ℕ → Agent) (client number : ℕ) (reply : Reply) → Stands (number, reply) (answers_in plain client answered) → Facts plain now accepted answered net agents → Facts plain now accepted answered (posted plain (Answer client number reply) net) agents
+pub Facts-post_answer : (plain : Plain) → IsPlain plain → (now : ℤ) (accepted answered : List Entry) (net : List Posting) (agents : ℕ → Agent) (client number : ℕ) (reply : Reply) → Stands (number, reply) (answers_in plain client answered) → Facts plain now accepted answered (messages_in net) agents → Facts plain now accepted answered (messages_in (posted plain (Answer client number reply) net)) agents
 Facts-post_answer plain is_plain now accepted answered net agents client number reply is facts =
-    let F : List Message → Type 0 = λ messages. Facts plain now accepted answered messages agents in
+    let F : List Posting → Type 0 = λ postings. Facts plain now accepted answered (messages_in postings) agents in
     elim (posted-cases plain is_plain (Answer client number reply) net) [
       | inl known ↦ subst F (sym known.1) facts
-      | inr new ↦ subst F (sym new) (Facts-answer plain now accepted answered net agents client number reply is facts)
+      | inr new ↦ subst F (sym new) (Facts-answer plain now accepted answered (messages_in net) agents client number reply is facts)
     ]
 
-pub Facts-post_item : (plain : Plain) → IsPlain plain → (now : ℤ) (accepted answered : List Entry) (net : List Message) (agents : ℕ → Agent) (client key : ℕ) (item : Item) → IsOfRun plain answered (Delivery client key item) → Facts plain now accepted answered net agents → Facts plain now accepted answered (posted plain (Delivery client key item) net) agents
+pub Facts-post_item : (plain : Plain) → IsPlain plain → (now : ℤ) (accepted answered : List Entry) (net : List Posting) (agents : ℕ → Agent) (client key : ℕ) (item : Item) → IsOfRun plain answered (Delivery client key item) → Facts plain now accepted answered (messages_in net) agents → Facts plain now accepted answered (messages_in (posted plain (Delivery client key item) net)) agents
 Facts-post_item plain is_plain now accepted answered net agents client key item is facts =
-    let F : List Message → Type 0 = λ messages. Facts plain now accepted answered messages agents in
+    let F : List Posting → Type 0 = λ postings. Facts plain now accepted answered (messages_in postings) agents in
     elim (posted-cases plain is_plain (Delivery client key item) net) [
       | inl known ↦ subst F (sym known.1) facts
       | inr new ↦ subst F (sym new) (record {
         clients = facts.clients;
         told = facts.told;
         run = (is, facts.run);
-        heard = All-map (λ (entry : Entry). Stands (message_of entry) net) (λ (entry : Entry). Stands (message_of entry) (Delivery client key item ∷ net)) accepted (λ entry stands. inr stands) facts.heard;
+        heard = All-map (λ (entry : Entry). Stands (message_of entry) (messages_in net)) (λ (entry : Entry). Stands (message_of entry) (Delivery client key item ∷ messages_in net)) accepted (λ entry stands. inr stands) facts.heard;
         legal = facts.legal;
       })
     ]

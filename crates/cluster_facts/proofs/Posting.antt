@@ -3,59 +3,63 @@ use Rattle.std.proofs.Common.{◌≡◌, ℕ, suc, ◌⊎◌, inl, inr, Bool, tr
 use Rattle.std.proofs.lemmas.Bool.{cases_Bool}
 use Rattle.cluster_facts.specs.Types.{Call, Reply, Message, Request, Answer, Receipt}
 use Rattle.cluster_facts.specs.Lists.{Stands}
-use Rattle.cluster_facts.specs.Messages.{sent_by, answers_to, receipts_of}
+use Rattle.cluster_facts.specs.Messages.{Posting, Spelled, Raw, sent_by, answers_to, receipts_of, messages_in}
 use Rattle.cluster_facts.specs.Service.{Plain, IsPlain}
-use Rattle.cluster_facts.specs.World.{knows, posted, message_at}
+use Rattle.cluster_facts.specs.World.{knows, posted, posting_at}
 use Rattle.cluster_facts.proofs.Words.{by_test}
 
 -- what the net knows stands in it
-pub knows-stands : (plain : Plain) → IsPlain plain → (message : Message) (net : List Message) → knows plain message net ≡ true → Stands message net
+pub knows-stands : (plain : Plain) → IsPlain plain → (message : Message) (net : List Posting) → knows plain message net ≡ true → Stands message (messages_in net)
 knows-stands plain is_plain message [] known = cc
-knows-stands plain is_plain message (first ∷ net) known =
-    let P : Bool → Type 0 = λ b. (b || knows plain message net) ≡ true → Stands message (first ∷ net) in
+knows-stands plain is_plain message (Raw bytes front why ∷ net) known = knows-stands plain is_plain message net known
+knows-stands plain is_plain message (Spelled first ∷ net) known =
+    let P : Bool → Type 0 = λ b. (b || knows plain message net) ≡ true → Stands message (first ∷ messages_in net) in
     elim (cases_Bool (plain.same message first)) [
       | inl same ↦ inl (is_plain.same_is message first same)
       | inr other ↦ subst P (sym other) (λ deeper. inr (knows-stands plain is_plain message net deeper)) known
     ]
 
 -- a message stands in the net already, and posting it changes nothing; or it is the newest afterwards
-pub posted-cases : (plain : Plain) → IsPlain plain → (message : Message) (net : List Message) → (Stands message net × (posted plain message net ≡ net)) ⊎ (posted plain message net ≡ message ∷ net)
+pub posted-cases : (plain : Plain) → IsPlain plain → (message : Message) (net : List Posting) → (Stands message (messages_in net) × (posted plain message net ≡ net)) ⊎ (posted plain message net ≡ Spelled message ∷ net)
 posted-cases plain is_plain message net =
-    let P : Bool → List Message = λ b. if b then net else message ∷ net in
+    let P : Bool → List Posting = λ b. if b then net else Spelled message ∷ net in
     elim (cases_Bool (knows plain message net)) [
       | inl known ↦ inl (knows-stands plain is_plain message net known, ap P known)
       | inr unknown ↦ inr (ap P unknown)
     ]
 
-pub posted-new : (plain : Plain) → IsPlain plain → (message : Message) (net : List Message) → (Stands message net → ⊥) → posted plain message net ≡ message ∷ net
+pub posted-new : (plain : Plain) → IsPlain plain → (message : Message) (net : List Posting) → (Stands message (messages_in net) → ⊥) → posted plain message net ≡ Spelled message ∷ net
 posted-new plain is_plain message net absent =
     elim (posted-cases plain is_plain message net) [
       | inl known ↦ absurd (absent known.0)
       | inr new ↦ new
     ]
 
-pub posted-stands : (plain : Plain) → IsPlain plain → (message : Message) (net : List Message) → Stands message (posted plain message net)
+pub posted-stands : (plain : Plain) → IsPlain plain → (message : Message) (net : List Posting) → Stands message (messages_in (posted plain message net))
 posted-stands plain is_plain message net =
-    let P : List Message → Type 0 = λ messages. Stands message messages in
+    let P : List Posting → Type 0 = λ postings. Stands message (messages_in postings) in
     elim (posted-cases plain is_plain message net) [
       | inl known ↦ subst P (sym known.1) known.0
       | inr new ↦ subst P (sym new) (inl refl)
     ]
 
-pub posted-keeps : (plain : Plain) → IsPlain plain → (message other : Message) (net : List Message) → Stands other net → Stands other (posted plain message net)
+pub posted-keeps : (plain : Plain) → IsPlain plain → (message other : Message) (net : List Posting) → Stands other (messages_in net) → Stands other (messages_in (posted plain message net))
 posted-keeps plain is_plain message other net stands =
-    let P : List Message → Type 0 = λ messages. Stands other messages in
+    let P : List Posting → Type 0 = λ postings. Stands other (messages_in postings) in
     elim (posted-cases plain is_plain message net) [
       | inl known ↦ subst P (sym known.1) stands
       | inr new ↦ subst P (sym new) (inr stands)
     ]
 
 -- a message of a number stands in the net
-pub message_at-stands : (number : ℕ) (net : List Message) (message : Message) → message_at number net ≡ Some message → Stands message net
-message_at-stands number [] message found = cc
-message_at-stands number (first ∷ net) message found =
-    let P : Bool → Type 0 = λ b. (if b then Some first else message_at number net) ≡ Some message → Stands message (first ∷ net) in
-    by_test P number (suc (length net)) (λ same here. let is : first ≡ message = cc in inl (sym is)) (λ different there. inr (message_at-stands number net message there)) found
+pub posting_at-stands : (number : ℕ) (net : List Posting) (message : Message) → posting_at number net ≡ Some (Spelled message) → Stands message (messages_in net)
+posting_at-stands number [] message found = cc
+posting_at-stands number (Raw bytes front why ∷ net) message found =
+    let P : Bool → Type 0 = λ b. (if b then Some (Raw bytes front why) else posting_at number net) ≡ Some (Spelled message) → Stands message (messages_in net) in
+    by_test P number (suc (length net)) (λ same here. cc) (λ different there. posting_at-stands number net message there) found
+posting_at-stands number (Spelled first ∷ net) message found =
+    let P : Bool → Type 0 = λ b. (if b then Some (Spelled first) else posting_at number net) ≡ Some (Spelled message) → Stands message (first ∷ messages_in net) in
+    by_test P number (suc (length net)) (λ same here. let is : first ≡ message = cc in inl (sym is)) (λ different there. inr (posting_at-stands number net message there)) found
 
 -- The client's requests, replies and receipts in the net.
 

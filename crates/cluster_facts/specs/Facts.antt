@@ -3,7 +3,7 @@ use Rattle.std.specs.Prelude.{◌≡◌, ℕ, suc, ◌+◌, ◌≤◌, ◌⊎◌
 use Rattle.std.specs.List.{AllByRecursion}
 use Rattle.cluster_facts.specs.Types.{Call, Reply, Refused, Status, Entry, Callback, Written, Message, Request, Answer, Delivery, Receipt}
 use Rattle.cluster_facts.specs.Lists.{Stands, EndsIn, IsNumbered, IsCounted, count_of}
-use Rattle.cluster_facts.specs.Messages.{sent_by, answers_to, receipts_of, calls_in, message_of}
+use Rattle.cluster_facts.specs.Messages.{sent_by, answers_to, receipts_of, calls_in, message_of, messages_in}
 use Rattle.cluster_facts.specs.Service.{Plain, IsMade, answers_in, asked_for, subscribed}
 use Rattle.cluster_facts.specs.Agents.{Living, Agent, fresh, fed_of, log_after, ntf_after, callback_of}
 use Rattle.cluster_facts.specs.History.{IsLegal, accepted}
@@ -99,7 +99,7 @@ IsOfRun plain past (Delivery client key item) = IsMade plain past client key ite
 IsOfRun plain past (Receipt client key through) = Unit {0}
 IsOfRun plain past _ = ⊥
 
--- the facts of history, net and agents. Agents' facts read the accepted history, the net's the answered one
+-- the facts of history, messages of the net and agents. Agents' facts read the accepted history, the net's the answered one
 pub record Facts (plain : Plain) (now : ℤ) (accepted answered : List Entry) (net : List Message) (agents : ℕ → Agent) : Type 0 where
   pub clients : (client : ℕ) → IsClient (view_of client net accepted) (agents client)
   pub told : (client : ℕ) → Fits (IsToldItem plain answered (sent_by client net) client) (receipts_of client net) (fed_of (agents client))
@@ -109,6 +109,6 @@ pub record Facts (plain : Plain) (now : ℤ) (accepted answered : List Entry) (n
 
 -- the facts of a world
 pub record IsSound (plain : Plain) (world : World) : Type 0 where
-  pub facts : Facts plain world.now (accepted world.core) world.core.answered world.net world.agents
+  pub facts : Facts plain world.now (accepted world.core) world.core.answered (messages_in world.net) world.agents
   -- a client that was never called has a fresh agent
   pub listed : (client : ℕ) → Stands client world.clients ⊎ (world.agents client ≡ fresh)

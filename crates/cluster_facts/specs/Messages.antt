@@ -1,6 +1,18 @@
--- Words of public clauses: what stands in the net, a list of messages whose newest comes first, and the calls and receipts of a history.
+-- Words of public clauses: what stands in the net, a list whose newest element comes first, and the calls and receipts of a history.
 use Rattle.std.specs.Prelude.{ℕ, ◌==◌, if◌then◌else◌, List, [], ◌∷◌}
-use Rattle.cluster_facts.specs.Types.{Call, Reply, Entry, Called, Receipted, Message, Request, Answer, Receipt}
+use Rattle.cluster_facts.specs.Types.{Call, Reply, Entry, Called, Receipted, Message, Request, Answer, Receipt, WireWhy}
+
+-- a byte string of the net, by what it is: the spelling of a message; or one that was injected and that no message spells: so many
+-- of its bytes, and no more, are the front of a spelling, and this is wrong there
+pub data Posting : Type 0 where
+  Spelled : (message : Message) → Posting
+  Raw : (bytes : List ℕ) (front : ℕ) (why : WireWhy) → Posting
+
+-- the messages of a net
+abbrev pub messages_in : List Posting → List Message
+messages_in [] = []
+messages_in (Spelled message ∷ net) = message ∷ messages_in net
+messages_in (Raw bytes front why ∷ net) = messages_in net
 
 -- the calls that the client sent, each with its number
 abbrev pub sent_by : ℕ → List Message → List (ℕ × Call)

@@ -22,3 +22,4 @@ pub use Rattle.calls.specs.declared.reply.Callback.{Callback}
 pub use Rattle.calls.specs.declared.reply.Callback.TheVariants.{Written, Notified, Discarded}
 pub use Rattle.wire.specs.declared.message.Message.{Message}
 pub use Rattle.wire.specs.declared.message.Message.TheVariants.{Request, Reply as Answer, Item as Delivery, Receipt}
+pub use Rattle.wire.specs.declared.message.WireWhy.{WireWhy}

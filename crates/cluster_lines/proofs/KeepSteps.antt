@@ -3,10 +3,11 @@ use Rattle.std.proofs.Common.{◌≡◌, ℕ, false, nat_le, Option, Some, None,
 use Rattle.plain_service.specs.Setups.{Setup}
 use Rattle.service_laws.specs.PlainOf.{plain_of}
 use Rattle.cluster_facts.specs.Types.{Ask, Call, Reply, Item, Message, Answer, Delivery}
+use Rattle.cluster_facts.specs.Messages.{Posting, Spelled, Raw}
 use Rattle.cluster_facts.specs.Service.{Plain}
 use Rattle.cluster_facts.specs.Agents.{Living, call_of, refusal, kept_call, find_living, resent}
 use Rattle.cluster_facts.specs.History.{Core, Hand, Empty}
-use Rattle.cluster_facts.specs.World.{World, message_at, number_of}
+use Rattle.cluster_facts.specs.World.{World, posting_at, number_of}
 use Rattle.cluster_events.specs.Outcomes.{Outcome, for_each}
 use Rattle.cluster_events.specs.Servers.{State, Servers, in_world}
 use Rattle.cluster_events.specs.ClientEvents.{post, reply_by, Fate, Takes, Misses, fate_of, item_as, item_by}
@@ -70,12 +71,13 @@ module _ {Peers Group : Type 0} (kit : Kit Peers Group) (laws : IsKit kit) where
   }
   delivered-keeps setup place message state = hear-keeps setup place message state
 
-  deliver_by-keeps : (setup : Setup) (place : ℕ) (found : Option Message) (state : State Peers) → Keeps state (deliver_by (plain_of setup) (calm_servers kit setup) place found state)
+  deliver_by-keeps : (setup : Setup) (place : ℕ) (found : Option Posting) (state : State Peers) → Keeps state (deliver_by (plain_of setup) (calm_servers kit setup) place found state)
   deliver_by-keeps setup place None state = record { answered = refl; armed = λ count armed. armed }
-  deliver_by-keeps setup place (Some message) state = delivered-keeps setup place message state
+  deliver_by-keeps setup place (Some (Spelled message)) state = delivered-keeps setup place message state
+  deliver_by-keeps setup place (Some (Raw bytes front why)) state = record { answered = refl; armed = λ count armed. armed }
 
   pub deliver-keeps : (setup : Setup) (place : ℕ) (state : State Peers) → Keeps state ((deliver_at kit) place setup state)
-  deliver-keeps setup place state = deliver_by-keeps setup place (message_at place state.world.net) state
+  deliver-keeps setup place state = deliver_by-keeps setup place (posting_at place state.world.net) state
 
   agains-keep : (setup : Setup) (messages : List Message) (state : State Peers) → Keeps state (for_each ((again kit) setup) messages state)
   agains-keep setup [] state = record { answered = refl; armed = λ count armed. armed }

@@ -7,7 +7,7 @@ use Rattle.script_lines.specs.declared.line.Line.{Line}
 use Rattle.script_lines.specs.declared.line.Line.TheVariants.{Cluster}
 use Rattle.script_lines.specs.declared.line.Line.TheVariants as line
 use Rattle.script_grammar.specs.Grammar.{Known, Word, Part, OneOf}
-use Rattle.script_language.specs.Control.{HasSoundStreams, IsSetting, IsCluster, IsTimeLine, IsDeliver, IsResend, IsCrash, IsArm, IsRestart, IsDispatch, dispatch_forms, IsCat}
+use Rattle.script_language.specs.Control.{HasSoundStreams, IsSetting, IsCluster, IsTimeLine, IsDeliver, IsResend, IsInject, IsCrash, IsArm, IsRestart, IsDispatch, dispatch_forms, IsCat}
 use Rattle.script_language.specs.Lines.{IsLogLine, IsNtfLine, line_forms, Spells}
 use Rattle.plain_service.specs.Setups.{IsMoment}
 use Rattle.cluster_lines.specs.Lines.{IsInRange}
@@ -62,6 +62,10 @@ deliver-gives = part _ _ (λ place own range. known _ (tt, tt))
 resend-gives : Gives IsResend
 unfolding IsResend
 resend-gives = part _ _ (λ client own range. known _ (tt, tt))
+
+inject-gives : Gives IsInject
+unfolding IsInject
+inject-gives = part _ _ (λ bytes own range. known _ (tt, tt))
 
 crash-gives : Gives IsCrash
 unfolding IsCrash
@@ -129,8 +133,11 @@ spelled-fits =
                       (
                         known line.Push (tt, tt),
                         (
-                          known line.Settle (tt, tt),
-                          (crash-gives, (arm-gives, (known line.Disarm (tt, tt), (restart-gives, (dispatch-gives, (known line.Servers (tt, tt), (known line.Files (tt, tt), (cat-gives, tt)))))))),
+                          inject-gives,
+                          (
+                            known line.Settle (tt, tt),
+                            (crash-gives, (arm-gives, (known line.Disarm (tt, tt), (restart-gives, (dispatch-gives, (known line.Servers (tt, tt), (known line.Files (tt, tt), (cat-gives, tt)))))))),
+                          ),
                         ),
                       ),
                     ),

@@ -1,5 +1,5 @@
 -- What a line of a script comes to, event by event.
-use Rattle.std.proofs.Common.{◌≡◌, ℕ, true, false, is_some, ℤ, Option, Some, None, List, [], ◌∷◌, ◌++◌, Result, Ok, Err, refl, ap, sym, ◌∙◌, subst, arith}
+use Rattle.std.proofs.Common.{◌≡◌, ℕ, true, false, is_some, ℤ, inl, inr, Option, Some, None, List, [], ◌∷◌, ◌++◌, Result, Ok, Err, refl, ap, sym, ◌∙◌, subst, arith}
 use Rattle.std.specs.Prelude.{Bool, OnOk, IfSome, ◌≤ℤ◌, pos, negsuc}
 use Rattle.std.proofs.lemmas.Bool.{leb-true}
 use Rattle.std.proofs.lemmas.Int.{to_z-of_z}
@@ -15,11 +15,11 @@ use Rattle.plain_service.specs.Storing.{files_of}
 use Rattle.service_laws.specs.PlainOf.{plain_of}
 use Rattle.cluster_facts.specs.Types.{Ask, Message}
 use Rattle.cluster_facts.specs.History.{Hand, Empty, Waiting, Applied, Ready}
-use Rattle.cluster_facts.specs.World.{World, message_at}
+use Rattle.cluster_facts.specs.World.{World, posting_at}
 use Rattle.cluster_events.specs.declared.lines.Standing.{Standing}
 use Rattle.cluster_events.specs.Outcomes.{Outcome}
 use Rattle.cluster_events.specs.Servers.{State, in_world}
-use Rattle.cluster_events.specs.ClientEvents.{set_time}
+use Rattle.cluster_events.specs.ClientEvents.{set_time, inject}
 use Rattle.cluster_events.specs.Events.{deliver_by, push_by, refuse}
 use Rattle.cluster_events.specs.Running.{Shelf, Happens}
 use Rattle.client_agent.specs.declared.answers.How.{How}
@@ -36,7 +36,7 @@ use Rattle.cluster_rounds.specs.Broken.{BreaksAlone, BreaksAloneIf}
 use Rattle.cluster_rounds.specs.Rounds.{EventOver}
 use Rattle.cluster_rounds.specs.Came.{Comes, DiskSeen}
 use Rattle.cluster_rounds.specs.Settling.{DoesSettle}
-use Rattle.cluster_rounds.specs.Delivered.{asked_by, dispatched_by, resent_by, Delivers}
+use Rattle.cluster_rounds.specs.Delivered.{asked_by, dispatched_by, resent_by, Delivers, Injects}
 use Rattle.cluster_rounds.proofs.FilesSteps.{files-same}
 use Rattle.cluster_rounds.proofs.HearSteps.{IsQuiet}
 use Rattle.cluster_rounds.proofs.KitSteps.{line-kept}
@@ -161,6 +161,28 @@ module _ {Peers Group : Type 0} (kit : Kit Peers Group) (laws : IsKit kit) where
       let came = comes has.setup has.state has.good has.shows has.count tt in
       record { setup = has.setup; state = came.outcome.state; good = came.played.good; shows = came.played.shows; count = came.count; so = tt }
 
+  -- Bytes that are injected, and refused where a message spells them.
+
+  pub plays-injected : (bytes : List ℕ) (old new : Cluster Group) (before after : List (List ℕ)) → (Injects kit) bytes true old new before after → (PlaysAlone kit) (line.Inject bytes) old new before after
+  plays-injected bytes old new before after injects setup state good shows =
+      let raw = injects.0 in
+      record {
+        outcome = in_world (inject bytes raw.front raw.why) state;
+        happens = λ shelf. inr (record { front = raw.front; why = raw.why; refused = raw.refused; is = refl });
+        is = injects.1 setup state good shows;
+        answered = refl;
+        armed = λ count armed. armed;
+      }
+
+  pub plays-spelling : (bytes : List ℕ) (next : Line) (old new : Cluster Group) (before between after : List (List ℕ)) → next ≡ line.Inject bytes → (Injects kit) bytes false old new before between → (Does kit) ((refused kit) next) new new between after → (PlaysAlone kit) (line.Inject bytes) old new before after
+  plays-spelling bytes next old new before between after is none refuses =
+      let spelling = none.0 in
+      let one : Line → Type 0 = λ n. (Does kit) ((refused kit) n) new new between after in
+      let two : Cluster Group → Type 0 = λ w. (Does kit) ((refused kit) (line.Inject bytes)) w w between after in
+      let three : List (List ℕ) → Type 0 = λ b. (Does kit) ((refused kit) (line.Inject bytes)) old old b after in
+      let there = plays-refused (line.Inject bytes) old before after (λ setup state shelf good shows. inl (record { message = spelling.0; spells = spelling.1; is = refl })) (subst three none.2 (subst two none.1 (subst one is refuses))) in
+      subst (λ w. (PlaysAlone kit) (line.Inject bytes) old w before after) (sym none.1) there
+
   -- The time in force.
 
   pub plays-time : (now : ℤ) (old : Cluster Group) (before : List (List ℕ)) → IsMoment now → old.now ≤ℤ now → (PlaysAlone kit) (line.Time now) old (record old { now = now }) before before
@@ -188,9 +210,9 @@ module _ {Peers Group : Type 0} (kit : Kit Peers Group) (laws : IsKit kit) where
         armed = λ count armed. armed;
       }
 
-  -- A delivery that is refused: the net has no message of that number.
+  -- A delivery that is refused: the net has nothing of that number.
 
-  delivers-refused : (place : ℕ) (old : Cluster Group) (before after : List (List ℕ)) → ((setup : Setup) (state : State Peers) → (Shows kit) setup state old → message_at place state.world.net ≡ None) → (Does kit) ((refused kit) (line.Deliver place)) old old before after → (Does kit) ((deliver_at kit) place) old old before after
+  delivers-refused : (place : ℕ) (old : Cluster Group) (before after : List (List ℕ)) → ((setup : Setup) (state : State Peers) → (Shows kit) setup state old → posting_at place state.world.net ≡ None) → (Does kit) ((refused kit) (line.Deliver place)) old old before after → (Does kit) ((deliver_at kit) place) old old before after
   delivers-refused place old before after none refuses setup state good shows =
       let plain = plain_of setup in
       let same = ap (λ found. deliver_by plain (calm_servers kit setup) place found state) (none setup state shows) in

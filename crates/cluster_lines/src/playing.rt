@@ -1,6 +1,6 @@
 //! What each line of a script does to a cluster.
 ghost use Rattle.std.specs.Prelude.{◌≡◌, OnOk, OnErr, IfErr};
-ghost use Rattle.script_lines.specs.declared.line.Line.TheVariants.{Deliver, Push};
+ghost use Rattle.script_lines.specs.declared.line.Line.TheVariants.{Deliver, Push, Inject};
 ghost use Rattle.cluster_rounds.specs.Worlds.{HasState, HasStateOn, Does, any_state, pushed};
 ghost use Rattle.cluster_rounds.specs.Broken.{BreaksAlone};
 ghost use Rattle.cluster_rounds.specs.Came.{seen};
@@ -11,10 +11,10 @@ ghost use Rattle.cluster_lines.specs.Steps.{deliver_at, PlaysAlone};
 
 use crate::Scripted;
 use crate::showing::{refused, show_file, show_files, show_servers};
-use ais_values::Seq;
+use ais_values::{Seq, Text};
 use callback_dispatch::Gate;
 use client_agent::How;
-use cluster_rounds::{Cluster, deliver, dispatch, resend, settle};
+use cluster_rounds::{Cluster, deliver, dispatch, inject, resend, settle};
 use disk_model::{DiskAnswer, SharedDisk};
 use script_lines::Line;
 use std::alloc::{AllocError, Global};
@@ -22,7 +22,7 @@ use std::mem;
 use std::sync::Wait;
 use std::thread::Threads;
 
-/// The message of a line's number is delivered. The line is refused where the net has none of that number.
+/// The byte string of a line's number is delivered. The line is refused where the net has none of that number.
 fn deliver_line<R: Wait, S: Scripted>(
     rt: &R,
     alloc: Global,
@@ -73,6 +73,30 @@ fn push_line<S: Scripted>(
     }
 }
 
+/// Bytes are put into the net that no message spells. The line is refused where a message spells them.
+fn inject_line<S: Scripted>(
+    alloc: Global,
+    world: &mut Cluster<S>,
+    lines: &mut Vec<Seq<u8>>,
+    line: &Line,
+    bytes: &Text,
+) -> Result<(), AllocError>
+    requires { line.now ≡ Inject bytes.now }
+    ensures ok { OnOk result (PlaysAlone S.kit line.now world.old world.new lines.old.items
+        lines.new.items) }
+    ensures err { OnErr result (BreaksAlone S.kit world.old world.new) }
+{
+    match inject(alloc, world, lines, bytes.as_slice()) {
+        Ok(done) => {
+            if !done {
+                return refused(alloc, world, lines, line);
+            }
+            Ok(())
+        }
+        Err(error) => Err(error),
+    }
+}
+
 /// What a line does that leaves the disk alone. Other lines are no part of it, and answer as if memory ran out.
 fn play_alone<R: Threads + Wait + Sync, S: Scripted, G: Gate>(
     rt: &R,
@@ -99,6 +123,7 @@ fn play_alone<R: Threads + Wait + Sync, S: Scripted, G: Gate>(
         Line::Deliver { place } => deliver_line(rt, alloc, world, lines, line, *place),
         Line::Resend { client } => resend(alloc, world, lines, *client),
         Line::Push => push_line(alloc, world, lines, line),
+        Line::Inject { bytes } => inject_line(alloc, world, lines, line, bytes),
         Line::DispatchOne { client } => dispatch(rt, alloc, world, lines, *client, How::One, gate),
         Line::DispatchAll { client, workers } => {
             let how = How::All { workers: *workers };

@@ -14,7 +14,7 @@ use Rattle.service_laws.specs.StorageOf.{storage_of}
 use Rattle.service_laws.proofs.StorageLaws.{is_storage}
 use Rattle.cluster_facts.specs.Types.{Call, Reply, Entry}
 use Rattle.cluster_facts.specs.Lists.{Stands, EndsIn}
-use Rattle.cluster_facts.specs.Messages.{sent_by, receipts_of, calls_in}
+use Rattle.cluster_facts.specs.Messages.{sent_by, receipts_of, calls_in, messages_in}
 use Rattle.cluster_facts.specs.Service.{Plain}
 use Rattle.cluster_facts.specs.Storage.{Attempt, Between, dealt_in}
 use Rattle.cluster_facts.specs.Storage.Attempts.{none as no_attempt, more as one_more}
@@ -96,15 +96,15 @@ module _ {Peers Group : Type 0} (kit : Kit Peers Group) (laws : IsKit kit) where
   -- Events that broke off.
 
   -- in a sound world each client was fed items of subscriptions that it asked for
-  pub sound-fed : (plain : Plain) (world : World) → IsSound plain world → (client : ℕ) → IsFedOf plain world.core.answered (sent_by client world.net) client (fed_of (world.agents client))
+  pub sound-fed : (plain : Plain) (world : World) → IsSound plain world → (client : ℕ) → IsFedOf plain world.core.answered (sent_by client (messages_in world.net)) client (fed_of (world.agents client))
   sound-fed plain world sound client = record {
-    marks = receipts_of client world.net;
+    marks = receipts_of client (messages_in world.net);
     counted = (sound.facts.clients client).follows.counted;
     items = sound.facts.told client;
   }
 
   -- so after an event in which nobody asked
-  pub unasked-fed : (plain : Plain) (old new : World) → IsSound plain new → ((client : ℕ) → sent_by client new.net ≡ sent_by client old.net) → (client : ℕ) → IsFedOf plain new.core.answered (sent_by client old.net) client (fed_of (new.agents client))
+  pub unasked-fed : (plain : Plain) (old new : World) → IsSound plain new → ((client : ℕ) → sent_by client (messages_in new.net) ≡ sent_by client (messages_in old.net)) → (client : ℕ) → IsFedOf plain new.core.answered (sent_by client (messages_in old.net)) client (fed_of (new.agents client))
   unasked-fed plain old new sound same client =
       let F : List (ℕ × Call) → Type 0 = λ sent. IsFedOf plain new.core.answered sent client (fed_of (new.agents client)) in
       subst F (same client) (sound-fed plain new sound client)
@@ -169,7 +169,7 @@ module _ {Peers Group : Type 0} (kit : Kit Peers Group) (laws : IsKit kit) where
     pub sound : IsSound (plain_of setup) outcome.state
     pub says : Says (plain_of setup) old outcome.state outcome.told
     pub same : IsMoved old outcome.state
-    pub fed : (client : ℕ) → IsFedOf (plain_of setup) outcome.state.core.answered (sent_by client old.net) client (fed_of (outcome.state.agents client))
+    pub fed : (client : ℕ) → IsFedOf (plain_of setup) outcome.state.core.answered (sent_by client (messages_in old.net)) client (fed_of (outcome.state.agents client))
 
   -- a world with the net of one and the agents of another
   abbrev pub mixed : World → World → World → World
@@ -194,7 +194,7 @@ module _ {Peers Group : Type 0} (kit : Kit Peers Group) (laws : IsKit kit) where
   mixed-holds : (setup : Setup) (old : World) (of_net of_agents : Outcome World) → IsSound (plain_of setup) old → IsOfWorld setup old of_net → IsOfWorld setup old of_agents → Holds (plain_of setup) (mixed old of_net.state of_agents.state)
   mixed-holds setup old of_net of_agents sound net_is agents_are =
       let plain = plain_of setup in
-      let C : ℕ → Core → Type 0 = λ client core. EndsIn (sent_by client of_net.state.net) (calls_in client (committed core)) in
+      let C : ℕ → Core → Type 0 = λ client core. EndsIn (sent_by client (messages_in of_net.state.net)) (calls_in client (committed core)) in
       let F : ℕ → Core → Type 0 = λ client core. IsFed plain core.answered client (fed_of (of_agents.state.agents client)) in
       record {
         legal = (Sound-holds plain old sound).legal;
@@ -208,7 +208,7 @@ module _ {Peers Group : Type 0} (kit : Kit Peers Group) (laws : IsKit kit) where
       let world = state.world in
       let rest = mixed world of_net.state of_agents.state in
       let D : ℕ → Core → Type 0 = λ client core. AllByRecursion (λ (deal : ℕ × Call × Reply). Stands deal (dealt_in plain client core.answered)) (deals_told client of_agents.told) in
-      let F : ℕ → Core → Type 0 = λ client core. IsFedOf plain core.answered (sent_by client world.net) client (fed_of (of_agents.state.agents client)) in
+      let F : ℕ → Core → Type 0 = λ client core. IsFedOf plain core.answered (sent_by client (messages_in world.net)) client (fed_of (of_agents.state.agents client)) in
       let none : entries_told of_agents.told ≡ [] = grown-none (committed world.core) (entries_told of_agents.told) (sym (ap committed agents_are.same.core) ∙ agents_are.says.entries.grown) in
       record {
         rest = rest;

@@ -11,6 +11,7 @@ use Rattle.cluster_facts.specs.Types.{Entry, Message, Request, Answer, Delivery,
 use Rattle.cluster_facts.specs.Lists.{Stands}
 use Rattle.cluster_facts.specs.Service.{Plain}
 use Rattle.cluster_facts.specs.Agents.{Agent, fresh, resent}
+use Rattle.cluster_facts.specs.Messages.{Posting, Spelled, Raw, messages_in}
 use Rattle.cluster_facts.specs.World.{number_of}
 use Rattle.cluster_facts.specs.Facts.{IsOfRun}
 use Rattle.cluster_facts.proofs.Words.{All-map, All-at}
@@ -47,10 +48,10 @@ module _ {Peers Group : Type 0} (kit : Kit Peers Group) (laws : IsKit kit) where
 
   -- What an agent sends again is heard.
 
-  pub again-goes : (setup : Setup) (messages : List Message) (state : State Peers) → IsSteady (plain_of setup) kit.Good state → AllByRecursion (λ message. Stands message state.world.net) messages → Goes (SaysUnasked kit.Within (plain_of setup)) (IsSteady (plain_of setup) kit.Good) state (for_each ((again kit) setup) messages state)
+  pub again-goes : (setup : Setup) (messages : List Message) (state : State Peers) → IsSteady (plain_of setup) kit.Good state → AllByRecursion (λ message. Stands message (messages_in state.world.net)) messages → Goes (SaysUnasked kit.Within (plain_of setup)) (IsSteady (plain_of setup) kit.Good) state (for_each ((again kit) setup) messages state)
   again-goes setup messages state steady stands =
       let plain = plain_of setup in
-      for_each-goes plain (is_plain setup) (calm_servers kit setup) kit.Good ((calm-serves kit laws) setup) (SaysUnasked kit.Within plain) ((calm-unasked kit laws) setup) (IsSteady plain kit.Good) (λ message world. Stands message world.net) ((again kit) setup) (λ message now held there. hear-goes plain (is_plain setup) (calm_servers kit setup) kit.Good ((calm-serves kit laws) setup) (SaysUnasked kit.Within plain) ((calm-unasked kit laws) setup) (number_of plain message now.world.net) message now there held) (λ message old new stays there. stays.net message there) messages state steady stands
+      for_each-goes plain (is_plain setup) (calm_servers kit setup) kit.Good ((calm-serves kit laws) setup) (SaysUnasked kit.Within plain) ((calm-unasked kit laws) setup) (IsSteady plain kit.Good) (λ message world. Stands message (messages_in world.net)) ((again kit) setup) (λ message now held there. hear-goes plain (is_plain setup) (calm_servers kit setup) kit.Good ((calm-serves kit laws) setup) (SaysUnasked kit.Within plain) ((calm-unasked kit laws) setup) (number_of plain message now.world.net) message now there held) (λ message old new stays there. stays.net message there) messages state steady stands
 
   all-front : {X : Type 0} (P : X → Type 0) (front : List X) (x : X) → AllByRecursion P (front ++ x ∷ []) → AllByRecursion P front
   all-front P [] x all = tt
@@ -68,7 +69,7 @@ module _ {Peers Group : Type 0} (kit : Kit Peers Group) (laws : IsKit kit) where
       let plain = plain_of setup in
       let front = take count messages in
       let more : take (count + 1) messages ≡ front ++ message ∷ [] = take_more messages count message within ∙ ap (λ m. front ++ m ∷ []) (sym is) in
-      let S : Message → Type 0 = λ m. Stands m state.world.net in
+      let S : Message → Type 0 = λ m. Stands m (messages_in state.world.net) in
       let split : AllByRecursion S (front ++ message ∷ []) = subst (AllByRecursion S) more all in
       let heard = for_each ((again kit) setup) front state in
       let stands_front = all-front S front message split in
@@ -91,17 +92,18 @@ module _ {Peers Group : Type 0} (kit : Kit Peers Group) (laws : IsKit kit) where
   -- the world stands for a state in which these messages stand in the net
   pub still-standing : (messages : List Message) (count : ℕ) (old new : Cluster Group) (before after : List (List ℕ)) → (HasStateOf kit) (AllStandIn messages) old → (HearsAll kit) (take count messages) old new before after → (HasState kit) new
   still-standing messages count old new before after stand hears =
-      let all = All-take (λ m. Stands m stand.state.world.net) count messages stand.so in
+      let all = All-take (λ m. Stands m (messages_in stand.state.world.net)) count messages stand.so in
       let done = hears stand.setup stand.state stand.good stand.shows all in
       record { setup = stand.setup; state = (for_each ((again kit) stand.setup) (take count messages) stand.state).state; good = done.1; shows = done.0; so = tt }
 
   -- What is sent again.
 
-  stands-fits : (message : Message) (messages : List Message) (net : List (List ℕ)) → AreSpelled messages net → Stands message messages → MessageFits message
+  stands-fits : (message : Message) (postings : List Posting) (net : List (List ℕ)) → AreSpelled postings net → Stands message (messages_in postings) → MessageFits message
   stands-fits message [] net spelled stands = elim stands [ ]
-  stands-fits message (other ∷ messages) [] spelled stands = elim spelled [ ]
-  stands-fits message (other ∷ messages) (known ∷ net) spelled (inl same) = subst MessageFits (sym same) spelled.0.fits
-  stands-fits message (other ∷ messages) (known ∷ net) spelled (inr stands) = stands-fits message messages net spelled.1 stands
+  stands-fits message (posting ∷ postings) [] spelled stands = elim spelled [ ]
+  stands-fits message (Raw bytes front why ∷ postings) (known ∷ net) spelled stands = stands-fits message postings net spelled.1 stands
+  stands-fits message (Spelled other ∷ postings) (known ∷ net) spelled (inl same) = subst MessageFits (sym same) spelled.0.fits
+  stands-fits message (Spelled other ∷ postings) (known ∷ net) spelled (inr stands) = stands-fits message postings net spelled.1 stands
 
   fits-run : (plain : Plain) (past : List Entry) (message : Message) → IsOfRun plain past message → MessageFits message → MessageInRange message
   fits-run plain past (Request client number call) is fits = (fits.0, fits.1)
@@ -111,16 +113,16 @@ module _ {Peers Group : Type 0} (kit : Kit Peers Group) (laws : IsKit kit) where
   fits-run plain past _ is fits = elim is [ ]
 
   -- a message of the net is in range
-  pub standing-range : (setup : Setup) (state : State Peers) (old : Cluster Group) (message : Message) → (IsGood kit) setup state → (Shows kit) setup state old → Stands message state.world.net → MessageInRange message
+  pub standing-range : (setup : Setup) (state : State Peers) (old : Cluster Group) (message : Message) → (IsGood kit) setup state → (Shows kit) setup state old → Stands message (messages_in state.world.net) → MessageInRange message
   standing-range setup state old message good shows stands =
       let plain = plain_of setup in
-      fits-run plain state.world.core.answered message (All-at (IsOfRun plain state.world.core.answered) message state.world.net good.steady.sound.facts.run stands) (stands-fits message state.world.net old.net shows.net stands)
+      fits-run plain state.world.core.answered message (All-at (IsOfRun plain state.world.core.answered) message (messages_in state.world.net) good.steady.sound.facts.run stands) (stands-fits message state.world.net old.net shows.net stands)
 
   pub all-range : (messages : List Message) (old : Cluster Group) → (HasStateOf kit) (AllStandIn messages) old → AllByRecursion MessageInRange messages
   all-range messages old stand =
-      All-map (λ m. Stands m stand.state.world.net) MessageInRange messages (λ message stands. standing-range stand.setup stand.state old message stand.good stand.shows stands) stand.so
+      All-map (λ m. Stands m (messages_in stand.state.world.net)) MessageInRange messages (λ message stands. standing-range stand.setup stand.state old message stand.good stand.shows stands) stand.so
 
-  pub resent-stand : (setup : Setup) (client : ℕ) (state : State Peers) → (IsGood kit) setup state → AllByRecursion (λ message. Stands message state.world.net) (resent client (state.world.agents client))
+  pub resent-stand : (setup : Setup) (client : ℕ) (state : State Peers) → (IsGood kit) setup state → AllByRecursion (λ message. Stands message (messages_in state.world.net)) (resent client (state.world.agents client))
   resent-stand setup client state good = resent-posted (plain_of setup) client state.world good.steady.sound
 
   -- the messages that the agent of a client sends again
@@ -138,7 +140,7 @@ module _ {Peers Group : Type 0} (kit : Kit Peers Group) (laws : IsKit kit) where
         state = stands.state;
         good = stands.good;
         shows = stands.shows;
-        so = subst (λ ms. AllByRecursion (λ message. Stands message stands.state.world.net) ms) (sym same) (resent-stand stands.setup client stands.state stands.good);
+        so = subst (λ ms. AllByRecursion (λ message. Stands message (messages_in stands.state.world.net)) ms) (sym same) (resent-stand stands.setup client stands.state stands.good);
       }
 
   pub resends : (client at : ℕ) (old new : Cluster Group) (agent : Seen) (messages : List Message) (before after : List (List ℕ)) → place_of client old.agents ≡ Some at → agent ≡ get_or old.agents at agent → ((c places : ℕ) (a : Agent) → agent ≡ seen_of c places a → messages ≡ resent c a) → (HearsAll kit) messages old new before after → (Does kit) ((resent_by kit) client) old new before after

@@ -1,4 +1,4 @@
--- Messages that are read back from the net.
+-- Byte strings that are read back from the net.
 use Rattle.std.proofs.Common.{◌≡◌, ℕ, Bool, true, false, Some, None, List, refl, ap, sym, subst}
 use Rattle.wire.specs.declared.message.Message.{Message}
 use Rattle.wire.specs.MessageSpelling.{MessageFits, MessageInRange}
@@ -7,12 +7,14 @@ use Rattle.cluster_facts.specs.Types.{Entry, Request, Answer, Delivery, Receipt}
 use Rattle.cluster_facts.specs.Service.{Plain}
 use Rattle.cluster_facts.specs.Facts.{IsOfRun}
 use Rattle.cluster_facts.proofs.Words.{All-at}
-use Rattle.cluster_facts.proofs.Posting.{message_at-stands}
+use Rattle.cluster_facts.proofs.Posting.{posting_at-stands}
 use Rattle.client_agent.specs.Seen.{Seen}
+use Rattle.cluster_facts.specs.Messages.{messages_in}
 use Rattle.cluster_events.specs.Outcomes.{Outcome}
 use Rattle.cluster_events.specs.Servers.{State, Servers, in_world}
 use Rattle.cluster_events.specs.Events.{hear, delivered, deliver_by, deliver}
 use Rattle.cluster_rounds.specs.declared.cluster.Cluster.{Cluster}
+use Rattle.cluster_clients.specs.declared.fetching.Fetched.TheVariants.{Whole}
 use Rattle.cluster_clients.specs.Spelled.{IsFetched}
 use Rattle.cluster_clients.specs.Taken.{Takes, taken_as}
 use Rattle.cluster_rounds.specs.Delivered.{Delivers, delivered_by, is_for_agent, is_for_server}
@@ -65,16 +67,16 @@ module _ {Peers Group : Type 0} (kit : Kit Peers Group) (laws : IsKit kit) where
 
   pub delivers-none : (place : ℕ) (message : Message) (old : Cluster Group) (before after : List (List ℕ)) → is_for_agent message ≡ false → is_for_server message ≡ false → (DoesIf kit) (StandsIn message) ((delivered_by kit) place message) old old before after
   delivers-none place message old before after agent server setup state good shows stands =
-      absurd (is-for (plain_of setup) state.world.core.answered message (All-at (IsOfRun (plain_of setup) state.world.core.answered) message state.world.net good.steady.sound.facts.run stands) agent server)
+      absurd (is-for (plain_of setup) state.world.core.answered message (All-at (IsOfRun (plain_of setup) state.world.core.answered) message (messages_in state.world.net) good.steady.sound.facts.run stands) agent server)
 
   -- a message that was fetched is delivered
-  pub delivers-fetched : (place : ℕ) (message : Message) (old new : Cluster Group) (before after : List (List ℕ)) → IsFetched place old.net (Some message) → (DoesIf kit) (StandsIn message) ((delivered_by kit) place message) old new before after → (Delivers kit) place true old new before after
+  pub delivers-fetched : (place : ℕ) (message : Message) (old new : Cluster Group) (before after : List (List ℕ)) → IsFetched place old.net (Some (Whole message)) → (DoesIf kit) (StandsIn message) ((delivered_by kit) place message) old new before after → (Delivers kit) place true old new before after
   delivers-fetched place message old new before after fetched does setup state good shows =
       let plain = plain_of setup in
       let at = fetched.1 state.world.net shows.net in
       let same : deliver plain (calm_servers kit setup) place state ≡ delivered plain (calm_servers kit setup) place message state = ap (λ found. deliver_by plain (calm_servers kit setup) place found state) at in
       let H : Outcome (State Peers) → Type 0 = λ outcome. (Happened kit) setup outcome new before after in
-      subst H (sym same) (does setup state good shows (message_at-stands place state.world.net message at))
+      subst H (sym same) (does setup state good shows (posting_at-stands place state.world.net message at))
 
   pub delivers-nothing : (place : ℕ) (old : Cluster Group) (before : List (List ℕ)) → IsFetched place old.net None → (Delivers kit) place false old old before before
   delivers-nothing place old before fetched = (refl, refl, λ setup state shows. fetched state.world.net shows.net)

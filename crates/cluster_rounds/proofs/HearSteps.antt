@@ -5,6 +5,7 @@ use Rattle.std.specs.List.{AllByRecursion}
 use Rattle.cluster_facts.specs.Types.{Call, Reply, Entry, Called, Receipted, Message, Request, Answer, Delivery, Receipt}
 use Rattle.cluster_facts.specs.Service.{Plain, answers_in, is_new}
 use Rattle.cluster_facts.specs.History.{Hand, Empty, Waiting, Applied, Ready, Judged, New, Repeat, Old, Ahead, judged_call}
+use Rattle.cluster_facts.specs.Messages.{Posting, Spelled}
 use Rattle.cluster_facts.specs.World.{knows}
 use Rattle.cluster_events.specs.Lines.{Told, Posted, Committed, Ignored}
 use Rattle.cluster_events.specs.declared.lines.Why.{Why}
@@ -85,7 +86,7 @@ module _ {P : Type 0} (plain : Plain) (servers : Servers P) (Good : State P → 
       let past = length state.world.core.answered in
       let net = state.world.net in
       let message = Answer client number reply in
-      elim (knows plain message net) as (λ b. Measured past past (length net) (length (if b then net else message ∷ net)) (if b then [] else Posted (suc (length net)) message ∷ [])) [
+      elim (knows plain message net) as (λ b. Measured past past (length net) (length (if b then net else Spelled message ∷ net)) (if b then [] else Posted (suc (length net)) message ∷ [])) [
         | true ↦ measured-nothing past (length net)
         | false ↦ measured-answer past (length net) (suc (length net)) client number reply
       ]
@@ -121,7 +122,7 @@ pub record IsQuiet (told : List Told) : Type 0 where
   pub lines : kept_lines told ≡ printed told
   pub quiet : is_loud told ≡ false
 
-pub quiet-answer : (plain : Plain) (client number : ℕ) (reply : Reply) (net : List Message) → IsQuiet (post_lines plain (Answer client number reply) net)
+pub quiet-answer : (plain : Plain) (client number : ℕ) (reply : Reply) (net : List Posting) → IsQuiet (post_lines plain (Answer client number reply) net)
 quiet-answer plain client number reply net =
     elim (knows plain (Answer client number reply) net) as (λ b. IsQuiet (if b then [] else Posted (suc (length net)) (Answer client number reply) ∷ [])) [
       | true ↦ record { lines = refl; quiet = refl }
@@ -134,7 +135,7 @@ quiet-both second first one two = record {
   quiet = loud-append second first ∙ ap (λ b. b || is_loud second) one.quiet ∙ two.quiet;
 }
 
-quiet-item : (plain : Plain) (past : List Entry) (item : Message) (net : List Message) → IsMadeItem plain past item → IsQuiet (post_lines plain item net)
+quiet-item : (plain : Plain) (past : List Entry) (item : Message) (net : List Posting) → IsMadeItem plain past item → IsQuiet (post_lines plain item net)
 quiet-item plain past (Delivery client key item) net is =
     elim (knows plain (Delivery client key item) net) as (λ b. IsQuiet (if b then [] else Posted (suc (length net)) (Delivery client key item) ∷ [])) [
       | true ↦ record { lines = refl; quiet = refl }

@@ -8,7 +8,7 @@ use Rattle.service_laws.specs.PlainOf.{plain_of}
 use Rattle.service_laws.proofs.ServiceLaws.{is_plain}
 use Rattle.cluster_facts.specs.Types.{Call, Reply, Entry, Message, Request, Answer, Delivery}
 use Rattle.cluster_facts.specs.Lists.{Stands}
-use Rattle.cluster_facts.specs.Messages.{answers_to}
+use Rattle.cluster_facts.specs.Messages.{answers_to, messages_in}
 use Rattle.cluster_facts.specs.Service.{Plain}
 use Rattle.cluster_facts.specs.Agents.{Agent, resent}
 use Rattle.cluster_facts.specs.History.{committed, Core}
@@ -173,11 +173,11 @@ module _ {Peers Group : Type 0} (kit : Kit Peers Group) (laws : IsKit kit) where
 
   -- what Carrying says of servers, at a setup
   module _ (setup : Setup) where
-    pub turns-go : (fails : ℕ → Bool) (messages : List Message) (state : State Peers) → AtRest setup state → AllByRecursion (λ message. Stands message state.world.net) messages → Goes (SaysUnasked kit.Within (plain_of setup)) (AtRest setup) state ((turns_by kit) messages setup fails state)
+    pub turns-go : (fails : ℕ → Bool) (messages : List Message) (state : State Peers) → AtRest setup state → AllByRecursion (λ message. Stands message (messages_in state.world.net)) messages → Goes (SaysUnasked kit.Within (plain_of setup)) (AtRest setup) state ((turns_by kit) messages setup fails state)
     turns-go fails messages state rest stands =
         let plain = plain_of setup in
         let servers = servers_at kit setup fails in
-        for_each-goes plain (is_plain setup) servers kit.Good ((at-serves kit laws) setup fails) (SaysUnasked kit.Within plain) ((at-unasked kit laws) setup fails) (IsAtRest plain kit.Good) (λ message world. Stands message world.net) (turn plain servers) (turn-goes plain (is_plain setup) servers kit.Good ((at-serves kit laws) setup fails) (SaysUnasked kit.Within plain) ((at-unasked kit laws) setup fails)) (λ message old new stays stands. stays.net message stands) messages state rest stands
+        for_each-goes plain (is_plain setup) servers kit.Good ((at-serves kit laws) setup fails) (SaysUnasked kit.Within plain) ((at-unasked kit laws) setup fails) (IsAtRest plain kit.Good) (λ message world. Stands message (messages_in world.net)) (turn plain servers) (turn-goes plain (is_plain setup) servers kit.Good ((at-serves kit laws) setup fails) (SaysUnasked kit.Within plain) ((at-unasked kit laws) setup fails)) (λ message old new stays stands. stays.net message stands) messages state rest stands
 
     pub clients-go : (fails : ℕ → Bool) (clients : List ℕ) (state : State Peers) → AtRest setup state → Goes (SaysUnasked kit.Within (plain_of setup)) (AtRest setup) state ((clients_by kit) clients setup fails state)
     clients-go fails clients state rest =
@@ -187,11 +187,11 @@ module _ {Peers Group : Type 0} (kit : Kit Peers Group) (laws : IsKit kit) where
     drain-go fails state steady =
         drain-goes (plain_of setup) (is_plain setup) (servers_at kit setup fails) kit.Good ((at-serves kit laws) setup fails) (SaysUnasked kit.Within (plain_of setup)) ((at-unasked kit laws) setup fails) state steady
 
-    pub items-go : (items : List Message) (state : State Peers) → AtRest setup state → AllByRecursion (λ message. Stands message state.world.net) items → Goes (SaysUnasked kit.Within (plain_of setup)) (AtRest setup) state ((items_taken kit) items setup state)
+    pub items-go : (items : List Message) (state : State Peers) → AtRest setup state → AllByRecursion (λ message. Stands message (messages_in state.world.net)) items → Goes (SaysUnasked kit.Within (plain_of setup)) (AtRest setup) state ((items_taken kit) items setup state)
     items-go items state rest stands =
         let plain = plain_of setup in
         let servers = calm_servers kit setup in
-        for_each-goes plain (is_plain setup) servers kit.Good ((calm-serves kit laws) setup) (SaysUnasked kit.Within plain) ((calm-unasked kit laws) setup) (IsAtRest plain kit.Good) (λ message world. Stands message world.net) (λ item. in_world (take_pushed plain item)) (take_pushed-rests plain (is_plain setup) servers kit.Good ((calm-serves kit laws) setup) (SaysUnasked kit.Within plain) ((calm-unasked kit laws) setup)) (λ message old new stays stands. stays.net message stands) items state rest stands
+        for_each-goes plain (is_plain setup) servers kit.Good ((calm-serves kit laws) setup) (SaysUnasked kit.Within plain) ((calm-unasked kit laws) setup) (IsAtRest plain kit.Good) (λ message world. Stands message (messages_in world.net)) (λ item. in_world (take_pushed plain item)) (take_pushed-rests plain (is_plain setup) servers kit.Good ((calm-serves kit laws) setup) (SaysUnasked kit.Within plain) ((calm-unasked kit laws) setup)) (λ message old new stays stands. stays.net message stands) items state rest stands
 
     pub hear-go : (message : Message) (state : State Peers) → (IsGood kit) setup state → StandsIn message state → Goes (SaysUnasked kit.Within (plain_of setup)) (IsSteady (plain_of setup) kit.Good) state ((heard_so kit) message setup state)
     hear-go message state good stands =
@@ -203,7 +203,7 @@ module _ {Peers Group : Type 0} (kit : Kit Peers Group) (laws : IsKit kit) where
         let plain = plain_of setup in
         push-goes plain (is_plain setup) (calm_servers kit setup) kit.Good ((calm-serves kit laws) setup) (SaysUnasked kit.Within plain) ((calm-unasked kit laws) setup) state rest
 
-    pushed-stand : (state : State Peers) → AtRest setup state → AllByRecursion (λ message. Stands message ((pushed kit) setup state).state.world.net) ((plain_of setup).held state.world.core.answered)
+    pushed-stand : (state : State Peers) → AtRest setup state → AllByRecursion (λ message. Stands message (messages_in ((pushed kit) setup state).state.world.net)) ((plain_of setup).held state.world.core.answered)
     pushed-stand state rest =
         let plain = plain_of setup in
         push-stands plain (is_plain setup) (calm_servers kit setup) kit.Good ((calm-serves kit laws) setup) (SaysUnasked kit.Within plain) ((calm-unasked kit laws) setup) state rest
@@ -231,8 +231,8 @@ module _ {Peers Group : Type 0} (kit : Kit Peers Group) (laws : IsKit kit) where
 
   pub items-reach : (items : List Message) (index : ℕ) (item : Message) → index < length items → item ≡ get_or items index item → (setup : Setup) (state : State Peers) → (IsGood kit) setup state → IsIdleWithItems items state → StandsIn item ((items_taken kit) (take index items) setup state).state × IsItem item
   items-reach items index item below is setup state good so =
-      let goes = items-go setup (take index items) state (at-rest setup state good so.0.0) (All-take (λ m. Stands m state.world.net) index items so.0.1) in
-      (goes.stays.net item (All-at (λ m. Stands m state.world.net) index items item so.0.1 below is), All-at IsItem index items item so.1 below is)
+      let goes = items-go setup (take index items) state (at-rest setup state good so.0.0) (All-take (λ m. Stands m (messages_in state.world.net)) index items so.0.1) in
+      (goes.stays.net item (All-at (λ m. Stands m (messages_in state.world.net)) index items item so.0.1 below is), All-at IsItem index items item so.1 below is)
 
   -- the items that were pushed stand in the net
   made-item : (plain : Plain) (past : List Entry) (message : Message) → IsMadeItem plain past message → IsItem message
@@ -256,7 +256,7 @@ module _ {Peers Group : Type 0} (kit : Kit Peers Group) (laws : IsKit kit) where
   pushed-items items setup state good idle is =
       let rest = at-rest setup state good idle in
       let after = ((pushed kit) setup state).state in
-      (((push-go setup state rest).holds.empty, subst (λ (l : List Message). AllByRecursion (λ m. Stands m after.world.net) l) (sym is) (pushed-stand setup state rest)), subst (λ (l : List Message). AllByRecursion IsItem l) (sym is) (held-items setup state.world.core.answered))
+      (((push-go setup state rest).holds.empty, subst (λ (l : List Message). AllByRecursion (λ m. Stands m (messages_in after.world.net)) l) (sym is) (pushed-stand setup state rest)), subst (λ (l : List Message). AllByRecursion IsItem l) (sym is) (held-items setup state.world.core.answered))
 
   pub push-ready : (items : List Message) (old new : Cluster Group) (before after : List (List ℕ)) → (HasStateOf kit) IsIdle old → (Pushes kit) items old new before after → (HasStateOf kit) (IsIdleWithItems items) new
   push-ready items old new before after has pushes =
@@ -314,8 +314,8 @@ module _ {Peers Group : Type 0} (kit : Kit Peers Group) (laws : IsKit kit) where
       let is = finds world.net shows.net in
       let reply = is.0 in
       let answer = Answer client number reply in
-      let stands : Stands answer world.net = answers_to-posted client number reply world.net (reply_at-stands number (answers_to client world.net) reply is.2) in
-      let P : Message → Type 0 = λ m. Stands m world.net in
+      let stands : Stands answer (messages_in world.net) = answers_to-posted client number reply (messages_in world.net) (reply_at-stands number (answers_to client (messages_in world.net)) reply is.2) in
+      let P : Message → Type 0 = λ m. Stands m (messages_in world.net) in
       let taken = plays held setup state good shows (subst P (sym is.1) stands) in
       let own : (Played kit) setup state (in_world (taken_as plain 0 answer) state) new before after loud held held = subst (λ (m : Message). (Played kit) setup state (in_world (taken_as plain 0 m) state) new before after loud held held) is.1 taken in
       let place = number_of plain answer world.net in
@@ -326,8 +326,8 @@ module _ {Peers Group : Type 0} (kit : Kit Peers Group) (laws : IsKit kit) where
   -- the reply that is found stands in the net
   pub reply-stands : (client number : ℕ) (found : Message) (world : Cluster Group) → FindsReply client number world.net (Some found) → (setup : Setup) (state : State Peers) → (Shows kit) setup state world → StandsIn found state
   reply-stands client number found world finds setup state shows =
-      let net = state.world.net in
-      let is = finds net shows.net in
+      let net = messages_in state.world.net in
+      let is = finds state.world.net shows.net in
       let stands : Stands (Answer client number is.0) net = answers_to-posted client number is.0 net (reply_at-stands number (answers_to client net) is.0 is.2) in
       subst (λ (m : Message). Stands m net) (sym is.1) stands
 

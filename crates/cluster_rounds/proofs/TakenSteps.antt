@@ -1,19 +1,21 @@
 -- Events of agents and net in the world of the code: the servers stay as they are.
-use Rattle.std.proofs.Common.{◌≡◌, ℕ, Bool, zero, suc, ◌≤◌, ◌∷◌, arith, Option, Some, None, List, [], refl, ap, sym, ◌∙◌, subst}
+use Rattle.std.proofs.Common.{◌≡◌, ℕ, Bool, zero, suc, ◌≤◌, ◌∷◌, arith, true, false, inr, Option, Some, None, List, [], refl, ap, sym, ◌∙◌, subst}
 use Rattle.script_lines.specs.declared.line.Line.TheVariants as line
+use Rattle.wire.specs.Messages.{IsRefusedAt}
 use Rattle.plain_service.specs.Setups.{Setup, IsMoment}
 use Rattle.service_laws.specs.PlainOf.{plain_of}
 use Rattle.service_laws.proofs.ServiceLaws.{is_plain}
-use Rattle.cluster_facts.specs.Types.{Ask, Call, Status, Message, Answer, Delivery}
+use Rattle.cluster_facts.specs.Types.{Ask, Call, Status, Message, Answer, Delivery, WireWhy}
 use Rattle.cluster_facts.specs.Lists.{Stands}
 use Rattle.cluster_facts.specs.Service.{Plain}
 use Rattle.cluster_facts.specs.Agents.{Agent, refusal, call_of, dispatch_refusal}
 use Rattle.cluster_facts.specs.History.{Core, committed, accepted}
 use Rattle.cluster_facts.specs.Ranges.{AreInRange}
+use Rattle.cluster_facts.specs.Messages.{messages_in}
 use Rattle.cluster_facts.specs.World.{World}
 use Rattle.cluster_facts.specs.Facts.{IsSound}
 use Rattle.cluster_events.specs.Servers.{State, in_world}
-use Rattle.cluster_events.specs.ClientEvents.{ask_by, ask, dispatch_one_by, dispatch_all_by, dispatch_one, dispatch_all}
+use Rattle.cluster_events.specs.ClientEvents.{inject, ask_by, ask, dispatch_one_by, dispatch_all_by, dispatch_one, dispatch_all}
 use Rattle.cluster_events.specs.Running.{Shelf}
 use Rattle.cluster_events.specs.Saying.{Says}
 use Rattle.cluster_events.specs.Serving.{IsSteady}
@@ -24,8 +26,10 @@ use Rattle.client_agent.specs.Seen.{Seen, seen_of}
 use Rattle.cluster_rounds.specs.declared.cluster.Cluster.{Cluster}
 use Rattle.cluster_clients.specs.Asked.{AllStarted, Asks}
 use Rattle.cluster_clients.specs.Clients.{Dispatches, ShowsAgents, dispatch_as, seen_all}
-use Rattle.cluster_clients.specs.Spelled.{AreSpelled}
+use Rattle.cluster_clients.specs.Spelled.{AreSpelled, IsRaw, InjectsRaw}
+use Rattle.cluster_clients.specs.Spelled as clients
 use Rattle.cluster_clients.specs.Taken.{Takes, taken_as}
+use Rattle.cluster_rounds.specs.Delivered.{Injects}
 use Rattle.cluster_rounds.specs.Kits.{IsKit, Kit, calm_servers}
 use Rattle.cluster_rounds.specs.PartlyDone.{SaysUnasked}
 use Rattle.cluster_rounds.specs.Worlds.{Happened, HasState, IsGood, Shows}
@@ -83,9 +87,29 @@ module _ {Peers Group : Type 0} (kit : Kit Peers Group) (laws : IsKit kit) where
   given-kept setup One client state steady = (line-kept kit laws) setup any_shelf (line.DispatchOne client) state (in_world (dispatch_one client) state) steady refl
   given-kept setup (All workers) client state steady = (line-kept kit laws) setup any_shelf (line.DispatchAll client workers) state (in_world (dispatch_all client) state) steady refl
 
+  -- Bytes are injected.
+
+  pub injected-kept : (setup : Setup) (bytes : List ℕ) (front : ℕ) (why : WireWhy) (state : State Peers) → IsRefusedAt bytes front why → IsSteady (plain_of setup) kit.Good state → IsSteady (plain_of setup) kit.Good (in_world (inject bytes front why) state).state × Says (plain_of setup) state.world (inject bytes front why state.world).state (inject bytes front why state.world).told
+  injected-kept setup bytes front why state refused steady =
+      (line-kept kit laws) setup any_shelf (line.Inject bytes) state (in_world (inject bytes front why) state) steady (inr (record { front = front; why = why; refused = refused; is = refl }))
+
+  injects-happens : (setup : Setup) (bytes : List ℕ) (state : State Peers) (old : Cluster Group) (net : List (List ℕ)) (before after : List (List ℕ)) → (IsGood kit) setup state → (Shows kit) setup state old → (raw : IsRaw bytes) → InjectsRaw bytes old.net net before after → (Happened kit) setup (in_world (inject bytes raw.front raw.why) state) (record old { net = net }) before after
+  injects-happens setup bytes state old net before after good shows raw injects =
+      let done = injects raw.front raw.why state.world.net raw.refused shows.net in
+      let world = (inject bytes raw.front raw.why state.world).state in
+      let same : IsMoved state.world world = record { core = refl; now = refl; places = refl } in
+      let seen : ShowsAgents world old.agents = record { shown = shows.agents.shown; rising = shows.agents.rising; listed = shows.agents.listed } in
+      let steady = (injected-kept setup bytes raw.front raw.why state raw.refused good.steady).0 in
+      (shows-moved setup state world old net old.agents shows same done.0 seen, good-moved setup state world good same steady, done.1)
+
+  pub injects-so : (bytes : List ℕ) (done : Bool) (old : Cluster Group) (net : List (List ℕ)) (before after : List (List ℕ)) → clients.Injects bytes done old.net net before after → (Injects kit) bytes done old (record old { net = net }) before after
+  injects-so bytes true old net before after injects =
+      (injects.0, λ setup state good shows. injects-happens setup bytes state old net before after good shows injects.0 injects.1)
+  injects-so bytes false old net before after injects = (injects.0, ap (λ n. record old { net = n }) injects.1, injects.2)
+
   -- A message is delivered to an agent.
 
-  pub taken-goes : (setup : Setup) (place : ℕ) (message : Message) (world : World) → Stands message world.net → IsSound (plain_of setup) world → WorldGoes (plain_of setup) (SaysUnasked kit.Within (plain_of setup)) world (taken_as (plain_of setup) place message world)
+  pub taken-goes : (setup : Setup) (place : ℕ) (message : Message) (world : World) → Stands message (messages_in world.net) → IsSound (plain_of setup) world → WorldGoes (plain_of setup) (SaysUnasked kit.Within (plain_of setup)) world (taken_as (plain_of setup) place message world)
   taken-goes setup place (Answer client number reply) world stands sound =
       take_reply-goes (plain_of setup) (is_plain setup) (calm_servers kit setup) kit.Good ((calm-serves kit laws) setup) (SaysUnasked kit.Within (plain_of setup)) ((calm-unasked kit laws) setup) place client number reply world stands sound
   taken-goes setup place (Delivery client key item) world stands sound =
@@ -95,7 +119,7 @@ module _ {Peers Group : Type 0} (kit : Kit Peers Group) (laws : IsKit kit) where
   pub taken-moved : (plain : Plain) (place : ℕ) (message : Message) (world : World) → WorldGoes plain (SaysUnasked kit.Within plain) world (taken_as plain place message world) → IsMoved world (taken_as plain place message world).state
   taken-moved plain place message world goes = record { core = goes.core; now = goes.stays.now; places = goes.stays.places }
 
-  pub good-taken : (setup : Setup) (place : ℕ) (message : Message) (state : State Peers) → (IsGood kit) setup state → Stands message state.world.net → (IsGood kit) setup (in_world (taken_as (plain_of setup) place message) state).state
+  pub good-taken : (setup : Setup) (place : ℕ) (message : Message) (state : State Peers) → (IsGood kit) setup state → Stands message (messages_in state.world.net) → (IsGood kit) setup (in_world (taken_as (plain_of setup) place message) state).state
   good-taken setup place message state good stands =
       let plain = plain_of setup in
       let plainly = is_plain setup in
@@ -103,13 +127,13 @@ module _ {Peers Group : Type 0} (kit : Kit Peers Group) (laws : IsKit kit) where
       let steady = (in_world-goes plain plainly (calm_servers kit setup) kit.Good ((calm-serves kit laws) setup) (SaysUnasked kit.Within plain) ((calm-unasked kit laws) setup) (taken_as plain place message) state good.steady goes).holds in
       good-moved setup state (taken_as plain place message state.world).state good (taken-moved plain place message state.world goes) steady
 
-  pub shows-taken : (setup : Setup) (place : ℕ) (message : Message) (state : State Peers) (old : Cluster Group) (net : List (List ℕ)) (agents : List Seen) → (IsGood kit) setup state → Stands message state.world.net → (Shows kit) setup state old → AreSpelled (taken_as (plain_of setup) place message state.world).state.net net → ShowsAgents (taken_as (plain_of setup) place message state.world).state agents → (Shows kit) setup (in_world (taken_as (plain_of setup) place message) state).state (record old { net = net; agents = agents })
+  pub shows-taken : (setup : Setup) (place : ℕ) (message : Message) (state : State Peers) (old : Cluster Group) (net : List (List ℕ)) (agents : List Seen) → (IsGood kit) setup state → Stands message (messages_in state.world.net) → (Shows kit) setup state old → AreSpelled (taken_as (plain_of setup) place message state.world).state.net net → ShowsAgents (taken_as (plain_of setup) place message state.world).state agents → (Shows kit) setup (in_world (taken_as (plain_of setup) place message) state).state (record old { net = net; agents = agents })
   shows-taken setup place message state old net agents good stands shows spelled seen =
       let plain = plain_of setup in
       let goes = taken-goes setup place message state.world stands good.steady.sound in
       shows-moved setup state (taken_as plain place message state.world).state old net agents shows (taken-moved plain place message state.world goes) spelled seen
 
-  pub takes-happens : (setup : Setup) (place : ℕ) (message : Message) (state : State Peers) (old : Cluster Group) (net : List (List ℕ)) (agents : List Seen) (before after : List (List ℕ)) (loud : Bool) → (IsGood kit) setup state → (Shows kit) setup state old → Stands message state.world.net → Takes (Some place) message old.net net old.agents agents before after loud → (Happened kit) setup (in_world (taken_as (plain_of setup) place message) state) (record old { net = net; agents = agents }) before after
+  pub takes-happens : (setup : Setup) (place : ℕ) (message : Message) (state : State Peers) (old : Cluster Group) (net : List (List ℕ)) (agents : List Seen) (before after : List (List ℕ)) (loud : Bool) → (IsGood kit) setup state → (Shows kit) setup state old → Stands message (messages_in state.world.net) → Takes (Some place) message old.net net old.agents agents before after loud → (Happened kit) setup (in_world (taken_as (plain_of setup) place message) state) (record old { net = net; agents = agents }) before after
   takes-happens setup place message state old net agents before after loud good shows stands takes =
       let done = takes (plain_of setup) state.world (is_plain setup) shows.net shows.agents in
       (shows-taken setup place message state old net agents good stands shows done.0 done.1, good-taken setup place message state good stands, done.2)

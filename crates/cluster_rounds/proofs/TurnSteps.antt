@@ -9,6 +9,7 @@ use Rattle.service_laws.proofs.ServiceLaws.{is_plain}
 use Rattle.cluster_facts.specs.Types.{Message}
 use Rattle.cluster_facts.specs.Lists.{Stands}
 use Rattle.cluster_facts.specs.Agents.{Agent, fresh, resent}
+use Rattle.cluster_facts.specs.Messages.{messages_in}
 use Rattle.cluster_facts.specs.World.{number_of}
 use Rattle.cluster_events.specs.Lines.{Told}
 use Rattle.cluster_events.specs.Outcomes.{Outcome, quietly, and_then, for_each}
@@ -77,8 +78,8 @@ module _ {Peers Group : Type 0} (kit : Kit Peers Group) (laws : IsKit kit) where
 
   pub turns-lead : (messages : List Message) (index : ℕ) (message : Message) → index < length messages → message ≡ get_or messages index message → (LeadsBy kit laws) (IsIdleWithAll messages) (StandsIn message) ((turns_by kit) (take index messages))
   turns-lead messages index message below is setup fails state good so =
-      let goes = (turns-go kit laws) setup fails (take index messages) state ((at-rest kit laws) setup state good so.0) (All-take (λ m. Stands m state.world.net) index messages so.1) in
-      (goes.stays.net message ((All-at kit laws) (λ m. Stands m state.world.net) index messages message so.1 below is), goes.carried)
+      let goes = (turns-go kit laws) setup fails (take index messages) state ((at-rest kit laws) setup state good so.0) (All-take (λ m. Stands m (messages_in state.world.net)) index messages so.1) in
+      (goes.stays.net message ((All-at kit laws) (λ m. Stands m (messages_in state.world.net)) index messages message so.1 below is), goes.carried)
 
   pub clients-lead : (clients : List ℕ) → (LeadsBy kit laws) IsIdle IsIdle ((clients_by kit) clients)
   clients-lead clients setup fails state good idle =
@@ -90,8 +91,8 @@ module _ {Peers Group : Type 0} (kit : Kit Peers Group) (laws : IsKit kit) where
 
   pub items-lead : (items : List Message) (index : ℕ) (item : Message) → index < length items → item ≡ get_or items index item → (Leads kit laws) (IsIdleWithItems items) (StandsIn item) ((items_taken kit) (take index items))
   items-lead items index item below is setup state good so =
-      let goes = (items-go kit laws) setup (take index items) state ((at-rest kit laws) setup state good so.0.0) (All-take (λ m. Stands m state.world.net) index items so.0.1) in
-      (goes.stays.net item ((All-at kit laws) (λ m. Stands m state.world.net) index items item so.0.1 below is), goes.carried)
+      let goes = (items-go kit laws) setup (take index items) state ((at-rest kit laws) setup state good so.0.0) (All-take (λ m. Stands m (messages_in state.world.net)) index items so.0.1) in
+      (goes.stays.net item ((All-at kit laws) (λ m. Stands m (messages_in state.world.net)) index items item so.0.1 below is), goes.carried)
 
   takes-lead : (message : Message) → (Leads kit laws) any_state any_state ((answer_taken kit) message)
   takes-lead message setup state good so =
@@ -285,7 +286,7 @@ module _ {Peers Group : Type 0} (kit : Kit Peers Group) (laws : IsKit kit) where
 
   pub client-follows : (client : ℕ) (messages : List Message) (world : Cluster Group) → AreResent client messages world → (Follows kit laws) IsIdle (IsIdleWithAll messages) world
   client-follows client messages world are setup state good shows idle =
-      (idle, subst (λ (l : List Message). AllByRecursion (λ m. Stands m state.world.net) l) (sym (are setup state shows)) (resent-posted (plain_of setup) client state.world good.steady.sound))
+      (idle, subst (λ (l : List Message). AllByRecursion (λ m. Stands m (messages_in state.world.net)) l) (sym (are setup state shows)) (resent-posted (plain_of setup) client state.world good.steady.sound))
 
   pub client-ready : (client : ℕ) (messages : List Message) (world : Cluster Group) (armed : Option ℕ) → AreResent client messages world → (HasStateOn kit) IsIdle world armed → (HasStateOn kit) (IsIdleWithAll messages) world armed
   client-ready client messages world armed are has =

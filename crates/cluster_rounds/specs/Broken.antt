@@ -9,7 +9,7 @@ use Rattle.service_laws.specs.StorageOf.{storage_of}
 use Rattle.cluster_facts.specs.Types.{Call, Reply, Callback, Entry}
 use Rattle.cluster_facts.specs.Lists.{Stands, EndsIn, IsCounted}
 use Rattle.cluster_facts.specs.Service.{Plain}
-use Rattle.cluster_facts.specs.Messages.{sent_by, calls_in}
+use Rattle.cluster_facts.specs.Messages.{sent_by, calls_in, messages_in}
 use Rattle.cluster_facts.specs.Storage.{Between, dealt_in}
 use Rattle.cluster_facts.specs.Agents.{fed_of}
 use Rattle.cluster_facts.specs.History.{committed, time_of}
@@ -51,8 +51,8 @@ pub record Broken {P S : Type 0} (Within : ℤ → ℤ → Type 0) (setup : Setu
   pub deals :
       (client : ℕ)
       → AllByRecursion (λ (deal : ℕ × Call × Reply). Stands deal (dealt_in (plain_of setup) client rest.core.answered)) (deals_told client unseen)
-  pub asked : (client : ℕ) → EndsIn (sent_by client state.world.net) (calls_in client (committed rest.core))
-  pub fed : (client : ℕ) → IsFedOf (plain_of setup) rest.core.answered (sent_by client state.world.net) client (fed_of (rest.agents client))
+  pub asked : (client : ℕ) → EndsIn (sent_by client (messages_in state.world.net)) (calls_in client (committed rest.core))
+  pub fed : (client : ℕ) → IsFedOf (plain_of setup) rest.core.answered (sent_by client (messages_in state.world.net)) client (fed_of (rest.agents client))
   pub times : AllByRecursion (λ (line : ℕ × Entry). Within (time_of line.1) state.world.now) (entries_told unseen)
   pub stays : rest.now ≡ state.world.now
   pub net : AreSpelled rest.net world.net

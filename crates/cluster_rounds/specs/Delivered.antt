@@ -2,18 +2,21 @@
 use Rattle.std.specs.Prelude.{◌≡◌, ℕ, ◌≤◌, Bool, true, false, None, List}
 use Rattle.std.specs.List.{AllByRecursion}
 use Rattle.wire.specs.declared.message.Message.{Message}
+use Rattle.wire.specs.declared.message.WireWhy.{WireWhy}
 use Rattle.plain_service.specs.Setups.{Setup}
 use Rattle.service_laws.specs.PlainOf.{plain_of}
 use Rattle.cluster_facts.specs.Types.{Ask, Request, Answer, Delivery, Receipt}
 use Rattle.cluster_facts.specs.Lists.{Stands}
-use Rattle.cluster_facts.specs.World.{message_at, number_of}
+use Rattle.cluster_facts.specs.Messages.{messages_in}
+use Rattle.cluster_facts.specs.World.{posting_at, number_of}
 use Rattle.cluster_events.specs.Outcomes.{Outcome, for_each}
 use Rattle.cluster_events.specs.Servers.{State, in_world}
-use Rattle.cluster_events.specs.ClientEvents.{ask}
+use Rattle.cluster_events.specs.ClientEvents.{ask, inject}
 use Rattle.cluster_events.specs.Events.{hear, delivered, deliver, resend}
 use Rattle.client_agent.specs.declared.answers.How.{How}
 use Rattle.cluster_rounds.specs.declared.cluster.Cluster.{Cluster}
 use Rattle.cluster_clients.specs.Clients.{dispatch_as}
+use Rattle.cluster_clients.specs.Spelled.{IsRaw, IsSpelling}
 use Rattle.cluster_rounds.specs.Kits.{Kit, calm_servers}
 use Rattle.cluster_rounds.specs.Worlds.{Does, Event, Happened, IsGood, Shows}
 
@@ -30,7 +33,7 @@ is_for_server _ = false
 
 -- all these messages stand in the net
 abbrev pub AllStandIn : {P : Type 0} → List Message → State P → Type 0
-AllStandIn messages state = AllByRecursion (λ message. Stands message state.world.net) messages
+AllStandIn messages state = AllByRecursion (λ message. Stands message (messages_in state.world.net)) messages
 
 -- the client of a line is 1 to 4,096
 pub record IsCaller (client : ℕ) : Type 0 where
@@ -41,13 +44,21 @@ module _ {Peers Group : Type 0} (kit : Kit Peers Group) where
   abbrev pub delivered_by : ℕ → Message → Event kit
   delivered_by place message setup state = delivered (plain_of setup) (calm_servers kit setup) place message state
 
-  -- the message of a place was delivered, or there is none
+  -- the byte string of a place was delivered, or there is none
   abbrev pub Delivers : ℕ → Bool → Cluster Group → Cluster Group → List (List ℕ) → List (List ℕ) → Type 0
   Delivers place true old new before after =
       Does kit (λ setup state. deliver (plain_of setup) (calm_servers kit setup) place state) old new before after
   Delivers place false old new before after =
       (new ≡ old) × (after ≡ before)
-      × ((setup : Setup) (state : State Peers) → Shows kit setup state old → message_at place state.world.net ≡ None)
+      × ((setup : Setup) (state : State Peers) → Shows kit setup state old → posting_at place state.world.net ≡ None)
+
+  -- bytes are injected that no message spells, or nothing was done since a message spells them
+  abbrev pub injected_by : List ℕ → ℕ → WireWhy → Event kit
+  injected_by bytes front why setup state = in_world (inject bytes front why) state
+
+  abbrev pub Injects : List ℕ → Bool → Cluster Group → Cluster Group → List (List ℕ) → List (List ℕ) → Type 0
+  Injects bytes true old new before after = (raw : IsRaw bytes) × Does kit (injected_by bytes raw.front raw.why) old new before after
+  Injects bytes false old new before after = IsSpelling bytes × (new ≡ old) × (after ≡ before)
 
   -- a message that an agent sends again is heard
   abbrev pub again : Setup → Message → State Peers → Outcome (State Peers)

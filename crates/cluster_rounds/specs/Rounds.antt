@@ -6,7 +6,7 @@ use Rattle.plain_service.specs.Setups.{Setup}
 use Rattle.service_laws.specs.PlainOf.{plain_of}
 use Rattle.cluster_facts.specs.Types.{Message, Delivery}
 use Rattle.cluster_facts.specs.Lists.{Stands}
-use Rattle.cluster_facts.specs.Messages.{answers_to}
+use Rattle.cluster_facts.specs.Messages.{answers_to, messages_in}
 use Rattle.cluster_facts.specs.World.{number_of}
 use Rattle.cluster_events.specs.Outcomes.{Outcome, for_each}
 use Rattle.cluster_events.specs.Servers.{State, in_world, advances, drain}
@@ -21,7 +21,7 @@ use Rattle.cluster_rounds.specs.Worlds.{Event, IsGood, IsIdle, LeavesFiles, Show
 
 -- nothing is in hand, and the messages stand in the net
 abbrev pub IsIdleWithAll : {P : Type 0} → List Message → State P → Type 0
-IsIdleWithAll messages state = IsIdle state × AllByRecursion (λ message. Stands message state.world.net) messages
+IsIdleWithAll messages state = IsIdle state × AllByRecursion (λ message. Stands message (messages_in state.world.net)) messages
 
 -- the message brings an item
 abbrev pub IsItem : Message → Type 0
@@ -62,7 +62,7 @@ module _ {Peers Group : Type 0} (kit : Kit Peers Group) where
   -- the reply to the call of this number is delivered, if the net has one
   abbrev pub reply_taken : ℕ → ℕ → Event kit
   reply_taken client number setup state =
-      in_world (take_answer_by (plain_of setup) client number (reply_at number (answers_to client state.world.net))) state
+      in_world (take_answer_by (plain_of setup) client number (reply_at number (answers_to client (messages_in state.world.net)))) state
 
   abbrev pub answer_taken : Message → Event kit
   answer_taken message setup state = in_world (take_answer (plain_of setup) message) state

@@ -6,6 +6,7 @@ use Rattle.plain_service.specs.Storing.{files_of}
 use Rattle.service_laws.specs.PlainOf.{plain_of}
 use Rattle.cluster_facts.specs.Types.{Message}
 use Rattle.cluster_facts.specs.Lists.{Stands}
+use Rattle.cluster_facts.specs.Messages.{messages_in}
 use Rattle.cluster_facts.specs.History.{Empty, committed, accepted}
 use Rattle.cluster_facts.specs.Ranges.{AreInRange}
 use Rattle.cluster_events.specs.Outcomes.{Outcome}
@@ -28,7 +29,7 @@ LeavesFiles setup state held left = left ≡ option_map (λ files. files_of setu
 
 -- the message stands in the net
 abbrev pub StandsIn : {P : Type 0} → Message → State P → Type 0
-StandsIn message state = Stands message state.world.net
+StandsIn message state = Stands message (messages_in state.world.net)
 
 -- nothing is in hand
 abbrev pub IsIdle : {P : Type 0} → State P → Type 0

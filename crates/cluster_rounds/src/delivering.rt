@@ -1,5 +1,5 @@
-//! Messages of the net that are delivered.
-ghost use Rattle.std.specs.Prelude.{◌≡◌, true, IfOk, OnOk, OnErr};
+//! Byte strings of the net that are delivered.
+ghost use Rattle.std.specs.Prelude.{◌≡◌, true, Some, IfOk, OnOk, OnErr};
 ghost use Rattle.wire.specs.MessageSpelling.{MessageFits};
 ghost use Rattle.cluster_rounds.specs.Worlds.{DoesIf, HasState, StandsIn};
 ghost use Rattle.cluster_rounds.specs.Delivered.{Delivers, delivered_by, is_for_agent, is_for_server};
@@ -8,7 +8,9 @@ ghost use Rattle.cluster_clients.specs.Spelled.{IsFetched};
 
 use crate::{Cluster, Serving};
 use ais_values::Seq;
-use cluster_clients::{fetch, take};
+use cluster_clients::{Fetched, fetch, take};
+use cluster_events::Why;
+use event_text::put_ignored;
 use std::alloc::{AllocError, Global};
 use std::mem;
 use std::sync::Wait;
@@ -81,14 +83,40 @@ fn deliver_message<R: Wait, S: Serving>(
     Ok(())
 }
 
-/// The same of a message that was fetched, if there is one.
+/// Delivers what was fetched: a message to its agent or the active server; bytes that no message spells have no effect, whatever is
+/// in hand.
+fn deliver_fetched<R: Wait, S: Serving>(
+    rt: &R,
+    alloc: Global,
+    world: &mut Cluster<S>,
+    lines: &mut Vec<Seq<u8>>,
+    place: u64,
+    fetched: Fetched,
+) -> Result<(), AllocError>
+    requires state { HasState S.kit world.old }
+    requires fetched { IsFetched place world.old.net (Some fetched) }
+    ensures ok { OnOk result (Delivers S.kit place true world.old world.new lines.old.items
+        lines.new.items) }
+    ensures err { OnErr result (BreaksAlone S.kit world.old world.new) }
+{
+    match fetched {
+        Fetched::Whole { message } => {
+            let done = deliver_message(rt, alloc, world, lines, place, &message);
+            mem::drop(message);
+            done
+        }
+        Fetched::Bad { front, why } => put_ignored(alloc, lines, place, Why::Bad { front, why }),
+    }
+}
+
+/// The same of what was fetched, if there is something.
 fn deliver_found<R: Wait, S: Serving>(
     rt: &R,
     alloc: Global,
     world: &mut Cluster<S>,
     lines: &mut Vec<Seq<u8>>,
     place: u64,
-    found: Option<Message>,
+    found: Option<Fetched>,
 ) -> Result<bool, AllocError>
     requires state { HasState S.kit world.old }
     requires fetched { IsFetched place world.old.net found }
@@ -98,18 +126,14 @@ fn deliver_found<R: Wait, S: Serving>(
 {
     match found {
         None => Ok(false),
-        Some(message) => {
-            let done = deliver_message(rt, alloc, world, lines, place, &message);
-            mem::drop(message);
-            match done {
-                Ok(()) => Ok(true),
-                Err(error) => Err(error),
-            }
-        }
+        Some(fetched) => match deliver_fetched(rt, alloc, world, lines, place, fetched) {
+            Ok(()) => Ok(true),
+            Err(error) => Err(error),
+        },
     }
 }
 
-/// Delivers the message of this number in the net, and answers whether there is one.
+/// Delivers the byte string of this number in the net, and answers whether there is one.
 pub fn deliver<R: Wait, S: Serving>(
     rt: &R,
     alloc: Global,

@@ -6,15 +6,16 @@ use Rattle.ais_values.specs.Statuses.{status_word}
 use Rattle.script_grammar.specs.Writing.{joined}
 use Rattle.script_language.specs.Printing.{server_text, shown_note_text, line_text}
 use Rattle.sub_queue.specs.declared.item.Lost.{Lost}
-use Rattle.cluster_facts.specs.Types.{Status, Reply, Refused as Rejected, Done, Sent, Found, Entry, Called, Receipted}
+use Rattle.cluster_facts.specs.Types.{Status, WireWhy, Reply, Refused as Rejected, Done, Sent, Found, Entry, Called, Receipted}
 use Rattle.cluster_facts.specs.Types.{Callback, Written, Notified, Discarded, Message, Request, Answer, Delivery, Receipt}
+use Rattle.wire.specs.declared.message.WireWhy.TheVariants.{Trailing, Short, BadValue}
 use Rattle.cluster_events.specs.declared.lines.ServerRole.{ServerRole}
 use Rattle.cluster_events.specs.declared.lines.ServerRole.TheVariants.{Active, Armed, Standby, Joining, Down}
 use Rattle.cluster_events.specs.declared.lines.Why.{Why}
 use Rattle.cluster_events.specs.declared.lines.Why.TheVariants.{OldRequest, AheadRequest, Busy, DoneReceipt, AnsweredReply}
-use Rattle.cluster_events.specs.declared.lines.Why.TheVariants.{Left, TakenItem, AheadItem, GoneItem}
+use Rattle.cluster_events.specs.declared.lines.Why.TheVariants.{Left, TakenItem, AheadItem, GoneItem, Bad}
 use Rattle.cluster_events.specs.declared.lines.Standing.{Standing}
-use Rattle.cluster_events.specs.Lines.{Told, Posted, Committed, Replied, Declined, HandedOut, Dispatched, Ignored, Refused, Stood, Listed, Shown}
+use Rattle.cluster_events.specs.Lines.{Told, Posted, Injected, Committed, Replied, Declined, HandedOut, Dispatched, Ignored, Refused, Stood, Listed, Shown}
 
 abbrev pub line_end : List ℕ
 line_end = 10 ∷ []
@@ -30,6 +31,10 @@ post_lines place (Delivery client key item) =
 post_lines place (Receipt client key through) =
     joined (codes "post " ∷ decimal place ∷ codes " rcpt " ∷ decimal client ∷ codes " " ∷ decimal key ∷ codes " " ∷ decimal through ∷ line_end ∷ []) ∷ []
 post_lines place _ = []
+
+-- injected bytes, so many, enter the net
+unfoldable pub raw_line : ℕ → ℕ → List ℕ
+raw_line place count = joined (codes "post " ∷ decimal place ∷ codes " raw " ∷ decimal count ∷ line_end ∷ [])
 
 -- an entry is committed
 unfoldable pub entry_line : ℕ → Entry → List ℕ
@@ -91,7 +96,13 @@ callback_lines client number (Discarded id lost) = lost_lines client number id l
 unfoldable pub dispatched_line : ℕ → ℕ → List ℕ
 dispatched_line client count = joined (codes "reply " ∷ decimal client ∷ codes " - ok dispatched=" ∷ decimal count ∷ line_end ∷ [])
 
--- a delivered message had no effect
+-- what is wrong where bytes stop to be the front of a message
+abbrev pub fault_text : WireWhy → List ℕ
+fault_text Trailing = codes "trailing"
+fault_text Short = codes "short"
+fault_text BadValue = codes "value"
+
+-- a delivered byte string had no effect
 abbrev pub why_text : Why → List ℕ
 why_text OldRequest = codes "old"
 why_text AheadRequest = codes "ahead"
@@ -102,6 +113,7 @@ why_text Left = codes "left"
 why_text TakenItem = codes "taken"
 why_text AheadItem = codes "ahead"
 why_text GoneItem = codes "gone"
+why_text (Bad front why) = codes "bad " ++ (decimal front ++ (codes " " ++ fault_text why))
 
 unfoldable pub ignored_line : ℕ → Why → List ℕ
 ignored_line place why = joined (codes "ignored " ∷ decimal place ∷ codes " " ∷ why_text why ∷ line_end ∷ [])
@@ -144,6 +156,7 @@ text_line text = joined (codes "text " ∷ text ∷ line_end ∷ [])
 -- what is printed of each line that an event tells. The callback of losses of several types is printed in several lines
 abbrev pub lines_of : Told → List (List ℕ)
 lines_of (Posted place message) = post_lines place message
+lines_of (Injected place bytes front why) = raw_line place (length bytes) ∷ []
 lines_of (Committed index entry) = entry_line index entry ∷ []
 lines_of (Replied client number call reply) = reply_line client number reply ∷ []
 lines_of (Declined client status) = declined_line client status ∷ []

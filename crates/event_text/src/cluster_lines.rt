@@ -1,6 +1,6 @@
 //! Lines on the net, the history, servers and files.
 ghost use Rattle.std.specs.Prelude.{◌≡◌, ◌++◌, ◌∷◌, [], OnOk, OnErr};
-ghost use Rattle.event_text.specs.Texts.{post_lines, entry_line, ignored_line, refused_line, server_line, file_line, text_line};
+ghost use Rattle.event_text.specs.Texts.{post_lines, raw_line, entry_line, ignored_line, refused_line, server_line, file_line, text_line};
 
 use crate::pieces::{Piece, put_line};
 use ais_values::Seq;
@@ -87,6 +87,30 @@ pub fn put_post(
     }
 }
 
+/// Adds the line of injected bytes, so many, that enter the net under this number. Where memory runs out nothing is added.
+#[tactic(auto, unfolding(crate::specs::Texts::raw_line))]
+pub fn put_raw(
+    alloc: Global,
+    lines: &mut Vec<Seq<u8>>,
+    number: u64,
+    count: u64,
+) -> Result<(), AllocError>
+    ensures ok { OnOk result (lines.new.items ≡ lines.old.items ++ raw_line number count ∷ []) }
+    ensures err { OnErr result (lines.new.items ≡ lines.old.items) }
+{
+    put_line(
+        alloc,
+        lines,
+        &[
+            Piece::Word(b"post "),
+            Piece::Number(number),
+            Piece::Word(b" raw "),
+            Piece::Number(count),
+            Piece::Word(b"\n"),
+        ],
+    )
+}
+
 /// Adds the line of an entry that is committed under this number. Where memory runs out nothing is added.
 #[tactic(auto, unfolding(crate::specs::Texts::entry_line))]
 pub fn put_entry(
@@ -145,7 +169,7 @@ pub fn put_entry(
     }
 }
 
-/// Adds the line of a delivered message, that of this number in the net, which had no effect. Where memory runs out nothing is
+/// Adds the line of a delivered byte string, that of this number in the net, which had no effect. Where memory runs out nothing is
 /// added.
 #[tactic(auto, unfolding(crate::specs::Texts::ignored_line))]
 pub fn put_ignored(

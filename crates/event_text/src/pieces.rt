@@ -2,7 +2,7 @@
 ghost use Rattle.std.specs.Prelude.{◌≡◌, ◌++◌, ◌∷◌, [], OnOk, OnErr, codes};
 ghost use Rattle.std.specs.Fmt.{decimal};
 ghost use Rattle.std.specs.List.{flat_map, join_by};
-ghost use Rattle.event_text.specs.Texts.{why_text, role_text};
+ghost use Rattle.event_text.specs.Texts.{fault_text, why_text, role_text};
 ghost use Rattle.event_text.specs.Pieces.{piece_text};
 
 use ais_values::{Seq, Status};
@@ -11,6 +11,7 @@ use ntf_types::Notification;
 use script_lines::{Line, Server};
 use script_printer::{Printable, print_line, print_note, put, put_all, put_number, put_signed};
 use std::alloc::{AllocError, Global};
+use wire::WireWhy;
 
 /// A piece of a line.
 #[derive(Clone, Copy)]
@@ -70,7 +71,18 @@ fn put_ids(alloc: Global, out: &mut Vec<u8>, numbers: &[u64]) -> Result<(), Allo
     }
 }
 
-/// Adds the reason for which a message had no effect.
+/// Adds the word of what is wrong where bytes stop to be the front of a message.
+fn put_fault(out: &mut Vec<u8>, why: WireWhy) -> Result<(), AllocError>
+    ensures { OnOk result (out.new.items ≡ out.old.items ++ fault_text why) }
+{
+    match why {
+        WireWhy::Trailing => put(out, b"trailing"),
+        WireWhy::Short => put(out, b"short"),
+        WireWhy::BadValue => put(out, b"value"),
+    }
+}
+
+/// Adds the reason for which a byte string had no effect.
 #[tactic(auto, using(script_printer::proofs::Chain::chained))]
 fn put_why(alloc: Global, out: &mut Vec<u8>, why: Why) -> Result<(), AllocError>
     ensures { OnOk result (out.new.items ≡ out.old.items ++ why_text why) }
@@ -89,6 +101,13 @@ fn put_why(alloc: Global, out: &mut Vec<u8>, why: Why) -> Result<(), AllocError>
         Why::TakenItem => put(out, b"taken"),
         Why::AheadItem => put(out, b"ahead"),
         Why::GoneItem => put(out, b"gone"),
+        Why::Bad { front, why } => {
+            put(out, b"bad ")?;
+            put_number(alloc, out, u64::from(front))?;
+            put(out, b" ")?;
+            put_fault(out, why)?;
+            Ok(())
+        }
     }
 }
 

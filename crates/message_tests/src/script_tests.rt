@@ -29,12 +29,13 @@ const FORMS: &str =
     ntf 1 subscribe 1 filter objects types=0x1001,0x1002 objs=\"a\",\"b\" bys=\"c\" classes=1.2.3,4.5.6 sources=1,2 causes=3 sevs=4,5 \
     filter attributes filter states sources=1 filter alarm sevs=5 filter security causes=65535\n\
     ntf 1 unsubscribe 0\nntf 1 reader mode=7 value=-1 filter alarm\nntf 1 read 2\nntf 1 endread\nntf 1 fini\n\
-    deliver 3\nresend 4096\nmirror\nack\nwork\npush\nsettle\ncrash a\narm b 12\ndisarm\nrestart b\ndispatch 7 one\n\
+    deliver 3\nresend 4096\nmirror\nack\nwork\npush\ninject \"\"\ninject \"\\x09\"\nsettle\ncrash a\narm b 12\ndisarm\nrestart b\ndispatch 7 one\n\
     dispatch 8 all workers=4\nservers\nfiles\ncat \"a\\\"b\\\\c \\x00\\x7f\\xff~\"\n";
 
 /// Lines, and behind `>` how each is written again.
 const SPELLINGS: &str = "\
     cat \"\\x41\">cat \"A\"\n\
+    inject \"\\x01\\x7e\\x22\\x5c\\x7f\\x00\">inject \"\\x01~\\\"\\\\\\x7f\\x00\"\n\
     ntf 1 reader mode=0 value=-0>ntf 1 reader mode=0 value=0\n\
     log 1 open app:\"\\x61\" create file=\"f\" path=\".\" max=1 rec=1 ha=0 full=wrap rot=1 \
     fmt=\"@Cr @Ch:@Cn:@Cs @Cm/@Cd/@CY @Sv @Sl \\\"@Cb\\\"\"\
@@ -100,6 +101,17 @@ const FORMLESS: &str = "\
     Mirror\n\
     cat \"a\n\
     cat \"\\xFF\"\n\
+    inject\n\
+    inject \n \
+    inject \"a\"\n\
+    inject  \"a\"\n\
+    inject \"a\" \n\
+    inject \"a\n\
+    inject \"a\"\"\n\
+    inject \"\\x9\"\n\
+    inject \"\\x0A\"\n\
+    inject \"\t\"\n\
+    inject 09\n\
     log 0 fini\n\
     log 1  fini\n\
     log 1 fini \n\
@@ -177,7 +189,7 @@ fn each_form_is_written_and_read(rt: HostRuntime) {
         }
         Err(answer) => assert!(rt; false, "{answer:?}"),
     }
-    assert!(rt; told(&rt, alloc, FORMS.as_bytes()).as_str() == "43");
+    assert!(rt; told(&rt, alloc, FORMS.as_bytes()).as_str() == "45");
 }
 
 /// The second of two lines as it is written, or nothing where there are not two.
@@ -272,10 +284,11 @@ fn the_least_bad_line_is_told(rt: HostRuntime) {
     }
 }
 
-// A text of so many bytes is read, or refused.
-fn text_of(rt: &impl Abort, alloc: Global, length: usize, wanted: &str) {
+// Behind this word a text of so many bytes is read, or refused.
+fn text_of(rt: &impl Abort, alloc: Global, word: &str, length: usize, wanted: &str) {
     let mut text = CLUSTER.as_bytes().to_vec(alloc).expect(rt, "memory");
-    text.extend_from_slice(b"cat \"\\xff").expect(rt, "memory");
+    text.extend_from_slice(word.as_bytes()).expect(rt, "memory");
+    text.extend_from_slice(b" \"\\xff").expect(rt, "memory");
     for _ in 1..length {
         text.push(b'x').expect(rt, "memory");
     }
@@ -286,8 +299,42 @@ fn text_of(rt: &impl Abort, alloc: Global, length: usize, wanted: &str) {
 #[test]
 fn a_text_has_at_most_16384_bytes(rt: HostRuntime) {
     let alloc = rt.alloc();
-    text_of(&rt, alloc, 16_384, "2");
-    text_of(&rt, alloc, 16_385, "2 grammar");
+    for word in ["cat", "inject"] {
+        text_of(&rt, alloc, word, 16_384, "2");
+        text_of(&rt, alloc, word, 16_385, "2 grammar");
+    }
+}
+
+/// The byte strings that the lines put into the net, one behind the other.
+fn injected(rt: &impl Abort, alloc: Global, lines: &Seq<Line>) -> Vec<u8> {
+    let mut all = Vec::new(alloc);
+    for line in lines.as_slice() {
+        if let Line::Inject { bytes } = line {
+            all.extend_from_slice(bytes.as_slice()).expect(rt, "memory");
+        }
+    }
+    all
+}
+
+#[test]
+fn every_byte_can_be_spelled(rt: HostRuntime) {
+    let alloc = rt.alloc();
+    let mut text = CLUSTER.as_bytes().to_vec(alloc).expect(&rt, "memory");
+    let mut wanted = Vec::new(alloc);
+    for byte in 0..=u8::MAX {
+        let line = format!(in alloc; "inject \"\\x{byte:02x}\"\n").expect(&rt, "memory");
+        text.extend_from_slice(line.as_bytes())
+            .expect(&rt, "memory");
+        wanted.push(byte).expect(&rt, "memory");
+    }
+    match parsed(&rt, alloc, text.as_slice()) {
+        Ok(lines) => {
+            let all = injected(&rt, alloc, &lines);
+            drop(lines);
+            assert!(rt; all.as_slice() == wanted.as_slice());
+        }
+        Err(answer) => assert!(rt; false, "{answer:?}"),
+    }
 }
 
 /// The notification that the second of two lines sends, as it is shown, or nothing where there is none.

@@ -2,7 +2,7 @@
 use Rattle.std.proofs.Common.{◌≡◌, ℕ, ℤ, suc, inl, Bool, true, false, if◌then◌else◌, List, [], ◌∷◌, ◌++◌, length, refl}
 use Rattle.cluster_facts.specs.Types.{Call, Reply, Entry, Called, Receipted, Message, Answer}
 use Rattle.cluster_facts.specs.Lists.{Stands}
-use Rattle.cluster_facts.specs.Messages.{sent_by}
+use Rattle.cluster_facts.specs.Messages.{Posting, Spelled, messages_in, sent_by}
 use Rattle.cluster_facts.specs.Service.{Plain, IsPlain, answers_in}
 use Rattle.cluster_facts.specs.Agents.{Agent}
 use Rattle.cluster_facts.specs.History.{Empty, Ready}
@@ -23,35 +23,35 @@ reply-stands plain past client number time call =
     by_test P client client (λ same. inl refl) (λ different. absurd (different refl))
 
 -- the facts go on
-pub answer-facts : (plain : Plain) → IsPlain plain → (now : ℤ) (past : List Entry) (entry : Entry) (net : List Message) (agents : ℕ → Agent) → Facts plain now (entry ∷ past) past net agents → Facts plain now (entry ∷ past) (entry ∷ past) (net_answering plain past entry net) agents
+pub answer-facts : (plain : Plain) → IsPlain plain → (now : ℤ) (past : List Entry) (entry : Entry) (net : List Posting) (agents : ℕ → Agent) → Facts plain now (entry ∷ past) past (messages_in net) agents → Facts plain now (entry ∷ past) (entry ∷ past) (messages_in (net_answering plain past entry net)) agents
 answer-facts plain is_plain now past (Called client number time call) net agents facts =
     let entry = Called client number time call in
-    Facts-post_answer plain is_plain now (entry ∷ past) (entry ∷ past) net agents client number (plain.reply past client number time call) (reply-stands plain past client number time call) (Facts-answered plain is_plain now (entry ∷ past) past net agents entry facts)
+    Facts-post_answer plain is_plain now (entry ∷ past) (entry ∷ past) net agents client number (plain.reply past client number time call) (reply-stands plain past client number time call) (Facts-answered plain is_plain now (entry ∷ past) past (messages_in net) agents entry facts)
 answer-facts plain is_plain now past (Receipted client key through time) net agents facts =
-    Facts-answered plain is_plain now (Receipted client key through time ∷ past) past net agents (Receipted client key through time) facts
+    Facts-answered plain is_plain now (Receipted client key through time ∷ past) past (messages_in net) agents (Receipted client key through time) facts
 
 -- no message goes from the net
-pub answer-net : (plain : Plain) → IsPlain plain → (past : List Entry) (entry : Entry) (net : List Message) (message : Message) → Stands message net → Stands message (net_answering plain past entry net)
+pub answer-net : (plain : Plain) → IsPlain plain → (past : List Entry) (entry : Entry) (net : List Posting) (message : Message) → Stands message (messages_in net) → Stands message (messages_in (net_answering plain past entry net))
 answer-net plain is_plain past (Called client number time call) net message stands = posted-keeps plain is_plain (Answer client number (plain.reply past client number time call)) message net stands
 answer-net plain is_plain past (Receipted client key through time) net message stands = stands
 
 -- no client sends anything
-pub answer-sent : (plain : Plain) (past : List Entry) (entry : Entry) (net : List Message) (client : ℕ) → sent_by client (net_answering plain past entry net) ≡ sent_by client net
+pub answer-sent : (plain : Plain) (past : List Entry) (entry : Entry) (net : List Posting) (client : ℕ) → sent_by client (messages_in (net_answering plain past entry net)) ≡ sent_by client (messages_in net)
 answer-sent plain past (Called caller number time call) net client =
     let message = Answer caller number (plain.reply past caller number time call) in
-    elim (knows plain message net) as (λ b. sent_by client (if b then net else message ∷ net) ≡ sent_by client net) [ true ↦ refl | false ↦ refl ]
+    elim (knows plain message net) as (λ b. sent_by client (messages_in (if b then net else Spelled message ∷ net)) ≡ sent_by client (messages_in net)) [ true ↦ refl | false ↦ refl ]
 answer-sent plain past (Receipted caller key through time) net client = refl
 
 -- A relation of worlds and lines holds where it holds as the entry in hand becomes an answered one, and as a reply is posted.
-pub answer-goes : (plain : Plain) (R : World → World → List Told → Type 0) → ((one two three : World) (first second : List Told) → R one two first → R two three second → R one three (second ++ first)) → ((world : World) (client number : ℕ) (reply : Reply) → R world (record world { net = Answer client number reply ∷ world.net }) (Posted (suc (length world.net)) (Answer client number reply) ∷ [])) → ((world : World) (past : List Entry) (entry : Entry) → R (with_core past (Ready entry) world) (with_core (entry ∷ past) Empty world) []) → (world : World) (past : List Entry) (entry : Entry) → R (with_core past (Ready entry) world) (record (with_core (entry ∷ past) Empty world) { net = net_answering plain past entry world.net }) (lines_answering plain past entry world.net)
+pub answer-goes : (plain : Plain) (R : World → World → List Told → Type 0) → ((one two three : World) (first second : List Told) → R one two first → R two three second → R one three (second ++ first)) → ((world : World) (client number : ℕ) (reply : Reply) → R world (record world { net = Spelled (Answer client number reply) ∷ world.net }) (Posted (suc (length world.net)) (Answer client number reply) ∷ [])) → ((world : World) (past : List Entry) (entry : Entry) → R (with_core past (Ready entry) world) (with_core (entry ∷ past) Empty world) []) → (world : World) (past : List Entry) (entry : Entry) → R (with_core past (Ready entry) world) (record (with_core (entry ∷ past) Empty world) { net = net_answering plain past entry world.net }) (lines_answering plain past entry world.net)
 answer-goes plain R both posts answered world past (Called client number time call) =
     let entry = Called client number time call in
     let reply = plain.reply past client number time call in
     let message = Answer client number reply in
     let old : World = with_core past (Ready entry) world in
     let done : World = with_core (entry ∷ past) Empty world in
-    elim (knows plain message world.net) as (λ b. R old (record done { net = if b then world.net else message ∷ world.net }) (if b then [] else Posted (suc (length world.net)) message ∷ [])) [
+    elim (knows plain message world.net) as (λ b. R old (record done { net = if b then world.net else Spelled message ∷ world.net }) (if b then [] else Posted (suc (length world.net)) message ∷ [])) [
       | true ↦ answered world past entry
-      | false ↦ both old done (record done { net = message ∷ world.net }) [] (Posted (suc (length world.net)) message ∷ []) (answered world past entry) (posts done client number reply)
+      | false ↦ both old done (record done { net = Spelled message ∷ world.net }) [] (Posted (suc (length world.net)) message ∷ []) (answered world past entry) (posts done client number reply)
     ]
 answer-goes plain R both posts answered world past (Receipted client key through time) = answered world past (Receipted client key through time)

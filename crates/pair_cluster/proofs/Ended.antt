@@ -5,7 +5,7 @@ use Rattle.script_lines.specs.declared.line.Line.TheVariants as line
 use Rattle.script_lines.specs.declared.line.Server.{Server}
 use Rattle.cluster_facts.specs.Types.{Call, Reply, Entry, Called, Receipted, Answer}
 use Rattle.cluster_facts.specs.Lists.{Stands, IsNumbered}
-use Rattle.cluster_facts.specs.Messages.{calls_in}
+use Rattle.cluster_facts.specs.Messages.{calls_in, messages_in}
 use Rattle.cluster_facts.specs.Service.{Plain, IsPlain}
 use Rattle.cluster_facts.specs.History.{Hand, Empty, Waiting, Applied, Ready, committed, committed_by}
 use Rattle.cluster_facts.specs.World.{World}
@@ -45,10 +45,10 @@ left-agrees Linking = tt
 left-agrees (Standby on_way) = tt
 
 -- a call whose entry is ready has no reply in the net
-unposted : (plain : Plain) (world : World) (past : List Entry) (client number : ℕ) (time : ℤ) (call : Call) (reply : Reply) → IsSound plain (with_core past (Ready (Called client number time call)) world) → Stands (Answer client number reply) world.net → ⊥
+unposted : (plain : Plain) (world : World) (past : List Entry) (client number : ℕ) (time : ℤ) (call : Call) (reply : Reply) → IsSound plain (with_core past (Ready (Called client number time call)) world) → Stands (Answer client number reply) (messages_in world.net) → ⊥
 unposted plain world past client number time call reply sound stands =
     let before = calls_in client past in
-    let told = All-at (IsOfRun plain past) (Answer client number reply) world.net sound.facts.run stands in
+    let told = All-at (IsOfRun plain past) (Answer client number reply) (messages_in world.net) sound.facts.run stands in
     let called = answers-called plain client number reply past told in
     let N : Bool → Type 0 = λ b. IsNumbered (if b then (number, call) ∷ before else before) → (number ≡ suc (length before)) × IsNumbered before in
     let numbered = by_test N client client (λ same of. of) (λ different. absurd (different refl)) (sound.facts.legal.numbered client) in
@@ -57,7 +57,7 @@ unposted plain world past client number time call reply sound stands =
     absurd (omega arith)
 
 -- nor has the last entry where it is in hand
-lacks-last : (plain : Plain) (world : World) (past : List Entry) (hand : Hand) (entry : Entry) → hand ≡ Ready entry → IsSound plain (with_core past hand world) → LacksLast (committed_by past hand) world.net
+lacks-last : (plain : Plain) (world : World) (past : List Entry) (hand : Hand) (entry : Entry) → hand ≡ Ready entry → IsSound plain (with_core past hand world) → LacksLast (committed_by past hand) (messages_in world.net)
 lacks-last plain world past (Ready (Called client number time call)) entry is sound =
     λ reply stands. unposted plain world past client number time call reply sound stands
 lacks-last plain world past (Ready (Receipted client key through time)) entry is sound = tt
@@ -86,7 +86,7 @@ module _ (plain : Plain) (is_plain : IsPlain plain) (device : Device) where
 
   -- what is left where a work ends: nothing is in hand, and the last entry has no reply
   abbrev IsLeft : State Peers → Type 0
-  IsLeft state = (state.world.core.hand ≡ Empty) × LacksLast state.world.core.answered state.world.net
+  IsLeft state = (state.world.core.hand ≡ Empty) × LacksLast state.world.core.answered (messages_in state.world.net)
 
   work-tells : (state : State Peers) (end : Outcome (State Peers)) → IsSteady plain IsPair state → EndsPair device state end → Tells state end × IsLeft end.state
   work-tells state end steady ends =
@@ -108,7 +108,7 @@ module _ (plain : Plain) (is_plain : IsPlain plain) (device : Device) where
   line-tells line.Settle state end steady ends = let tells = settle-ends state end steady ends in (tells.0, tells.1.0)
   line-tells _ state end steady ends = elim ends [ ]
 
-  pub line-lacks : (next : Line) (state : State Peers) (end : Outcome (State Peers)) → IsSteady plain IsPair state → is_crash next ≡ false → PairEnds plain device next state end → LacksLast end.state.world.core.answered end.state.world.net
+  pub line-lacks : (next : Line) (state : State Peers) (end : Outcome (State Peers)) → IsSteady plain IsPair state → is_crash next ≡ false → PairEnds plain device next state end → LacksLast end.state.world.core.answered (messages_in end.state.world.net)
   line-lacks line.Work state end steady calm ends = (work-tells state end steady ends).1.1
   line-lacks line.Settle state end steady calm ends = (settle-ends state end steady ends).1.1
   line-lacks (line.Crash server) state end steady calm ends = cc

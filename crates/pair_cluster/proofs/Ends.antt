@@ -4,6 +4,7 @@ use Rattle.std.specs.List.{AllByRecursion}
 use Rattle.cluster_facts.specs.Types.{Message}
 use Rattle.cluster_facts.specs.Lists.{Stands}
 use Rattle.cluster_facts.specs.Service.{Plain, IsPlain}
+use Rattle.cluster_facts.specs.Messages.{messages_in}
 use Rattle.cluster_facts.specs.World.{World, number_of}
 use Rattle.cluster_facts.proofs.Words.{All-map, All-of}
 use Rattle.cluster_events.specs.Lines.{Told}
@@ -69,7 +70,7 @@ module _ {P : Type 0} (plain : Plain) (is_plain : IsPlain plain) (servers : Serv
         behind-tells (StepEnds servers AtWork) state (advances servers ends.steps state) end before ends.ends
         (λ last stops. works (advances servers ends.steps state).state last before.0 stops.works)
 
-    turn-tells : (message : Message) (state : State P) (end : Outcome (State P)) → IsAtRest plain Good state → Stands message state.world.net → TurnEnds plain servers AtWork message state end → TellsOf state end
+    turn-tells : (message : Message) (state : State P) (end : Outcome (State P)) → IsAtRest plain Good state → Stands message (messages_in state.world.net) → TurnEnds plain servers AtWork message state end → TellsOf state end
     turn-tells message state end rest stands ends =
         let heard = hear plain servers (number_of plain message state.world.net) message state in
         let hears = hear-goes plain is_plain servers Good serving R carried (number_of plain message state.world.net) message state stands rest.steady in
@@ -85,7 +86,7 @@ module _ {P : Type 0} (plain : Plain) (is_plain : IsPlain plain) (servers : Serv
 
     client-tells : (client : ℕ) (state : State P) (end : Outcome (State P)) → IsAtRest plain Good state → ClientEnds plain servers AtWork client state end → TellsOf state end
     client-tells client state end rest ends =
-        each-tells (λ message world. Stands message world.net) (turn plain servers) (TurnEnds plain servers AtWork)
+        each-tells (λ message world. Stands message (messages_in world.net)) (turn plain servers) (TurnEnds plain servers AtWork)
         (turn-goes plain is_plain servers Good serving R carried) (λ message old new stays stands. stays.net message stands) turn-tells rest
         (resent-posted plain client state.world rest.steady.sound) ends
 

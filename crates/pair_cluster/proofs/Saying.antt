@@ -4,7 +4,7 @@ use Rattle.script_lines.specs.declared.line.Line.{Line}
 use Rattle.script_lines.specs.declared.line.Server.{Server}
 use Rattle.cluster_facts.specs.Types.{Reply, Entry, Called, Receipted, Answer}
 use Rattle.cluster_facts.specs.Lists.{IsNumbered}
-use Rattle.cluster_facts.specs.Messages.{calls_in}
+use Rattle.cluster_facts.specs.Messages.{Spelled, messages_in, calls_in}
 use Rattle.cluster_facts.specs.Service.{Plain, IsPlain, answers_in}
 use Rattle.cluster_facts.specs.History.{Hand, Empty, Waiting, Applied, Ready, New, Repeat, Old, Ahead, judged, IsLegal, MayFollow, committed_by}
 use Rattle.cluster_facts.specs.World.{World}
@@ -76,11 +76,11 @@ says-over plain world past hand = record {
   deals = λ client. tt;
 }
 
-says-posted : (plain : Plain) (world : World) (client number : ℕ) (reply : Reply) → Says plain world (record world { net = Answer client number reply ∷ world.net }) (Posted (suc (length world.net)) (Answer client number reply) ∷ [])
+says-posted : (plain : Plain) (world : World) (client number : ℕ) (reply : Reply) → Says plain world (record world { net = Spelled (Answer client number reply) ∷ world.net }) (Posted (suc (length world.net)) (Answer client number reply) ∷ [])
 says-posted plain world client number reply =
     let says = Says-same plain world in
     record {
-      posts = Grows-one (Answer client number reply) world.net;
+      posts = Grows-one (Spelled (Answer client number reply)) world.net;
       entries = says.entries;
       answers = says.answers;
       replies = says.replies;
@@ -117,7 +117,7 @@ spends-applied : (plain : Plain) → IsPlain plain → (world : World) (past : L
 spends-applied plain is_plain world past entry sound =
     let before = IsLegal-before plain world.now entry past sound.facts.legal in
     let may = legal-follows plain world.now past entry sound.facts.legal in
-    let fewer = unheard-accepted world.net entry past (may-waits plain is_plain world.now past entry before may) sound.facts.heard.0 in
+    let fewer = unheard-accepted (messages_in world.net) entry past (may-waits plain is_plain world.now past entry before may) sound.facts.heard.0 in
     record { paid = omega arith }
 
 pub spends-borne : (plain : Plain) → IsPlain plain → Bears plain Spends

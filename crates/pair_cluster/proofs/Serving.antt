@@ -2,7 +2,7 @@
 use Rattle.std.proofs.Common.{◌≡◌, suc, Bool, true, false, ◌||◌, Option, Some, List, [], ◌∷◌, ◌++◌, length, refl, ap, sym, ◌∙◌, subst}
 use Rattle.cluster_facts.specs.Types.{Entry}
 use Rattle.cluster_facts.specs.Lists.{Stands}
-use Rattle.cluster_facts.specs.Messages.{message_of}
+use Rattle.cluster_facts.specs.Messages.{messages_in, message_of}
 use Rattle.cluster_facts.specs.Service.{Plain, IsPlain}
 use Rattle.cluster_facts.specs.History.{Hand, Empty, Waiting, Applied, Ready, Core, accepted, accepted_by, MayFollow, time_of}
 use Rattle.cluster_facts.specs.World.{World}
@@ -123,7 +123,7 @@ module _ (plain : Plain) (is_plain : IsPlain plain) (device : Device) (R : World
   accept-hand entry state (Applied other) empty at sound = cc
   accept-hand entry state (Ready other) empty at sound = cc
 
-  pub accept-kept : (entry : Entry) (state : State Peers) → IsSteady plain IsPair state → state.world.core.hand ≡ Empty → MayFollow plain state.world.core.answered entry → time_of entry ≡ state.world.now → Stands (message_of entry) state.world.net → R state.world (accept_pair entry state).state.world (accept_pair entry state).told
+  pub accept-kept : (entry : Entry) (state : State Peers) → IsSteady plain IsPair state → state.world.core.hand ≡ Empty → MayFollow plain state.world.core.answered entry → time_of entry ≡ state.world.now → Stands (message_of entry) (messages_in state.world.net) → R state.world (accept_pair entry state).state.world (accept_pair entry state).told
   accept-kept entry state steady empty may at stands =
       accept-hand entry state state.world.core.hand empty at (accept-sound plain entry (Waiting entry) state.world empty refl may at stands steady.sound)
 

@@ -2,7 +2,7 @@
 use Rattle.std.proofs.Common.{ℕ, ℤ, List, [], ◌∷◌, refl}
 use Rattle.cluster_facts.specs.Types.{Entry, Message}
 use Rattle.cluster_facts.specs.Lists.{EndsIn}
-use Rattle.cluster_facts.specs.Messages.{sent_by}
+use Rattle.cluster_facts.specs.Messages.{messages_in, sent_by}
 use Rattle.cluster_facts.specs.Service.{Plain, IsPlain}
 use Rattle.cluster_facts.specs.Agents.{Agent}
 use Rattle.cluster_facts.specs.History.{Hand, Empty, Waiting, Applied, Ready, accepted_by, committed_by}
@@ -45,7 +45,7 @@ facts-over plain is_plain now past (Ready entry) net agents facts = Facts-answer
 -- all that was committed is answered, and an entry that waited is gone
 pub sound-over : (plain : Plain) → IsPlain plain → (past : List Entry) (hand : Hand) (world : World) → IsSound plain (with_core past hand world) → IsSound plain (with_core (committed_by past hand) Empty world)
 sound-over plain is_plain past hand world sound = record {
-  facts = facts-over plain is_plain world.now past hand world.net world.agents sound.facts;
+  facts = facts-over plain is_plain world.now past hand (messages_in world.net) world.agents sound.facts;
   listed = sound.listed;
 }
 

@@ -5,6 +5,7 @@ use Rattle.script_lines.specs.declared.line.Line.TheVariants as line
 use Rattle.script_lines.specs.declared.line.Server.{Server}
 use Rattle.cluster_facts.specs.Types.{Reply, Entry, Called, Message, Answer}
 use Rattle.cluster_facts.specs.Lists.{Stands, without}
+use Rattle.cluster_facts.specs.Messages.{messages_in}
 use Rattle.cluster_facts.specs.Service.{Plain, IsPlain}
 use Rattle.cluster_facts.specs.History.{Empty, Ready, committed}
 use Rattle.cluster_events.specs.Lines.{Told, Stood, is_ignored}
@@ -78,13 +79,14 @@ EndKeepsPromises =
     → RunBy (PairStepBy plain shelf calls) (pair_start now places) first lines state told mark → PairEnds plain device next state end
     → AtEnd plain end.state.world (end.told ++ told)
 
--- the net has no reply to the last of these entries
+-- none of these messages is a reply to the last of these entries
 abbrev pub LacksLast : List Entry → List Message → Type 0
-LacksLast (Called client number time call ∷ past) net = (reply : Reply) → Stands (Answer client number reply) net → ⊥
-LacksLast _ net = Unit {0}
+LacksLast (Called client number time call ∷ past) messages = (reply : Reply) → Stands (Answer client number reply) messages → ⊥
+LacksLast _ messages = Unit {0}
 
 -- and no reply is posted to the last call, whose work failed, but behind a crash
 abbrev pub EndLacksReply : Type 0
 EndLacksReply =
     (plain : Plain) → IsPlain plain → (device : Device) (next : Line) (state : State Peers) (end : Outcome (State Peers)) → IsSteady plain IsPair state
-    → is_crash next ≡ false → PairEnds plain device next state end → LacksLast end.state.world.core.answered end.state.world.net
+    → is_crash next ≡ false → PairEnds plain device next state end
+    → LacksLast end.state.world.core.answered (messages_in end.state.world.net)

@@ -16,6 +16,7 @@ use Rattle.service_laws.proofs.ServiceLaws.{is_plain}
 use Rattle.service_laws.proofs.HistoryLaws.{history-of}
 use Rattle.cluster_facts.specs.Types.{Entry}
 use Rattle.cluster_facts.specs.Lists.{Stands}
+use Rattle.cluster_facts.specs.Messages.{messages_in}
 use Rattle.cluster_facts.specs.History.{Hand, Empty, Waiting, Applied, Ready, accepted, accepted_by, committed_by}
 use Rattle.cluster_events.specs.Servers.{State}
 use Rattle.cluster_events.specs.Serving.{IsSteady}
@@ -92,7 +93,7 @@ hear-conditions world message has range =
 abbrev pub GoesSo : Setup → State Peers → Outcome (State Peers) → Type 0
 GoesSo setup state outcome = Goes (SaysUnasked pair_kit.Within (plain_of setup)) (IsSteady (plain_of setup) IsPair) state outcome
 
-pub heard-goes : (setup : Setup) (place : ℕ) (message : Message) (state : State Peers) → IsGood pair_kit setup state → Stands message state.world.net → GoesSo setup state (heard_by pair_kit place message setup state)
+pub heard-goes : (setup : Setup) (place : ℕ) (message : Message) (state : State Peers) → IsGood pair_kit setup state → Stands message (messages_in state.world.net) → GoesSo setup state (heard_by pair_kit place message setup state)
 heard-goes setup place message state good stands =
     let plain = plain_of setup in
     hear-goes plain (is_plain setup) (servers_at pair_kit setup (λ number. false)) IsPair ((calm-serves pair_kit pair_laws) setup) (SaysUnasked pair_kit.Within plain) ((calm-unasked pair_kit pair_laws) setup) place message state stands good.steady

@@ -11,6 +11,7 @@ use Rattle.service_laws.specs.PlainOf.{plain_of}
 use Rattle.service_laws.proofs.ServiceLaws.{is_plain}
 use Rattle.cluster_facts.specs.Types.{Call, Reply, Entry, Message, Request, Answer, Receipt}
 use Rattle.cluster_facts.specs.Lists.{Stands}
+use Rattle.cluster_facts.specs.Messages.{Posting, messages_in}
 use Rattle.cluster_facts.specs.Service.{Plain, is_new}
 use Rattle.cluster_facts.specs.History.{Hand, Empty, Waiting, Applied, Ready, Judged, New, Repeat, Old, Ahead, judged_call}
 use Rattle.cluster_facts.specs.World.{posted}
@@ -99,23 +100,23 @@ has-room setup state old shows room empty = room-by setup state state.world.core
 
 -- Messages that were posted in part.
 
-none-taken : (plain : Plain) (net : List Message) (count : ℕ) → posted_all plain (take count []) net ≡ net
+none-taken : (plain : Plain) (net : List Posting) (count : ℕ) → posted_all plain (take count []) net ≡ net
 none-taken plain net zero = refl
 none-taken plain net (suc count) = refl
 
 -- none was to be posted
-pub posts-none : (setup : Setup) (net : List Message) (old new : List (List ℕ)) → PostsSome [] old new → AreSpelled net old → AreSpelled net new
+pub posts-none : (setup : Setup) (net : List Posting) (old new : List (List ℕ)) → PostsSome [] old new → AreSpelled net old → AreSpelled net new
 posts-none setup net old new posts spelled =
     let done = posts (plain_of setup) net (is_plain setup) spelled in
     subst (λ messages. AreSpelled messages new) (none-taken (plain_of setup) net done.0) done.1
 
-one-taken : (plain : Plain) (message : Message) (net : List Message) (new : List (List ℕ)) (count : ℕ) → AreSpelled (posted_all plain (take count (message ∷ [])) net) new → AreSpelled net new ⊎ AreSpelled (posted plain message net) new
+one-taken : (plain : Plain) (message : Message) (net : List Posting) (new : List (List ℕ)) (count : ℕ) → AreSpelled (posted_all plain (take count (message ∷ [])) net) new → AreSpelled net new ⊎ AreSpelled (posted plain message net) new
 one-taken plain message net new zero spelled = inl spelled
 one-taken plain message net new (suc count) spelled =
     inr (subst (λ messages. AreSpelled messages new) (none-taken plain (posted plain message net) count) spelled)
 
 -- one was
-pub posts-one : (setup : Setup) (message : Message) (net : List Message) (old new : List (List ℕ)) → PostsSome (message ∷ []) old new → AreSpelled net old → AreSpelled net new ⊎ AreSpelled (posted (plain_of setup) message net) new
+pub posts-one : (setup : Setup) (message : Message) (net : List Posting) (old new : List (List ℕ)) → PostsSome (message ∷ []) old new → AreSpelled net old → AreSpelled net new ⊎ AreSpelled (posted (plain_of setup) message net) new
 posts-one setup message net old new posts spelled =
     let done = posts (plain_of setup) net (is_plain setup) spelled in
     one-taken (plain_of setup) message net new done.0 done.1
@@ -164,7 +165,7 @@ module _ (setup : Setup) (state : State Peers) (old : Cluster Pair) (active : No
   rest-breaks plain node place (Receipt client key through) is posts goes = receipt-breaks plain node client key through (is_new (plain_of setup) state.world.core.answered client key through) is posts
   rest-breaks plain node place _ is posts goes = quiet-breaks (subst Posts is.0 posts)
 
-hears-break-by : (setup : Setup) (state : State Peers) (hand : Hand) (old : Cluster Pair) (active : Node) (link : List Message) (net : List (List ℕ)) (history : Pushed) (heard : Heard) (place : ℕ) (message : Message) (held : Option Files) (new : Node) → IsGood pair_kit setup (pair_at state.peers.partner hand state) → Shows pair_kit setup (pair_at state.peers.partner hand state) old → Stands message state.world.net → IsHeard message old.now old.servers.active heard active → PostsSome heard.to_net old.net net → history.entries ≡ old.history.entries → Broken pair_kit.Within setup (pair_at state.peers.partner hand state) held held (left_as old new link net history)
+hears-break-by : (setup : Setup) (state : State Peers) (hand : Hand) (old : Cluster Pair) (active : Node) (link : List Message) (net : List (List ℕ)) (history : Pushed) (heard : Heard) (place : ℕ) (message : Message) (held : Option Files) (new : Node) → IsGood pair_kit setup (pair_at state.peers.partner hand state) → Shows pair_kit setup (pair_at state.peers.partner hand state) old → Stands message (messages_in state.world.net) → IsHeard message old.now old.servers.active heard active → PostsSome heard.to_net old.net net → history.entries ≡ old.history.entries → Broken pair_kit.Within setup (pair_at state.peers.partner hand state) held held (left_as old new link net history)
 hears-break-by setup state Empty old active link net history heard place message held new good shows stands hears posts same =
     let tied = hears-at setup state state.peers.partner old message heard active good shows hears in
     let now = pair_at state.peers.partner Empty state in
@@ -179,7 +180,7 @@ hears-break-by setup state (Ready entry) old active link net history heard place
     quiet-breaks setup (pair_at state.peers.partner (Ready entry) state) old new link net history held good shows same (subst (λ (h : Heard). PostsSome h.to_net old.net net) (busy-at setup state (Ready entry) entry old message heard active refl shows hears).0 posts)
 
 -- **what a message is left as that was heard, and told in part**
-pub hears-break : (setup : Setup) (state : State Peers) (old : Cluster Pair) (active : Node) (link : List Message) (net : List (List ℕ)) (history : Pushed) (heard : Heard) (place : ℕ) (message : Message) (held : Option Files) → IsGood pair_kit setup state → Shows pair_kit setup state old → Stands message state.world.net → IsHeard message old.now old.servers.active heard active → PostsSome heard.to_net old.net net → history.entries ≡ old.history.entries → Broken pair_kit.Within setup state held held (left_as old active link net history)
+pub hears-break : (setup : Setup) (state : State Peers) (old : Cluster Pair) (active : Node) (link : List Message) (net : List (List ℕ)) (history : Pushed) (heard : Heard) (place : ℕ) (message : Message) (held : Option Files) → IsGood pair_kit setup state → Shows pair_kit setup state old → Stands message (messages_in state.world.net) → IsHeard message old.now old.servers.active heard active → PostsSome heard.to_net old.net net → history.entries ≡ old.history.entries → Broken pair_kit.Within setup state held held (left_as old active link net history)
 hears-break setup state old active link net history heard place message held good shows stands hears posts same =
     hears-break-by setup state state.world.core.hand old active link net history heard place message held active good shows stands hears posts same
 

@@ -9,6 +9,7 @@ use Rattle.service_laws.specs.PlainOf.{plain_of}
 use Rattle.service_laws.proofs.ServiceLaws.{is_plain}
 use Rattle.cluster_facts.specs.Types.{Call, Reply, Entry, Called, Receipted, Message, Request, Answer, Receipt}
 use Rattle.cluster_facts.specs.Lists.{Stands}
+use Rattle.cluster_facts.specs.Messages.{messages_in}
 use Rattle.cluster_facts.specs.Service.{Plain, is_new}
 use Rattle.cluster_facts.specs.History.{Hand, Empty, Waiting, Applied, Ready, Judged, New, Repeat, Old, Ahead, judged_call, committed}
 use Rattle.cluster_facts.specs.Ranges.{CanCome}
@@ -287,7 +288,7 @@ pub busy-at : (setup : Setup) (state : State Peers) (hand : Hand) (entry : Entry
 busy-at setup state hand entry old message heard active works shows hears =
     hears.0 setup state.world.core.answered entry (ap (λ (servers : Pair). servers.active.replica) shows.own ∙ works)
 
-hears-by : (setup : Setup) (state : State Peers) (hand : Hand) (old : Cluster Pair) (active : Node) (link : List Message) (net : List (List ℕ)) (history : Pushed) (heard : Heard) (place : ℕ) (message : Message) (before after : List (List ℕ)) → IsGood pair_kit setup (pair_at state.peers.partner hand state) → Shows pair_kit setup (pair_at state.peers.partner hand state) old → Stands message state.world.net → MessageInRange message → (hand ≡ Empty → length state.world.core.answered < 4000000000) → IsHeard message old.now old.servers.active heard active → IsToldHeard place heard old.net net old.servers.link link old.history.entries history.entries before after → Happened pair_kit setup (heard_by pair_kit place message setup (pair_at state.peers.partner hand state)) (left_as old active link net history) before after
+hears-by : (setup : Setup) (state : State Peers) (hand : Hand) (old : Cluster Pair) (active : Node) (link : List Message) (net : List (List ℕ)) (history : Pushed) (heard : Heard) (place : ℕ) (message : Message) (before after : List (List ℕ)) → IsGood pair_kit setup (pair_at state.peers.partner hand state) → Shows pair_kit setup (pair_at state.peers.partner hand state) old → Stands message (messages_in state.world.net) → MessageInRange message → (hand ≡ Empty → length state.world.core.answered < 4000000000) → IsHeard message old.now old.servers.active heard active → IsToldHeard place heard old.net net old.servers.link link old.history.entries history.entries before after → Happened pair_kit setup (heard_by pair_kit place message setup (pair_at state.peers.partner hand state)) (left_as old active link net history) before after
 hears-by setup state Empty old active link net history heard place message before after good shows stands range few hears tells =
     let tied = hears-at setup state state.peers.partner old message heard active good shows hears in
     let steady = (heard-goes setup place message (pair_at state.peers.partner Empty state) good stands).holds in
@@ -309,6 +310,6 @@ hears-by setup state (Ready entry) old active link net history heard place messa
     ignored-happens setup (pair_at state.peers.partner (Ready entry) state) old active link net history (BusyWith number) place (Ignored place (Busy number) ∷ []) before after good shows is.1 (subst T is.0 tells) refl
 
 -- **a message is heard**
-pub message-happens : (setup : Setup) (state : State Peers) (old : Cluster Pair) (active : Node) (link : List Message) (net : List (List ℕ)) (history : Pushed) (heard : Heard) (place : ℕ) (message : Message) (before after : List (List ℕ)) → IsGood pair_kit setup state → Shows pair_kit setup state old → Stands message state.world.net → MessageInRange message → (state.world.core.hand ≡ Empty → length state.world.core.answered < 4000000000) → IsHeard message old.now old.servers.active heard active → IsToldHeard place heard old.net net old.servers.link link old.history.entries history.entries before after → Happened pair_kit setup (heard_by pair_kit place message setup state) (left_as old active link net history) before after
+pub message-happens : (setup : Setup) (state : State Peers) (old : Cluster Pair) (active : Node) (link : List Message) (net : List (List ℕ)) (history : Pushed) (heard : Heard) (place : ℕ) (message : Message) (before after : List (List ℕ)) → IsGood pair_kit setup state → Shows pair_kit setup state old → Stands message (messages_in state.world.net) → MessageInRange message → (state.world.core.hand ≡ Empty → length state.world.core.answered < 4000000000) → IsHeard message old.now old.servers.active heard active → IsToldHeard place heard old.net net old.servers.link link old.history.entries history.entries before after → Happened pair_kit setup (heard_by pair_kit place message setup state) (left_as old active link net history) before after
 message-happens setup state old active link net history heard place message before after good shows stands range few hears tells =
     hears-by setup state state.world.core.hand old active link net history heard place message before after good shows stands range few hears tells

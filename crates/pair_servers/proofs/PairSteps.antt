@@ -4,6 +4,7 @@ use Rattle.plain_service.specs.Setups.{Setup, IsMoment}
 use Rattle.service_laws.specs.PlainOf.{plain_of}
 use Rattle.service_laws.proofs.ServiceLaws.{is_plain}
 use Rattle.cluster_facts.specs.Types.{Entry, Called, Receipted, Message}
+use Rattle.cluster_facts.specs.Messages.{Posting}
 use Rattle.cluster_facts.specs.Service.{Plain}
 use Rattle.cluster_facts.specs.History.{Hand, Waiting, Applied, Ready, committed, committed_by}
 use Rattle.cluster_facts.specs.Ranges.{AreInRange}
@@ -50,7 +51,7 @@ ack-tells state (Standby (Some number)) hand = record { lines = refl; loud = sym
 ack-tells state (Standby None) (Applied entry) = record { lines = refl; loud = sym (not-less (suc (length state.world.core.answered))) }
 ack-tells state _ _ = tt
 
-answer-quiet : (plain : Plain) (past : List Entry) (entry : Entry) (net : List Message) → IsQuiet (lines_answering plain past entry net)
+answer-quiet : (plain : Plain) (past : List Entry) (entry : Entry) (net : List Posting) → IsQuiet (lines_answering plain past entry net)
 answer-quiet plain past (Called client number time call) net = quiet-answer plain client number (plain.reply past client number time call) net
 answer-quiet plain past (Receipted client key through time) net = record { lines = refl; quiet = refl }
 

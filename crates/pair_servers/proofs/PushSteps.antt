@@ -7,6 +7,7 @@ use Rattle.plain_service.specs.Setups.{Setup}
 use Rattle.service_laws.specs.PlainOf.{plain_of}
 use Rattle.service_laws.proofs.ServiceLaws.{is_plain}
 use Rattle.cluster_facts.specs.Types.{Entry, Message}
+use Rattle.cluster_facts.specs.Messages.{Posting}
 use Rattle.cluster_facts.specs.Service.{Plain}
 use Rattle.cluster_facts.specs.History.{Hand, Empty, Waiting, Applied, Ready}
 use Rattle.cluster_events.specs.Outcomes.{Outcome, for_each}

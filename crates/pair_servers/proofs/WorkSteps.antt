@@ -16,7 +16,7 @@ use Rattle.service_laws.specs.PlainOf.{plain_of}
 use Rattle.service_laws.proofs.ServiceLaws.{is_plain}
 use Rattle.cluster_facts.specs.Types.{Call, Entry, Called, Receipted, Message, Answer}
 use Rattle.cluster_facts.specs.Lists.{IsNumbered}
-use Rattle.cluster_facts.specs.Messages.{calls_in}
+use Rattle.cluster_facts.specs.Messages.{Posting, calls_in}
 use Rattle.cluster_facts.specs.History.{Hand, Empty, Waiting, Applied, Ready, committed, committed_by}
 use Rattle.cluster_facts.proofs.Words.{by_test}
 use Rattle.cluster_events.specs.Outcomes.{Outcome}
@@ -81,7 +81,7 @@ ready-for setup state old shows some none =
 -- Where the deeds are done.
 
 -- the reply of an entry is posted
-answer-posts : (setup : Setup) (past : List Entry) (entry : Entry) (net : List Message) (old new before after : List (List ℕ)) → PostsAll (replies_owed setup past entry) old new before after → AreSpelled net old → AreSpelled (net_answering (plain_of setup) past entry net) new × (after ≡ before ++ printed (lines_answering (plain_of setup) past entry net))
+answer-posts : (setup : Setup) (past : List Entry) (entry : Entry) (net : List Posting) (old new before after : List (List ℕ)) → PostsAll (replies_owed setup past entry) old new before after → AreSpelled net old → AreSpelled (net_answering (plain_of setup) past entry net) new × (after ≡ before ++ printed (lines_answering (plain_of setup) past entry net))
 answer-posts setup past (Called client number time call) net old new before after posts spelled = posts (plain_of setup) net (is_plain setup) spelled
 answer-posts setup past (Receipted client key through time) net old new before after posts spelled = posts (plain_of setup) net (is_plain setup) spelled
 
@@ -305,7 +305,7 @@ work-lacks old active before after count held left some none broke stands setup 
     )
 
 -- the deeds are done, and the reply was posted or not
-answer-breaks : (setup : Setup) (past : List Entry) (entry : Entry) (net : List Message) (old new : List (List ℕ)) → PostsSome (replies_owed setup past entry) old new → AreSpelled net old → AreSpelled net new ⊎ AreSpelled (net_answering (plain_of setup) past entry net) new
+answer-breaks : (setup : Setup) (past : List Entry) (entry : Entry) (net : List Posting) (old new : List (List ℕ)) → PostsSome (replies_owed setup past entry) old new → AreSpelled net old → AreSpelled net new ⊎ AreSpelled (net_answering (plain_of setup) past entry net) new
 answer-breaks setup past (Called client number time call) net old new posts spelled =
     posts-one setup (Answer client number ((plain_of setup).reply past client number time call)) net old new posts spelled
 answer-breaks setup past (Receipted client key through time) net old new posts spelled = inl (posts-none setup net old new posts spelled)

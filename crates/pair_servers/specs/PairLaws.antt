@@ -4,6 +4,7 @@ use Rattle.std.proofs.Common.{refl, sym, subst, le_refl, le_trans}
 use Rattle.std.specs.List.{AllByRecursion}
 use lib.Signed.{≤ℤ_refl}
 use Rattle.cluster_facts.specs.Types.{Entry, Called, Receipted, Message, Answer}
+use Rattle.cluster_facts.specs.Messages.{Posting}
 use Rattle.cluster_facts.specs.Service.{Plain, IsPlain}
 use Rattle.cluster_facts.specs.History.{Hand, Empty, committed_by, time_of}
 use Rattle.cluster_facts.specs.World.{World, knows}
@@ -34,7 +35,7 @@ use Rattle.pair_servers.specs.PairKit.{pair_kit}
 abbrev AreEarly : ℤ → List Told → Type 0
 AreEarly now told = AllByRecursion (λ (line : ℕ × Entry). pair_kit.Within (time_of line.1) now) (entries_told told)
 
-answer-times : (plain : Plain) (past : List Entry) (entry : Entry) (net : List Message) (now : ℤ) → AreEarly now (lines_answering plain past entry net)
+answer-times : (plain : Plain) (past : List Entry) (entry : Entry) (net : List Posting) (now : ℤ) → AreEarly now (lines_answering plain past entry net)
 answer-times plain past (Called client number time call) net now =
     let message = Answer client number (plain.reply past client number time call) in
     elim (knows plain message net) as (λ b. AreEarly now (if b then [] else Posted (suc (length net)) message ∷ [])) [ true ↦ tt | false ↦ tt ]

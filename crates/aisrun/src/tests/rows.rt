@@ -778,4 +778,16 @@ pub const PLAYED: &str = "\
     reply 1 29 BAD_HANDLE\nacc 30 call 1 30 0\npost 63 rep 1 30\nreply 1 30 BAD_HANDLE\n\
     acc 31 call 1 31 0\npost 64 rep 1 31\nreply 1 31 BAD_HANDLE\nacc 32 call 1 32 0\n\
     post 65 rep 1 32\nreply 1 32 BAD_HANDLE\nacc 33 call 1 33 0\npost 66 rep 1 33\n\
-    reply 1 33 BAD_HANDLE\nignored 1 old\n";
+    reply 1 33 BAD_HANDLE\nignored 1 old\n\
+    `\
+    cluster start=1704067200000000000 queue=2 callbacks=8\n\
+    inject \"\\x09\"\ndeliver 1\n\
+    inject \"\\x01\\x00\\x01\\x00\\x00\\x00\\x01\\x01\"\n\
+    ^\
+    post 1 raw 1\nignored 1 bad 0 value\n\
+    refused inject \"\\x01\\x00\\x01\\x00\\x00\\x00\\x01\\x01\" a=active b=standby net=1 link=0 back=0 hand=-\n\
+    `\
+    cluster start=1704067200000000000 queue=2 callbacks=8\n\
+    inject \"\"\ndeliver 1\n\
+    ^\
+    post 1 raw 0\nignored 1 bad 0 short\n";

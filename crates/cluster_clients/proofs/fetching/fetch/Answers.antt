@@ -7,4 +7,4 @@ returns-in-None c = fetches-none c.args.place c.args.net.now (sym c.in-None.ensu
 
 pub returns-in-Ok : goal.returns-in-Ok
 returns-in-Ok c =
-    fetches-some c.law_of_spellings.ensures c.args.place c.in-Ok.message c.in-Some.bytes.now c.args.net.now c.in-Ok.ensures (sym c.in-Some.ensures)
+    fetches-some c.law_of_spellings.ensures c.args.place c.in-Ok.fetched c.in-Some.bytes.now c.args.net.now c.in-Ok.ensures (sym c.in-Some.ensures)

@@ -1,12 +1,11 @@
-use Rattle.std.proofs.Common.{◌≡◌, ◌≤◌, length}
-use Rattle.cluster_clients.specs.Replies.{first_with}
-use Rattle.cluster_clients.proofs.ReplySteps.{oldest}
+use Rattle.std.proofs.Common.{◌≤◌, length}
+use Rattle.cluster_clients.proofs.ReplySteps.{FindsBelow}
 use Rattle.cluster_clients.proofs.replies.first_with.Given as goal
 
 abbrev pub invariant-loop-place : goal.invariant-loop-place
 invariant-loop-place l = record {
   bound : l.place ≤ length l.net;
-  found : first_with l.front l.net ≡ first_with l.front (oldest l.place l.net);
+  below : FindsBelow l.front l.place l.net;
 }
 
 abbrev pub decreases-loop-place : goal.decreases-loop-place

@@ -21,6 +21,9 @@ deliver_line-requires g c = record { state = c.requires.state; line = c.in-Deliv
 pub push_line-requires : goal.push_line-requires
 push_line-requires g c = record { state = c.requires.state; line = c.in-Push.is }
 
+pub inject_line-requires : goal.inject_line-requires
+inject_line-requires g c = c.in-Inject.is
+
 pub resend-requires : goal.resend-requires
 resend-requires g c = c.requires.state
 
@@ -77,6 +80,9 @@ returns-in-Push-clause-ok g c =
     let after = c.push_line.new.lines.items in
     on_ok_weaker c.push_line.result (λ does. (plays-as g.S.Serving.kit g.met.S.Serving.laws) (line.Push) c.args.line.now old new before after c.in-Push.is ((plays-push g.S.Serving.kit g.met.S.Serving.laws) old new before after does)) c.push_line.ensures.ok
 
+pub returns-in-Inject-clause-ok : goal.returns-in-Inject-clause-ok
+returns-in-Inject-clause-ok g c = c.inject_line.ensures.ok
+
 pub returns-in-DispatchOne-clause-ok : goal.returns-in-DispatchOne-clause-ok
 returns-in-DispatchOne-clause-ok g c =
     let old = c.args.world.now in
@@ -115,6 +121,9 @@ returns-in-Resend-clause-err g c = c.resend.ensures.err
 
 pub returns-in-Push-clause-err : goal.returns-in-Push-clause-err
 returns-in-Push-clause-err g c = c.push_line.ensures.err
+
+pub returns-in-Inject-clause-err : goal.returns-in-Inject-clause-err
+returns-in-Inject-clause-err g c = c.inject_line.ensures.err
 
 pub returns-in-DispatchOne-clause-err : goal.returns-in-DispatchOne-clause-err
 returns-in-DispatchOne-clause-err g c = c.dispatch.ensures.err
