@@ -60,9 +60,8 @@ class Inputs:
             kind = rng.random()
             usual = USUAL if kind < 0.75 else STEPS
             line = rng.choice(usual) if kind < 0.9 else TIMED.make(rng) if kind < 0.92 else rng.choice(self.grammar.forms).make(rng)
+            line = self.injected(rng) if self.grammar.injects and rng.random() < 0.05 else line
             lines += [line] * (rng.choice([1, 1, 2, 3]) if rng.random() < 0.98 else 34)
-            if self.grammar.injects and rng.random() < 0.05:
-                lines += [self.injected(rng)] + [b"deliver %d" % rng.randrange(1, 30) for _ in range(4)]
         return lines + [b"settle", b"files"] * (rng.random() < 0.5)
 
     def injected(self, rng):
