@@ -1,9 +1,9 @@
-//! The scripts of `bench/play` and `bench/load`, played by plain Rust: what the proved program is measured against. It prints the
-//! same bytes and leaves the same files, keeps the net as spelled messages with an index, and the history, and keeps files open.
-//! It takes only the lines that these scripts have, and stops at any other.
+//! The scripts of `bench/play`, `bench/join` and `bench/load`, played by plain Rust: what the proved program is measured against. It
+//! prints the same bytes and leaves the same files, keeps the net as spelled messages with an index, and the history, and keeps files
+//! open. It takes only the lines that these scripts have, and stops at any other.
 //!
-//! Words: none plays the script of the standard input on one server; `load COUNT SEED` the script of a large run on two servers,
-//! and prints one line; `writes COUNT` makes the writes and syncs of that run and nothing else.
+//! Words: none plays the script of the standard input; `load COUNT SEED` the script of a large run, and prints one line; `writes COUNT`
+//! makes the writes and syncs of that run and nothing else.
 mod disk;
 mod lines;
 mod load;
@@ -18,7 +18,7 @@ fn play_input() -> io::Result<()> {
     let mut script = String::new();
     io::stdin().read_to_string(&mut script)?;
     let mut lines = script.lines();
-    let mut world = World::begin(lines.next().expect("a cluster line"), false, true)?;
+    let mut world = World::begin(lines.next().expect("a cluster line"), true)?;
     let mut stdout = io::stdout().lock();
     for line in lines {
         world.play(line)?;

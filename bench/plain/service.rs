@@ -71,6 +71,11 @@ impl Stream {
         self.records + 1
     }
 
+    /// The number, counted from 0, of the first record whose file stands.
+    fn first_standing(&self) -> u64 {
+        self.records.div_ceil(PER_FILE).saturating_sub(ROTATED as u64) * PER_FILE
+    }
+
     /// The deeds of one more record. The last second that stands in a name is moved on where a file is changed.
     pub fn store(&mut self, last: &mut u64, now: u64, record: Rc<[u8]>) -> Vec<Deed> {
         let slot = self.records % PER_FILE;
@@ -123,6 +128,8 @@ pub struct Service {
     stamp: u64,
     alarm: Stream,
     system: Stream,
+    // the alarms whose records stand, each with its record's number
+    alarms: VecDeque<(u64, Rc<Alarm>)>,
 }
 
 /// The streams that are always there, and the deeds that make them.
@@ -145,8 +152,22 @@ impl Service {
             stamp: second + 2,
             alarm,
             system,
+            alarms: VecDeque::new(),
         };
         (service, deeds)
+    }
+
+    /// The service of a server that joins, which shares nothing with this one.
+    pub fn handed_on(&self) -> Service {
+        let mut service = self.clone();
+        let held = service.subscriptions.iter_mut().flat_map(|one| &mut one.held).filter_map(|held| match &mut held.1 {
+            Content::Sent(alarm) => Some(alarm),
+            Content::Lost(_) => None,
+        });
+        for alarm in service.alarms.iter_mut().map(|kept| &mut kept.1).chain(held) {
+            *alarm = Rc::new((**alarm).clone());
+        }
+        service
     }
 
     /// The reply to a call that was accepted before.
@@ -205,7 +226,13 @@ impl Service {
                     sent.notifier,
                     sent.text
                 );
+                let number = self.alarm.records;
                 deeds = self.alarm.store(&mut self.stamp, second, record_of(&text));
+                let first = self.alarm.first_standing();
+                while self.alarms.front().is_some_and(|kept| kept.0 < first) {
+                    self.alarms.pop_front();
+                }
+                self.alarms.push_back((number, sent.clone()));
                 self.offer(&sent);
                 Reply::Sent { id: self.ids }
             }

@@ -1,4 +1,4 @@
-//! Clients, the net, two servers or one, and the events.
+//! Clients, the net, two servers, and the events.
 use crate::disk::{Deed, Disk, ROOT};
 use crate::lines::{call_of, number, option, words_of};
 use crate::messages::{Alarm, Call, Callback, Content, Reply, item, receipt, reply_message, request};
@@ -45,6 +45,8 @@ pub struct World {
     disk: Disk,
     servers: [Option<Server>; 2],
     active: usize,
+    // whether the partner has not heard yet what it was handed on
+    joining: bool,
     agents: BTreeMap<u16, Agent>,
     net: Vec<Rc<[u8]>>,
     places: HashMap<Rc<[u8]>, usize>,
@@ -54,21 +56,22 @@ pub struct World {
 }
 
 impl World {
-    /// The world of a cluster line: one server, and a second one where it is paired. What events print is kept where it is wanted.
-    pub fn begin(opening: &str, paired: bool, wanted: bool) -> io::Result<World> {
+    /// The world of a cluster line. What events print is kept where it is wanted.
+    pub fn begin(opening: &str, wanted: bool) -> io::Result<World> {
         let words = words_of(opening);
         let ["cluster", start, queue, callbacks] = words[..] else { panic!("no cluster line") };
         let now: i64 = number(option(start, "start").expect("a start"));
         let (service, deeds) = Service::begin((now / 1_000_000_000) as u64, number(option(queue, "queue").expect("a queue")));
         let mut disk = Disk::default();
         disk.perform(&deeds)?;
-        let partner = paired.then(|| Server { service: service.clone(), last: Vec::new() });
+        let partner = Server { service: service.handed_on(), last: Vec::new() };
         Ok(World {
             now,
             callbacks: number(option(callbacks, "callbacks").expect("callbacks")),
             disk,
-            servers: [Some(Server { service, last: Vec::new() }), partner],
+            servers: [Some(Server { service, last: Vec::new() }), Some(partner)],
             active: 0,
+            joining: false,
             agents: BTreeMap::new(),
             net: Vec::new(),
             places: HashMap::new(),
@@ -86,19 +89,28 @@ impl World {
     /// The line that tells what a run came to.
     pub fn summary(&self) -> io::Result<String> {
         let (files, bytes) = Disk::lengths()?;
-        let role = |place: usize| match &self.servers[place] {
-            None => "down",
-            Some(_) if place == self.active => "active",
-            Some(_) => "standby",
-        };
         Ok(format!(
             "load entries={} replies={} net={} files={files} bytes={bytes} a={} b={}",
             self.history.len(),
             self.replies,
             self.net.len(),
-            role(0),
-            role(1)
+            self.role(0),
+            self.role(1)
         ))
+    }
+
+    fn role(&self, place: usize) -> &'static str {
+        match &self.servers[place] {
+            None => "down",
+            Some(_) if place == self.active => "active",
+            Some(_) if self.joining => "joining",
+            Some(_) => "standby",
+        }
+    }
+
+    fn tell_role(&mut self, place: usize) {
+        let role = self.role(place);
+        self.lines.tell(format_args!("server {} {role}", ["a", "b"][place]));
     }
 
     fn service(&self) -> &Service {
@@ -108,21 +120,33 @@ impl World {
     // The active server goes on with what its partner applied last, where it was the one that went down.
     fn crash(&mut self, place: usize) -> io::Result<()> {
         self.servers[place] = None;
+        self.joining = false;
+        self.tell_role(place);
         if place == self.active {
             self.active = 1 - place;
             let server = self.servers[self.active].as_ref().expect("a partner");
             self.disk.perform(&server.last)?;
+            self.tell_role(self.active);
         }
         Ok(())
     }
 
     fn restart(&mut self, place: usize) {
-        let service = self.service().clone();
+        let service = self.service().handed_on();
         self.servers[place] = Some(Server { service, last: Vec::new() });
+        self.joining = true;
+        self.tell_role(place);
+    }
+
+    fn join(&mut self) {
+        if std::mem::take(&mut self.joining) {
+            self.tell_role(1 - self.active);
+        }
     }
 
     // An entry is accepted and goes to both servers; the active one does its deeds.
     fn commit(&mut self, client: u16, seq: u32, call: &Rc<Call>) -> io::Result<Reply> {
+        assert!(!self.joining, "an entry beside a join");
         self.history.push((client, seq, Some(call.clone()), self.now));
         self.lines.tell(format_args!("acc {} call {client} {seq} {}", self.history.len(), self.now));
         if let Some(partner) = &mut self.servers[1 - self.active] {
@@ -272,6 +296,7 @@ impl World {
     }
 
     fn settle(&mut self) -> io::Result<()> {
+        self.join();
         while self.round()? {}
         Ok(())
     }
@@ -283,6 +308,9 @@ impl World {
             ["settle"] => self.settle()?,
             ["crash", place] => self.crash(place_of(place))?,
             ["restart", place] => self.restart(place_of(place)),
+            ["mirror"] => self.join(),
+            ["ack"] => {}
+            ["servers"] => (0..2).for_each(|place| self.tell_role(place)),
             ["dispatch", client, "all", "workers=1"] => self.dispatch(number(client)),
             ["files"] => self.show_files()?,
             ["log" | "ntf", client, ..] => {
