@@ -23,7 +23,7 @@ use Rattle.cluster_facts.specs.Facts.{IsSound}
 use Rattle.cluster_events.proofs.Promised.{gathered-without, gathered-handed}
 use Rattle.cluster_events.proofs.Telling.{gathered-append}
 use Rattle.cluster_events.proofs.Walking.{Kind, Asks, Dispatches, Others, kind_of, IsShow, IsByKind}
-use Rattle.cluster_events.proofs.Walking.{IsTold}
+use Rattle.cluster_events.proofs.Carrying.{IsTold}
 use Rattle.pair_cluster.specs.Peers.{Peers, IsPair}
 use Rattle.pair_cluster.specs.Running.{PairHappens}
 use Rattle.pair_cluster.proofs.Walking.{IsCored, cored-alone, pair-walks}

@@ -17,7 +17,7 @@ use Rattle.cluster_events.specs.ClientEvents.{hand_out}
 use Rattle.cluster_events.specs.Saying.{reply_in, replies_told, IsDone}
 use Rattle.cluster_events.proofs.Promised.{gathered-without, gathered-handed}
 use Rattle.cluster_events.proofs.Walking.{Kind, Asks, kind_of, IsShow, IsByKind}
-use Rattle.cluster_events.proofs.Walking.{IsTold}
+use Rattle.cluster_events.proofs.Carrying.{IsTold}
 use Rattle.cluster_events.proofs.Telling.{gathered-append}
 use Rattle.pair_cluster.specs.Falling.{with_core}
 use Rattle.pair_cluster.specs.Peers.{Peers}

@@ -2,7 +2,6 @@
 use Rattle.std.proofs.Common.{◌≡◌, ℕ, zero, suc, ◌+◌, ◌<◌, Bool, true, false, if◌then◌else◌, Option, Some, None, List, [], ◌∷◌, ◌++◌, length, get_or, take, refl, ap, sym, ◌∙◌, subst, arith, append_assoc, append-nil, inl, inr}
 use Rattle.std.specs.List.{AllByRecursion}
 use Rattle.std.proofs.lemmas.List.{take_more}
-use Rattle.std.proofs.Math.Seq.{take-length}
 use Rattle.std.specs.Str.{bytes_eq}
 use Rattle.wire.specs.declared.message.Message.{Message}
 use Rattle.wire.specs.Messages.{Spells}
@@ -70,11 +69,6 @@ posts-stopped messages count message first old new before between within is so_f
       | inl same ↦ (count, same)
       | inr new_too ↦ (count + 1, subst (λ ms. AreSpelled ms new) (sym (ap (λ ms. posted_all plain ms net) more ∙ posted-more plain front message net)) new_too)
     ]
-
--- all of them
-pub posts-some_all : (messages : List Message) (old new before after : List (List ℕ)) → PostsAll messages old new before after → PostsSome messages old new
-posts-some_all messages old new before after posts plain net is_plain spelled =
-    (length messages, subst (λ ms. AreSpelled (posted_all plain ms net) new) (sym (take-length messages)) (posts plain net is_plain spelled).0)
 
 -- The number of a message in the net is the place of its spelling.
 

@@ -1,9 +1,8 @@
 -- An event of a world is one of its parts.
 use Rattle.std.proofs.Common.{◌≡◌, ℕ, ◌≤◌, Bool, Option, List, [], ◌++◌, refl, ap, sym, ◌∙◌, subst}
-use Rattle.std.specs.Prelude.{Result, Ok, Err, OnOk, IfErr, ℤ}
+use Rattle.std.specs.Prelude.{ℤ}
 use Rattle.disk_model.specs.Disk.{Files}
-use Rattle.disk_model.specs.declared.answers.DiskAnswer.{DiskAnswer}
-use Rattle.disk_model.specs.declared.answers.DiskAnswer.TheVariants.{Memory, Failed, Stopped}
+use Rattle.disk_model.specs.declared.answers.DiskAnswer.TheVariants.{Memory, Failed}
 use Rattle.script_lines.specs.declared.line.Line.{Line}
 use Rattle.script_lines.specs.declared.line.Line.TheVariants as line
 use Rattle.script_lines.specs.declared.line.Server.{Server}
@@ -20,7 +19,7 @@ use Rattle.cluster_rounds.specs.Broken as cluster
 use Rattle.cluster_rounds.specs.Came.{DiskSeen}
 use Rattle.cluster_rounds.specs.Worlds as clusters
 use Rattle.cluster_lines.specs.Lines.{CanPlay}
-use Rattle.cluster_lines.specs.Playing.{BreaksOff, FaultLeaves as FaultLeavesParts, GoesOn, LineEnded, Plays}
+use Rattle.cluster_lines.specs.Playing.{FaultLeaves as FaultLeavesParts, LineEnded}
 use Rattle.pair_servers.specs.declared.pair.Pair.{Pair}
 use Rattle.pair_servers.specs.PairKit.{pair_kit, pair_script}
 use Rattle.pair_servers.specs.PairNodes.{active_by, partner_by}

@@ -7,7 +7,7 @@ use Rattle.cluster_facts.specs.Lists.{Stands, EndsIn, IsCounted, count_of}
 use Rattle.cluster_facts.specs.Messages.{Posting, Spelled, messages_in, sent_by, answers_to, receipts_of, message_of}
 use Rattle.cluster_facts.specs.Service.{Plain, IsPlain, IsMade, IsHeldItem, answers_in, is_new}
 use Rattle.cluster_facts.specs.Agents.{Living, kept_call, callbacks_of, lacks_place, after_reply, find_living, after_item, requests_of, greatest_receipt, greatest_receipts, resent}
-use Rattle.cluster_facts.specs.History.{Hand, Empty, Core, Judged, New, Repeat, Old, Ahead, judged_call, accepted, MayFollow}
+use Rattle.cluster_facts.specs.History.{Hand, Empty, Core, Judged, New, Repeat, Old, Ahead, judged_call, accepted, MayFollow, time_of}
 use Rattle.cluster_facts.specs.World.{World, knows, posted, with_agent, number_of}
 use Rattle.cluster_facts.specs.Facts.{IsSound, IsOfRun, Keeps, Lives}
 use Rattle.cluster_facts.specs.Facts.Keeps.{starts, waits, answered}
@@ -445,3 +445,27 @@ module _ {P : Type 0} (plain : Plain) (is_plain : IsPlain plain) (servers : Serv
   pub resend-goes : (client : ℕ) (state : State P) → IsSteady plain Good state → Goes R (IsSteady plain Good) state (resend plain servers client state)
   resend-goes client state steady =
       for_each-goes (IsSteady plain Good) (λ message world. Stands message (messages_in world.net)) (λ message now. hear plain servers (number_of plain message now.world.net) message now) (λ message now held stands. hear-goes (number_of plain message now.world.net) message now stands held) (λ message old new stays stands. stays.net message stands) (resent client (state.world.agents client)) state steady (resent-posted plain client state.world steady.sound)
+
+-- What is asked of a relation apart from the servers: it holds of nothing, of one event after another, and of each step of the clients' side.
+pub record IsTold (plain : Plain) (R : World → World → List Told → Type 0) : Type 0 where
+  pub same : (world : World) → R world world []
+  pub both : (one two three : World) (first second : List Told) → R one two first → R two three second → R one three (second ++ first)
+  pub ignored : (world : World) (place : ℕ) (why : Why) → R world world (Ignored place why ∷ [])
+  pub answer : (world : World) (client number : ℕ) (reply : Reply) → R world (record world { net = Spelled (Answer client number reply) ∷ world.net }) (Posted (suc (length world.net)) (Answer client number reply) ∷ [])
+  pub pushed : (world : World) (client key : ℕ) (item : Item) → R world (record world { net = Spelled (Delivery client key item) ∷ world.net }) (Posted (suc (length world.net)) (Delivery client key item) ∷ [])
+  pub reply : (world : World) (client number : ℕ) (call : Call) (reply : Reply) → IsSound plain world → kept_call number (world.agents client).kept ≡ Some call → lacks_place world.places (world.agents client).queue (callbacks_of call reply) ≡ false → Stands (Answer client number reply) (messages_in world.net) → R world (record world { agents = with_agent client (after_reply number call reply (world.agents client)) world.agents }) (Replied client number call reply ∷ [])
+  pub item : (world : World) (client key : ℕ) (item : Item) (found : Living) → IsSound plain world → find_living key (world.agents client).living ≡ Some found → item.number ≡ found.next → nat_le world.places (length (world.agents client).queue) ≡ false → Stands (Delivery client key item) (messages_in world.net) → R world (record world { net = Spelled (Receipt client key item.number) ∷ world.net; agents = with_agent client (after_item key found.id item.content (world.agents client)) world.agents }) (Posted (suc (length world.net)) (Receipt client key item.number) ∷ [])
+
+-- With an acceptance and a drain it is carried through rounds.
+pub told-carried : {P : Type 0} (plain : Plain) (servers : Servers P) (Good : State P → Type 0) (R : World → World → List Told → Type 0) → IsTold plain R → ((entry : Entry) (state : State P) → IsSteady plain Good state → state.world.core.hand ≡ Empty → MayFollow plain state.world.core.answered entry → time_of entry ≡ state.world.now → Stands (message_of entry) (messages_in state.world.net) → R state.world (servers.accept entry state).state.world (servers.accept entry state).told) → ((state : State P) → IsSteady plain Good state → R state.world (drain servers state).state.world (drain servers state).told) → IsCarried plain servers Good R
+told-carried plain servers Good R told accept drains = record {
+  same = told.same;
+  both = told.both;
+  ignored = told.ignored;
+  answer = λ world client number reply sound stands. told.answer world client number reply;
+  pushed = λ world client key item sound is. told.pushed world client key item;
+  reply = told.reply;
+  item = told.item;
+  accept = accept;
+  drain = drains;
+}

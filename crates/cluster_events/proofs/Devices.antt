@@ -5,10 +5,9 @@ use Rattle.ais_values.specs.Causes.{Rose}
 use Rattle.cluster_facts.specs.Types.{Call, Called, Receipted, Message, Request, Receipt}
 use Rattle.cluster_facts.specs.Service.{Plain, is_new}
 use Rattle.cluster_facts.specs.History.{Hand, Empty, Judged, New, Repeat, Old, Ahead, judged_call}
-use Rattle.cluster_events.specs.Outcomes.{Outcome, quietly, and_then}
+use Rattle.cluster_events.specs.Outcomes.{Outcome, quietly, and_then, behind}
 use Rattle.cluster_events.specs.Servers.{State, Servers, advance, after_step, advances}
 use Rattle.cluster_events.specs.Events.{request_as, receipt_as, hear_at_rest, hear_by, hear, push_by, push}
-use Rattle.cluster_events.specs.Stopping.{behind}
 use Rattle.cluster_events.specs.Devices.{EventBy, EndBy, answered_in, AgreesIn, ComesTo, EndsOver, spliced, IsCaused}
 use Rattle.cluster_events.proofs.Looping.{and_then-nothing, and_then-assoc}
 

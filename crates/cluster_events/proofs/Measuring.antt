@@ -4,19 +4,18 @@ use Rattle.std.proofs.lemmas.Bool.Decides.{leb_tells}
 use Rattle.std.proofs.lemmas.Bool.{and_parts, eqb-true, cases_Bool}
 use Rattle.cluster_facts.specs.Types.{Call, Reply, Item, Entry, Called, Receipted, Message, Request, Receipt}
 use Rattle.cluster_facts.specs.Lists.{Stands, IsNumbered, without}
-use Rattle.cluster_facts.specs.Messages.{Spelled, messages_in, calls_in, message_of}
+use Rattle.cluster_facts.specs.Messages.{Spelled, calls_in, message_of}
 use Rattle.cluster_facts.specs.Service.{Plain, IsPlain, is_new}
 use Rattle.cluster_facts.specs.Agents.{Living, Agent, fresh, kept_call, callbacks_of, after_reply, find_living, after_item}
-use Rattle.cluster_facts.specs.History.{Empty, committed, MayFollow, ReceiptsAreNew, IsLegal}
+use Rattle.cluster_facts.specs.History.{committed, MayFollow, ReceiptsAreNew, IsLegal}
 use Rattle.cluster_facts.specs.World.{World, with_agent}
 use Rattle.cluster_facts.specs.Facts.{IsSound}
 use Rattle.cluster_facts.proofs.Words.{by_test, IsNumbered-bound}
 use Rattle.cluster_facts.proofs.Growing.{judged-new}
 use Rattle.cluster_events.specs.Lines.{Told, Posted, Replied, is_progress}
-use Rattle.cluster_events.specs.Servers.{State, Servers, drain}
 use Rattle.cluster_events.specs.Settling.{is_loud}
-use Rattle.cluster_events.specs.Serving.{IsSteady, IsCarried}
 use Rattle.cluster_events.specs.Measure.{is_acceptance, is_accepted, waiting, unheard, untaken, all_untaken, progress, Spends}
+use Rattle.cluster_events.proofs.Carrying.{IsTold}
 use Rattle.ais_values.proofs.Basics.{eqb_self}
 
 -- Which messages the history has.
@@ -254,16 +253,14 @@ Spends-both one two three first second spends more =
     let late = more.paid in
     record { paid = omega arith }
 
--- what is spent is carried through rounds, where accepting and draining pay for what they commit
-pub Spends-carried : {P : Type 0} (plain : Plain) (servers : Servers P) (Good : State P → Type 0) → ((entry : Entry) (state : State P) → IsSteady plain Good state → state.world.core.hand ≡ Empty → MayFollow plain state.world.core.answered entry → Stands (message_of entry) (messages_in state.world.net) → Spends state.world (servers.accept entry state).state.world (servers.accept entry state).told) → ((state : State P) → IsSteady plain Good state → Spends state.world (drain servers state).state.world (drain servers state).told) → IsCarried plain servers Good Spends
-Spends-carried plain servers Good accepts drains = record {
+-- what each step of the clients' side spends
+pub Spends-told : (plain : Plain) → IsTold plain Spends
+Spends-told plain = record {
   same = λ world. record { paid = omega arith };
   both = Spends-both;
   ignored = λ world place why. record { paid = omega arith };
-  answer = λ world client number reply sound stands. record { paid = omega arith };
-  pushed = λ world client key item sound is. record { paid = omega arith };
+  answer = λ world client number reply. record { paid = omega arith };
+  pushed = λ world client key item. record { paid = omega arith };
   reply = λ world client number call reply sound kept place stands. spends-reply plain world client number call reply sound kept;
   item = λ world client key item found sound here next place stands. spends-item plain world client key item found sound here place;
-  accept = λ entry state steady empty may at stands. accepts entry state steady empty may stands;
-  drain = drains;
 }

@@ -12,7 +12,7 @@ use Rattle.cluster_events.specs.Servers.{State}
 use Rattle.cluster_events.specs.Saying.{Says}
 use Rattle.cluster_events.specs.Serving.{IsSteady}
 use Rattle.cluster_events.specs.Outcomes.{Outcome}
-use Rattle.cluster_events.specs.Runs.{StepBy, RunBy, SentenceOf, AtEachEnd, LineSentenceOf, OfEachLine}
+use Rattle.cluster_events.specs.Runs.{StepBy, RunBy, SentenceOf, AtEachEnd}
 use Rattle.cluster_events.specs.Runs.RunBy.{Started, Went}
 use Rattle.cluster_events.specs.Promises.{AtEnd}
 use Rattle.cluster_events.specs.Filing.{IsStorage, FilesStand, RecordsStay}
@@ -42,14 +42,8 @@ module _ {M P : Type 0} (plain : Plain) (Good : State P → Type 0) (Step : Step
       let S : World → Type 0 = λ world. Says plain world state.world told in
       at-end plain state.world told now places after.0.sound (subst S begins after.1)
 
--- What holds of each line holds throughout a run.
 module _ {M P : Type 0} (Step : StepBy M P) (start : State P) (first : M) where
-  pub each-line : (S : LineSentenceOf P) → ((lines : List Line) (state : State P) (told : List Told) (before : M) (next : Line) (outcome : Outcome (State P)) (after : M) → RunBy Step start first lines state told before → Step before next state outcome after → S next told state outcome) → {lines : List Line} {state : State P} {told : List Told} {mark : M} → (run : RunBy Step start first lines state told mark) → OfEachLine S run
-  each-line S so Started = tt
-  each-line S so (Went {lines = lines} {state = state} {told = told} {before = before} next outcome after run step) =
-      (so lines state told before next outcome after run step, each-line S so run)
-
-  -- and what holds of all runs whose end passes holds at each end of one, where the ends before it pass too
+  -- what holds of all runs whose end passes holds at each end of one, where the ends before it pass too
   pub each-end : (S : SentenceOf M P) (Passes : State P → Type 0) → ((before : M) (next : Line) (state : State P) (outcome : Outcome (State P)) (after : M) → Step before next state outcome after → Passes outcome.state → Passes state) → ((lines : List Line) (state : State P) (told : List Told) (mark : M) → RunBy Step start first lines state told mark → Passes state → S lines state told mark) → {lines : List Line} {state : State P} {told : List Told} {mark : M} → (run : RunBy Step start first lines state told mark) → Passes state → AtEachEnd S run
   each-end S Passes back always Started passes = always _ _ _ _ Started passes
   each-end S Passes back always (Went {state = state} {before = before} next outcome after run step) passes =

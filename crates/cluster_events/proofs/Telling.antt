@@ -7,16 +7,14 @@ use Rattle.cluster_facts.specs.Messages.{Spelled, Raw, messages_in, sent_by}
 use Rattle.cluster_facts.specs.Service.{Plain, answers_in}
 use Rattle.cluster_facts.specs.Storage.{dealt_in}
 use Rattle.cluster_facts.specs.Agents.{Living, Agent, fed_of, kept_call, callbacks_of, after_call, after_reply, after_item, callback_of, status_of}
-use Rattle.cluster_facts.specs.History.{Empty, committed}
+use Rattle.cluster_facts.specs.History.{committed}
 use Rattle.cluster_facts.specs.World.{World, with_agent}
 use Rattle.cluster_facts.specs.Facts.{IsSound, IsOfRun}
 use Rattle.cluster_facts.proofs.Words.{by_test, each_client, All-at, All-map, All-append, EndsIn-same, EndsIn-stands, IsNumbered-bound}
 use Rattle.cluster_facts.proofs.Clients.{kept_call-stands}
 use Rattle.cluster_events.specs.Lines.{Told, Posted, Injected, Replied, Ignored, Why}
 use Rattle.cluster_events.specs.Saying.{gathered, post_in, entry_in, reply_in, deal_in, callback_in, write_in, replies_told, deals_told, writes_told, IsNumberedFrom, seconds, Grows, IsDone, IsOnce, TellsReplies, of_write, writes_in, Says}
-use Rattle.cluster_events.specs.Servers.{State, Servers, drain}
-use Rattle.cluster_events.specs.Serving.{IsSteady, IsCarried}
-use Rattle.cluster_events.proofs.Carrying.{Keeps-sent, EndsIn-both}
+use Rattle.cluster_events.proofs.Carrying.{IsTold, Keeps-sent, EndsIn-both}
 use Rattle.cluster_events.proofs.Dealing.{reply-dealt}
 
 pub gathered-append : {X : Type 0} (read : Told → List X) (second first : List Told) → gathered read (second ++ first) ≡ gathered read second ++ gathered read first
@@ -288,18 +286,16 @@ says-item plain world client key item found =
           (λ other. refl);
     }
 
--- what lines say is carried through rounds, where accepting and draining say it
-pub Says-carried : {P : Type 0} (plain : Plain) (servers : Servers P) (Good : State P → Type 0) → ((entry : Entry) (state : State P) → IsSteady plain Good state → state.world.core.hand ≡ Empty → Says plain state.world (servers.accept entry state).state.world (servers.accept entry state).told) → ((state : State P) → IsSteady plain Good state → Says plain state.world (drain servers state).state.world (drain servers state).told) → IsCarried plain servers Good (Says plain)
-Says-carried plain servers Good accepts drains = record {
+-- what each step of the clients' side says
+pub Says-told : (plain : Plain) → IsTold plain (Says plain)
+Says-told plain = record {
   same = Says-same plain;
   both = λ one two three first second says more. Says-both plain one two three first second says more;
   ignored = Says-ignored plain;
-  answer = λ world client number reply sound stands. says-net plain world (Answer client number reply);
-  pushed = λ world client key item sound is. says-net plain world (Delivery client key item);
+  answer = λ world client number reply. says-net plain world (Answer client number reply);
+  pushed = λ world client key item. says-net plain world (Delivery client key item);
   reply = λ world client number call reply sound kept place stands. says-reply plain world client number call reply sound kept stands;
   item = λ world client key item found sound here next place stands. says-item plain world client key item found;
-  accept = λ entry state steady empty may at stands. accepts entry state steady empty;
-  drain = drains;
 }
 
 -- Events that no round has.

@@ -1,25 +1,25 @@
 -- The walk over the kinds of a script's lines: a relation of worlds and lines that is kept by rounds, by steps of the servers and by
 -- each kind of line is kept by every line.
-use Rattle.std.proofs.Common.{◌≡◌, ℕ, suc, Bool, false, nat_le, if◌then◌else◌, ℤ, ◌≤ℤ◌, inl, inr, true, Option, Some, None, List, [], ◌∷◌, ◌++◌, length, refl, sym, subst}
+use Rattle.std.proofs.Common.{◌≡◌, ℕ, suc, Bool, false, if◌then◌else◌, ℤ, ◌≤ℤ◌, inl, inr, true, Option, Some, None, List, [], ◌∷◌, ◌++◌, length, refl, sym, subst}
 use Rattle.std.specs.List.{AllByRecursion}
 use Rattle.script_lines.specs.declared.line.Line.{Line}
 use Rattle.script_lines.specs.declared.line.Line.TheVariants as line
-use Rattle.cluster_facts.specs.Types.{Ask, Call, Reply, Status, Item, Entry, Callback, Request, Answer, Delivery, Receipt, WireWhy}
-use Rattle.cluster_facts.specs.Lists.{Stands, without}
-use Rattle.cluster_facts.specs.Messages.{Posting, Spelled, Raw, messages_in, message_of}
+use Rattle.cluster_facts.specs.Types.{Ask, Call, Status, Callback, Request, WireWhy}
+use Rattle.cluster_facts.specs.Lists.{without}
+use Rattle.cluster_facts.specs.Messages.{Posting, Spelled, Raw}
 use Rattle.cluster_facts.specs.Service.{Plain, IsPlain}
-use Rattle.cluster_facts.specs.Agents.{Agent, Living, fed_of, call_of, refusal, dispatch_refusal, after_call, kept_call, callbacks_of, lacks_place, after_reply, find_living, after_item, oldest, after_dispatch_all, after_dispatch_one}
-use Rattle.cluster_facts.specs.History.{Hand, Empty, MayFollow, accepted, time_of}
+use Rattle.cluster_facts.specs.Agents.{Agent, fed_of, call_of, refusal, dispatch_refusal, after_call, oldest, after_dispatch_all, after_dispatch_one}
+use Rattle.cluster_facts.specs.History.{Hand, Empty, accepted}
 use Rattle.cluster_facts.specs.World.{World, with_agent, enlisted, knows_raw, posting_at}
 use Rattle.cluster_facts.specs.Facts.{IsSound}
 use Rattle.cluster_facts.proofs.Clients.{oldest-append}
 use Rattle.cluster_facts.proofs.Keeping.{call-new}
 use Rattle.cluster_facts.proofs.Posting.{posting_at-stands}
-use Rattle.cluster_events.specs.Lines.{Told, Posted, Injected, Replied, Declined, Ignored, Refused, Stood, Listed, Shown, Why, is_ignored}
+use Rattle.cluster_events.specs.Lines.{Told, Posted, Injected, Declined, Refused, Stood, Listed, Shown, is_ignored}
 use Rattle.cluster_events.specs.declared.lines.Why.TheVariants.{Bad}
 use Rattle.cluster_events.specs.Outcomes.{Outcome}
 use Rattle.cluster_events.specs.ClientEvents.{inject, ask_by, ask, hand_out, dispatch_all_by, dispatch_all, dispatch_one_by, dispatch_one, set_time}
-use Rattle.cluster_events.specs.Servers.{State, Servers, in_world, drain}
+use Rattle.cluster_events.specs.Servers.{State, Servers, in_world}
 use Rattle.cluster_events.specs.Events.{deliver_by, resend, step_or_refuse, push_by, list_servers, refuse}
 use Rattle.cluster_events.specs.Serving.{IsSteady, IsServing, IsCarried, IsStepped, AreStepped}
 use Rattle.cluster_events.specs.Running.{Shelf, listed, shown, show_by, Happens}
@@ -71,10 +71,6 @@ pub record IsByKind (plain : Plain) (R : ByKind) : Type 0 where
   pub shows : (world : World) (line : Told) → IsShow line → R Others world world (line ∷ [])
   -- lines on messages without effect may be left out
   pub printed : (old new : World) (told : List Told) → R Others old new told → R Others old new (without is_ignored told)
-
--- a step that is never made
-pub never-steps : {P : Type 0} (plain : Plain) (Good : State P → Type 0) (R : World → World → List Told → Type 0) → IsStepped plain Good R (λ (state : State P). None)
-never-steps plain Good R = record { steps = λ state outcome is steady. cc }
 
 -- Files that are shown.
 
@@ -224,29 +220,3 @@ module _ {P : Type 0} (plain : Plain) (is_plain : IsPlain plain) (shelf : Shelf)
   line-walks (line.Cat name) state outcome steady happens =
       subst (Walks Others state) (sym happens) (show_by-walks name (shelf.text name state.world.core.answered) state steady)
   line-walks _ state outcome steady happens = elim happens [ ]
-
--- What is asked of a relation apart from the servers.
-
--- it holds of nothing, of one event after another, and of each step of the clients' side
-pub record IsTold (plain : Plain) (R : World → World → List Told → Type 0) : Type 0 where
-  pub same : (world : World) → R world world []
-  pub both : (one two three : World) (first second : List Told) → R one two first → R two three second → R one three (second ++ first)
-  pub ignored : (world : World) (place : ℕ) (why : Why) → R world world (Ignored place why ∷ [])
-  pub answer : (world : World) (client number : ℕ) (reply : Reply) → R world (record world { net = Spelled (Answer client number reply) ∷ world.net }) (Posted (suc (length world.net)) (Answer client number reply) ∷ [])
-  pub pushed : (world : World) (client key : ℕ) (item : Item) → R world (record world { net = Spelled (Delivery client key item) ∷ world.net }) (Posted (suc (length world.net)) (Delivery client key item) ∷ [])
-  pub reply : (world : World) (client number : ℕ) (call : Call) (reply : Reply) → IsSound plain world → kept_call number (world.agents client).kept ≡ Some call → lacks_place world.places (world.agents client).queue (callbacks_of call reply) ≡ false → Stands (Answer client number reply) (messages_in world.net) → R world (record world { agents = with_agent client (after_reply number call reply (world.agents client)) world.agents }) (Replied client number call reply ∷ [])
-  pub item : (world : World) (client key : ℕ) (item : Item) (found : Living) → IsSound plain world → find_living key (world.agents client).living ≡ Some found → item.number ≡ found.next → nat_le world.places (length (world.agents client).queue) ≡ false → Stands (Delivery client key item) (messages_in world.net) → R world (record world { net = Spelled (Receipt client key item.number) ∷ world.net; agents = with_agent client (after_item key found.id item.content (world.agents client)) world.agents }) (Posted (suc (length world.net)) (Receipt client key item.number) ∷ [])
-
--- with an acceptance and a drain
-pub told-carried : {P : Type 0} (plain : Plain) (servers : Servers P) (Good : State P → Type 0) (R : World → World → List Told → Type 0) → IsTold plain R → ((entry : Entry) (state : State P) → IsSteady plain Good state → state.world.core.hand ≡ Empty → MayFollow plain state.world.core.answered entry → time_of entry ≡ state.world.now → Stands (message_of entry) (messages_in state.world.net) → R state.world (servers.accept entry state).state.world (servers.accept entry state).told) → ((state : State P) → IsSteady plain Good state → R state.world (drain servers state).state.world (drain servers state).told) → IsCarried plain servers Good R
-told-carried plain servers Good R told accept drains = record {
-  same = told.same;
-  both = told.both;
-  ignored = told.ignored;
-  answer = λ world client number reply sound stands. told.answer world client number reply;
-  pushed = λ world client key item sound is. told.pushed world client key item;
-  reply = told.reply;
-  item = told.item;
-  accept = accept;
-  drain = drains;
-}

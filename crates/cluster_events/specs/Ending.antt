@@ -1,16 +1,15 @@
 -- Words of public clauses: where an event ends by a fault of the disk in the work of an entry, over any servers: what is left, and
 -- what was told.
-use Rattle.std.specs.Prelude.{◌≡◌, ℕ, ◌<◌, true, ◌⊎◌, None, List, ◌++◌}
+use Rattle.std.specs.Prelude.{◌≡◌, ℕ, ◌<◌, true, ◌⊎◌, None, List, ◌∷◌, ◌++◌}
 use Rattle.cluster_facts.specs.Types.{Message}
 use Rattle.cluster_facts.specs.Service.{Plain}
 use Rattle.cluster_facts.specs.Agents.{resent}
 use Rattle.cluster_facts.specs.World.{number_of}
 use Rattle.cluster_events.specs.Lines.{Told}
-use Rattle.cluster_events.specs.Outcomes.{Outcome}
+use Rattle.cluster_events.specs.Outcomes.{Outcome, behind}
 use Rattle.cluster_events.specs.Servers.{State, Servers, advances, drain}
 use Rattle.cluster_events.specs.Events.{hear}
 use Rattle.cluster_events.specs.Settling.{turn, client_turns, Rounds}
-use Rattle.cluster_events.specs.Stopping.{behind, EachStops}
 
 -- where an event ends from a state
 abbrev pub EndAt : Type 0 → Type 1
@@ -39,9 +38,15 @@ abbrev pub TurnEnds : {P : Type 0} → Plain → Servers P → EndAt P → Messa
 TurnEnds plain servers AtWork message state end =
     EndsBehind (hear plain servers (number_of plain message state.world.net) message state) (DrainEnds servers AtWork) end
 
+-- Of an event for each element, that of one element ends, after those of the elements before it.
+pub data EachEnds {S X : Type 0} (event : X → S → Outcome S) (Ends : X → S → Outcome S → Type 0) : List X → S → Outcome S → Type 0 where
+  Here : {x : X} {xs : List X} {state : S} {end : Outcome S} → Ends x state end → EachEnds event Ends (x ∷ xs) state end
+  Later : {x : X} {xs : List X} {state : S} {end : Outcome S} → EachEnds event Ends xs (event x state).state end
+      → EachEnds event Ends (x ∷ xs) state (behind (event x state) end)
+
 -- one of these turns ends
 abbrev pub TurnsEnd : {P : Type 0} → Plain → Servers P → EndAt P → List Message → EndAt P
-TurnsEnd plain servers AtWork messages state end = EachStops (turn plain servers) (TurnEnds plain servers AtWork) messages state end
+TurnsEnd plain servers AtWork messages state end = EachEnds (turn plain servers) (TurnEnds plain servers AtWork) messages state end
 
 -- one of a client's turns ends
 abbrev pub ClientEnds : {P : Type 0} → Plain → Servers P → EndAt P → ℕ → EndAt P
@@ -49,7 +54,7 @@ ClientEnds plain servers AtWork client state end = TurnsEnd plain servers AtWork
 
 abbrev pub ClientsEnd : {P : Type 0} → Plain → Servers P → EndAt P → List ℕ → EndAt P
 ClientsEnd plain servers AtWork clients state end =
-    EachStops (client_turns plain servers) (ClientEnds plain servers AtWork) clients state end
+    EachEnds (client_turns plain servers) (ClientEnds plain servers AtWork) clients state end
 
 -- a round ends in the drain at its start, or in the turns of a client
 abbrev pub RoundEnds : {P : Type 0} → Plain → Servers P → EndAt P → EndAt P

@@ -4,7 +4,6 @@ pub mod Servers
 pub mod ClientEvents
 pub mod Events
 pub mod Settling
-pub mod Stopping
 pub mod Devices
 pub mod Ending
 pub mod Saying

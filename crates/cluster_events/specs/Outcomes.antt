@@ -14,6 +14,10 @@ quietly state = record { state = state; told = [] }
 abbrev pub telling : {S : Type 0} → S → Told → Outcome S
 telling state line = record { state = state; told = line ∷ [] }
 
+-- an outcome after another: what was told first stands behind
+abbrev pub behind : {S : Type 0} → Outcome S → Outcome S → Outcome S
+behind first outcome = record { state = outcome.state; told = outcome.told ++ first.told }
+
 -- one event after another
 abbrev pub and_then : {S : Type 0} → Outcome S → (S → Outcome S) → Outcome S
 and_then outcome event =

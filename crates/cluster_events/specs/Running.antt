@@ -1,4 +1,4 @@
--- Words of public clauses: what the lines of a script do where no server fails, and whole runs.
+-- Words of public clauses: what the lines of a script do where no server fails.
 use Rattle.std.specs.Prelude.{◌≡◌, ℕ, ◌≤ℤ◌, ◌⊎◌, Option, Some, None, List, [], ◌∷◌}
 use Rattle.script_lines.specs.declared.line.Line.{Line}
 use Rattle.script_lines.specs.declared.line.Line.TheVariants as line
@@ -11,7 +11,6 @@ use Rattle.cluster_events.specs.Servers.{State, Servers, in_world}
 use Rattle.cluster_events.specs.ClientEvents.{ask, dispatch_one, dispatch_all, set_time, inject}
 use Rattle.cluster_events.specs.Events.{deliver, resend, mirror_next, ack_next, work_next, push, list_servers, refuse}
 use Rattle.cluster_events.specs.Settling.{Settles}
-use Rattle.cluster_events.specs.Runs.{StepBy, RunBy}
 
 -- what is shown of the files that stand after a history: their names with their lengths, and the lines of a file
 pub record Shelf : Type 0 where
@@ -69,10 +68,3 @@ Happens plain shelf servers line.Servers state outcome = outcome ≡ list_server
 Happens plain shelf servers line.Files state outcome = outcome ≡ list_files shelf state
 Happens plain shelf servers (line.Cat name) state outcome = outcome ≡ show_file shelf servers name state
 Happens plain shelf servers _ state outcome = ⊥
-
--- whole runs of such lines, without a mark
-abbrev pub LineStep : {P : Type 0} → Plain → Shelf → Servers P → StepBy (Unit {0}) P
-LineStep plain shelf servers before next state outcome after = Happens plain shelf servers next state outcome
-
-abbrev pub Run : {P : Type 0} → Plain → Shelf → Servers P → State P → List Line → State P → List Told → Type 0
-Run plain shelf servers start lines state told = RunBy (LineStep plain shelf servers) start tt lines state told tt

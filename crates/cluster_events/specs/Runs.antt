@@ -27,14 +27,3 @@ abbrev pub AtEachEnd :
     → RunBy Step start first lines state told mark → Type 0
 AtEachEnd {start = start} {first = first} S Started = S [] start [] first
 AtEachEnd S (Went {lines = lines} {told = told} next outcome after run step) = S (next ∷ lines) outcome.state (outcome.told ++ told) after × AtEachEnd S run
-
--- what is said of one line: what was told before it, where it was played, and what it led to
-abbrev pub LineSentenceOf : Type 0 → Type 1
-LineSentenceOf P = Line → List Told → State P → Outcome (State P) → Type 0
-
--- it is so of each line of a run
-abbrev pub OfEachLine :
-    {M P : Type 0} {Step : StepBy M P} {start : State P} {first : M} (S : LineSentenceOf P) {lines : List Line} {state : State P} {told : List Told} {mark : M}
-    → RunBy Step start first lines state told mark → Type 0
-OfEachLine S Started = Unit {0}
-OfEachLine S (Went {state = state} {told = told} next outcome after run step) = S next told state outcome × OfEachLine S run

@@ -1,8 +1,8 @@
 -- What a line left that was not done, and how the disk's count of faults went in a line.
-use Rattle.std.proofs.Common.{◌≡◌, ℕ, ◌≤◌, le_trans, inl, inr, Bool, Option, List, refl, ap, sym, ◌∙◌, subst, arith}
+use Rattle.std.proofs.Common.{◌≡◌, ℕ, le_trans, inl, inr, Bool, Option, List, refl, sym, subst}
 use Rattle.std.proofs.lemmas.Result.{on_ok_weaker}
-use Rattle.std.specs.Prelude.{Result, Ok, Err, OnOk, OnErr, IfErr, IsErrOf, ◌⊎◌}
-use Rattle.ais_values.specs.Causes.{RoseExactlyOn, Rose}
+use Rattle.std.specs.Prelude.{Result, Ok, Err, OnOk, OnErr, IfErr, IsErrOf}
+use Rattle.ais_values.specs.Causes.{RoseExactlyOn}
 use Rattle.disk_model.specs.Disk.{Files}
 use Rattle.disk_model.specs.declared.answers.DiskAnswer.{DiskAnswer}
 use Rattle.disk_model.specs.declared.answers.DiskAnswer.TheVariants.{Memory, Failed, Stopped}
@@ -19,7 +19,7 @@ use Rattle.cluster_events.proofs.Promised.{Says-printed}
 use Rattle.cluster_rounds.specs.declared.cluster.Cluster.{Cluster}
 use Rattle.cluster_rounds.specs.Kits.{IsKit, Kit, device_by}
 use Rattle.cluster_rounds.specs.Scripts.{Script}
-use Rattle.cluster_rounds.specs.Worlds.{HasStateOn, IsGood, Shows, any_state}
+use Rattle.cluster_rounds.specs.Worlds.{HasStateOn, any_state}
 use Rattle.cluster_rounds.specs.Broken.{BreaksOn, BreaksAlone}
 use Rattle.cluster_rounds.specs.Rounds.{EndOver, EndsSettle}
 use Rattle.cluster_rounds.specs.Came.{ComesOff, DiskSeen, Ended}

@@ -1,5 +1,5 @@
 -- What a line of a script comes to, event by event.
-use Rattle.std.proofs.Common.{◌≡◌, ℕ, true, false, is_some, ℤ, inl, inr, Option, Some, None, List, [], ◌∷◌, ◌++◌, Result, Ok, Err, refl, ap, sym, ◌∙◌, subst, arith}
+use Rattle.std.proofs.Common.{◌≡◌, ℕ, true, false, is_some, ℤ, inl, inr, Option, Some, None, List, ◌++◌, Result, Ok, Err, refl, ap, sym, ◌∙◌, subst, arith}
 use Rattle.std.specs.Prelude.{Bool, OnOk, IfSome, ◌≤ℤ◌, pos, negsuc}
 use Rattle.std.proofs.lemmas.Bool.{leb-true}
 use Rattle.std.proofs.lemmas.Int.{to_z-of_z}
@@ -11,18 +11,16 @@ use Rattle.disk_model.specs.declared.answers.DiskAnswer.{DiskAnswer}
 use Rattle.script_lines.specs.declared.line.Line.{Line}
 use Rattle.script_lines.specs.declared.line.Line.TheVariants as line
 use Rattle.plain_service.specs.Setups.{Setup, IsMoment}
-use Rattle.plain_service.specs.Storing.{files_of}
 use Rattle.service_laws.specs.PlainOf.{plain_of}
 use Rattle.cluster_facts.specs.Types.{Ask, Message}
 use Rattle.cluster_facts.specs.History.{Hand, Empty, Waiting, Applied, Ready}
-use Rattle.cluster_facts.specs.World.{World, posting_at}
+use Rattle.cluster_facts.specs.World.{posting_at}
 use Rattle.cluster_events.specs.declared.lines.Standing.{Standing}
 use Rattle.cluster_events.specs.Outcomes.{Outcome}
 use Rattle.cluster_events.specs.Servers.{State, in_world}
 use Rattle.cluster_events.specs.ClientEvents.{set_time, inject}
 use Rattle.cluster_events.specs.Events.{deliver_by, push_by, refuse}
 use Rattle.cluster_events.specs.Running.{Shelf, Happens}
-use Rattle.client_agent.specs.declared.answers.How.{How}
 use Rattle.client_agent.specs.declared.answers.How.TheVariants.{One, All}
 use Rattle.event_text.specs.Texts.{printed}
 use Rattle.cluster_events.proofs.Devices.{comes-once}
@@ -31,14 +29,13 @@ use Rattle.cluster_clients.proofs.DispatchSteps.{agents-as}
 use Rattle.cluster_rounds.specs.declared.cluster.Cluster.{Cluster}
 use Rattle.cluster_rounds.specs.Kits.{IsKit, Kit, calm_servers, device_by}
 use Rattle.cluster_rounds.specs.Scripts.{Script}
-use Rattle.cluster_rounds.specs.Worlds.{Event, Shows, IsGood, HasState, HasStateOf, HasStateOn, IsIdle, Does, Happened, TellsFiles, LeavesFiles, pushed, Pushes, any_state}
+use Rattle.cluster_rounds.specs.Worlds.{Event, Shows, IsGood, HasState, HasStateOf, HasStateOn, IsIdle, Does, Happened, pushed, Pushes, any_state}
 use Rattle.cluster_rounds.specs.Broken.{BreaksAlone, BreaksAloneIf}
 use Rattle.cluster_rounds.specs.Rounds.{EventOver}
 use Rattle.cluster_rounds.specs.Came.{Comes, DiskSeen}
 use Rattle.cluster_rounds.specs.Settling.{DoesSettle}
 use Rattle.cluster_rounds.specs.Delivered.{asked_by, dispatched_by, resent_by, Delivers, Injects}
 use Rattle.cluster_rounds.proofs.FilesSteps.{files-same}
-use Rattle.cluster_rounds.proofs.HearSteps.{IsQuiet}
 use Rattle.cluster_rounds.proofs.KitSteps.{line-kept}
 use Rattle.cluster_lines.specs.Shelves.{shelf_of}
 use Rattle.cluster_lines.specs.Lines.{CanPlay, IsOwn, is_own}

@@ -1,9 +1,8 @@
 -- What lines of the servers' own come to, by the events that they are.
-use Rattle.std.proofs.Common.{◌≡◌, ℕ, Bool, false, Option, List, ◌++◌, refl, ap, sym, subst, arith}
-use Rattle.std.specs.Prelude.{Result, Ok, Err, OnOk, OnErr, IfErr}
+use Rattle.std.proofs.Common.{ℕ, false, List, refl, sym, subst, arith}
+use Rattle.std.specs.Prelude.{Result, OnOk, OnErr, IfErr}
 use Rattle.std.proofs.lemmas.Result.{on_ok_weaker}
 use Rattle.disk_model.specs.declared.answers.DiskAnswer.{DiskAnswer}
-use Rattle.disk_model.specs.declared.answers.DiskAnswer.TheVariants.{Memory, Failed, Stopped}
 use Rattle.script_lines.specs.declared.line.Line.{Line}
 use Rattle.plain_service.specs.Setups.{Setup}
 use Rattle.service_laws.specs.PlainOf.{plain_of}
@@ -17,7 +16,7 @@ use Rattle.cluster_rounds.specs.Rounds.{EndOver}
 use Rattle.cluster_rounds.specs.Came.{ComesOff, DiskSeen}
 use Rattle.cluster_rounds.proofs.FilesSteps.{files-same}
 use Rattle.cluster_lines.specs.Shelves.{shelf_of}
-use Rattle.cluster_lines.specs.Playing.{BreaksOff, GoesOn, LineEnded, FaultLeaves, Plays}
+use Rattle.cluster_lines.specs.Playing.{BreaksOff, Plays}
 use Rattle.cluster_lines.specs.Following.{IsScript}
 use Rattle.cluster_lines.specs.Answers.{EndsAs}
 use Rattle.cluster_lines.specs.Own.{DoesOn, PlaysLine}

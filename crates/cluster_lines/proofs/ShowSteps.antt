@@ -6,20 +6,19 @@ use Rattle.std.proofs.lemmas.List.{append-nil}
 use Rattle.disk_model.specs.Disk.{Files}
 use Rattle.script_lines.specs.declared.line.Line.{Line}
 use Rattle.script_lines.specs.declared.line.Line.TheVariants as line
-use Rattle.script_lines.specs.declared.line.Server.TheVariants.{A as ServerA, B as ServerB}
 use Rattle.plain_service.specs.Setups.{Setup}
 use Rattle.plain_service.specs.Storing.{files_of}
 use Rattle.cluster_events.specs.declared.lines.Standing.{Standing}
 use Rattle.cluster_events.specs.Lines.{Told, Listed, Shown}
 use Rattle.cluster_events.specs.Servers.{State}
 use Rattle.cluster_events.specs.Running.{Shelf, listed, shown, show_by}
-use Rattle.event_text.specs.Texts.{printed, refused_line, server_line, file_line, text_line, file_text_lines, shown_lines}
+use Rattle.event_text.specs.Texts.{printed, refused_line, file_line, text_line, file_text_lines, shown_lines}
 use Rattle.cluster_clients.specs.Files.{sizes_of, listed_lines, ListsFiles, bytes_of}
 use Rattle.cluster_rounds.specs.declared.cluster.Cluster.{Cluster}
 use Rattle.cluster_rounds.specs.Kits.{Kit, calm_servers}
 use Rattle.cluster_rounds.specs.Worlds.{Shows, IsGood, Happened, Does}
 use Rattle.cluster_lines.specs.Shelves.{shelf_of}
-use Rattle.cluster_lines.specs.Showing.{StandsAs, refused, servers_listed}
+use Rattle.cluster_lines.specs.Showing.{StandsAs, refused}
 use Rattle.cluster_lines.specs.Steps.{TellsRead, ShowsOn, file_shown, files_listed}
 
 printed-listed : (ones : List (List ℕ × ℕ)) (told : List Told) → printed (listed ones told) ≡ printed told ++ listed_lines ones
@@ -41,17 +40,6 @@ module _ {Peers Group : Type 0} (kit : Kit Peers Group) where
   pub refused-does : (next : Line) (world : Cluster Group) (standing : Standing) (before after : List (List ℕ)) → (StandsAs kit) world standing → after ≡ before ++ refused_line next standing ∷ [] → (Does kit) ((refused kit) next) world world before after
   refused-does next world standing before after stands is setup state good shows =
       (shows, good, is ∙ ap (λ s. before ++ refused_line next s ∷ []) (stands setup state good shows))
-
-  -- **the servers are listed by how they stand**
-  pub servers-do : (world : Cluster Group) (standing : Standing) (before between after : List (List ℕ)) → (StandsAs kit) world standing → between ≡ before ++ server_line ServerA standing.role_of_a ∷ [] → after ≡ between ++ server_line ServerB standing.role_of_b ∷ [] → (Does kit) (servers_listed kit) world world before after
-  servers-do world standing before between after stands first second setup state good shows = (
-    shows,
-    good,
-    second
-        ∙ ap (λ (lines : List (List ℕ)). lines ++ server_line ServerB standing.role_of_b ∷ []) first
-        ∙ append_assoc before (server_line ServerA standing.role_of_a ∷ []) (server_line ServerB standing.role_of_b ∷ [])
-        ∙ ap (λ (s : Standing). before ++ server_line ServerA s.role_of_a ∷ server_line ServerB s.role_of_b ∷ []) (stands setup state good shows),
-  )
 
   -- **the files are listed**
   pub files-shown : (world : Cluster Group) (before after lines : List (List ℕ)) (held : Option Files) → ListsFiles held lines → after ≡ before ++ lines → (ShowsOn kit) (files_listed kit) world before after held

@@ -1,5 +1,5 @@
 -- Words of public clauses: which lines of a script can be played over servers, and which of them are the servers' own.
-use Rattle.std.specs.Prelude.{ℕ, ℤ, ◌≤◌, ◌≤ℤ◌, Bool, true, false}
+use Rattle.std.specs.Prelude.{ℤ, ◌≤◌, ◌≤ℤ◌, Bool, true, false}
 use Rattle.script_lines.specs.declared.line.Line.{Line}
 use Rattle.script_lines.specs.declared.line.Line.TheVariants as line
 use Rattle.plain_service.specs.Setups.{IsMoment}

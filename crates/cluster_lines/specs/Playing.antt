@@ -1,5 +1,5 @@
 -- Words of public clauses: what each line of a script does to a cluster, over any servers, and what it leaves where it breaks off.
-use Rattle.std.specs.Prelude.{◌≡◌, ℕ, ◌≤◌, Bool, Option, IfSome, List, ◌++◌, Result, Ok, Err}
+use Rattle.std.specs.Prelude.{◌≡◌, ℕ, ◌≤◌, Bool, IfSome, List, ◌++◌, Result, Ok, Err}
 use Rattle.ais_values.specs.Causes.{Rose}
 use Rattle.disk_model.specs.declared.answers.DiskAnswer.{DiskAnswer}
 use Rattle.disk_model.specs.declared.answers.DiskAnswer.TheVariants.{Memory, Failed, Stopped}

@@ -59,12 +59,6 @@ module _ {Peers Group : Type 0} (kit : Kit Peers Group) (laws : IsKit kit) where
   pub same-between : (setup : Setup) (state : State Peers) (held : Option Files) → (IsGood kit) setup state → TellsFiles setup state held → LeavesBetween setup (committed state.world.core) held held
   same-between setup state held good tells = left-between setup state held held good (left-same setup state held tells)
 
-  -- so are those of a history for one with an entry more
-  pub unworked-between : (setup : Setup) (state : State Peers) (entry : Entry) (held : Option Files) → TellsFiles setup state held → LeavesBetween setup (entry ∷ state.world.core.answered) held held
-  unworked-between setup state entry None tells = refl
-  unworked-between setup state entry (Some held) tells =
-      (held, refl, subst (λ (f : Files). Between service_disk (storage_of setup) (entry ∷ state.world.core.answered) f) (sym tells) no_attempt)
-
   -- an attempt that broke off after some calls
   attempt-after : (done rest : List DeviceCall) (old new : Files) → Attempt service_disk rest (all_applied done old) new → Attempt service_disk (done ++ rest) old new
   attempt-after [] rest old new attempt = attempt

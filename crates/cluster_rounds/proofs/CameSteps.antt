@@ -7,9 +7,8 @@ use Rattle.plain_service.specs.Setups.{Setup}
 use Rattle.service_laws.specs.PlainOf.{plain_of}
 use Rattle.cluster_facts.specs.Lists.{EndsIn}
 use Rattle.cluster_facts.specs.History.{committed}
-use Rattle.cluster_events.specs.Outcomes.{Outcome}
+use Rattle.cluster_events.specs.Outcomes.{Outcome, behind}
 use Rattle.cluster_events.specs.Servers.{State}
-use Rattle.cluster_events.specs.Stopping.{behind}
 use Rattle.cluster_events.specs.Devices.{EventBy, answered_in, spliced}
 use Rattle.cluster_events.proofs.Telling.{Says-both}
 use Rattle.cluster_events.proofs.Devices.{after_by, comes-alone, comes-both, comes-as, comes-once, ends-behind, caused-both}

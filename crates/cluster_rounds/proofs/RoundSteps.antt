@@ -80,15 +80,6 @@ module _ {Peers Group : Type 0} (kit : Kit Peers Group) (laws : IsKit kit) where
             left-both setup first.state second.state held told left leaves (two.files (left-told setup first.state held told leaves));
       }
 
-  pub played-flag : (setup : Setup) (state : State Peers) (outcome : Outcome (State Peers)) (new : Cluster Group) (before after : List (List ℕ)) (a b : Bool) (held left : Option Files) → a ≡ b → (Played kit) setup state outcome new before after a held left → (Played kit) setup state outcome new before after b held left
-  played-flag setup state outcome new before after a b held left same played = record {
-    shows = played.shows;
-    good = played.good;
-    lines = played.lines;
-    loudness = sym same ∙ played.loudness;
-    files = played.files;
-  }
-
   -- nothing happens
   pub played-nothing : (setup : Setup) (state : State Peers) (world : Cluster Group) (lines : List (List ℕ)) (held : Option Files) → (IsGood kit) setup state → (Shows kit) setup state world → (Played kit) setup state (quietly state) world lines lines false held held
   played-nothing setup state world lines held good shows = record {

@@ -8,12 +8,11 @@ use Rattle.service_laws.proofs.ServiceLaws.{is_plain}
 use Rattle.cluster_facts.specs.Lists.{without}
 use Rattle.cluster_facts.specs.History.{committed}
 use Rattle.cluster_events.specs.Lines.{Told, is_ignored}
-use Rattle.cluster_events.specs.Outcomes.{Outcome}
+use Rattle.cluster_events.specs.Outcomes.{Outcome, behind}
 use Rattle.cluster_events.specs.Servers.{State}
 use Rattle.cluster_events.specs.Settling.{round, is_loud, Rounds}
 use Rattle.cluster_events.specs.Settling.Rounds.{Begun, Further}
 use Rattle.cluster_events.specs.Measure.{potential, progress, Spends}
-use Rattle.cluster_events.specs.Stopping.{behind}
 use Rattle.cluster_events.specs.Devices.{answered_in, spliced}
 use Rattle.cluster_events.proofs.Telling.{Says-both}
 use Rattle.cluster_events.proofs.Carrying.{round-carries, rounds-carry}

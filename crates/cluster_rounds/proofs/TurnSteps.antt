@@ -12,13 +12,12 @@ use Rattle.cluster_facts.specs.Agents.{Agent, fresh, resent}
 use Rattle.cluster_facts.specs.Messages.{messages_in}
 use Rattle.cluster_facts.specs.World.{number_of}
 use Rattle.cluster_events.specs.Lines.{Told}
-use Rattle.cluster_events.specs.Outcomes.{Outcome, quietly, and_then, for_each}
+use Rattle.cluster_events.specs.Outcomes.{Outcome, quietly, and_then, for_each, behind}
 use Rattle.cluster_events.specs.Servers.{State, in_world, after_step, advance, advances, drain}
 use Rattle.cluster_events.specs.Events.{hear}
 use Rattle.cluster_events.specs.Serving.{IsSteady}
 use Rattle.cluster_events.specs.Settling.{take_answer, turn, client_turns, take_pushed}
-use Rattle.cluster_events.specs.Stopping.{behind, EachStops, Here, Later}
-use Rattle.cluster_events.specs.Ending.{EndsBehind, DrainEnds, TurnEnds, ClientEnds}
+use Rattle.cluster_events.specs.Ending.{EndsBehind, DrainEnds, TurnEnds, ClientEnds, EachEnds, Here, Later}
 use Rattle.cluster_events.proofs.Carrying.{resent-posted, take_answer-goes, push_round-goes}
 use Rattle.cluster_events.proofs.Devices.{comes-alone, advances-more, advances-stuck, hear-same, push-same}
 use Rattle.cluster_rounds.specs.declared.cluster.Cluster.{Cluster}
@@ -39,16 +38,16 @@ use Rattle.cluster_rounds.proofs.KitSteps.{at-steps, at-unasked, calm-serves, ca
 use Rattle.cluster_rounds.proofs.RoundSteps.{All-at, at-rest, clients-go, drain-go, for_each-more, hear-go, hear-plays, items-go, played-nothing, push-go, pushed-items, pushed-plays, turns-go}
 
 -- events for some elements, and then that of the next ends
-each-ends : {P X : Type 0} (event : X → State P → Outcome (State P)) (Ends : X → State P → Outcome (State P) → Type 0) (xs : List X) (index : ℕ) (x : X) (state : State P) (stop : Outcome (State P)) → index < length xs → x ≡ get_or xs index x → Ends x (for_each event (take index xs) state).state stop → EachStops event Ends xs state (behind (for_each event (take index xs) state) stop)
+each-ends : {P X : Type 0} (event : X → State P → Outcome (State P)) (Ends : X → State P → Outcome (State P) → Type 0) (xs : List X) (index : ℕ) (x : X) (state : State P) (stop : Outcome (State P)) → index < length xs → x ≡ get_or xs index x → Ends x (for_each event (take index xs) state).state stop → EachEnds event Ends xs state (behind (for_each event (take index xs) state) stop)
 each-ends event Ends [] index x state stop below is ends = absurd (omega arith)
 each-ends {P} event Ends (first ∷ xs) zero x state stop below is ends =
-    let E : List Told → Type 0 = λ told. EachStops event Ends (first ∷ xs) state (record { state = stop.state; told = told }) in
+    let E : List Told → Type 0 = λ told. EachEnds event Ends (first ∷ xs) state (record { state = stop.state; told = told }) in
     let here : E stop.told = Here (subst (λ y. Ends y state stop) is ends) in
     subst E (sym (append-nil stop.told)) here
 each-ends {P} event Ends (first ∷ xs) (suc index) x state stop below is ends =
     let next = event first state in
     let rest = for_each event (take index xs) next.state in
-    let E : List Told → Type 0 = λ told. EachStops event Ends (first ∷ xs) state (record { state = stop.state; told = told }) in
+    let E : List Told → Type 0 = λ told. EachEnds event Ends (first ∷ xs) state (record { state = stop.state; told = told }) in
     let later : E ((stop.told ++ rest.told) ++ next.told) = Later (each-ends event Ends xs index x next.state stop (omega arith) is ends) in
     subst E (append_assoc stop.told rest.told next.told) later
 

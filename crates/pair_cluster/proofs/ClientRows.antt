@@ -1,9 +1,9 @@
 -- Worked rows of clients' calls, over an active server whose partner is down and a service that answers every call.
-use Rattle.std.proofs.Common.{◌≡◌, ℕ, zero, suc, Some, None, Bool, true, false, ◌&&◌, ◌==◌, pos, List, [], ◌∷◌, ◌++◌, drop, refl, codes}
+use Rattle.std.proofs.Common.{◌≡◌, ℕ, zero, suc, Some, None, true, false, ◌&&◌, ◌==◌, pos, List, [], ◌∷◌, ◌++◌, drop, refl}
 use Rattle.stream_config.specs.declared.attrs.StreamName.TheVariants.{System}
 use Rattle.ntf_types.specs.declared.notification.Notification.{Notification}
 use Rattle.ntf_filters.specs.declared.filter.FilterSet.{FilterSet}
-use Rattle.cluster_facts.specs.Types.{Ask, Start, Other, Log, Ntf, Call, LogInit, LogWrite, LogFini, LogClose, NtfSend, NtfSubscribe, Content, Single, Done, Success, BadHandle, VersionRefused, TryAgain, Entry, Called, Receipted, Written, Notified, Message, Request, Answer, Delivery, Receipt}
+use Rattle.cluster_facts.specs.Types.{Ask, Start, Other, Log, Ntf, LogInit, LogFini, LogClose, NtfSend, NtfSubscribe, Content, Single, Done, Success, BadHandle, VersionRefused, TryAgain, Entry, Called, Receipted, Written, Notified, Message, Request, Answer, Delivery, Receipt}
 use Rattle.cluster_facts.specs.Service.{Plain}
 use Rattle.cluster_facts.specs.World.{empty_world}
 use Rattle.cluster_events.specs.Lines.{Posted, Committed, Replied, Declined, HandedOut, Dispatched, Ignored, Refused}

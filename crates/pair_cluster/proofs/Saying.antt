@@ -1,28 +1,26 @@
 -- What the steps of the pair say, and what they spend.
-use Rattle.std.proofs.Common.{◌≡◌, ℕ, ℤ, suc, ◌+◌, Bool, nat_lt, nat_le, if◌then◌else◌, None, List, [], ◌∷◌, length, refl, sym, arith}
+use Rattle.std.proofs.Common.{◌≡◌, ℤ, suc, ◌+◌, Bool, nat_lt, nat_le, if◌then◌else◌, List, [], ◌∷◌, length, refl, sym, arith}
 use Rattle.script_lines.specs.declared.line.Line.{Line}
 use Rattle.script_lines.specs.declared.line.Server.{Server}
-use Rattle.cluster_facts.specs.Types.{Reply, Entry, Called, Receipted, Answer}
+use Rattle.cluster_facts.specs.Types.{Entry, Called, Receipted}
 use Rattle.cluster_facts.specs.Lists.{IsNumbered}
-use Rattle.cluster_facts.specs.Messages.{Spelled, messages_in, calls_in}
+use Rattle.cluster_facts.specs.Messages.{messages_in, calls_in}
 use Rattle.cluster_facts.specs.Service.{Plain, IsPlain, answers_in}
 use Rattle.cluster_facts.specs.History.{Hand, Empty, Waiting, Applied, Ready, New, Repeat, Old, Ahead, judged, IsLegal, MayFollow, committed_by}
 use Rattle.cluster_facts.specs.World.{World}
 use Rattle.cluster_facts.specs.Facts.{IsSound}
 use Rattle.cluster_facts.proofs.Words.{by_test, EndsIn-same}
 use Rattle.cluster_facts.proofs.Growing.{IsLegal-before}
-use Rattle.cluster_events.specs.Lines.{Posted, Committed, Refused, Stood}
+use Rattle.cluster_events.specs.Lines.{Committed, Refused, Stood}
 use Rattle.cluster_events.specs.declared.lines.ServerRole.{ServerRole}
 use Rattle.cluster_events.specs.declared.lines.Standing.{Standing}
-use Rattle.cluster_events.specs.Outcomes.{quietly}
-use Rattle.cluster_events.specs.Servers.{Servers}
 use Rattle.cluster_events.specs.Devices.{Device}
 use Rattle.cluster_events.specs.Measure.{Spends}
 use Rattle.cluster_events.specs.Saying.{Says}
 use Rattle.cluster_events.specs.Serving.{IsServing, IsCarried}
-use Rattle.cluster_events.proofs.Telling.{Grows-same, Grows-one, TellsReplies-none, Says-same, Says-both, Says-carried}
-use Rattle.cluster_events.proofs.Measuring.{unheard-accepted, may-waits, Spends-both, Spends-carried}
-use Rattle.pair_cluster.specs.Peers.{Peers, IsPair, standing_pair}
+use Rattle.cluster_events.proofs.Telling.{Grows-same, Grows-one, TellsReplies-none, Says-same, Says-both, Says-told}
+use Rattle.cluster_events.proofs.Measuring.{unheard-accepted, may-waits, Spends-both, Spends-told}
+use Rattle.pair_cluster.specs.Peers.{IsPair}
 use Rattle.pair_cluster.specs.Falling.{with_core}
 use Rattle.pair_cluster.specs.Pair.{pair}
 use Rattle.pair_cluster.proofs.Answering.{answer-goes}
@@ -76,19 +74,6 @@ says-over plain world past hand = record {
   deals = λ client. tt;
 }
 
-says-posted : (plain : Plain) (world : World) (client number : ℕ) (reply : Reply) → Says plain world (record world { net = Spelled (Answer client number reply) ∷ world.net }) (Posted (suc (length world.net)) (Answer client number reply) ∷ [])
-says-posted plain world client number reply =
-    let says = Says-same plain world in
-    record {
-      posts = Grows-one (Spelled (Answer client number reply)) world.net;
-      entries = says.entries;
-      answers = says.answers;
-      replies = says.replies;
-      callbacks = says.callbacks;
-      writes = says.writes;
-      deals = says.deals;
-    }
-
 pub says-borne : (plain : Plain) → Bears plain (Says plain)
 says-borne plain = record {
   same = Says-same plain;
@@ -98,7 +83,7 @@ says-borne plain = record {
   taken = λ world past entry at. says-hand plain world past Empty (Waiting entry) refl;
   applied = λ world past entry sound. says-applied plain world past entry;
   confirmed = λ world past entry. says-hand plain world past (Applied entry) (Ready entry) refl;
-  worked = answer-goes plain (Says plain) (λ one two three first second says more. Says-both plain one two three first second says more) (says-posted plain) (λ world past entry. says-over plain world past (Ready entry));
+  worked = answer-goes plain (Says plain) (λ one two three first second says more. Says-both plain one two three first second says more) (Says-told plain).answer (λ world past entry. says-over plain world past (Ready entry));
   over = says-over plain;
 }
 
@@ -129,26 +114,16 @@ spends-borne plain is_plain = record {
   taken = λ world past entry at. record { paid = omega arith };
   applied = spends-applied plain is_plain;
   confirmed = λ world past entry. record { paid = omega arith };
-  worked = answer-goes plain Spends Spends-both (λ world client number reply. record { paid = omega arith }) (λ world past entry. record { paid = omega arith });
+  worked = answer-goes plain Spends Spends-both (Spends-told plain).answer (λ world past entry. record { paid = omega arith });
   over = λ world past hand. record { paid = omega arith };
 }
-
--- what rounds say and spend whatever the servers do: that of servers that do nothing
-abbrev idle : Servers Peers
-idle = record { accept = λ entry state. quietly state; mirror = λ state. None; ack = λ state. None; work = λ state. None; steps = 0; standing = standing_pair }
-
-idle-says : (plain : Plain) → IsCarried plain idle IsPair (Says plain)
-idle-says plain = Says-carried plain idle IsPair (λ entry state steady empty. Says-same plain state.world) (λ state steady. Says-same plain state.world)
-
-idle-spends : (plain : Plain) → IsCarried plain idle IsPair Spends
-idle-spends plain = Spends-carried plain idle IsPair (λ entry state steady empty may stands. record { paid = omega arith }) (λ state steady. record { paid = omega arith })
 
 -- **the pair serves; its rounds say what they must, and pay for what goes on**
 pub pair-serves : (plain : Plain) (device : Device) → IsPlain plain → IsServing plain (pair plain device) IsPair
 pair-serves plain device is_plain = serves-by plain is_plain device (Says plain) (says-borne plain)
 
 pub pair-says : (plain : Plain) (device : Device) → IsPlain plain → IsCarried plain (pair plain device) IsPair (Says plain)
-pair-says plain device is_plain = pair-carries plain is_plain device (Says plain) (says-borne plain) (idle-says plain)
+pair-says plain device is_plain = pair-carries plain is_plain device (Says plain) (says-borne plain) (Says-told plain)
 
 pub pair-spends : (plain : Plain) (device : Device) → IsPlain plain → IsCarried plain (pair plain device) IsPair Spends
-pair-spends plain device is_plain = pair-carries plain is_plain device Spends (spends-borne plain is_plain) (idle-spends plain)
+pair-spends plain device is_plain = pair-carries plain is_plain device Spends (spends-borne plain is_plain) (Spends-told plain)

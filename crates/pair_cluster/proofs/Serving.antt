@@ -10,11 +10,12 @@ use Rattle.cluster_facts.specs.Facts.{IsSound}
 use Rattle.cluster_events.specs.Lines.{Told, Committed, Stood, is_progress}
 use Rattle.cluster_events.specs.declared.lines.ServerRole.TheVariants as role
 use Rattle.cluster_events.specs.Outcomes.{Outcome}
-use Rattle.cluster_events.specs.Servers.{State, Servers, advances, drain}
+use Rattle.cluster_events.specs.Servers.{State, advances, drain}
 use Rattle.cluster_events.specs.Devices.{Device}
 use Rattle.cluster_events.specs.Settling.{is_loud}
 use Rattle.cluster_events.specs.Serving.{IsSteady, Accepts, Drains, IsServing, IsCarried, IsStepped, AreStepped}
 use Rattle.cluster_events.proofs.Sound.{accept-sound}
+use Rattle.cluster_events.proofs.Carrying.{IsTold, told-carried}
 use Rattle.pair_cluster.specs.Peers.{Partner, Down, Owed, Linking, Standby, Peers, Agree, IsPair, other_server}
 use Rattle.pair_cluster.specs.Falling.{with_core}
 use Rattle.pair_cluster.specs.Pair.{is_linked, accept_by, accept_pair, pair}
@@ -127,19 +128,9 @@ module _ (plain : Plain) (is_plain : IsPlain plain) (device : Device) (R : World
   accept-kept entry state steady empty may at stands =
       accept-hand entry state state.world.core.hand empty at (accept-sound plain entry (Waiting entry) state.world empty refl may at stands steady.sound)
 
-  -- a relation that any servers carry is carried by the pair
-  pub pair-carries : {Q : Type 0} {servers : Servers Q} {Fine : State Q → Type 0} → IsCarried plain servers Fine R → IsCarried plain (pair plain device) IsPair R
-  pair-carries carried = record {
-    same = carried.same;
-    both = carried.both;
-    ignored = carried.ignored;
-    answer = carried.answer;
-    pushed = carried.pushed;
-    reply = carried.reply;
-    item = carried.item;
-    accept = accept-kept;
-    drain = λ state steady. (pair-rests plain is_plain device R bears state steady).steps.goes;
-  }
+  -- a relation that the clients' side keeps too is carried through rounds
+  pub pair-carries : IsTold plain R → IsCarried plain (pair plain device) IsPair R
+  pair-carries told = told-carried plain (pair plain device) IsPair R told accept-kept (λ state steady. (pair-rests plain is_plain device R bears state steady).steps.goes)
 
   -- Its steps, one by one.
 

@@ -1,5 +1,5 @@
 -- Only `crash`, a work that fails and an armed count that comes to its end take a server down.
-use Rattle.std.proofs.Common.{◌≡◌, ℕ, suc, inl, inr, ◌⊎◌, Bool, true, false, ◌&&◌, ◌||◌, Option, Some, None, length, refl, ap, sym, ◌∙◌, subst}
+use Rattle.std.proofs.Common.{◌≡◌, ℕ, suc, inl, inr, ◌⊎◌, Bool, true, false, ◌&&◌, ◌||◌, Option, Some, None, length, refl, ap, sym, subst}
 use Rattle.std.specs.Prelude.{IsSome}
 use Rattle.script_lines.specs.declared.line.Line.{Line}
 use Rattle.script_lines.specs.declared.line.Line.TheVariants as line
@@ -16,9 +16,8 @@ use Rattle.cluster_events.specs.Serving.{IsSteady}
 use Rattle.cluster_events.proofs.Promised.{happens-kept}
 use Rattle.pair_cluster.specs.Peers.{Partner, Down, Owed, Linking, Standby, Peers, IsPair, same_server}
 use Rattle.pair_cluster.specs.Falling.{arm_by, restart_by}
-use Rattle.pair_cluster.specs.Pair.{is_linked, accept_by, mirror_by, ack_by, linked, lowered, reaches, is_standby, falls, work_as, work_by, pair}
-use Rattle.pair_cluster.specs.Running.{PairHappens}
-use Rattle.pair_cluster.specs.Standing.{IsUp, BothStand, StayUp, is_crash, IsShort, ServersStayUp}
+use Rattle.pair_cluster.specs.Pair.{is_linked, accept_by, mirror_by, ack_by, linked, reaches, is_standby, falls, work_as, work_by, pair}
+use Rattle.pair_cluster.specs.Standing.{IsUp, BothStand, StayUp, ServersStayUp}
 use Rattle.pair_cluster.proofs.Stepping.{pair_at}
 use Rattle.pair_cluster.proofs.Serving.{pair-stepped}
 use Rattle.pair_cluster.proofs.Saying.{says-borne, pair-serves, pair-says}

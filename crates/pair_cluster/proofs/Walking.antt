@@ -12,14 +12,15 @@ use Rattle.cluster_events.specs.Servers.{State}
 use Rattle.cluster_events.specs.Devices.{Device}
 use Rattle.cluster_events.specs.Running.{Shelf}
 use Rattle.cluster_events.specs.Serving.{IsSteady, IsCarried}
-use Rattle.cluster_events.proofs.Walking.{ByKind, Others, kind_of, IsShow, IsByKind, IsTold, line-walks, told-carried}
+use Rattle.cluster_events.proofs.Carrying.{IsTold}
+use Rattle.cluster_events.proofs.Walking.{ByKind, Others, kind_of, IsShow, IsByKind, line-walks}
 use Rattle.pair_cluster.specs.Peers.{Peers, IsPair, same_server}
 use Rattle.pair_cluster.specs.Falling.{with_core}
 use Rattle.pair_cluster.specs.Pair.{pair}
 use Rattle.pair_cluster.specs.Running.{PairHappens}
 use Rattle.pair_cluster.proofs.Answering.{answer-goes}
-use Rattle.pair_cluster.proofs.Stepping.{Bears, pair-rests}
-use Rattle.pair_cluster.proofs.Serving.{accept-kept, pair-stepped}
+use Rattle.pair_cluster.proofs.Stepping.{Bears}
+use Rattle.pair_cluster.proofs.Serving.{pair-carries, pair-stepped}
 use Rattle.pair_cluster.proofs.Saying.{pair-serves}
 use Rattle.pair_cluster.proofs.Lines.{crash-keeps, arm-keeps, disarm-keeps, restart-keeps}
 
@@ -62,8 +63,7 @@ module _ (plain : Plain) (is_plain : IsPlain plain) (shelf : Shelf) (device : De
   bears = told-bears plain (R Others) told by_kind.shows cored
 
   carried : IsCarried plain (pair plain device) IsPair (R Others)
-  carried =
-      told-carried plain (pair plain device) IsPair (R Others) told (λ entry state steady empty may at stands. accept-kept plain is_plain device (R Others) bears entry state steady empty may at stands) (λ state steady. (pair-rests plain is_plain device (R Others) bears state steady).steps.goes)
+  carried = pair-carries plain is_plain device (R Others) bears told
 
   abbrev Walks : Line → State Peers → Outcome (State Peers) → Type 0
   Walks next state outcome = IsSteady plain IsPair outcome.state × R (kind_of next) state.world outcome.state.world outcome.told

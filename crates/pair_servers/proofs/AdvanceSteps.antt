@@ -1,21 +1,20 @@
 -- What a step of a drain comes to.
 use Rattle.std.proofs.Common.{◌≡◌, ℕ, Bool, true, false, Option, Some, None, List, ◌++◌, refl, ap, sym, ◌∙◌, subst}
-use Rattle.std.specs.Prelude.{◌↔◌, IsTrue, IsSome}
+use Rattle.std.specs.Prelude.{IsSome}
 use Rattle.disk_model.specs.declared.answers.DiskAnswer.{DiskAnswer}
 use Rattle.disk_model.specs.declared.answers.DiskAnswer.TheVariants.{Memory, Failed, Stopped}
 use Rattle.plain_service.specs.Setups.{Setup}
 use Rattle.service_laws.specs.PlainOf.{plain_of}
-use Rattle.cluster_facts.specs.Types.{Entry}
 use Rattle.cluster_facts.specs.History.{Hand, Empty, Waiting, Applied, Ready}
 use Rattle.cluster_events.specs.Outcomes.{Outcome}
 use Rattle.cluster_events.specs.Servers.{State, or_else, advance}
 use Rattle.event_text.specs.Texts.{printed}
 use Rattle.mirror.specs.declared.node.Node.{Node}
-use Rattle.pair_cluster.specs.Peers.{Partner, Down, Owed, Linking, Standby, Peers}
-use Rattle.pair_cluster.specs.Pair.{mirror_by, mirror_pair, ack_by, ack_pair, work_by, work_pair, pair}
+use Rattle.pair_cluster.specs.Peers.{Partner, Linking, Standby, Peers}
+use Rattle.pair_cluster.specs.Pair.{mirror_by, mirror_pair, ack_by, ack_pair, work_by, pair}
 use Rattle.pair_cluster.proofs.Stepping.{pair_at}
 use Rattle.cluster_rounds.specs.declared.cluster.Cluster.{Cluster}
-use Rattle.cluster_rounds.specs.Came.{Advances, Came, Comes, ComesOff, DiskSeen}
+use Rattle.cluster_rounds.specs.Came.{Advances, Comes, ComesOff, DiskSeen}
 use Rattle.cluster_rounds.specs.Kits.{device_by}
 use Rattle.cluster_rounds.specs.Rounds.{EndsStep, advances_by}
 use Rattle.cluster_rounds.specs.Worlds.{HasState, HasStateOn, IsGood, Shows, any_state}

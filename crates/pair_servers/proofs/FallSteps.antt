@@ -2,7 +2,6 @@
 use Rattle.std.proofs.Common.{◌≡◌, ℕ, suc, ◌≤◌, inl, inr, Bool, true, false, ◌&&◌, nat_le, if◌then◌else◌, Option, Some, None, List, [], ◌∷◌, ◌++◌, length, refl, ap, sym, ◌∙◌, subst, arith, le_refl, append-nil, append_assoc}
 use Rattle.std.specs.Prelude.{not, is_some, option_map, Result, Ok, Err, OnOk, OnErr, IfErr}
 use Rattle.std.proofs.lemmas.Bool.Decides.{leb_tells}
-use Rattle.ais_values.specs.Causes.{Rose}
 use Rattle.calls.specs.History.{Pushed}
 use Rattle.disk_model.specs.declared.answers.DiskAnswer.{DiskAnswer}
 use Rattle.disk_model.specs.declared.answers.DiskAnswer.TheVariants.{Memory, Failed, Stopped}
@@ -11,14 +10,13 @@ use Rattle.script_lines.specs.declared.line.Line.TheVariants as line
 use Rattle.script_lines.specs.declared.line.Server.{Server}
 use Rattle.script_lines.specs.declared.line.Server.TheVariants.{A, B}
 use Rattle.plain_service.specs.Setups.{Setup}
-use Rattle.plain_service.specs.Values.{saved_of}
 use Rattle.cluster_facts.specs.Types.{Entry}
 use Rattle.cluster_facts.specs.History.{Hand, Empty, Waiting, Applied, Ready, committed, committed_by}
 use Rattle.cluster_events.specs.Lines.{Stood}
 use Rattle.cluster_events.specs.declared.lines.ServerRole.TheVariants as role
 use Rattle.cluster_events.specs.Outcomes.{Outcome}
 use Rattle.cluster_events.specs.Servers.{State}
-use Rattle.event_text.specs.Texts.{printed, entry_line, server_line}
+use Rattle.event_text.specs.Texts.{printed, server_line}
 use Rattle.wire.specs.declared.message.Message.{Message}
 use Rattle.mirror.specs.declared.heard.Heard.{Heard}
 use Rattle.mirror.specs.declared.node.Node.{Node}
@@ -26,9 +24,9 @@ use Rattle.mirror.specs.Replicas.{down}
 use Rattle.mirror.specs.Pairing.{IsJoinBegun, alone, joining, parted}
 use Rattle.mirror.proofs.ReplicaLaws.{count-is}
 use Rattle.pair_cluster.specs.Peers.{Partner, Down, Owed, Linking, Standby, Peers, Agree, IsArmed, other_server, same_server}
-use Rattle.pair_cluster.specs.Falling.{refused, taken_over, readied, commitment, partner_down, crash_active, crash_partner, crash_by, crash, armed_with, arm_by, arm, joining_by, joined, restart_by, restart}
+use Rattle.pair_cluster.specs.Falling.{refused, taken_over, readied, commitment, partner_down, crash_active, crash_partner, crash_by, crash, armed_with, arm_by, joined, restart_by}
 use Rattle.pair_cluster.specs.Pair.{is_standby}
-use Rattle.pair_cluster.specs.Ended.{EndsCrash, ended}
+use Rattle.pair_cluster.specs.Ended.{EndsCrash}
 use Rattle.pair_cluster.proofs.Stepping.{pair_at}
 use Rattle.cluster_clients.proofs.DispatchSteps.{agents-as}
 use Rattle.cluster_rounds.specs.declared.cluster.Cluster.{Cluster}
@@ -36,7 +34,7 @@ use Rattle.cluster_rounds.specs.Broken.{BreaksAlone}
 use Rattle.cluster_rounds.specs.Came.{DiskSeen, ComesOff, Ended}
 use Rattle.cluster_rounds.specs.Rounds.{EndOver}
 use Rattle.cluster_rounds.proofs.CameSteps.{alone-off}
-use Rattle.cluster_rounds.specs.Worlds.{Shows, IsGood, Happened, Does, LeavesFiles, TellsFiles, any_state}
+use Rattle.cluster_rounds.specs.Worlds.{Shows, Happened, Does, LeavesFiles, any_state}
 use Rattle.cluster_rounds.proofs.FilesSteps.{left-same}
 use Rattle.pair_servers.specs.declared.pair.Pair.{Pair}
 use Rattle.pair_servers.specs.Falls.{EndsAs, TakesOver, stands_by, stays_down, waiting_in, waiting_lines, waiting_entries}
@@ -47,9 +45,8 @@ use Rattle.pair_servers.specs.Steps.{DoesOn, crashed_by, armed_by, disarmed_by, 
 use Rattle.pair_servers.proofs.OverSteps.{fell, with_servers, standby-shown, kept-shown, over-shows, over-told, fallen-told, fallen-fell}
 use Rattle.pair_servers.proofs.PairCame.{lacks}
 use Rattle.pair_servers.proofs.PairEnds.{crash-ended}
-use Rattle.pair_servers.proofs.PairFiles.{kept_calls, rest-goes-on, takeover-done, takeover-breaks, standby-is}
+use Rattle.pair_servers.proofs.PairFiles.{rest-goes-on, takeover-done, takeover-breaks, standby-is}
 use Rattle.pair_servers.proofs.PairLines.{over-good, down-good, armed-good, joined-good}
-use Rattle.pair_servers.proofs.StandingSteps.{refuses}
 
 -- What the code tests of the servers, and what it is of the state.
 

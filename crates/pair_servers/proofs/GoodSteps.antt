@@ -1,9 +1,6 @@
 -- What holds of a good state of two servers, and the conditions of what its nodes are called with.
-use Rattle.std.proofs.Common.{◌≡◌, ℕ, suc, ◌<◌, Bool, true, false, ℤ, pos, negsuc, Option, Some, None, List, [], ◌∷◌, length, refl, ap, sym, ◌∙◌, subst, arith}
+use Rattle.std.proofs.Common.{◌≡◌, ℕ, false, ℤ, List, refl, ap, sym, ◌∙◌, subst, arith}
 use Rattle.std.specs.Prelude.{Result, Ok, Err, IfOk, OnErr}
-use Rattle.std.proofs.lemmas.Bool.{leb-true}
-use Rattle.ais_values.proofs.Basics.{true_from_T}
-use Rattle.std.proofs.lemmas.Int.{to_z-of_z}
 use mir.Syntax.{w64}
 use mir.Val.{to_z, of_z}
 use Rattle.wire.specs.declared.message.Message.TheVariants.{Request, Receipt}
@@ -17,7 +14,7 @@ use Rattle.service_laws.proofs.HistoryLaws.{history-of}
 use Rattle.cluster_facts.specs.Types.{Entry}
 use Rattle.cluster_facts.specs.Lists.{Stands}
 use Rattle.cluster_facts.specs.Messages.{messages_in}
-use Rattle.cluster_facts.specs.History.{Hand, Empty, Waiting, Applied, Ready, accepted, accepted_by, committed_by}
+use Rattle.cluster_facts.specs.History.{Hand, Empty, Waiting, Applied, Ready, accepted, accepted_by}
 use Rattle.cluster_events.specs.Servers.{State}
 use Rattle.cluster_events.specs.Serving.{IsSteady}
 use Rattle.cluster_events.proofs.Carrying.{Goes, hear-goes}
@@ -27,16 +24,17 @@ use Rattle.mirror.specs.declared.node.Node.{Node}
 use Rattle.mirror.specs.Hearing.{CanHear}
 use Rattle.mirror.specs.Pairing.{IsHeard}
 use Rattle.pair_cluster.specs.Peers.{Peers, Partner, IsPair}
+use Rattle.cluster_lines.proofs.LineSteps.{moment-same}
 use Rattle.cluster_rounds.specs.declared.cluster.Cluster.{Cluster}
 use Rattle.cluster_rounds.specs.Kits.{servers_at}
 use Rattle.cluster_rounds.specs.PartlyDone.{SaysUnasked}
-use Rattle.cluster_rounds.specs.Worlds.{Shows, IsGood, HasState, heard_by}
+use Rattle.cluster_rounds.specs.Worlds.{IsGood, HasState, heard_by}
 use Rattle.cluster_rounds.proofs.KitSteps.{calm-serves, calm-unasked}
 use Rattle.cluster_events.specs.Outcomes.{Outcome}
 use Rattle.pair_servers.specs.declared.pair.Pair.{Pair}
 use Rattle.pair_servers.specs.PairKit.{pair_kit}
 use Rattle.pair_servers.specs.PairLaws.{pair_laws}
-use Rattle.pair_servers.specs.PairNodes.{active_by, servers_by}
+use Rattle.pair_servers.specs.PairNodes.{active_by}
 
 -- Histories.
 
@@ -71,10 +69,6 @@ is-active world has =
 
 pub moment-of : (world : Cluster Pair) → HasState pair_kit world → IsMoment world.now
 moment-of world has = subst IsMoment (sym has.shows.now) has.good.moment
-
-pub moment-same : (now : ℤ) → IsMoment now → to_z w64 (of_z w64 now) ≡ now
-moment-same (pos n) moment = let to = leb-true n 9000000000000000000 (true_from_T _ moment.to.le) in to_z-of_z w64 (pos n) (record { sfits = omega arith })
-moment-same (negsuc n) moment = absurd moment.from.le
 
 can-hear : (message : Message) (now : ℤ) → MessageInRange message → IsMoment now → CanHear message now
 can-hear (Request client number call) now range moment =

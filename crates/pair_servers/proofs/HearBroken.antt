@@ -1,5 +1,5 @@
 -- What a message that the active server heard posts, and what hearing leaves where memory runs out.
-use Rattle.std.proofs.Common.{◌≡◌, ℕ, zero, suc, ◌<◌, ◌⊎◌, inl, inr, Bool, true, false, ℤ, Option, Some, None, List, [], ◌∷◌, length, take, refl, ap, sym, ◌∙◌, subst, arith}
+use Rattle.std.proofs.Common.{◌≡◌, ℕ, zero, suc, ◌<◌, ◌⊎◌, inl, inr, Bool, true, false, ℤ, Option, List, [], ◌∷◌, length, take, refl, ap, sym, ◌∙◌, subst, arith}
 use Rattle.std.specs.List.{AllByRecursion}
 use Rattle.calls.specs.History.{Pushed}
 use Rattle.disk_model.specs.Disk.{Files}
@@ -15,7 +15,6 @@ use Rattle.cluster_facts.specs.Messages.{Posting, messages_in}
 use Rattle.cluster_facts.specs.Service.{Plain, is_new}
 use Rattle.cluster_facts.specs.History.{Hand, Empty, Waiting, Applied, Ready, Judged, New, Repeat, Old, Ahead, judged_call}
 use Rattle.cluster_facts.specs.World.{posted}
-use Rattle.cluster_events.specs.Outcomes.{Outcome}
 use Rattle.cluster_events.specs.Servers.{State, Servers, in_world}
 use Rattle.cluster_events.specs.ClientEvents.{post}
 use Rattle.cluster_events.specs.Events.{post_again, request_as, hear_at_rest}
@@ -26,7 +25,7 @@ use Rattle.mirror.specs.declared.heard.Role.TheVariants.{Active}
 use Rattle.mirror.specs.declared.node.Tie.{Tie}
 use Rattle.mirror.specs.declared.node.Tie.TheVariants.{Apart, Owing, Linked}
 use Rattle.mirror.specs.Replicas.{ReplicaState, HasRoom, at_rest, at_work}
-use Rattle.mirror.specs.Hearing.{CanHear, IsRequestHeard, IsReceiptHeard, IsHeardAtRest, ignored, accepted_alone, repeated}
+use Rattle.mirror.specs.Hearing.{CanHear, IsRequestHeard, IsReceiptHeard, IsHeardAtRest, ignored}
 use Rattle.mirror.specs.Pairing.{CanReceive, IsHeard, IsHeardTied, IsReceived, mirrored, newest}
 use Rattle.mirror.proofs.ReplicaLaws.{count-is}
 use Rattle.pair_cluster.specs.Peers.{Peers}
@@ -40,12 +39,11 @@ use Rattle.cluster_rounds.specs.declared.cluster.Cluster.{Cluster}
 use Rattle.cluster_rounds.specs.Broken.{Broken, BreaksAlone}
 use Rattle.cluster_rounds.proofs.BrokenClients.{same-breaks}
 use Rattle.cluster_rounds.specs.Kits.{calm_servers}
-use Rattle.cluster_rounds.specs.Worlds.{Shows, IsGood, HasState, heard_by}
+use Rattle.cluster_rounds.specs.Worlds.{Shows, IsGood, HasState}
 use Rattle.cluster_rounds.proofs.BrokenSteps.{same-between, whole-broken, nothing-broken}
 use Rattle.pair_servers.specs.declared.pair.Pair.{Pair}
 use Rattle.pair_servers.specs.PairKit.{pair_kit}
 use Rattle.pair_servers.specs.PairLaws.{pair_laws}
-use Rattle.pair_servers.specs.PairNodes.{active_by}
 use Rattle.pair_servers.proofs.GoodSteps.{GoesSo, heard-goes}
 use Rattle.pair_servers.proofs.HearSteps.{left_as, hears-at, busy-at, told-net}
 

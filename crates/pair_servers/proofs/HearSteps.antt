@@ -1,8 +1,6 @@
 -- What a message that the active server hears comes to, and what it leaves where memory runs out.
-use Rattle.std.proofs.Common.{◌≡◌, ℕ, zero, suc, ◌<◌, ◌⊎◌, inl, inr, Bool, true, false, ℤ, Option, Some, None, List, [], ◌∷◌, ◌++◌, length, take, refl, ap, sym, ◌∙◌, subst, arith, append-nil}
-use Rattle.std.specs.List.{AllByRecursion}
+use Rattle.std.proofs.Common.{◌≡◌, ℕ, suc, ◌<◌, Bool, true, false, ℤ, Option, Some, None, List, [], ◌∷◌, ◌++◌, length, refl, ap, sym, ◌∙◌, subst, append-nil}
 use Rattle.calls.specs.History.{Pushed}
-use Rattle.disk_model.specs.Disk.{Files}
 use Rattle.wire.specs.MessageSpelling.{MessageInRange}
 use Rattle.plain_service.specs.Setups.{Setup}
 use Rattle.service_laws.specs.PlainOf.{plain_of}
@@ -10,10 +8,9 @@ use Rattle.service_laws.proofs.ServiceLaws.{is_plain}
 use Rattle.cluster_facts.specs.Types.{Call, Reply, Entry, Called, Receipted, Message, Request, Answer, Receipt}
 use Rattle.cluster_facts.specs.Lists.{Stands}
 use Rattle.cluster_facts.specs.Messages.{messages_in}
-use Rattle.cluster_facts.specs.Service.{Plain, is_new}
+use Rattle.cluster_facts.specs.Service.{is_new}
 use Rattle.cluster_facts.specs.History.{Hand, Empty, Waiting, Applied, Ready, Judged, New, Repeat, Old, Ahead, judged_call, committed}
 use Rattle.cluster_facts.specs.Ranges.{CanCome}
-use Rattle.cluster_facts.specs.World.{posted}
 use Rattle.cluster_events.specs.Lines.{Told, Ignored}
 use Rattle.cluster_events.specs.declared.lines.Why.TheVariants.{OldRequest, AheadRequest, Busy, DoneReceipt}
 use Rattle.cluster_events.specs.Outcomes.{Outcome}
@@ -31,23 +28,19 @@ use Rattle.mirror.specs.declared.node.Node.{Node}
 use Rattle.mirror.specs.Replicas.{ReplicaState, at_rest, at_work}
 use Rattle.mirror.specs.Hearing.{IsRequestHeard, IsReceiptHeard, IsHeardAtRest, ignored, accepted_alone, repeated}
 use Rattle.mirror.specs.Pairing.{IsHeard, IsHeardTied, mirrored, newest}
-use Rattle.pair_cluster.specs.Peers.{Partner, Down, Owed, Linking, Standby, Peers, Agree, IsPair}
+use Rattle.pair_cluster.specs.Peers.{Partner, Down, Owed, Linking, Standby, Peers, IsPair}
 use Rattle.pair_cluster.specs.Pair.{is_linked, accept_by}
 use Rattle.pair_cluster.proofs.Stepping.{pair_at}
 use Rattle.cluster_clients.specs.Spelled.{AreSpelled}
-use Rattle.cluster_clients.specs.Posted.{posted_all, PostsSome}
 use Rattle.cluster_clients.proofs.DispatchSteps.{agents-as}
 use Rattle.cluster_rounds.specs.declared.cluster.Cluster.{Cluster}
-use Rattle.cluster_rounds.specs.Broken.{Broken}
 use Rattle.cluster_rounds.specs.Kits.{calm_servers}
-use Rattle.cluster_rounds.specs.Worlds.{Shows, IsGood, HasState, Happened, heard_by}
-use Rattle.cluster_rounds.proofs.BrokenSteps.{same-between, whole-broken, nothing-broken}
+use Rattle.cluster_rounds.specs.Worlds.{Shows, IsGood, Happened, heard_by}
 use Rattle.pair_servers.specs.declared.pair.Pair.{Pair}
 use Rattle.pair_servers.specs.PairKit.{pair_kit}
-use Rattle.pair_servers.specs.PairLaws.{pair_laws}
-use Rattle.pair_servers.specs.PairNodes.{active_by, tie_to, servers_by, servers_of}
-use Rattle.pair_servers.specs.Heard.{reason_of, reason_lines, outcome_lines, IsToldHeard}
-use Rattle.pair_servers.proofs.GoodSteps.{answered-history, GoesSo, heard-goes}
+use Rattle.pair_servers.specs.PairNodes.{active_by, tie_to, servers_of}
+use Rattle.pair_servers.specs.Heard.{reason_of, reason_lines, IsToldHeard}
+use Rattle.pair_servers.proofs.GoodSteps.{answered-history, heard-goes}
 
 -- What is heard where a partner is linked is what is heard without one, but that an entry is mirrored, and waits.
 

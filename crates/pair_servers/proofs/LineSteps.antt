@@ -1,8 +1,7 @@
 -- What the lines on messages between the servers come to, and the steps of a drain.
-use Rattle.std.proofs.Common.{◌≡◌, ℕ, true, false, Option, Some, None, List, refl, ap, sym, ◌∙◌, subst}
+use Rattle.std.proofs.Common.{◌≡◌, ℕ, true, false, Option, Some, None, List, ap, sym, subst}
 use Rattle.script_lines.specs.declared.line.Line.{Line}
 use Rattle.script_lines.specs.declared.line.Line.TheVariants.{Mirror, Ack}
-use Rattle.disk_model.specs.declared.answers.DiskAnswer.{DiskAnswer}
 use Rattle.plain_service.specs.Setups.{Setup}
 use Rattle.cluster_events.specs.Events.{step_or_refuse}
 use Rattle.cluster_events.specs.Outcomes.{Outcome}
@@ -11,7 +10,7 @@ use Rattle.pair_cluster.specs.Peers.{Peers}
 use Rattle.pair_cluster.specs.Pair.{mirror_pair, ack_pair}
 use Rattle.cluster_rounds.specs.declared.cluster.Cluster.{Cluster}
 use Rattle.cluster_rounds.specs.Kits.{calm_servers}
-use Rattle.cluster_rounds.specs.Worlds.{Does, Event, Happened, IsGood, Shows}
+use Rattle.cluster_rounds.specs.Worlds.{Does, Event, Happened, Shows}
 use Rattle.pair_servers.specs.declared.pair.Pair.{Pair}
 use Rattle.pair_servers.specs.PairKit.{pair_kit}
 use Rattle.pair_servers.specs.Steps.{StepsBy, refused_by, mirrored_next, acked_next}

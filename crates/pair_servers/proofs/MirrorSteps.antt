@@ -1,12 +1,9 @@
 -- What a message that reaches the partner comes to, and one that reaches the active server on the way back.
-use Rattle.std.proofs.Common.{◌≡◌, ℕ, suc, ◌<◌, ℤ, Bool, true, false, Option, Some, None, List, [], ◌∷◌, ◌++◌, length, refl, ap, sym, ◌∙◌, subst, arith, append-nil}
-use Rattle.std.specs.Prelude.{is_some}
-use Rattle.calls.specs.History.{Pushed}
+use Rattle.std.proofs.Common.{◌≡◌, ℕ, suc, ℤ, true, false, Option, Some, None, List, [], ◌∷◌, ◌++◌, length, refl, ap, sym, ◌∙◌, subst, arith, append-nil}
 use Rattle.wire.specs.declared.message.Message.{Message}
 use Rattle.wire.specs.declared.message.Message.TheVariants as wire
 use Rattle.plain_service.specs.Setups.{Setup}
-use Rattle.plain_service.specs.Legal.{IsHistory, CanFollow}
-use Rattle.plain_service.specs.Fitness.{IsFit}
+use Rattle.plain_service.specs.Legal.{CanFollow}
 use Rattle.plain_service.specs.Values.{saved_of}
 use Rattle.service_fit.proofs.HistoryFit.{history-fit}
 use Rattle.service_core.specs.Applying.{CanApply}
@@ -19,10 +16,10 @@ use Rattle.cluster_events.specs.Outcomes.{Outcome}
 use Rattle.cluster_events.specs.Servers.{State}
 use Rattle.event_text.specs.Texts.{printed, entry_line}
 use Rattle.mirror.specs.declared.heard.Heard.{Heard}
-use Rattle.mirror.specs.declared.heard.Role.TheVariants.{Active, Standby as StandsBy}
+use Rattle.mirror.specs.declared.heard.Role.TheVariants.{Standby as StandsBy}
 use Rattle.mirror.specs.declared.node.Node.{Node}
 use Rattle.mirror.specs.Replicas.{started}
-use Rattle.mirror.specs.Pairing.{CanApplyIn, CanReceive, IsReceived, alone, sent}
+use Rattle.mirror.specs.Pairing.{CanReceive, IsReceived, alone}
 use Rattle.mirror.proofs.Judging.{next-number}
 use Rattle.mirror.proofs.ReplicaLaws.{count-is, next-of, new-of}
 use Rattle.pair_cluster.specs.Peers.{Partner, Down, Owed, Linking, Standby, Peers, other_server}
@@ -35,9 +32,9 @@ use Rattle.cluster_clients.proofs.DispatchSteps.{agents-as}
 use Rattle.cluster_rounds.specs.declared.cluster.Cluster.{Cluster}
 use Rattle.cluster_rounds.specs.Worlds.{Shows, IsGood, HasState, Happened}
 use Rattle.pair_servers.specs.declared.pair.Pair.{Pair}
-use Rattle.pair_servers.specs.Heard.{Delivers, IsConfirmed, HandsOn, Commits, joined_lines}
+use Rattle.pair_servers.specs.Heard.{Delivers, IsConfirmed, HandsOn, joined_lines}
 use Rattle.pair_servers.specs.PairKit.{pair_kit}
-use Rattle.pair_servers.specs.PairNodes.{active_by, partner_by, standby_by, link_messages, back_messages, servers_by, servers_of}
+use Rattle.pair_servers.specs.PairNodes.{active_by, partner_by, standby_by, link_messages, back_messages, servers_of}
 use Rattle.pair_servers.proofs.GoodSteps.{answered-history, accepted-history}
 use Rattle.pair_servers.proofs.PairSteps.{mirror-step, ack-step}
 
@@ -252,10 +249,6 @@ confirms-with : (setup : Setup) (state : State Peers) (outcome : Outcome (State 
 confirms-with setup state outcome old active rest lines shows good same_net same_agents same_clients same_places same_now own entries silent =
     let new = record old { servers = record old.servers { active = active; back = rest } } in
     stepped setup state outcome old new lines lines shows good same_net same_agents same_clients same_places same_now refl refl refl refl own (shows.history ∙ entries) (sym (append-nil lines) ∙ ap (λ told. lines ++ printed told) (sym silent))
-
--- the partner joined
-back-joined : (past : List Entry) (hand : Hand) (number : ℕ) → back_messages past hand (Standby (Some number)) ≡ wire.JoinAck number ∷ back_messages past hand (Standby None)
-back-joined past hand number = refl
 
 confirms-by : (setup : Setup) (state : State Peers) (partner : Partner) (hand : Hand) (old : Cluster Pair) (active : Node) (message : Message) (rest : List Message) (lines : List (List ℕ)) → IsGood pair_kit setup (pair_at partner hand state) → Shows pair_kit setup (pair_at partner hand state) old → back_messages state.world.core.answered hand partner ≡ message ∷ rest → IsConfirmed message old.servers.active active → StepHappened setup (ack_pair (pair_at partner hand state)) (record old { servers = record old.servers { active = active; back = rest } }) lines lines
 confirms-by setup state (Standby (Some number)) hand old active message rest lines good shows is confirmed =

@@ -1,13 +1,10 @@
 -- A standby that takes over: what the servers are then, and what is printed.
-use Rattle.std.proofs.Common.{◌≡◌, ℕ, ◌≤◌, Bool, true, false, Option, Some, None, List, [], ◌∷◌, ◌++◌, length, refl, ap, sym, ◌∙◌, subst}
-use Rattle.std.specs.Prelude.{option_map}
-use Rattle.disk_model.specs.DeviceCalls.{DeviceCall}
+use Rattle.std.proofs.Common.{◌≡◌, ℕ, true, false, Option, None, List, ◌++◌, refl, ap, ◌∙◌}
 use Rattle.stream_layout.specs.Deeds.{calls_of_all}
 use Rattle.plain_service.specs.Setups.{Setup}
-use Rattle.cluster_facts.specs.History.{Hand, committed, committed_by}
+use Rattle.cluster_facts.specs.History.{committed}
 use Rattle.cluster_events.specs.Servers.{State}
 use Rattle.event_text.specs.Texts.{printed}
-use Rattle.mirror.specs.declared.node.Node.{Node}
 use Rattle.mirror.specs.declared.heard.Role.{Role}
 use Rattle.mirror.specs.declared.heard.Role.TheVariants.{Active, Standby as StandsBy, Joining, Down as GoesDown}
 use Rattle.mirror.specs.Replicas.{down}

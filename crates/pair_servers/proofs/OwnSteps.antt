@@ -1,5 +1,5 @@
 -- What the lines come to that ask something of the two servers alone.
-use Rattle.std.proofs.Common.{◌≡◌, ℕ, ◌≤◌, Bool, true, false, Option, Some, None, List, ◌++◌, refl, ap, sym, ◌∙◌, subst}
+use Rattle.std.proofs.Common.{◌≡◌, ℕ, ◌≤◌, Bool, true, false, Some, None, List, refl, ap, sym, ◌∙◌, subst}
 use Rattle.std.specs.Prelude.{Result, Ok, Err, OnOk, OnErr, IfErr, IsSome}
 use Rattle.std.proofs.lemmas.Result.{on_ok_weaker}
 use Rattle.disk_model.specs.declared.answers.DiskAnswer.{DiskAnswer}
@@ -25,7 +25,7 @@ use Rattle.cluster_clients.specs.Taken.{kept_lines}
 use Rattle.cluster_events.specs.Devices.{Device}
 use Rattle.cluster_rounds.specs.declared.cluster.Cluster.{Cluster}
 use Rattle.cluster_rounds.specs.Kits.{calm_servers, device_by, servers_at}
-use Rattle.cluster_rounds.specs.Worlds.{Does, HasStateOn, IsGood, Shows, any_state}
+use Rattle.cluster_rounds.specs.Worlds.{Does, HasStateOn, any_state}
 use Rattle.cluster_rounds.specs.Broken.{BreaksAlone}
 use Rattle.cluster_rounds.specs.Rounds.{EndOver}
 use Rattle.cluster_rounds.specs.Came.{Comes, ComesOff, DiskSeen}

@@ -1,5 +1,6 @@
 -- The files of two servers as an entry is worked and a standby takes over, and the disk's armed count.
 use Rattle.std.proofs.Common.{◌≡◌, ℕ, suc, ◌+◌, ◌<◌, ◌≤◌, inl, inr, Bool, true, false, ◌&&◌, ◌||◌, nat_le, if◌then◌else◌, Option, Some, None, List, [], ◌∷◌, ◌++◌, length, refl, ap, sym, ◌∙◌, subst, arith}
+use Rattle.std.proofs.lemmas.Bool.{or_right}
 use Rattle.std.specs.Prelude.{option_map}
 use Rattle.std.proofs.lemmas.List.{length-append}
 use Rattle.std.proofs.lemmas.Bool.Decides.{leb_tells}
@@ -65,10 +66,6 @@ broke-attempt answer calls count old new broke =
     let A : List DeviceCall → Type 0 = λ calls. Attempt service_disk calls old new in
     let last = undone answer broke.broken broke.undone (all_applied broke.done old) new broke.left in
     subst A (sym broke.in_order) (attempt-after broke.done (broke.broken ∷ broke.undone) old new last)
-
-untried : (calls : List DeviceCall) (files : Files) → Attempt service_disk calls files files
-untried [] files = refl
-untried (call ∷ calls) files = inl refl
 
 -- fewer calls than all were done
 pub broke-within : (Left : DeviceCall → Files → Files → Type 0) (calls : List DeviceCall) (count : ℕ) (old new : Option Files) → BreaksOff Left calls count old new → count < length calls
@@ -142,12 +139,6 @@ takeover-breaks setup state number answer count (Some held) (Some mid) (Some lef
     let from = subst (λ (f : Files). FilesLeft service_disk (storage_of setup) state.world.core.answered state.world.core.hand f) same goes.2 in
     (left, refl, between-by setup state number mid left good standby from (broke-attempt answer (kept_calls setup state) count mid left broke))
 
--- and so does one that was not begun
-pub takeover-waits : (setup : Setup) (state : State Peers) (number : Option ℕ) (held mid : Option Files) → IsGood pair_kit setup state → state.peers.partner ≡ Standby number → GoesOnFrom setup state held mid → LeavesBetween setup (committed state.world.core) held mid
-takeover-waits setup state number None mid good standby goes = goes
-takeover-waits setup state number (Some held) mid good standby goes =
-    (goes.0, goes.1, between-by setup state number goes.0 goes.0 good standby goes.2 (untried (kept_calls setup state) goes.0))
-
 -- **a work that is done**
 pub work-files : (setup : Setup) (state : State Peers) (entry : Entry) (held left : Option Files) → IsGood pair_kit setup state → state.world.core.hand ≡ Ready entry → left ≡ option_map (all_applied (calls_of_all (deeds_of setup state.world.core.answered entry))) held → TellsFiles setup state held → left ≡ option_map (λ files. files_of setup (entry ∷ state.world.core.answered)) held
 work-files setup state entry None left good ready done tells = done
@@ -198,10 +189,6 @@ reached-more left count calls reached within = elim (leb_tells left calls) [
   ]
 ]
 
-or-true : (one other : Bool) → other ≡ true → (one || other) ≡ true
-or-true true other is = refl
-or-true false other is = is
-
 -- **one in which the disk stops does, and so there is a standby**
 pub stop-standby : (partner : Partner) (armed : Option ℕ) (count : ℕ) → IsArmed armed partner → counts.reaches (suc count) armed ≡ true → (number : Option ℕ) × (partner ≡ Standby number)
 stop-standby partner None count is reached = cc
@@ -209,7 +196,7 @@ stop-standby partner (Some left) count is reached = armed-standby partner left i
 
 pub stop-falls : (partner : Partner) (armed : Option ℕ) (count calls : ℕ) (fails : Bool) → IsArmed armed partner → counts.reaches (suc count) armed ≡ true → count < calls → (is_standby partner && (fails || reaches armed calls)) ≡ true
 stop-falls partner None count calls fails is reached within = cc
-stop-falls (Standby number) (Some left) count calls fails is reached within = or-true fails (nat_le left calls) (reached-more left count calls reached within)
+stop-falls (Standby number) (Some left) count calls fails is reached within = or_right fails (nat_le left calls) (reached-more left count calls reached within)
 stop-falls Down (Some left) count calls fails is reached within = elim is [ ]
 stop-falls Owed (Some left) count calls fails is reached within = elim is [ ]
 stop-falls Linking (Some left) count calls fails is reached within = elim is [ ]

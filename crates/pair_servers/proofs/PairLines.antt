@@ -45,9 +45,6 @@ module _ (setup : Setup) (state : State Peers) (good : IsGood pair_kit setup sta
     moment = good.moment;
   }
 
-  pub over-unasked : Unasked (taken_over state)
-  over-unasked = over-kept.1
-
   down-kept : Keeps (partner_down state)
   down-kept =
       down-keeps (plain_of setup) (is_plain setup) (device_by setup (λ number. false)) (SaysUnasked pair_kit.Within (plain_of setup)) (unasked-borne (plain_of setup)) state good.steady
@@ -60,9 +57,6 @@ module _ (setup : Setup) (state : State Peers) (good : IsGood pair_kit setup sta
     range = readied-range state.world.core.answered state.world.core.hand good.range;
     moment = good.moment;
   }
-
-  pub down-unasked : Unasked (partner_down state)
-  down-unasked = down-kept.1
 
   -- **another count is in force**
   pub armed-good : (armed : Option ℕ) → IsArmed armed state.peers.partner → IsGood pair_kit setup (armed_with armed state)

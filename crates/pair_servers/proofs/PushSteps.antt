@@ -7,15 +7,13 @@ use Rattle.plain_service.specs.Setups.{Setup}
 use Rattle.service_laws.specs.PlainOf.{plain_of}
 use Rattle.service_laws.proofs.ServiceLaws.{is_plain}
 use Rattle.cluster_facts.specs.Types.{Entry, Message}
-use Rattle.cluster_facts.specs.Messages.{Posting}
 use Rattle.cluster_facts.specs.Service.{Plain}
 use Rattle.cluster_facts.specs.History.{Hand, Empty, Waiting, Applied, Ready}
 use Rattle.cluster_events.specs.Outcomes.{Outcome, for_each}
-use Rattle.cluster_events.specs.Servers.{State, Servers, in_world}
+use Rattle.cluster_events.specs.Servers.{State, in_world}
 use Rattle.cluster_events.specs.ClientEvents.{post}
 use Rattle.cluster_events.specs.Serving.{IsSteady}
 use Rattle.cluster_events.proofs.Carrying.{IsMadeItem, held-made, post_all-goes, push-goes}
-use Rattle.event_text.specs.Texts.{printed}
 use Rattle.mirror.specs.declared.heard.Role.TheVariants.{Active}
 use Rattle.mirror.specs.Replicas.{ReplicaState, at_rest}
 use Rattle.pair_cluster.specs.Peers.{Peers, IsPair}
@@ -27,7 +25,7 @@ use Rattle.cluster_rounds.specs.declared.cluster.Cluster.{Cluster}
 use Rattle.cluster_rounds.specs.Broken.{Broken}
 use Rattle.cluster_rounds.specs.Kits.{calm_servers}
 use Rattle.cluster_rounds.specs.PartlyDone.{SaysUnasked}
-use Rattle.cluster_rounds.specs.Worlds.{Shows, IsGood, IsIdle, HasState, HasStateOf, Happened, pushed}
+use Rattle.cluster_rounds.specs.Worlds.{Shows, IsGood, IsIdle, HasStateOf, Happened, pushed}
 use Rattle.cluster_rounds.proofs.BrokenSteps.{same-between, whole-broken}
 use Rattle.cluster_rounds.proofs.KitSteps.{calm-serves, calm-unasked}
 use Rattle.pair_servers.specs.declared.pair.Pair.{Pair}

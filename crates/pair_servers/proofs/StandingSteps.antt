@@ -1,6 +1,6 @@
 -- What is shown of two servers, and refusals.
-use Rattle.std.proofs.Common.{◌≡◌, ℕ, suc, Bool, true, false, if◌then◌else◌, Option, Some, None, List, [], ◌∷◌, ◌++◌, length, refl, ap, sym, ◌∙◌}
-use Rattle.std.specs.Prelude.{is_some, map}
+use Rattle.std.proofs.Common.{◌≡◌, ℕ, Bool, true, false, if◌then◌else◌, Option, Some, None, List, [], ◌∷◌, ◌++◌, length, refl, ap, sym, ◌∙◌}
+use Rattle.std.specs.Prelude.{is_some}
 use Rattle.std.proofs.lemmas.List.{length-map}
 use Rattle.script_lines.specs.declared.line.Line.{Line}
 use Rattle.script_lines.specs.declared.line.Server.{Server}
@@ -8,8 +8,6 @@ use Rattle.script_lines.specs.declared.line.Server.TheVariants.{A, B}
 use Rattle.plain_service.specs.Setups.{Setup}
 use Rattle.cluster_facts.specs.Types.{Entry}
 use Rattle.cluster_facts.specs.History.{Hand, Empty, Waiting, Applied, Ready, committed_by}
-use Rattle.cluster_events.specs.Lines.{Refused}
-use Rattle.cluster_events.specs.declared.lines.ServerRole.{ServerRole}
 use Rattle.cluster_events.specs.declared.lines.Standing.{Standing}
 use Rattle.cluster_events.specs.Servers.{State}
 use Rattle.event_text.specs.Texts.{refused_line}
@@ -18,7 +16,7 @@ use Rattle.mirror.proofs.ReplicaLaws.{count-is}
 use Rattle.pair_cluster.specs.Peers.{Partner, Down, Owed, Linking, Standby, Peers, hand_number, link_of, back_of, role_of, role_of_active, role_of_partner, same_server, standing_pair}
 use Rattle.cluster_clients.proofs.PostingSteps.{spelled-length}
 use Rattle.cluster_rounds.specs.declared.cluster.Cluster.{Cluster}
-use Rattle.cluster_rounds.specs.Worlds.{Shows, IsGood, Does}
+use Rattle.cluster_rounds.specs.Worlds.{Shows, Does}
 use Rattle.pair_servers.specs.declared.pair.Pair.{Pair}
 use Rattle.pair_servers.specs.PairKit.{pair_kit}
 use Rattle.pair_servers.specs.PairNodes.{active_by, partner_by, servers_of, to_partner, from_partner}

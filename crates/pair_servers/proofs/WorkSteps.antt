@@ -1,5 +1,5 @@
 -- What the work of the entry in hand comes to, and what it leaves where it breaks off.
-use Rattle.std.proofs.Common.{◌≡◌, ℕ, suc, ◌≤◌, ◌⊎◌, inl, inr, Bool, true, false, ◌==◌, if◌then◌else◌, Option, Some, None, List, [], ◌∷◌, ◌++◌, length, refl, ap, sym, ◌∙◌, subst, arith, le_refl, le_trans, append-nil}
+use Rattle.std.proofs.Common.{◌≡◌, ℕ, suc, ◌≤◌, ◌⊎◌, inl, inr, Bool, true, false, ◌==◌, if◌then◌else◌, Option, Some, None, List, [], ◌∷◌, ◌++◌, length, refl, ap, sym, ◌∙◌, subst, arith, le_refl}
 use Rattle.std.specs.Prelude.{IsSome, is_some, option_map, Result, Ok, Err, OnOk, IfErr}
 use Rattle.std.specs.List.{AllByRecursion}
 use Rattle.ais_values.specs.Causes.{Rose}
@@ -17,9 +17,8 @@ use Rattle.service_laws.proofs.ServiceLaws.{is_plain}
 use Rattle.cluster_facts.specs.Types.{Call, Entry, Called, Receipted, Message, Answer}
 use Rattle.cluster_facts.specs.Lists.{IsNumbered}
 use Rattle.cluster_facts.specs.Messages.{Posting, calls_in}
-use Rattle.cluster_facts.specs.History.{Hand, Empty, Waiting, Applied, Ready, committed, committed_by}
+use Rattle.cluster_facts.specs.History.{Hand, Empty, Waiting, Applied, Ready, committed_by}
 use Rattle.cluster_facts.proofs.Words.{by_test}
-use Rattle.cluster_events.specs.Outcomes.{Outcome}
 use Rattle.cluster_events.specs.Servers.{State}
 use Rattle.event_text.specs.Texts.{printed, server_line}
 use Rattle.cluster_events.specs.declared.lines.ServerRole.TheVariants as role
@@ -27,13 +26,12 @@ use Rattle.pair_cluster.specs.Answering.{net_answering, lines_answering}
 use Rattle.mirror.specs.declared.heard.Heard.{Heard}
 use Rattle.mirror.specs.declared.node.Node.{Node}
 use Rattle.mirror.specs.declared.heard.Role.TheVariants.{Standby as StandsBy}
-use Rattle.mirror.specs.Replicas.{down, replies_owed}
+use Rattle.mirror.specs.Replicas.{replies_owed}
 use Rattle.mirror.specs.Working.{deeds_in, replies_in, worked}
-use Rattle.mirror.specs.Pairing.{alone, tied_after, with_peer, worked_out}
+use Rattle.mirror.specs.Pairing.{alone, with_peer, worked_out}
 use Rattle.pair_cluster.specs.Peers.{Partner, Down, Owed, Linking, Standby, Peers, Agree, IsArmed}
-use Rattle.pair_cluster.specs.Falling.{taken_over}
-use Rattle.pair_cluster.specs.Pair.{is_standby, linked, lowered, work_done}
-use Rattle.pair_cluster.specs.Ended.{EndsPair, ended}
+use Rattle.pair_cluster.specs.Pair.{is_standby, lowered, work_done}
+use Rattle.pair_cluster.specs.Ended.{ended}
 use Rattle.pair_cluster.proofs.Stepping.{pair_at}
 use Rattle.cluster_clients.specs.Spelled.{AreSpelled}
 use Rattle.cluster_clients.specs.Posted.{PostsAll, PostsSome}
@@ -41,7 +39,6 @@ use Rattle.cluster_clients.proofs.DispatchSteps.{agents-as}
 use Rattle.cluster_rounds.specs.declared.cluster.Cluster.{Cluster}
 use Rattle.cluster_rounds.specs.Broken.{Broken, LeavesBetween}
 use Rattle.cluster_rounds.specs.Came.{Came, DiskSeen, Comes, ComesOff, Ended}
-use Rattle.cluster_rounds.specs.Kits.{device_by}
 use Rattle.cluster_rounds.specs.Worlds.{Shows, IsGood, HasState, HasStateOn, TellsFiles, any_state}
 use Rattle.pair_servers.specs.declared.pair.Pair.{Pair}
 use Rattle.pair_servers.specs.Falls.{IsToldWorked, TakesOver, stands_by}
@@ -51,7 +48,7 @@ use Rattle.cluster_rounds.proofs.UnaskedSteps.{unasked-same}
 use Rattle.pair_servers.proofs.HearBroken.{posts-none, posts-one}
 use Rattle.pair_servers.specs.PairKit.{FellPair, pair_kit}
 use Rattle.pair_servers.specs.PairLaws.{pair_laws}
-use Rattle.pair_servers.specs.PairNodes.{active_by, partner_by, link_messages, back_messages, servers_of, tie_to, promised_to}
+use Rattle.pair_servers.specs.PairNodes.{active_by, link_messages, servers_of, promised_to}
 use Rattle.pair_servers.specs.Steps.{grew, worked_by, EndsWork}
 use Rattle.pair_servers.proofs.HeldSteps.{calls-few}
 use Rattle.pair_servers.proofs.OverSteps.{fell, with_servers, standby-shown, kept-shown, over-shows, over-told, fallen-told, fallen-fell, role-shown}

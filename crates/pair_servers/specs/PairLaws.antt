@@ -1,9 +1,9 @@
 -- An active server and its partner are such servers as a cluster may have.
-use Rattle.std.specs.Prelude.{◌≡◌, ℕ, ℤ, ◌≤ℤ◌, suc, Bool, true, false, ◌||◌, if◌then◌else◌, List, [], ◌∷◌, length}
+use Rattle.std.specs.Prelude.{◌≡◌, ℕ, ℤ, suc, Bool, true, false, ◌||◌, if◌then◌else◌, List, [], ◌∷◌, length}
 use Rattle.std.proofs.Common.{refl, sym, subst, le_refl, le_trans}
 use Rattle.std.specs.List.{AllByRecursion}
 use lib.Signed.{≤ℤ_refl}
-use Rattle.cluster_facts.specs.Types.{Entry, Called, Receipted, Message, Answer}
+use Rattle.cluster_facts.specs.Types.{Entry, Called, Receipted, Answer}
 use Rattle.cluster_facts.specs.Messages.{Posting}
 use Rattle.cluster_facts.specs.Service.{Plain, IsPlain}
 use Rattle.cluster_facts.specs.History.{Hand, Empty, committed_by, time_of}
@@ -16,12 +16,14 @@ use Rattle.cluster_events.specs.Serving.{IsCarried}
 use Rattle.event_text.specs.Texts.{printed}
 use Rattle.pair_cluster.specs.Answering.{lines_answering}
 use Rattle.pair_cluster.proofs.Answering.{answer-sent}
+use Rattle.cluster_events.proofs.Carrying.{IsTold}
+use Rattle.cluster_events.proofs.Telling.{Says-told}
 use Rattle.pair_cluster.specs.Peers.{Peers, IsPair}
 use Rattle.pair_cluster.specs.Pair.{is_linked, accept_by, pair}
-use Rattle.pair_cluster.proofs.Stepping.{Bears, pair-rests}
-use Rattle.pair_cluster.proofs.Serving.{pair-stepped}
-use Rattle.pair_cluster.proofs.Saying.{says-borne, pair-serves, pair-says, pair-spends}
-use Rattle.cluster_rounds.specs.PartlyDone.{AsksNone, SaysUnasked}
+use Rattle.pair_cluster.proofs.Stepping.{Bears}
+use Rattle.pair_cluster.proofs.Serving.{pair-carries, pair-stepped}
+use Rattle.pair_cluster.proofs.Saying.{says-borne, pair-serves, pair-spends}
+use Rattle.cluster_rounds.specs.PartlyDone.{SaysUnasked}
 use Rattle.cluster_rounds.specs.Measured.{Measured, IsMeasured}
 use Rattle.cluster_rounds.specs.Kits.{IsKit}
 use Rattle.cluster_rounds.proofs.UnaskedSteps.{asks-none, asks-both}
@@ -43,9 +45,6 @@ answer-times plain past (Receipted client key through time) net now = tt
 
 abbrev Unasked : Plain → World → World → List Told → Type 0
 Unasked plain old new told = SaysUnasked pair_kit.Within plain old new told
-
-abbrev Asks : World → World → List Told → Type 0
-Asks old new told = AsksNone pair_kit.Within old new told
 
 pub unasked-borne : (plain : Plain) → Bears plain (Unasked plain)
 unasked-borne plain =
@@ -86,20 +85,10 @@ unasked-borne plain =
       };
     }
 
--- an entry is accepted at its own time
-accept-asks : (linked : Bool) (entry : Entry) (state : State Peers) → time_of entry ≡ state.world.now
-    → Asks state.world (accept_by linked entry state).state.world (accept_by linked entry state).told
-accept-asks true entry state at = record { sent = λ client. refl; now = refl; times = tt }
-accept-asks false entry state at = record {
-  sent = λ client. refl;
-  now = refl;
-  times = (subst (λ time. time ≤ℤ state.world.now) (sym at) (≤ℤ_refl state.world.now), tt);
-}
-
--- each step that a round is made of says what happened, and asks nothing
-pub pair-unasked : (plain : Plain) (device : Device) → IsPlain plain → IsCarried plain (pair plain device) IsPair (Unasked plain)
-pair-unasked plain device is_plain =
-    let says = pair-says plain device is_plain in
+-- nor does a step of the clients' side
+unasked-told : (plain : Plain) → IsTold plain (Unasked plain)
+unasked-told plain =
+    let says = Says-told plain in
     record {
       same = λ world. record { says = says.same world; asks = asks-none world };
       both = λ one two three first second before after. record {
@@ -110,12 +99,12 @@ pair-unasked plain device is_plain =
         says = says.ignored world place why;
         asks = record { sent = λ client. refl; now = refl; times = tt };
       };
-      answer = λ world client number reply sound stands. record {
-        says = says.answer world client number reply sound stands;
+      answer = λ world client number reply. record {
+        says = says.answer world client number reply;
         asks = record { sent = λ other. refl; now = refl; times = tt };
       };
-      pushed = λ world client key item sound is. record {
-        says = says.pushed world client key item sound is;
+      pushed = λ world client key item. record {
+        says = says.pushed world client key item;
         asks = record { sent = λ other. refl; now = refl; times = tt };
       };
       reply = λ world client number call reply sound kept place stands. record {
@@ -126,12 +115,11 @@ pair-unasked plain device is_plain =
         says = says.item world client key item found sound here next place stands;
         asks = record { sent = λ other. refl; now = refl; times = tt };
       };
-      accept = λ entry state steady empty may at stands. record {
-        says = says.accept entry state steady empty may at stands;
-        asks = accept-asks (is_linked state.peers.partner) entry state at;
-      };
-      drain = λ state steady. (pair-rests plain is_plain device (Unasked plain) (unasked-borne plain) state steady).steps.goes;
     }
+
+-- so each step that a round is made of says what happened, and asks nothing
+pair-unasked : (plain : Plain) (device : Device) → IsPlain plain → IsCarried plain (pair plain device) IsPair (Unasked plain)
+pair-unasked plain device is_plain = pair-carries plain is_plain device (Unasked plain) (unasked-borne plain) (unasked-told plain)
 
 -- What an acceptance leaves, and what its lines tell.
 

@@ -1,5 +1,5 @@
 -- The lines of a script over two servers lead to what they lead to over any.
-use Rattle.std.specs.Prelude.{◌≡◌, ℕ, length}
+use Rattle.std.specs.Prelude.{ℕ, length}
 use Rattle.std.proofs.Common.{refl}
 use Rattle.script_lines.specs.declared.line.Line.{Line}
 use Rattle.script_lines.specs.declared.line.Line.TheVariants as line

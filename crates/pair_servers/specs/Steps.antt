@@ -6,7 +6,7 @@ use Rattle.plain_service.specs.Setups.{Setup}
 use Rattle.cluster_events.specs.Outcomes.{Outcome}
 use Rattle.cluster_events.specs.Servers.{State}
 use Rattle.cluster_events.specs.Events.{mirror_next, ack_next, work_next, refuse}
-use Rattle.pair_cluster.specs.Peers.{Peers, standing_pair}
+use Rattle.pair_cluster.specs.Peers.{Peers}
 use Rattle.pair_cluster.specs.Falling.{crash, arm, disarm, restart}
 use Rattle.pair_cluster.specs.Ended.{EndsPair, EndsCrash}
 use Rattle.cluster_rounds.specs.declared.cluster.Cluster.{Cluster}

@@ -1,5 +1,4 @@
-use Rattle.std.proofs.Common.{◌≡◌, List, subst, sym, ◌∙◌, to_z, of_z, w64, rules}
-use Rattle.stream_config.specs.declared.attrs.StreamAttrs.{StreamAttrs}
+use Rattle.std.proofs.Common.{◌≡◌, subst, sym, ◌∙◌, to_z, of_z, w64, rules}
 use Rattle.service_core.specs.Beginning.{BeginsAs}
 use Rattle.cluster_core.specs.Starting.{world_of}
 use Rattle.cluster_core.proofs.BeginSteps.{begins-as, starts-world}

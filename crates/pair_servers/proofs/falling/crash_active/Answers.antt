@@ -1,4 +1,4 @@
-use Rattle.std.proofs.Common.{◌≡◌, length, ap, subst}
+use Rattle.std.proofs.Common.{length, ap, subst}
 use Rattle.mirror.specs.declared.node.Node.{Node}
 use Rattle.cluster_rounds.specs.Worlds.{any_state}
 use Rattle.cluster_rounds.specs.Came.{seen}

@@ -1,4 +1,4 @@
-use Rattle.std.proofs.Common.{ℕ, List, refl, ap, subst, ◌∙◌}
+use Rattle.std.proofs.Common.{List, refl, ap, subst, ◌∙◌}
 use Rattle.std.proofs.lemmas.Result.{on_ok_weaker, on_err_weaker}
 use Rattle.calls.specs.History.{Pushed}
 use Rattle.calls.specs.declared.entry.Entry.{Entry}

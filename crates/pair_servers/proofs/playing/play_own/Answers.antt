@@ -1,9 +1,9 @@
 use Rattle.std.proofs.Common.{subst}
-use Rattle.cluster_lines.specs.Lines.{IsInRange, IsOwn}
+use Rattle.cluster_lines.specs.Lines.{IsInRange}
 use Rattle.cluster_rounds.specs.Came.{seen}
 use Rattle.cluster_rounds.specs.Worlds.{any_state}
 use Rattle.cluster_rounds.proofs.ArmedSteps.{state-told}
-use Rattle.pair_servers.specs.PairKit.{pair_kit, pair_script}
+use Rattle.pair_servers.specs.PairKit.{pair_kit}
 use Rattle.pair_servers.specs.PairLaws.{pair_laws}
 use Rattle.pair_servers.proofs.OwnSteps.{ack-line, arm-line, crash-line, disarm-line, mirror-line, restart-line}
 use Rattle.pair_servers.proofs.playing.play_own.Goals as goal

@@ -1,4 +1,4 @@
-use Rattle.std.proofs.Common.{◌≡◌, ℕ, inl, inr, ◌++◌, List, length, refl, sym, ◌∙◌, Err, ap, subst}
+use Rattle.std.proofs.Common.{◌≡◌, ℕ, inl, inr, List, length, refl, sym, Err, ap, subst}
 use Rattle.disk_model.specs.declared.answers.DiskAnswer.TheVariants.{Failed}
 use Rattle.disk_model.specs.declared.tally.Tally.{Tally}
 use Rattle.mirror.specs.declared.node.Node.{Node}
