@@ -9,3 +9,4 @@ pub mod Received
 pub mod HistoryLaws
 pub mod Telling
 pub mod HavingRoom
+pub mod Lacking

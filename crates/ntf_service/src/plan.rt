@@ -4,8 +4,11 @@ ghost use Rattle.client_set.specs.Edits.{change_at};
 ghost use Rattle.sub_queue.specs.Queue.{HasNumberLeft};
 ghost use Rattle.ntf_service.specs.Planning.{queue_with, sub_with_share, offers_made, offer_places, HoldsAt, RiseBetween, Suits, CanOffer, CanOfferAll};
 ghost use Rattle.ntf_service.specs.Told.{all_told, HasRoom, spare_in};
+ghost use Rattle.ntf_service.specs.Rooms.{HaveRoomsBut, RoomsStayBut};
 
+use crate::rooms::lack_at;
 use crate::subscription::Subscription;
+use arrayvec::ArrayVec;
 use ntf_types::Notification;
 use sub_queue::{Lost, SubQueue};
 
@@ -59,6 +62,8 @@ fn make_offer(subs: &mut Vec<Subscription>, offer: Offer)
     requires room { HoldsAt HasRoom subs.old.items offer.place }
     ensures told { all_told subs.new.items
         ≡ change_at (sub_with_share offer.share) (all_told subs.old.items) offer.place }
+    ensures count { vec_len subs.new ≡ vec_len subs.old }
+    ensures beside { RoomsStayBut offer.place subs.old.items subs.new.items }
     ensures behind { drop (offer.place + 1) subs.new.items
         ≡ drop (offer.place + 1) subs.old.items }
 {
@@ -67,14 +72,21 @@ fn make_offer(subs: &mut Vec<Subscription>, offer: Offer)
     give(&mut kept.queue, share);
 }
 
-/// Makes offers, one after another, where there is room in each queue. It takes no memory.
-pub(crate) fn make_offers(subs: &mut Vec<Subscription>, offers: Vec<Offer>)
+/// Makes offers, one after another, where there is room in each queue. The answer is where there may be none then. It takes no
+/// memory.
+pub(crate) fn make_offers(subs: &mut Vec<Subscription>, offers: Vec<Offer>) -> ArrayVec<u8, 64>
     requires can { CanOfferAll offers.items (all_told subs.old.items) }
     requires rise { RiseBetween 0 (vec_len subs.old) (offer_places offers.items) }
+    requires few { vec_len subs.old ≤ 64 }
     requires room { 1 ≤ spare_in subs.old.items }
-    ensures { all_told subs.new.items ≡ offers_made offers.items (all_told subs.old.items) }
+    ensures told { all_told subs.new.items ≡ offers_made offers.items (all_told subs.old.items) }
+    ensures rooms { HaveRoomsBut result.items subs.new.items }
 {
+    let mut lacking = ArrayVec::new();
     for offer in offers {
+        let place = offer.place;
         make_offer(subs, offer);
+        lack_at(&mut lacking, subs.as_slice(), place);
     }
+    lacking
 }

@@ -13,10 +13,11 @@ use crate::by_kind::{ByKind, kind_for};
 use crate::editing::{add, receive, remove_for, remove_under};
 use crate::offering::offers_for;
 use crate::plan::{SendPlan, make_offers};
-use crate::rooms::make_room;
+use crate::rooms::{all_places, make_room};
 use crate::searching::{find_at, has_id, have_numbers_left, is_key_above, kept_at};
 use crate::subscription::Subscription;
 use ais_values::{Duplicate, Status};
+use arrayvec::ArrayVec;
 use client_set::ClientSet;
 use ntf_filters::{FilterSet, check_filters};
 use ntf_types::Notification;
@@ -28,8 +29,9 @@ use sub_queue::SubQueue;
 const MAX_SUBSCRIPTIONS: usize = 64;
 
 /// The clients that use the service, the last id that was given, and the subscriptions that last,
-/// in order of client, then key. Beside them stand their places by the types that they ask for. Contracts see what is kept,
-/// and for how many sends more there is room: 1 where each queue has room.
+/// in order of client, then key. Beside them stand their places by the types that they ask for, and the places of the queues
+/// in which there may be no room for a notification more. Contracts see what is kept, and for how many sends more there is
+/// room: 1 where each queue has room.
 #[derive(Drop)]
 pub struct NtfState {
     capacity: u32,
@@ -37,6 +39,7 @@ pub struct NtfState {
     last_id: u64,
     subs: Vec<Subscription>,
     by_kind: ByKind,
+    lacking: ArrayVec<u8, 64>,
 }
 
 impl Model for NtfState {
@@ -100,6 +103,7 @@ impl NtfState {
             last_id: 0,
             subs: Vec::new(alloc),
             by_kind: ByKind::of(&[]),
+            lacking: ArrayVec::new(),
         }
     }
 
@@ -109,7 +113,8 @@ impl NtfState {
         ensures status { IfOk result (λ status. status ≡ begin_answer client self.old.table) }
         ensures ok { IfOk result (λ status. status ≡ Status.Ok →
             self.new.table ≡ after_begin client self.old.table) }
-        ensures refused { IfOk result (λ status. status ≢ Status.Ok → self.new.table ≡ self.old.table) }
+        ensures refused { IfOk result
+            (λ status. status ≢ Status.Ok → self.new.table ≡ self.old.table) }
         ensures err { OnErr result (self.new.table ≡ self.old.table) }
     {
         if self.users.contains(client) {
@@ -132,6 +137,7 @@ impl NtfState {
         self.users.remove(client);
         remove_for(&mut self.subs, client);
         self.by_kind = ByKind::of(self.subs.as_slice());
+        self.lacking = all_places(self.subs.as_slice());
         Status::Ok
     }
 
@@ -173,7 +179,8 @@ impl NtfState {
             status ≡ subscribe_answer client id filters.now self.old.table) }
         ensures ok { IfOk result (λ status. status ≡ Status.Ok →
             self.new.table ≡ after_subscribe (sub_of client key id filters.now) self.old.table) }
-        ensures refused { IfOk result (λ status. status ≢ Status.Ok → self.new.table ≡ self.old.table) }
+        ensures refused { IfOk result
+            (λ status. status ≢ Status.Ok → self.new.table ≡ self.old.table) }
         ensures err { OnErr result (self.new.table ≡ self.old.table) }
     {
         let status = self.subscribe_status(client, id, filters);
@@ -183,6 +190,7 @@ impl NtfState {
         let kept = subscription(alloc, self.capacity, client, key, id, filters)?;
         add(&mut self.subs, kept)?;
         self.by_kind = ByKind::of(self.subs.as_slice());
+        self.lacking = all_places(self.subs.as_slice());
         Ok(Status::Ok)
     }
 
@@ -191,7 +199,8 @@ impl NtfState {
     /// changes. It takes no memory.
     pub fn unsubscribe(&mut self, client: u16, id: u32) -> Status
         ensures status { result ≡ unsubscribe_answer client id self.old.table }
-        ensures ok { result ≡ Status.Ok → self.new.table ≡ after_unsubscribe client id self.old.table }
+        ensures ok { result ≡ Status.Ok →
+            self.new.table ≡ after_unsubscribe client id self.old.table }
         ensures refused { result ≢ Status.Ok → self.new.table ≡ self.old.table }
     {
         if !self.users.contains(client) {
@@ -202,15 +211,19 @@ impl NtfState {
         }
         remove_under(&mut self.subs, client, id);
         self.by_kind = ByKind::of(self.subs.as_slice());
+        self.lacking = all_places(self.subs.as_slice());
         Status::Ok
     }
 
-    /// Makes room for a notification more in each queue. What is kept stays as it is; an error is want of memory.
+    /// Makes room for a notification more in each queue. Only those queues are looked at in which there may be none. What is
+    /// kept stays as it is; an error is want of memory.
     fn make_room(&mut self, alloc: Global) -> Result<(), AllocError>
         ensures table { self.new.table ≡ self.old.table }
         ensures ok { OnOk result (1 ≤ self.new.spare) }
     {
-        make_room(&mut self.subs, alloc)
+        make_room(&mut self.subs, alloc, self.lacking.as_slice())?;
+        self.lacking.clear();
+        Ok(())
     }
 
     /// The plan of `send` for the state as it is. Of the subscriptions only those are looked at that have a filter of
@@ -262,7 +275,7 @@ impl NtfState {
         ensures id { result ≡ plan.id }
     {
         let SendPlan { id, offers } = plan;
-        make_offers(&mut self.subs, offers);
+        self.lacking = make_offers(&mut self.subs, offers);
         self.last_id = id;
         id
     }
@@ -274,7 +287,8 @@ impl NtfState {
         requires { CanSendMore self.old.table }
         ensures id { IfOk result (λ id. id ≡ self.old.table.last_id + 1) }
         ensures ok { OnOk result
-            (self.new.table ≡ after_send (with_id (self.old.table.last_id + 1) notification) self.old.table) }
+            (self.new.table ≡ after_send (with_id (self.old.table.last_id + 1) notification)
+            self.old.table) }
         ensures err { OnErr result (self.new.table ≡ self.old.table) }
     {
         let plan = self.plan_send(alloc, notification)?;
@@ -313,7 +327,7 @@ impl NtfState {
         requires numbers { HaveNumbersLeft self.old.table.subs }
         ensures { self.new.table ≡ after_receipt client key through self.old.table }
     {
-        receive(&mut self.subs, client, key, through);
+        receive(&mut self.subs, &mut self.lacking, client, key, through);
     }
 
     /// Whether a client uses the service.
@@ -360,12 +374,14 @@ impl NtfState {
         ensures { result.table ≡ table_with cap users.items last_id (all_told subs.items) }
     {
         let by_kind = ByKind::of(subs.as_slice());
+        let lacking = all_places(subs.as_slice());
         NtfState {
             capacity: cap,
             users: ClientSet::from_rising(users),
             last_id,
             subs,
             by_kind,
+            lacking,
         }
     }
 }

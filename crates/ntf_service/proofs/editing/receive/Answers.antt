@@ -1,9 +1,11 @@
-use Rattle.std.proofs.Common.{◌≡◌, ◌<◌, not, length, get_or, ap, sym, ◌∙◌, arith}
+use Rattle.std.proofs.Common.{◌≡◌, ◌<◌, not, length, get_or, ap, sym, subst, ◌∙◌, arith}
 use Rattle.std.proofs.Math.ListN.{get_or-map}
 use Rattle.std.proofs.lemmas.List.{length-map, map-set}
 use Rattle.ntf_history.specs.Kept.{Subscription}
 use Rattle.ntf_history.specs.Tables.{is_kept_at}
 use Rattle.ntf_service.specs.Told.{told, all_told}
+use Rattle.ntf_service.specs.Rooms.{HaveRoomsBut, RoomsStayBut}
+use Rattle.ntf_service.proofs.Lacking.{stay-set}
 use Rattle.ntf_service.proofs.Places.{place_in}
 use Rattle.ntf_service.proofs.Received.{place-new, place-number, place-received, none-received}
 use Rattle.ntf_service.proofs.Telling.{prefix-read}
@@ -38,13 +40,20 @@ acked-requires-clause-numbers c =
     let at = all.After-index_mut-kept in
     place-number c.args.client c.args.key c.args.through (all_told c.args.subs.now.items) (told c.index_mut-kept.result.now) c.place_at-place.result (placed all.After-place_at-place) (within at) (there at) c.requires.new c.requires.numbers
 
-pub returns-then-place-len : goal.returns-then-place-len
-returns-then-place-len c =
-    let all = goal.at.returns-then-place-len c in
+pub returns-then-place-len-clause-told : goal.returns-then-place-len-clause-told
+returns-then-place-len-clause-told c =
+    let all = goal.at.returns-then-place-len-clause-told c in
     let at = all.After-index_mut-kept in
     map-set told c.args.subs.now.items c.place_at-place.result _ ∙ place-received c.args.client c.args.key c.args.through (all_told c.args.subs.now.items) (told c.index_mut-kept.result.now) c.place_at-place.result (placed all.After-place_at-place) (within at) (there at) c.requires.new c.requires.order c.acked.new.self.queue c.acked.ensures
 
-pub returns-else-place-len : goal.returns-else-place-len
-returns-else-place-len c =
+pub returns-then-place-len-clause-rooms : goal.returns-then-place-len-clause-rooms
+returns-then-place-len-clause-rooms c = λ have.
+    let items = c.args.subs.now.items in
+    let place = c.place_at-place.result in
+    let shown = c.as_slice-then-place-len.ensures.value in
+    subst (HaveRoomsBut c.lack_at.new.lacking.items) shown (c.lack_at.ensures items have (subst (RoomsStayBut place items) (sym shown) (stay-set items place _)))
+
+pub returns-else-place-len-clause-told : goal.returns-else-place-len-clause-told
+returns-else-place-len-clause-told c =
     let places = c.args.subs.now.ok.0 in
-    none-received c.args.client c.args.key c.args.through (all_told c.args.subs.now.items) c.place_at-place.result (placed (goal.at.returns-else-place-len c).After-place_at-place) (omega (arith, places, length-map c.args.subs.now.items told, c.len.ensures, c.if-place-len.false))
+    none-received c.args.client c.args.key c.args.through (all_told c.args.subs.now.items) c.place_at-place.result (placed (goal.at.returns-else-place-len-clause-told c).After-place_at-place) (omega (arith, places, length-map c.args.subs.now.items told, c.len.ensures, c.if-place-len.false))

@@ -8,6 +8,7 @@ use Rattle.ntf_service.specs.declared.plan.Offer.{Offer}
 use Rattle.ntf_service.specs.Planning.{sub_with_share, CanGive}
 use Rattle.ntf_service.specs.Told.{told, all_told, HasRoom}
 use Rattle.ntf_service.proofs.Changed.{holds-within, read-holds}
+use Rattle.ntf_service.proofs.Lacking.{stay-set}
 use Rattle.ntf_service.proofs.plan.make_offer.Goals as goal
 use Rattle.ntf_service.proofs.plan.make_offer.Goals.{After-index_mut-kept}
 
@@ -48,6 +49,9 @@ returns-clause-told c =
     let kept = told c.index_mut-kept.result.now in
     let within = holds-within (Takes c.args.offer) items place c.requires.can in
     map-set told c.args.subs.now.items place _ ∙ ap (λ queue. set items place (requeued kept queue)) c.give.ensures ∙ set-change_at (sub_with_share c.args.offer.share) items place kept (there at) within
+
+pub returns-clause-beside : goal.returns-clause-beside
+returns-clause-beside c = stay-set c.args.subs.now.items c.args.offer.place _
 
 pub returns-clause-behind : goal.returns-clause-behind
 returns-clause-behind c =

@@ -1,9 +1,8 @@
-use Rattle.std.proofs.Common.{◌≡◌, take}
-use Rattle.std.specs.Prelude.{vec_len}
-use Rattle.std.specs.List.{AllByRecursion}
-use Rattle.ntf_service.specs.Told.{all_told, HasRoom}
+use Rattle.std.proofs.Common.{◌≡◌, drop}
+use Rattle.ntf_service.specs.Told.{all_told}
+use Rattle.ntf_service.specs.Rooms.{HaveRoomsBut}
 use Rattle.ntf_service.proofs.rooms.make_room.Given as goal
 
-abbrev pub invariant-loop-place : goal.invariant-loop-place
-invariant-loop-place l =
-    (all_told l.subs.items ≡ all_told l.initial.subs.items) × (vec_len l.subs ≡ vec_len l.initial.subs) × AllByRecursion HasRoom (take l.place l.subs.items)
+abbrev pub invariant-loop-index : goal.invariant-loop-index
+invariant-loop-index l =
+    (all_told l.subs.items ≡ all_told l.initial.subs.items) × HaveRoomsBut (drop l.index l.lacking) l.subs.items

@@ -13,8 +13,9 @@ invariant_of-self c =
     let inside = c.self.inside in
     let plan = c.args.plan in
     let Sound : List Subscription → Type 0 = λ subs. IsSoundTable (table_with inside.capacity inside.users plan.id subs) in
-    let filters = kept-filters c.make_offers.new.subs.items inside.subs.items (ap filters_in c.make_offers.ensures ∙ filters-made plan.offers.items (all_told inside.subs.items)) in
+    let filters = kept-filters c.make_offers-self-inside.new.subs.items inside.subs.items (ap filters_in c.make_offers-self-inside.ensures.told ∙ filters-made plan.offers.items (all_told inside.subs.items)) in
     record {
-      table = subst Sound (sym c.make_offers.ensures) (subst IsSoundTable (ap (sent_by plan) (sym (same_table c.self.view_is))) c.requires.can.sound);
+      table = subst Sound (sym c.make_offers-self-inside.ensures.told) (subst IsSoundTable (ap (sent_by plan) (sym (same_table c.self.view_is))) c.requires.can.sound);
       places = subst (IsByKind inside.by_kind) (sym filters) c.self.invariant.places;
+      rooms = c.make_offers-self-inside.ensures.rooms;
     }

@@ -4,6 +4,7 @@ use Rattle.std.proofs.Common.{length, ap, subst, arith}
 use Rattle.ntf_history.specs.Tables.{is_kept_for}
 use Rattle.ntf_service.specs.Inside.{table_inside}
 use Rattle.ntf_service.specs.ByKind.{IsByKind, filters_of}
+use Rattle.ntf_service.specs.Rooms.{HaveRoomsBut}
 use Rattle.ntf_service.proofs.Kept.{sound-ended, kept-without, kept-table}
 use Rattle.ntf_service.proofs.state.NtfState.fini.Goals as goal
 
@@ -14,8 +15,16 @@ of-self-inside-requires c =
     let now = c.remove_for.new.subs.items in
     omega (arith, ap length c.as_slice.ensures.value, length-map now told, ap length c.remove_for.ensures, few)
 
+pub all_places-self-inside-requires : goal.all_places-self-inside-requires
+all_places-self-inside-requires c =
+    let table = table_inside c.self.inside in
+    let few = (kept-without table.capacity (is_kept_for c.args.client) table.subs (kept-table table c.self.invariant.table)).few in
+    let now = c.remove_for.new.subs.items in
+    omega (arith, ap length c.as_slice-2.ensures.value, length-map now told, ap length c.remove_for.ensures, few)
+
 pub invariant_of-self : goal.invariant_of-self
 invariant_of-self c = record {
   table = sound-ended (table_inside c.self.inside) c.args.client _ _ c.self.invariant.table c.remove.ensures c.remove_for.ensures;
   places = subst (λ subs. IsByKind c.of-self-inside.result (filters_of subs)) c.as_slice.ensures.value c.of-self-inside.ensures;
+  rooms = subst (HaveRoomsBut c.all_places-self-inside.result.items) c.as_slice-2.ensures.value c.all_places-self-inside.ensures;
 }

@@ -6,4 +6,5 @@ pub invariant_of-self-2 : goal.invariant_of-self-2
 invariant_of-self-2 c = record {
   table = sound-begun (table_inside c.self.inside) c.args.client _ c.self.invariant.table c.in_ok-insert.ensures.ok;
   places = c.self.invariant.places;
+  rooms = c.self.invariant.rooms;
 }
