@@ -4,14 +4,14 @@ use calls::{Boxed, Call, Callback, Entry, Reply};
 use cluster_events::{ServerRole, Standing, Why};
 use event_text::{
     put_callback, put_declined, put_dispatched, put_entry, put_file, put_ignored, put_post,
-    put_refused, put_reply, put_server, put_shown, put_text,
+    put_raw, put_refused, put_reply, put_server, put_shown, put_text,
 };
 use ntf_types::{Body, Notification};
 use script_lines::{Line, Server};
 use std::alloc::Global;
 use std::process::Abort;
 use sub_queue::{Content, Item, Lost};
-use wire::Message;
+use wire::{Message, WireWhy};
 
 const T: i64 = 1_704_067_200_000_000_000;
 
@@ -122,6 +122,32 @@ fn tells_of_the_net(rt: HostRuntime) {
     post(&rt, alloc, 6, reply(), b"post 6 rep 1 3\n");
     post(&rt, alloc, 21, item(&rt, alloc), b"post 21 item 1 2 3\n");
     post(&rt, alloc, 22, receipt(), b"post 22 rcpt 1 2 3\n");
+}
+
+/// A delivered byte string that is no message, from this place on, had no effect.
+fn miss(rt: &impl Abort, alloc: Global, front: u32, why: WireWhy, want: &[u8]) {
+    let mut lines = Vec::new(alloc);
+    put_ignored(alloc, &mut lines, 1, Why::Bad { front, why }).expect(rt, "memory");
+    are(rt, alloc, lines, want);
+}
+
+#[test]
+fn tells_of_bytes_that_are_no_message(rt: HostRuntime) {
+    let alloc = rt.alloc();
+    let mut lines = Vec::new(alloc);
+    put_raw(alloc, &mut lines, 1, 0).expect(&rt, "memory");
+    put_raw(alloc, &mut lines, 12, 16_384).expect(&rt, "memory");
+    are(&rt, alloc, lines, b"post 1 raw 0\npost 12 raw 16384\n");
+    let value = b"ignored 1 bad 0 value\n".as_slice();
+    miss(&rt, alloc, 0, WireWhy::BadValue, value);
+    miss(&rt, alloc, 0, WireWhy::Short, b"ignored 1 bad 0 short\n");
+    let trailing = b"ignored 1 bad 8 trailing\n".as_slice();
+    miss(&rt, alloc, 8, WireWhy::Trailing, trailing);
+    let text = Text::new(alloc, b"\x01\0\x01\0\0\0\x01\x01").expect(&rt, "memory");
+    let told = b"refused inject \"\\x01\\x00\\x01\\x00\\x00\\x00\\x01\\x01\" \
+        a=armed b=standby net=0 link=0 back=0 hand=-\n"
+        .as_slice();
+    refuse(&rt, alloc, Line::Inject { bytes: text }, told);
 }
 
 /// Call 3 of client 1, as accepted.
