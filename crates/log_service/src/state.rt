@@ -155,7 +155,8 @@ impl LogState {
 
     /// The plan of `init` for the state as it is. An error is want of memory.
     fn init_plan(&self, alloc: Global, client: u16) -> Result<LogPlan, AllocError>
-        ensures { IfOk result (Plans self.now.table (begin_status self.now.table client) (Began client)) }
+        ensures { IfOk result (Plans self.now.table (begin_status self.now.table client)
+            (Began client)) }
     {
         let status = self.begin_status(client);
         if status != Status::Ok {
@@ -173,7 +174,8 @@ impl LogState {
         client: u16,
         _now: i64,
     ) -> Result<LogPlan, AllocError>
-        ensures ok { IfOk result (Plans self.old.table (begin_status self.old.table client) (Began client)) }
+        ensures ok { IfOk result (Plans self.old.table (begin_status self.old.table client)
+            (Began client)) }
         ensures table { self.new.table ≡ self.old.table }
         ensures room { OnOk result (1 ≤ self.new.spare) }
     {
@@ -333,9 +335,11 @@ impl LogState {
         now: i64,
     ) -> Result<Step, AllocError>
         requires { IsCallTime self.old.table now }
-        ensures status { IfOk result (λ step. step.status ≡ close_status self.old.table client name.now) }
+        ensures status { IfOk result (λ step.
+            step.status ≡ close_status self.old.table client name.now) }
         ensures ok { IfOk result (λ step. step.status ≡ Status.Ok
-            → Made (Closed client name.now (second_of now)) self.old.table self.new.table step.events) }
+            → Made (Closed client name.now (second_of now))
+            self.old.table self.new.table step.events) }
         ensures refused { IfOk result (λ step. step.status ≢ Status.Ok
             → Left self.old.table self.new.table step.events) }
         ensures err { OnErr result (self.new.table ≡ self.old.table) }
@@ -612,7 +616,8 @@ impl LogState {
         requires moment { IsCallTime self.now.table now }
         requires notified { IsNotified kind rec.now }
         requires numbers { HasNumberLeft self.now.table (stream_of_kind kind) }
-        ensures { IfOk result (Plans self.now.table (store_status self.now.table (stream_of_kind kind))
+        ensures { IfOk result (Plans self.now.table
+            (store_status self.now.table (stream_of_kind kind))
             (Stored (stream_of_kind kind) rec.now (second_of now))) }
     {
         let name = stream_of_kind(kind);
@@ -636,7 +641,8 @@ impl LogState {
         requires moment { IsCallTime self.old.table now }
         requires notified { IsNotified kind rec.now }
         requires numbers { HasNumberLeft self.old.table (stream_of_kind kind) }
-        ensures ok { IfOk result (Plans self.old.table (store_status self.old.table (stream_of_kind kind))
+        ensures ok { IfOk result (Plans self.old.table
+            (store_status self.old.table (stream_of_kind kind))
             (Stored (stream_of_kind kind) rec.now (second_of now))) }
         ensures table { self.new.table ≡ self.old.table }
         ensures room { OnOk result (1 ≤ self.new.spare) }
@@ -716,7 +722,8 @@ impl LogState {
     /// What stands of a living stream, by its place in order of creation, from 0.
     pub fn stream_at(&self, i: u32) -> Option<&StreamState>
         ensures { option_copied result
-            ≡ option_map (λ (stream : OpenStream). stream.state) (slice_get self.now.table.streams i) }
+            ≡ option_map (λ (stream : OpenStream). stream.state)
+            (slice_get self.now.table.streams i) }
     {
         match self.streams.get(i as usize) {
             Some(stream) => Some(stream.state()),
@@ -727,7 +734,8 @@ impl LogState {
     /// The clients that have a living stream open, rising, by its place in order of creation, from 0.
     pub fn openers_at(&self, i: u32) -> Option<&[u16]>
         ensures { option_copied result
-            ≡ option_map (λ (stream : OpenStream). stream.openers) (slice_get self.now.table.streams i) }
+            ≡ option_map (λ (stream : OpenStream). stream.openers)
+            (slice_get self.now.table.streams i) }
     {
         match self.streams.get(i as usize) {
             Some(stream) => Some(stream.openers()),
