@@ -5,6 +5,7 @@ pub mod PostAllSteps
 pub mod ReadSteps
 pub mod DispatchSteps
 pub mod ListingSteps
+mod LookSteps
 pub mod DeliverySteps
 pub mod AskSteps
 pub mod TakingSteps

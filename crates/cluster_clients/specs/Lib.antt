@@ -3,6 +3,7 @@ pub mod Fetching
 pub mod Posted
 pub mod Clients
 pub mod Files
+pub mod Looks
 pub mod Listing
 pub mod Taken
 pub mod Taking

@@ -1,10 +1,13 @@
 //! What is shown of the files of a disk.
 ghost use Rattle.std.specs.Prelude.{◌≡◌, ◌≤◌, length, IfOk, IfSome, IsErrOf, OnOk};
+ghost use Rattle.std.specs.Result.{is_ok};
 ghost use Rattle.ais_values.specs.Causes.{RoseExactlyOn};
+ghost use Rattle.disk_model.specs.Counts.{read_more};
 ghost use Rattle.disk_model.specs.Disk.{bytes_at};
 ghost use Rattle.disk_model.specs.declared.answers.DiskAnswer.{DiskAnswer};
 ghost use Rattle.cluster_clients.specs.Files.{ListsFiles, bytes_of};
-ghost use Rattle.cluster_clients.specs.Listing.{AddsLine};
+ghost use Rattle.cluster_clients.specs.Listing.{AddsLine, ReadsOnce};
+ghost use Rattle.cluster_clients.specs.Looks.{FileCalls, ListCalls, Looks};
 
 use ais_values::Seq;
 use disk_model::{DiskAnswer, DiskFault, SharedDisk};
@@ -23,7 +26,7 @@ fn put_file_of<D: SharedDisk>(
     ensures same { D.files disk.new ≡ D.files disk.old }
     ensures cause { RoseExactlyOn (D.faults disk.old) (D.faults disk.new) result DiskAnswer.Failed }
     ensures never_stopped { IsErrOf result DiskAnswer.Stopped → ⊥ }
-    ensures armed { (D.tally disk.new).armed ≡ (D.tally disk.old).armed }
+    ensures counted { D.tally disk.new ≡ read_more 1 (D.tally disk.old) }
 {
     match disk.len(name) {
         Ok(Some(len)) => match put_file(alloc, lines, name, len) {
@@ -37,12 +40,14 @@ fn put_file_of<D: SharedDisk>(
 
 /// The lines of the files, in byte order of their names. A name without a length is left out.
 ///
-/// The disk is only read, so it never stops. `Failed` comes exactly where its count of faults rose.
+/// The disk is asked once for the names, and once for the length of each. It is only read, so it never stops. `Failed` comes exactly where its count of faults rose.
 pub fn list_files<D: SharedDisk>(alloc: Global, disk: &mut D) -> Result<Vec<Seq<u8>>, DiskAnswer>
     ensures listed { IfOk result (λ lines. ListsFiles (D.files disk.old) lines.items) }
     ensures same { D.files disk.new ≡ D.files disk.old }
     ensures cause { RoseExactlyOn (D.faults disk.old) (D.faults disk.new) result DiskAnswer.Failed }
     ensures never_stopped { IsErrOf result DiskAnswer.Stopped → ⊥ }
+    ensures looks { Looks (ListCalls (D.files disk.old)) (is_ok result) (D.tally disk.old)
+        (D.tally disk.new) }
     ensures armed { (D.tally disk.new).armed ≡ (D.tally disk.old).armed }
 {
     let names = match disk.names(alloc) {
@@ -71,6 +76,7 @@ fn read_front<D: SharedDisk>(
         bytes ≡ bytes_at files name.now 0 size)) }
     ensures bound { IfOk result (λ bytes. length bytes ≤ size) }
     ensures unread { size ≡ 0 → disk.new ≡ disk.old }
+    ensures counted { 1 ≤ size → ReadsOnce result (D.tally disk.old) (D.tally disk.new) }
     ensures same { D.files disk.new ≡ D.files disk.old }
     ensures cause { RoseExactlyOn (D.faults disk.old) (D.faults disk.new) result DiskAnswer.Failed }
     ensures never_stopped { IsErrOf result DiskAnswer.Stopped → ⊥ }
@@ -94,7 +100,7 @@ fn read_front<D: SharedDisk>(
 
 /// The bytes of a file; `None` where there is no file of that name.
 ///
-/// The disk is only read, so it never stops. `Failed` comes exactly where its count of faults rose.
+/// The disk is asked once for the length, and once for the bytes where there are any. It is only read, so it never stops. `Failed` comes exactly where its count of faults rose.
 pub fn read_file<D: SharedDisk>(
     alloc: Global,
     disk: &mut D,
@@ -105,6 +111,8 @@ pub fn read_file<D: SharedDisk>(
     ensures same { D.files disk.new ≡ D.files disk.old }
     ensures cause { RoseExactlyOn (D.faults disk.old) (D.faults disk.new) result DiskAnswer.Failed }
     ensures never_stopped { IsErrOf result DiskAnswer.Stopped → ⊥ }
+    ensures looks { Looks (FileCalls name.now (D.files disk.old)) (is_ok result)
+        (D.tally disk.old) (D.tally disk.new) }
     ensures armed { (D.tally disk.new).armed ≡ (D.tally disk.old).armed }
 {
     let size = match disk.len(name) {

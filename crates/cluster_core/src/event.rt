@@ -1,7 +1,9 @@
 //! A line of a script happens to the world.
 ghost use Rattle.std.specs.Prelude.{ℕ, List, IfOk, IfErr};
+ghost use Rattle.std.specs.Result.{is_ok};
 ghost use Rattle.script_language.specs.Lines.{Spells};
 ghost use Rattle.cluster_rounds.specs.Came.{seen};
+ghost use Rattle.cluster_lines.specs.Playing.{LooksBy};
 
 use crate::World;
 use crate::parts::play_whole;
@@ -29,6 +31,9 @@ impl World {
     /// is `work`, `settle` or a `crash` of the active server: its lines are those of all that was done before, and of the servers that
     /// went down.
     ///
+    /// `files` asks the disk once for the names and once for the length of each, `cat` once for the length and once for the bytes where
+    /// there are any; another line that is not the servers' own, and not `settle`, asks it nothing.
+    ///
     /// `Memory` comes where memory ran out: some of the line was done, without its lines. The history is legal; each client's calls in it
     /// are the first of those that it had sent before, and what came to it is of a time not above that in force, which stays. Each client
     /// was fed the beginning of its items, each reply that it took is the history's, and the files are between. The same is answered
@@ -52,6 +57,8 @@ impl World {
             (seen (D.files disk.old) (D.tally disk.old) (D.faults disk.old))
             (seen (D.files disk.new) (D.tally disk.new) (D.faults disk.new))) }
         ensures cause { RisesInEvent (D.faults disk.old) (D.faults disk.new) result }
+        ensures looks { LooksBy line.now (D.files disk.old) (is_ok result) (D.tally disk.old)
+            (D.tally disk.new) }
     {
         let mut lines = Vec::new(alloc);
         match play_whole(rt, alloc, self, &mut lines, line, disk, gate) {

@@ -1,8 +1,9 @@
 //! A world that is taken apart for an event, by who is active, and put together again, without memory.
 ghost use Rattle.std.specs.Prelude.{◌≡◌, OnOk, IfErr};
+ghost use Rattle.std.specs.Result.{is_ok};
 ghost use Rattle.cluster_rounds.specs.Came.{seen};
 ghost use Rattle.cluster_lines.specs.Lines.{IsInRange};
-ghost use Rattle.cluster_lines.specs.Playing.{GoesOn};
+ghost use Rattle.cluster_lines.specs.Playing.{GoesOn, LooksBy};
 ghost use Rattle.pair_servers.specs.PairKit.{pair_kit};
 ghost use Rattle.cluster_core.specs.Worlds.{named, unnamed, parts_of, HasState};
 ghost use Rattle.cluster_core.specs.Playing.{IsEventLine};
@@ -126,6 +127,8 @@ pub(crate) fn play_whole<R: Threads + Wait + Sync, D: SharedDisk, G: Gate>(
         (seen (D.files disk.old) (D.tally disk.old) (D.faults disk.old))
         (seen (D.files disk.new) (D.tally disk.new) (D.faults disk.new))) }
     ensures counts { GoesOn pair_kit.Outlives (D.faults disk.old) (D.faults disk.new) result }
+    ensures looks { LooksBy line.now (D.files disk.old) (is_ok result) (D.tally disk.old)
+        (D.tally disk.new) }
 {
     let mut parts = take_parts(alloc, world);
     let played = play(rt, alloc, &mut parts, lines, line, disk, gate);

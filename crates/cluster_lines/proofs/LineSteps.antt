@@ -8,6 +8,7 @@ use mir.Val.{to_z, of_z}
 use Rattle.ais_values.proofs.Basics.{true_from_T}
 use Rattle.disk_model.specs.Disk.{Files}
 use Rattle.disk_model.specs.declared.answers.DiskAnswer.{DiskAnswer}
+use Rattle.disk_model.specs.declared.tally.Tally.{Tally}
 use Rattle.script_lines.specs.declared.line.Line.{Line}
 use Rattle.script_lines.specs.declared.line.Line.TheVariants as line
 use Rattle.plain_service.specs.Setups.{Setup, IsMoment}
@@ -40,7 +41,7 @@ use Rattle.cluster_rounds.proofs.KitSteps.{line-kept}
 use Rattle.cluster_lines.specs.Shelves.{shelf_of}
 use Rattle.cluster_lines.specs.Lines.{CanPlay, IsOwn, is_own}
 use Rattle.cluster_lines.specs.Showing.{StandsAs, refused, servers_listed}
-use Rattle.cluster_lines.specs.Playing.{Plays}
+use Rattle.cluster_lines.specs.Playing.{LooksBy, Plays}
 use Rattle.cluster_lines.specs.Following.{IsInHand, IsScript}
 use Rattle.cluster_lines.specs.Answers.{EndsAs}
 use Rattle.cluster_lines.specs.Steps.{PlaysAlone, ShowsOn, deliver_at, file_shown, files_listed}
@@ -63,6 +64,19 @@ ends-ok (Err e) (Err f) same step holds = tt
 pub ok-so : {T E A : Type 0} (r : Result T E) → A → OnOk r A
 ok-so (Ok x) so = so
 ok-so (Err e) so = tt
+
+-- a line that leaves the disk alone makes no call, and of the servers' own nothing is said
+pub looks-alone : (next : Line) (held : Option Files) (done : Bool) (tally : Tally) → (next ≡ line.Files → ⊥) → ((name : List ℕ) → next ≡ line.Cat name → ⊥) → LooksBy next held done tally tally
+looks-alone line.Files held done tally no_list no_file = absurd (no_list refl)
+looks-alone (line.Cat name) held done tally no_list no_file = absurd (no_file name refl)
+looks-alone line.Settle held done tally no_list no_file = tt
+looks-alone _ held done tally no_list no_file = λ shared. refl
+
+pub looks-own : (next : Line) (held : Option Files) (done : Bool) (old new : Tally) → is_own next ≡ true → LooksBy next held done old new
+looks-own line.Files held done old new own = cc
+looks-own (line.Cat name) held done old new own = cc
+looks-own line.Settle held done old new own = tt
+looks-own next held done old new own = λ shared. cc
 
 -- a moment fits the code's time
 pub moment-same : (now : ℤ) → IsMoment now → to_z w64 (of_z w64 now) ≡ now

@@ -1,8 +1,10 @@
 -- Words of public clauses: what each line of a script does to a cluster, over any servers, and what it leaves where it breaks off.
-use Rattle.std.specs.Prelude.{◌≡◌, ℕ, ◌≤◌, Bool, IfSome, List, ◌++◌, Result, Ok, Err}
+use Rattle.std.specs.Prelude.{◌≡◌, ℕ, ◌≤◌, Bool, false, Option, IfSome, List, ◌++◌, Result, Ok, Err}
 use Rattle.ais_values.specs.Causes.{Rose}
+use Rattle.disk_model.specs.Disk.{Files}
 use Rattle.disk_model.specs.declared.answers.DiskAnswer.{DiskAnswer}
 use Rattle.disk_model.specs.declared.answers.DiskAnswer.TheVariants.{Memory, Failed, Stopped}
+use Rattle.disk_model.specs.declared.tally.Tally.{Tally}
 use Rattle.script_lines.specs.declared.line.Line.{Line}
 use Rattle.script_lines.specs.declared.line.Line.TheVariants as line
 use Rattle.plain_service.specs.Setups.{Setup}
@@ -15,6 +17,7 @@ use Rattle.cluster_events.specs.Devices.{EndBy, EndsOver, IsCaused}
 use Rattle.cluster_events.specs.Running.{Shelf}
 use Rattle.event_text.specs.Texts.{printed}
 use Rattle.cluster_clients.specs.Clients.{ShowsAgents}
+use Rattle.cluster_clients.specs.Looks.{FileCalls, ListCalls, Looks}
 use Rattle.cluster_clients.specs.Spelled.{AreSpelled}
 use Rattle.cluster_rounds.specs.declared.cluster.Cluster.{Cluster}
 use Rattle.cluster_rounds.specs.Kits.{Kit, device_by}
@@ -22,6 +25,7 @@ use Rattle.cluster_rounds.specs.Scripts.{Script}
 use Rattle.cluster_rounds.specs.Worlds.{Happened, IsGood, LeavesFiles, Shows, TellsFiles}
 use Rattle.cluster_rounds.specs.Broken.{Broken, LeavesBetween}
 use Rattle.cluster_rounds.specs.Came.{DiskSeen, TellsDown}
+use Rattle.cluster_lines.specs.Lines.{is_own}
 use Rattle.cluster_lines.specs.Shelves.{shelf_of}
 
 -- how the disk's count of faults went in a line: a line that is done, or lacks memory, outlives it; one that fails made it rise. No
@@ -31,6 +35,14 @@ GoesOn Outlives before after (Ok done) = Outlives before after
 GoesOn Outlives before after (Err Memory) = Outlives before after
 GoesOn Outlives before after (Err Failed) = (before ≤ after) × Rose before after
 GoesOn Outlives before after (Err Stopped) = ⊥
+
+-- which reading calls of the disk a line makes: those of the listing or of the file that it shows, all where it is done. One that is not
+-- the servers' own, and not `settle`, makes no call else
+abbrev pub LooksBy : Line → Option Files → Bool → Tally → Tally → Type 0
+LooksBy line.Files held done old new = Looks (ListCalls held) done old new
+LooksBy (line.Cat name) held done old new = Looks (FileCalls name held) done old new
+LooksBy line.Settle held done old new = Unit {0}
+LooksBy next held done old new = is_own next ≡ false → new ≡ old
 
 module _ {Peers Group : Type 0} (kit : Kit Peers Group) (script : Script Peers) where
   -- what a line led to: it is what the line leads to, by the works that failed, for some shelf, which is that of the disk's files where

@@ -1,11 +1,12 @@
 //! What each line of a script does to a cluster.
 ghost use Rattle.std.specs.Prelude.{◌≡◌, OnOk, OnErr, IfErr};
+ghost use Rattle.std.specs.Result.{is_ok};
 ghost use Rattle.script_lines.specs.declared.line.Line.TheVariants.{Deliver, Push, Inject};
 ghost use Rattle.cluster_rounds.specs.Worlds.{HasState, HasStateOn, Does, any_state, pushed};
 ghost use Rattle.cluster_rounds.specs.Broken.{BreaksAlone};
 ghost use Rattle.cluster_rounds.specs.Came.{seen};
 ghost use Rattle.cluster_lines.specs.Lines.{IsInRange, CanPlay, is_own};
-ghost use Rattle.cluster_lines.specs.Playing.{Plays, BreaksOff, GoesOn};
+ghost use Rattle.cluster_lines.specs.Playing.{Plays, BreaksOff, GoesOn, LooksBy};
 ghost use Rattle.cluster_lines.specs.Answers.{EndsAs};
 ghost use Rattle.cluster_lines.specs.Steps.{deliver_at, PlaysAlone};
 
@@ -182,6 +183,8 @@ fn play_shared<R: Threads + Wait + Sync, S: Scripted, D: SharedDisk, G: Gate>(
         (seen (D.files disk.old) (D.tally disk.old) (D.faults disk.old))
         (seen (D.files disk.new) (D.tally disk.new) (D.faults disk.new))) }
     ensures counts { GoesOn S.kit.Outlives (D.faults disk.old) (D.faults disk.new) result }
+    ensures looks { LooksBy line.now (D.files disk.old) (is_ok result) (D.tally disk.old)
+        (D.tally disk.new) }
 {
     match line {
         Line::Settle => settle(rt, alloc, world, lines, disk),
@@ -195,6 +198,8 @@ fn play_shared<R: Threads + Wait + Sync, S: Scripted, D: SharedDisk, G: Gate>(
 ///
 /// `Failed` comes exactly where the disk had a fault that it did not outlive: its count of faults rose. A line that shows files
 /// leaves all as it was then. Any other ended at an entry that was worked, and its lines are those of all that was done until then.
+/// `files` asks the disk once for the names and once for the length of each, `cat` once for the length and once for the bytes where
+/// there are any; another line that is not the servers' own, and not `settle`, asks it nothing.
 /// `Memory` comes where memory ran out; some of the line was done. `Stopped` never comes.
 pub fn play<R: Threads + Wait + Sync, S: Scripted, D: SharedDisk, G: Gate>(
     rt: &R,
@@ -217,6 +222,8 @@ pub fn play<R: Threads + Wait + Sync, S: Scripted, D: SharedDisk, G: Gate>(
         (seen (D.files disk.old) (D.tally disk.old) (D.faults disk.old))
         (seen (D.files disk.new) (D.tally disk.new) (D.faults disk.new))) }
     ensures counts { GoesOn S.kit.Outlives (D.faults disk.old) (D.faults disk.new) result }
+    ensures looks { LooksBy line.now (D.files disk.old) (is_ok result) (D.tally disk.old)
+        (D.tally disk.new) }
 {
     if is_own(line) {
         return S::play_own(alloc, world, lines, line, disk);

@@ -1,8 +1,10 @@
 //! What is shown of servers and files, and refusals.
 ghost use Rattle.std.specs.Prelude.{◌≡◌, OnOk, IsErrOf};
+ghost use Rattle.std.specs.Result.{is_ok};
 ghost use Rattle.ais_values.specs.Causes.{RoseExactlyOn};
 ghost use Rattle.disk_model.specs.declared.answers.DiskAnswer.{DiskAnswer};
 ghost use Rattle.script_lines.specs.declared.line.Line.TheVariants.{Cat};
+ghost use Rattle.cluster_clients.specs.Looks.{FileCalls, ListCalls, Looks};
 ghost use Rattle.cluster_rounds.specs.Worlds.{Does};
 ghost use Rattle.cluster_lines.specs.Showing.{StandsAs, refused, servers_listed};
 ghost use Rattle.cluster_lines.specs.Steps.{files_listed, file_shown, ShowsOn, TellsRead};
@@ -73,6 +75,8 @@ pub(crate) fn show_files<S: Scripted, D: SharedDisk>(
     ensures same { D.files disk.new ≡ D.files disk.old }
     ensures cause { RoseExactlyOn (D.faults disk.old) (D.faults disk.new) result DiskAnswer.Failed }
     ensures never_stopped { IsErrOf result DiskAnswer.Stopped → ⊥ }
+    ensures looks { Looks (ListCalls (D.files disk.old)) (is_ok result) (D.tally disk.old)
+        (D.tally disk.new) }
     ensures armed { (D.tally disk.new).armed ≡ (D.tally disk.old).armed }
 {
     let mut listed = match list_files(alloc, disk) {
@@ -119,6 +123,8 @@ pub(crate) fn show_file<S: Scripted, D: SharedDisk>(
     ensures same { D.files disk.new ≡ D.files disk.old }
     ensures cause { RoseExactlyOn (D.faults disk.old) (D.faults disk.new) result DiskAnswer.Failed }
     ensures never_stopped { IsErrOf result DiskAnswer.Stopped → ⊥ }
+    ensures looks { Looks (FileCalls name.now (D.files disk.old)) (is_ok result)
+        (D.tally disk.old) (D.tally disk.new) }
     ensures armed { (D.tally disk.new).armed ≡ (D.tally disk.old).armed }
 {
     let read = match read_file(alloc, disk, name.as_slice()) {

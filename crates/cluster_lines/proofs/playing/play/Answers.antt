@@ -1,5 +1,6 @@
 use Rattle.std.proofs.Common.{sym}
-use Rattle.cluster_lines.proofs.LineSteps.{owns}
+use Rattle.std.specs.Result.{is_ok}
+use Rattle.cluster_lines.proofs.LineSteps.{looks-own, owns}
 use Rattle.cluster_lines.proofs.playing.play.Goals as goal
 
 pub play_own-requires : goal.play_own-requires
@@ -8,3 +9,7 @@ play_own-requires g c = record {
   range = c.requires.range;
   own = owns g.S.Serving.script c.args.world.now.now c.args.line.now (sym c.if-is_own.ensures) c.requires.can;
 }
+
+pub returns-then-is_own-clause-looks : goal.returns-then-is_own-clause-looks
+returns-then-is_own-clause-looks g c =
+    looks-own c.args.line.now (g.D.SharedDisk.files c.args.disk.now) (is_ok c.play_own.result) (g.D.SharedDisk.tally c.args.disk.now) (g.D.SharedDisk.tally c.play_own.new.disk) (sym c.if-is_own.ensures)

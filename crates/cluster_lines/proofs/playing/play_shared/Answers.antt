@@ -1,12 +1,14 @@
 use Rattle.std.proofs.Common.{ℕ, Option, sym, subst}
+use Rattle.std.specs.Result.{is_ok}
 use Rattle.std.proofs.lemmas.Result.{on_ok_weaker}
+use Rattle.script_lines.specs.declared.line.Line.{Line}
 use Rattle.script_lines.specs.declared.line.Line.TheVariants as line
 use Rattle.cluster_rounds.specs.Came.{DiskSeen, seen}
 use Rattle.cluster_rounds.specs.Worlds.{HasStateOn, any_state}
 use Rattle.cluster_rounds.proofs.ArmedSteps.{state-told}
-use Rattle.cluster_lines.specs.Playing.{Plays}
+use Rattle.cluster_lines.specs.Playing.{LooksBy, Plays}
 use Rattle.cluster_lines.proofs.LineBroken.{cat-broken, ends-broken, ends-counts, files-broken, settle-broken, settle-counts, shown-counts, shown-ok}
-use Rattle.cluster_lines.proofs.LineSteps.{alone-stands, ends-ok, ok-so, played-as, plays-alone, plays-cat, plays-files, plays-settle, settle-stands}
+use Rattle.cluster_lines.proofs.LineSteps.{alone-stands, ends-ok, looks-alone, ok-so, played-as, plays-alone, plays-cat, plays-files, plays-settle, settle-stands}
 use Rattle.cluster_lines.proofs.playing.play_shared.Goals as goal
 
 pub show_file-requires : goal.show_file-requires
@@ -52,6 +54,10 @@ returns-in-Settle-clause-counts g c =
     let left = seen (g.D.SharedDisk.files c.settle.new.disk) (g.D.SharedDisk.tally c.settle.new.disk) (g.D.SharedDisk.faults c.settle.new.disk) in
     (settle-counts g.S.Serving.kit g.met.S.Serving.laws) c.settle.result c.args.world.now c.settle.new.world c.args.lines.now.items c.settle.new.lines.items held left c.requires.state c.settle.ensures.ok c.settle.ensures.err
 
+pub returns-in-Settle-clause-looks : goal.returns-in-Settle-clause-looks
+returns-in-Settle-clause-looks g c =
+    subst (λ (next : Line). LooksBy next (g.D.SharedDisk.files c.args.disk.now) (is_ok c.settle.result) (g.D.SharedDisk.tally c.args.disk.now) (g.D.SharedDisk.tally c.settle.new.disk)) (sym c.in-Settle.is) tt
+
 -- `files`
 
 pub returns-in-Files-clause-ok : goal.returns-in-Files-clause-ok
@@ -77,6 +83,10 @@ returns-in-Files-clause-broken g c =
 pub returns-in-Files-clause-counts : goal.returns-in-Files-clause-counts
 returns-in-Files-clause-counts g c =
     (shown-counts g.S.Serving.kit g.met.S.Serving.laws) c.show_files.result (g.D.SharedDisk.faults c.args.disk.now) (g.D.SharedDisk.faults c.show_files.new.disk) c.show_files.ensures.cause c.show_files.ensures.never_stopped
+
+pub returns-in-Files-clause-looks : goal.returns-in-Files-clause-looks
+returns-in-Files-clause-looks g c =
+    subst (λ (next : Line). LooksBy next (g.D.SharedDisk.files c.args.disk.now) (is_ok c.show_files.result) (g.D.SharedDisk.tally c.args.disk.now) (g.D.SharedDisk.tally c.show_files.new.disk)) (sym c.in-Files.is) c.show_files.ensures.looks
 
 -- `cat`
 
@@ -104,7 +114,15 @@ pub returns-in-Cat-clause-counts : goal.returns-in-Cat-clause-counts
 returns-in-Cat-clause-counts g c =
     (shown-counts g.S.Serving.kit g.met.S.Serving.laws) c.show_file.result (g.D.SharedDisk.faults c.args.disk.now) (g.D.SharedDisk.faults c.show_file.new.disk) c.show_file.ensures.cause c.show_file.ensures.never_stopped
 
+pub returns-in-Cat-clause-looks : goal.returns-in-Cat-clause-looks
+returns-in-Cat-clause-looks g c =
+    subst (λ (next : Line). LooksBy next (g.D.SharedDisk.files c.args.disk.now) (is_ok c.show_file.result) (g.D.SharedDisk.tally c.args.disk.now) (g.D.SharedDisk.tally c.show_file.new.disk)) (sym c.in-Cat.is) c.show_file.ensures.looks
+
 -- all others leave the disk alone
+
+pub returns-in_default-clause-looks : goal.returns-in_default-clause-looks
+returns-in_default-clause-looks g c =
+    looks-alone c.args.line.now (g.D.SharedDisk.files c.args.disk.now) (is_ok c.as_answer.result) (g.D.SharedDisk.tally c.args.disk.now) c.in_default.not-Files c.in_default.not-Cat
 
 pub returns-in_default-clause-ok : goal.returns-in_default-clause-ok
 returns-in_default-clause-ok g c =
