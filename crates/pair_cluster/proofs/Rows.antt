@@ -137,6 +137,14 @@ failing = pair ready (device (λ number. number == 2))
 pub fault_tells : (round ready failing sent).told ≡ Stood B Active ∷ Stood A Down ∷ Committed 2 (Called 1 2 (pos 5) write) ∷ []
 fault_tells = refl
 
+-- An entry without deeds makes no call that could fail.
+
+abbrev callless : Servers Peers
+callless = pair ready (record { calls = λ past entry. 0; fails = λ number. number == 2 })
+
+pub callless_tells : (round ready callless sent).told ≡ Replied 1 2 write Done ∷ Posted 4 (Answer 1 2 Done) ∷ Committed 2 (Called 1 2 (pos 5) write) ∷ []
+callless_tells = refl
+
 pub reply_after_fault : (round ready failing (round ready failing sent).state).told ≡ Replied 1 2 write Done ∷ Posted 4 (Answer 1 2 Done) ∷ []
 reply_after_fault = refl
 

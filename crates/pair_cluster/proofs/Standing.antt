@@ -1,5 +1,6 @@
 -- Where no work fails and none is armed, both servers stand.
-use Rattle.std.proofs.Common.{◌≡◌, ℕ, suc, Bool, true, false, ◌&&◌, ◌||◌, Option, Some, None, length, refl, sym, subst}
+use Rattle.std.proofs.Common.{◌≡◌, ℕ, suc, Bool, true, false, ◌&&◌, ◌||◌, nat_le, Option, Some, None, length, refl, sym, subst}
+use Rattle.std.proofs.lemmas.Bool.{and_right}
 use Rattle.script_lines.specs.declared.line.Server.{Server}
 use Rattle.cluster_facts.specs.Types.{Entry}
 use Rattle.cluster_facts.specs.Service.{Plain}
@@ -10,7 +11,7 @@ use Rattle.cluster_events.specs.Devices.{Device}
 use Rattle.cluster_events.specs.Saying.{Says}
 use Rattle.cluster_events.proofs.Promised.{happens-kept}
 use Rattle.pair_cluster.specs.Peers.{Partner, Down, Owed, Linking, Standby, Peers, IsPair}
-use Rattle.pair_cluster.specs.Pair.{is_linked, accept_by, mirror_by, ack_by, linked, lowered, reaches, is_standby, work_as, work_by, pair}
+use Rattle.pair_cluster.specs.Pair.{is_linked, accept_by, mirror_by, ack_by, linked, lowered, reaches, is_standby, fails_in, work_as, work_by, pair}
 use Rattle.pair_cluster.specs.Standing.{IsUp, BothStand, ServersStand}
 use Rattle.pair_cluster.proofs.Stepping.{pair_at}
 use Rattle.pair_cluster.proofs.Serving.{pair-stepped}
@@ -57,7 +58,9 @@ module _ (plain : Plain) (device : Device) (never : (number : ℕ) → device.fa
   work-stands state (Ready entry) stands =
       let past = state.world.core.answered in
       let calls = device.calls past entry in
-      let calm = never-falls state.peers.armed (is_standby state.peers.partner) (device.fails (suc (length past))) calls stands.unarmed (never (suc (length past))) in
+      let fails = device.fails (suc (length past)) in
+      let none : fails_in calls fails ≡ false = and_right (nat_le 1 calls) fails (never (suc (length past))) in
+      let calm = never-falls state.peers.armed (is_standby state.peers.partner) (fails_in calls fails) calls stands.unarmed none in
       let S : Bool → Type 0 = λ fell. BothStand acting (work_as plain calls entry fell (pair_at state.peers.partner (Ready entry) state)).state.peers in
       let done : S false = record {
         active = stands.active;

@@ -21,7 +21,7 @@ use Rattle.cluster_events.proofs.Carrying.{Stays-same, Stays-both}
 use Rattle.pair_cluster.specs.Answering.{net_answering, lines_answering}
 use Rattle.pair_cluster.specs.Peers.{Partner, Down, Owed, Linking, Standby, Peers, link_of, back_of, Agree, IsArmed, IsPair, other_server}
 use Rattle.pair_cluster.specs.Falling.{with_core, taken_over}
-use Rattle.pair_cluster.specs.Pair.{mirror_by, ack_by, linked, lowered, reaches, is_standby, falls, work_done, work_as, work_by, pair}
+use Rattle.pair_cluster.specs.Pair.{mirror_by, ack_by, linked, lowered, reaches, is_standby, fails_in, falls, work_done, work_as, work_by, pair}
 use Rattle.pair_cluster.proofs.Answering.{answer-facts, answer-net}
 use Rattle.pair_cluster.proofs.Sounding.{sound-over}
 
@@ -284,7 +284,9 @@ module _ (plain : Plain) (is_plain : IsPlain plain) (device : Device) (R : World
   work-as : (state : State Peers) (partner : Partner) (entry : Entry) (fell : Bool) → falls device state.world.core.answered entry (pair_at partner (Ready entry) state).peers ≡ fell → Agree partner (Ready entry) state.peers.keeps → IsArmed state.peers.armed partner → IsSound plain (with_core state.world.core.answered (Ready entry) state.world) → Nears plain R (pair_at partner (Ready entry) state) (work_as plain (device.calls state.world.core.answered entry) entry fell (pair_at partner (Ready entry) state))
   work-as state partner entry true is agree armed sound = over-nears state partner entry sound
   work-as state partner entry false is agree armed sound =
-      done-nears state partner entry (device.calls state.world.core.answered entry) (device.fails (suc (length state.world.core.answered))) is agree armed sound
+      let past = state.world.core.answered in
+      let calls = device.calls past entry in
+      done-nears state partner entry calls (fails_in calls (device.fails (suc (length past)))) is agree armed sound
 
   work-leaves : (state : State Peers) (partner : Partner) (hand : Hand) → Agree partner hand state.peers.keeps → IsArmed state.peers.armed partner → IsSound plain (with_core state.world.core.answered hand state.world) → Leaves (pair_at partner hand state) (work_by plain device hand (pair_at partner hand state))
   work-leaves state partner (Ready entry) agree armed sound =

@@ -1,5 +1,5 @@
 -- Words of public clauses: where a fault of the disk ends a run of two servers.
-use Rattle.std.specs.Prelude.{◌≡◌, ℕ, ℤ, true, false, None, List, [], ◌∷◌, ◌++◌}
+use Rattle.std.specs.Prelude.{◌≡◌, ℕ, ℤ, ◌≤◌, Bool, true, false, None, List, [], ◌∷◌, ◌++◌}
 use Rattle.script_lines.specs.declared.line.Line.{Line}
 use Rattle.script_lines.specs.declared.line.Line.TheVariants as line
 use Rattle.script_lines.specs.declared.line.Server.{Server}
@@ -45,17 +45,25 @@ ended state = record {
   told = failed_takeover state.peers.partner (other_server state.peers.acting) ++ Stood state.peers.acting role.Down ∷ [];
 }
 
--- a fault in the work of the entry in hand ends the run where no standby takes over, or one fails in it
+-- a fault in a call of the deeds of the entry in hand ends the run where no standby takes over, or one fails in it
 pub record EndsPair (device : Device) (state : State Peers) (end : Outcome (State Peers)) : Type 0 where
   pub entry : Entry
   pub ready : state.world.core.hand ≡ Ready entry
+  pub calls : 1 ≤ device.calls state.world.core.answered entry
   pub fell : is_standby state.peers.partner ≡ true → falls device state.world.core.answered entry state.peers ≡ true
   pub is : end ≡ ended state
 
--- the active server crashes, and its standby fails as it takes over
-pub record EndsCrash (server : Server) (state : State Peers) (end : Outcome (State Peers)) : Type 0 where
+-- how many changing calls a standby makes as it takes over: those of the deeds of the last committed entry, where it keeps them
+abbrev pub calls_kept : Device → Bool → List Entry → ℕ
+calls_kept device true (entry ∷ past) = device.calls past entry
+calls_kept device true [] = 0
+calls_kept device false past = 0
+
+-- the active server crashes, and its standby fails in a call of its takeover
+pub record EndsCrash (device : Device) (server : Server) (state : State Peers) (end : Outcome (State Peers)) : Type 0 where
   pub active : state.peers.acting ≡ server
   pub standby : is_standby state.peers.partner ≡ true
+  pub calls : 1 ≤ calls_kept device state.peers.keeps (committed state.world.core)
   pub is : end ≡ ended state
 
 -- `settle` ends in one of its rounds, and prints no line on a message without effect
@@ -67,7 +75,7 @@ pub record EndsSettle (plain : Plain) (device : Device) (state : State Peers) (e
 -- where the event of a line ends the run
 abbrev pub PairEnds : Plain → Device → Line → State Peers → Outcome (State Peers) → Type 0
 PairEnds plain device line.Work state end = EndsPair device state end
-PairEnds plain device (line.Crash server) state end = EndsCrash server state end
+PairEnds plain device (line.Crash server) state end = EndsCrash device server state end
 PairEnds plain device line.Settle state end = EndsSettle plain device state end
 PairEnds plain device _ state end = ⊥
 

@@ -76,10 +76,16 @@ abbrev pub is_standby : Partner → Bool
 is_standby (Standby on_way) = true
 is_standby _ = false
 
--- the work of an entry takes the active server down, and its standby takes over
+-- whether the disk fails in one of so many changing calls
+abbrev pub fails_in : ℕ → Bool → Bool
+fails_in calls fails = nat_le 1 calls && fails
+
+-- the work of an entry takes the active server down, and its standby takes over: the disk fails in a call of the entry's deeds, or they
+-- come to the end of the count that is armed
 abbrev pub falls : Device → List Entry → Entry → Peers → Bool
 falls device past entry peers =
-    is_standby peers.partner && (device.fails (suc (length past)) || reaches peers.armed (device.calls past entry))
+    let calls = device.calls past entry in
+    is_standby peers.partner && (fails_in calls (device.fails (suc (length past))) || reaches peers.armed calls)
 
 -- the snapshot that is owed goes out
 abbrev pub linked : Partner → Partner

@@ -30,6 +30,7 @@ use Rattle.pair_cluster.specs.Ended.{EndsCrash}
 use Rattle.pair_cluster.proofs.Stepping.{pair_at}
 use Rattle.cluster_clients.proofs.DispatchSteps.{agents-as}
 use Rattle.cluster_rounds.specs.declared.cluster.Cluster.{Cluster}
+use Rattle.cluster_rounds.specs.Kits.{device_by}
 use Rattle.cluster_rounds.specs.Broken.{BreaksAlone}
 use Rattle.cluster_rounds.specs.Came.{DiskSeen, ComesOff, Ended}
 use Rattle.cluster_rounds.specs.Rounds.{EndOver}
@@ -203,7 +204,7 @@ module _ (server : Server) (old : Cluster Pair) (new : Pair) (before after : Lis
   crash-off (Err Failed) takes = λ setup state good shows armed so.
       let found = leads-in setup state old server shows leads in
       let again = subst (λ c. BreaksOff (LeftOn Failed) c takes.2 held.files left.files) (kept-shown setup state found.number old shows found.standby) takes.3 in
-      let C : Server → Type 0 = λ s. Ended pair_kit setup state (λ fails. EndsCrash s) (with_servers old new) before after held left in
+      let C : Server → Type 0 = λ s. Ended pair_kit setup state (λ fails. EndsCrash (device_by setup fails) s) (with_servers old new) before after held left in
       subst C (sym (same-is server state.peers.acting found.same))
       (crash-ended setup state old (with_servers old new) before after held left good shows found.number takes.2 found.standby again takes.5 takes.6
       (fallen-fell setup state found.number old new left.armed shows found.standby takes.0 takes.4) refl refl refl refl refl

@@ -120,7 +120,7 @@ crash-off Memory server old new before after held left has off = λ setup state 
 crash-off Stopped server old new before after held left has off = off has.setup has.state has.good has.shows has.count tt
 crash-off Failed server old new before after held left has off = λ setup state good shows count.
     (ended-line pair_kit pair_laws pair_script pair_follows) (line.Crash server) (EndsCrashed server) setup state new before after held left
-    (λ fails end ends. record { active = ends.active; standby = ends.standby; is = ended-kept state end ends.is })
+    (λ fails end ends. record { active = ends.active; standby = ends.standby; calls = ends.calls; is = ended-kept state end ends.is })
     (off setup state good shows count tt)
 
 crash-broken : {T : Type 0} (r : Result T DiskAnswer) (server : Server) (old new : Cluster Pair) (before after : List (List ℕ)) (held left : DiskSeen) → (HasStateOn pair_kit) any_state old held.armed → IfErr r (λ answer. (ComesOff pair_kit) any_state (EndsCrashed server) answer old new before after held left) → IfErr r (λ answer. (BreaksOff pair_kit pair_script) answer (line.Crash server) old new before after held left)
@@ -190,7 +190,7 @@ work-off Memory old new before after held left has off = λ setup state good sho
 work-off Stopped old new before after held left has off = off has.setup has.state has.good has.shows has.count tt
 work-off Failed old new before after held left has off = λ setup state good shows count.
     (ended-line pair_kit pair_laws pair_script pair_follows) line.Work EndsWork setup state new before after held left
-    (λ fails end ends. record { entry = ends.entry; ready = ends.ready; fell = ends.fell; is = ended-kept state end ends.is })
+    (λ fails end ends. record { entry = ends.entry; ready = ends.ready; calls = ends.calls; fell = ends.fell; is = ended-kept state end ends.is })
     (off setup state good shows count tt)
 
 work-broken : {T : Type 0} (r : Result T DiskAnswer) (old new : Cluster Pair) (before after : List (List ℕ)) (held left : DiskSeen) → (HasStateOn pair_kit) any_state old held.armed → IfErr r (λ answer. (ComesOff pair_kit) any_state EndsWork answer old new before after held left) → IfErr r (λ answer. (BreaksOff pair_kit pair_script) answer line.Work old new before after held left)

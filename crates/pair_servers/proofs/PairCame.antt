@@ -116,7 +116,8 @@ module _ (setup : Setup) (state : State Peers) (old new : Cluster Pair) (before 
     pub fault-came : (number : Option ℕ) (count : ℕ) (held left : DiskSeen) (mid : Option Files) → state.peers.partner ≡ Standby number → BreaksOff (LeftOn Failed) (calls_of_all (deeds_of setup past entry)) count held.files mid → held.faults ≤ left.faults → Rose held.faults left.faults → left.files ≡ option_map (all_applied (kept_calls setup state)) mid → left.armed ≡ None → Shows pair_kit setup (taken_over state).state new → after ≡ before ++ printed (taken_over state).told → WorkCame held left
     fault-came number count held left mid standby broke later rose files unarmed shows lines =
         let happened : ℕ → Bool = λ number. true in
-        let fell : falls_by setup happened entry state ≡ true = fault-falls state.peers.partner number state.peers.armed (calls_for setup past entry) true standby refl in
+        let within = broke-within (LeftOn Failed) (calls_of_all (deeds_of setup past entry)) count held.files mid broke in
+        let fell : falls_by setup happened entry state ≡ true = fault-falls state.peers.partner number state.peers.armed count (calls_for setup past entry) true within standby refl in
         over-came number happened held left mid fell (λ never number. absurd (never rose)) later standby
         (work-breaks setup state entry Failed count held.files mid ready broke) files unarmed shows lines
 

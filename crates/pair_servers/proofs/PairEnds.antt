@@ -41,7 +41,7 @@ use Rattle.pair_servers.specs.declared.pair.Pair.{Pair}
 use Rattle.pair_servers.specs.PairKit.{FellPair, pair_kit}
 use Rattle.pair_servers.specs.PairLaws.{pair_laws}
 use Rattle.pair_servers.proofs.PairSteps.{calls_for, falls_by, same-falls}
-use Rattle.pair_servers.proofs.PairFiles.{kept_calls, broke-within, work-breaks, rest-goes-on, takeover-breaks, stop-falls, fault-falls}
+use Rattle.pair_servers.proofs.PairFiles.{kept_calls, some-of, some-kept, broke-within, work-breaks, rest-goes-on, takeover-breaks, stop-falls, fault-falls}
 
 -- all lines of an end are printed
 ended-printed : (acting : Server) (partner : Partner) → kept_lines (failed_takeover partner (other_server acting) ++ Stood acting role.Down ∷ []) ≡ printed (failed_takeover partner (other_server acting) ++ Stood acting role.Down ∷ [])
@@ -101,8 +101,8 @@ module _ (setup : Setup) (state : State Peers) (old new : Cluster Pair) (before 
     past = state.world.core.answered
 
     -- by whether the works that failed take the active server down where it has a standby
-    pub work-ends : (happened : ℕ → Bool) → (is_standby state.peers.partner ≡ true → falls_by setup happened entry state ≡ true) → EndsOver Ends happened state (ended state)
-    work-ends happened fell =
+    pub work-ends : (happened : ℕ → Bool) → 1 ≤ calls_for setup past entry → (is_standby state.peers.partner ≡ true → falls_by setup happened entry state ≡ true) → EndsOver Ends happened state (ended state)
+    work-ends happened some fell =
         let later = ended-later state in
         record {
           later = later;
@@ -111,6 +111,7 @@ module _ (setup : Setup) (state : State Peers) (old new : Cluster Pair) (before 
               works fails (ended state) (record {
                 entry = entry;
                 ready = ready;
+                calls = some;
                 fell = λ standby. same-falls setup fails happened entry state own ∙ fell standby;
                 is = refl;
               });
@@ -120,10 +121,12 @@ module _ (setup : Setup) (state : State Peers) (old new : Cluster Pair) (before 
     pub alone-ended : (count : ℕ) → is_standby state.peers.partner ≡ false → BreaksOff (LeftOn Failed) (calls_of_all (deeds_of setup past entry)) count held.files left.files → held.faults ≤ left.faults → Rose held.faults left.faults → FellPair setup (ended state).state new.servers left.armed → new.net ≡ old.net → new.agents ≡ old.agents → new.history ≡ old.history → new.now ≡ old.now → new.callbacks ≡ old.callbacks → after ≡ before ++ printed (ended state).told → Ended pair_kit setup state Ends new before after held left
     alone-ended count alone broke later rose fell net agents history now callbacks lines =
         let happened : ℕ → Bool = λ number. false in
+        let within = broke-within (LeftOn Failed) (calls_of_all (deeds_of setup past entry)) count held.files left.files broke in
+        let some : 1 ≤ calls_for setup past entry = some-of count (calls_for setup past entry) within in
         let between : TellsFiles setup state held.files → LeavesBetween setup (committed state.world.core) held.files left.files =
         λ tells. subst (λ (hand : Hand). LeavesBetween setup (committed_by past hand) held.files left.files) (sym ready) ((broken-between pair_kit pair_laws) setup state entry Failed count held.files left.files broke tells)
         in
-        ended-by Ends happened held.faults (work-ends happened (λ standby. let not = alone in cc)) (omega arith) (λ never number. refl) later rose fell net agents history now callbacks lines between
+        ended-by Ends happened held.faults (work-ends happened some (λ standby. let not = alone in cc)) (omega arith) (λ never number. refl) later rose fell net agents history now callbacks lines between
 
     -- **the disk stopped in them, and had a fault in the takeover**
     pub stop-ended : (number : Option ℕ) (count more : ℕ) (mid : Option Files) → held.armed ≡ state.peers.armed → state.peers.partner ≡ Standby number → BreaksOff (LeftOn Stopped) (calls_of_all (deeds_of setup past entry)) count held.files mid → counts.reaches (suc count) held.armed ≡ true → BreaksOff (LeftOn Failed) (kept_calls setup state) more mid left.files → held.faults ≤ left.faults → Rose held.faults left.faults → FellPair setup (ended state).state new.servers left.armed → new.net ≡ old.net → new.agents ≡ old.agents → new.history ≡ old.history → new.now ≡ old.now → new.callbacks ≡ old.callbacks → after ≡ before ++ printed (ended state).told → Ended pair_kit setup state Ends new before after held left
@@ -132,15 +135,16 @@ module _ (setup : Setup) (state : State Peers) (old new : Cluster Pair) (before 
         let within = broke-within (LeftOn Stopped) (calls_of_all (deeds_of setup past entry)) count held.files mid broke in
         let reached_so : counts.reaches (suc count) state.peers.armed ≡ true = subst (λ (armed : Option ℕ). counts.reaches (suc count) armed ≡ true) armed reached in
         let falls_so : falls_by setup happened entry state ≡ true = stop-falls state.peers.partner state.peers.armed count (calls_for setup past entry) false good.steady.good.armed reached_so within in
-        ended-by Ends happened held.faults (work-ends happened (λ it. falls_so)) (omega arith) (λ never number. refl) later rose fell net agents history now callbacks lines
+        ended-by Ends happened held.faults (work-ends happened (some-of count (calls_for setup past entry) within) (λ it. falls_so)) (omega arith) (λ never number. refl) later rose fell net agents history now callbacks lines
         (λ tells. takeover-breaks setup state number Failed more held.files mid left.files good standby (work-breaks setup state entry Stopped count held.files mid ready broke tells) broke_again)
 
     -- **they failed, and so did the takeover**
     pub fault-ended : (number : Option ℕ) (count more between : ℕ) (mid : Option Files) → state.peers.partner ≡ Standby number → BreaksOff (LeftOn Failed) (calls_of_all (deeds_of setup past entry)) count held.files mid → held.faults ≤ between → Rose held.faults between → BreaksOff (LeftOn Failed) (kept_calls setup state) more mid left.files → between ≤ left.faults → Rose between left.faults → FellPair setup (ended state).state new.servers left.armed → new.net ≡ old.net → new.agents ≡ old.agents → new.history ≡ old.history → new.now ≡ old.now → new.callbacks ≡ old.callbacks → after ≡ before ++ printed (ended state).told → Ended pair_kit setup state Ends new before after held left
     fault-ended number count more between mid standby broke earlier first broke_again later rose fell net agents history now callbacks lines =
         let happened : ℕ → Bool = λ number. true in
-        let falls_so : falls_by setup happened entry state ≡ true = fault-falls state.peers.partner number state.peers.armed (calls_for setup past entry) true standby refl in
-        ended-by Ends happened between (work-ends happened (λ it. falls_so)) earlier (λ never number. absurd (never first)) later rose fell net agents history now callbacks lines
+        let within = broke-within (LeftOn Failed) (calls_of_all (deeds_of setup past entry)) count held.files mid broke in
+        let falls_so : falls_by setup happened entry state ≡ true = fault-falls state.peers.partner number state.peers.armed count (calls_for setup past entry) true within standby refl in
+        ended-by Ends happened between (work-ends happened (some-of count (calls_for setup past entry) within) (λ it. falls_so)) earlier (λ never number. absurd (never first)) later rose fell net agents history now callbacks lines
         (λ tells. takeover-breaks setup state number Failed more held.files mid left.files good standby (work-breaks setup state entry Failed count held.files mid ready broke tells) broke_again)
 
 -- a step of a drain ends so where nothing is to be mirrored or confirmed
@@ -148,9 +152,13 @@ pub drain-ends : (setup : Setup) (state : State Peers) → mirror_pair state ≡
 drain-ends setup state no_mirror no_ack fails end ends = record { mirror = no_mirror; ack = no_ack; works = ends }
 
 -- **the active server crashed, and the takeover of its standby had a fault**
-pub crash-ended : (setup : Setup) (state : State Peers) (old new : Cluster Pair) (before after : List (List ℕ)) (held left : DiskSeen) → IsGood pair_kit setup state → Shows pair_kit setup state old → (number : Option ℕ) (count : ℕ) → state.peers.partner ≡ Standby number → BreaksOff (LeftOn Failed) (kept_calls setup state) count held.files left.files → held.faults ≤ left.faults → Rose held.faults left.faults → FellPair setup (ended state).state new.servers left.armed → new.net ≡ old.net → new.agents ≡ old.agents → new.history ≡ old.history → new.now ≡ old.now → new.callbacks ≡ old.callbacks → after ≡ before ++ printed (ended state).told → Ended pair_kit setup state (λ fails. EndsCrash state.peers.acting) new before after held left
+pub crash-ended : (setup : Setup) (state : State Peers) (old new : Cluster Pair) (before after : List (List ℕ)) (held left : DiskSeen) → IsGood pair_kit setup state → Shows pair_kit setup state old → (number : Option ℕ) (count : ℕ) → state.peers.partner ≡ Standby number → BreaksOff (LeftOn Failed) (kept_calls setup state) count held.files left.files → held.faults ≤ left.faults → Rose held.faults left.faults → FellPair setup (ended state).state new.servers left.armed → new.net ≡ old.net → new.agents ≡ old.agents → new.history ≡ old.history → new.now ≡ old.now → new.callbacks ≡ old.callbacks → after ≡ before ++ printed (ended state).told → Ended pair_kit setup state (λ fails. EndsCrash (device_by setup fails) state.peers.acting) new before after held left
 crash-ended setup state old new before after held left good shown number count standby broke later rose fell net agents history now callbacks lines =
-    ended-by setup state old new before after held left good shown (λ fails. EndsCrash state.peers.acting) (λ number. false) held.faults
-    (record { later = ended-later state; is = λ fails agrees. record { active = refl; standby = λ i. is_standby (standby i); is = refl } })
+    let within = broke-within (LeftOn Failed) (kept_calls setup state) count held.files left.files broke in
+    ended-by setup state old new before after held left good shown (λ fails. EndsCrash (device_by setup fails) state.peers.acting) (λ number. false) held.faults
+    (record {
+      later = ended-later state;
+      is = λ fails agrees. record { active = refl; standby = λ i. is_standby (standby i); calls = some-kept setup fails state count within; is = refl };
+    })
     (omega arith) (λ never number. refl) later rose fell net agents history now callbacks lines
     (λ tells. takeover-breaks setup state number Failed count held.files held.files left.files good standby (rest-goes-on setup state held.files tells) broke)

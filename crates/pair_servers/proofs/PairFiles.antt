@@ -1,6 +1,6 @@
 -- The files of two servers as an entry is worked and a standby takes over, and the disk's armed count.
 use Rattle.std.proofs.Common.{◌≡◌, ℕ, suc, ◌+◌, ◌<◌, ◌≤◌, inl, inr, Bool, true, false, ◌&&◌, ◌||◌, nat_le, if◌then◌else◌, Option, Some, None, List, [], ◌∷◌, ◌++◌, length, refl, ap, sym, ◌∙◌, subst, arith}
-use Rattle.std.proofs.lemmas.Bool.{or_right}
+use Rattle.std.proofs.lemmas.Bool.{and_right, or_right}
 use Rattle.std.specs.Prelude.{option_map}
 use Rattle.std.proofs.lemmas.List.{length-append}
 use Rattle.std.proofs.lemmas.Bool.Decides.{leb_tells}
@@ -27,10 +27,12 @@ use Rattle.cluster_facts.specs.Ranges.{AreInRange}
 use Rattle.cluster_events.specs.Servers.{State}
 use Rattle.pair_cluster.specs.Peers.{Partner, Down, Owed, Linking, Standby, Peers, IsArmed}
 use Rattle.pair_cluster.specs.Falling.{taken_over}
-use Rattle.pair_cluster.specs.Pair.{is_standby, reaches}
+use Rattle.pair_cluster.specs.Pair.{is_standby, fails_in, reaches}
+use Rattle.pair_cluster.specs.Ended.{calls_kept}
 use Rattle.pair_files.specs.Takeovers.{last_deeds as last_calls, kept_deeds, FilesLeft, CanFall}
 use Rattle.pair_files.proofs.Taking.{takeover-files, takeover-between}
 use Rattle.cluster_rounds.specs.Broken.{LeavesBetween}
+use Rattle.cluster_rounds.specs.Kits.{device_by}
 use Rattle.cluster_rounds.specs.Worlds.{IsGood, LeavesFiles, TellsFiles}
 use Rattle.cluster_rounds.proofs.BrokenSteps.{broken-between}
 use Rattle.pair_servers.specs.PairKit.{pair_kit}
@@ -49,6 +51,19 @@ kept-by setup false past = refl
 
 kept-are : (setup : Setup) (state : State Peers) → kept_calls setup state ≡ kept_deeds service_disk (storage_of setup) state.peers.keeps state.world.core
 kept-are setup state = kept-by setup state.peers.keeps (committed state.world.core)
+
+-- so many are they
+kept-count : (setup : Setup) (fails : ℕ → Bool) (keeps : Bool) (past : List Entry) → length (calls_of_all (if keeps then last_deeds setup past else [])) ≡ calls_kept (device_by setup fails) keeps past
+kept-count setup fails true [] = refl
+kept-count setup fails true (entry ∷ past) = refl
+kept-count setup fails false past = refl
+
+pub some-of : (count calls : ℕ) → count < calls → 1 ≤ calls
+some-of count calls within = omega arith
+
+pub some-kept : (setup : Setup) (fails : ℕ → Bool) (state : State Peers) (count : ℕ) → count < length (kept_calls setup state) → 1 ≤ calls_kept (device_by setup fails) state.peers.keeps (committed state.world.core)
+some-kept setup fails state count within =
+    subst (λ (calls : ℕ). 1 ≤ calls) (kept-count setup fails state.peers.keeps (committed state.world.core)) (some-of count (length (kept_calls setup state)) within)
 
 -- Calls that broke off are an attempt.
 
@@ -173,9 +188,11 @@ not-reached left calls some short = elim (leb_tells left calls) [
 ]
 
 -- **a work that is done does not take the server down**
-pub done-stands : (partner : Partner) (armed : Option ℕ) (calls : ℕ) (fails : Bool) → fails ≡ false → IsArmed armed partner → counts.IsShort calls armed → (is_standby partner && (fails || reaches armed calls)) ≡ false
-done-stands (Standby number) None calls fails not is short = ap (λ b. b || false) not
-done-stands (Standby number) (Some left) calls fails not is short = (λ i. not i || not-reached left calls is short i)
+pub done-stands : (partner : Partner) (armed : Option ℕ) (calls : ℕ) (fails : Bool) → fails ≡ false → IsArmed armed partner → counts.IsShort calls armed → (is_standby partner && (fails_in calls fails || reaches armed calls)) ≡ false
+done-stands (Standby number) None calls fails not is short = ap (λ b. b || false) (and_right (nat_le 1 calls) fails not)
+done-stands (Standby number) (Some left) calls fails not is short =
+    let none = and_right (nat_le 1 calls) fails not in
+    (λ i. none i || not-reached left calls is short i)
 done-stands Down armed calls fails not is short = refl
 done-stands Owed armed calls fails not is short = refl
 done-stands Linking armed calls fails not is short = refl
@@ -194,13 +211,21 @@ pub stop-standby : (partner : Partner) (armed : Option ℕ) (count : ℕ) → Is
 stop-standby partner None count is reached = cc
 stop-standby partner (Some left) count is reached = armed-standby partner left is
 
-pub stop-falls : (partner : Partner) (armed : Option ℕ) (count calls : ℕ) (fails : Bool) → IsArmed armed partner → counts.reaches (suc count) armed ≡ true → count < calls → (is_standby partner && (fails || reaches armed calls)) ≡ true
+pub stop-falls : (partner : Partner) (armed : Option ℕ) (count calls : ℕ) (fails : Bool) → IsArmed armed partner → counts.reaches (suc count) armed ≡ true → count < calls → (is_standby partner && (fails_in calls fails || reaches armed calls)) ≡ true
 stop-falls partner None count calls fails is reached within = cc
-stop-falls (Standby number) (Some left) count calls fails is reached within = or_right fails (nat_le left calls) (reached-more left count calls reached within)
+stop-falls (Standby number) (Some left) count calls fails is reached within = or_right (fails_in calls fails) (nat_le left calls) (reached-more left count calls reached within)
 stop-falls Down (Some left) count calls fails is reached within = elim is [ ]
 stop-falls Owed (Some left) count calls fails is reached within = elim is [ ]
 stop-falls Linking (Some left) count calls fails is reached within = elim is [ ]
 
--- **one that fails does where there is a standby**
-pub fault-falls : (partner : Partner) (number : Option ℕ) (armed : Option ℕ) (calls : ℕ) (fails : Bool) → partner ≡ Standby number → fails ≡ true → (is_standby partner && (fails || reaches armed calls)) ≡ true
-fault-falls partner number armed calls fails standby is = λ i. is_standby (standby i) && (is i || reaches armed calls)
+some-calls : (count calls : ℕ) → count < calls → nat_le 1 calls ≡ true
+some-calls count calls within = elim (leb_tells 1 calls) [
+  | inl below ↦ below.0
+  | inr above ↦ let not = above.1 in absurd (omega arith)
+]
+
+-- **one in which a call fails does where there is a standby**
+pub fault-falls : (partner : Partner) (number : Option ℕ) (armed : Option ℕ) (count calls : ℕ) (fails : Bool) → count < calls → partner ≡ Standby number → fails ≡ true → (is_standby partner && (fails_in calls fails || reaches armed calls)) ≡ true
+fault-falls partner number armed count calls fails within standby is =
+    let some = some-calls count calls within in
+    λ i. is_standby (standby i) && ((some i && is i) || reaches armed calls)

@@ -15,7 +15,8 @@ use Rattle.mirror.specs.declared.node.Tie.{Tie}
 use Rattle.mirror.specs.declared.node.Tie.TheVariants.{Apart, Owing, Linked}
 use Rattle.mirror.specs.Replicas.{ReplicaState, down, started, at_rest, at_work}
 use Rattle.mirror.specs.Pairing.{alone, joining}
-use Rattle.pair_cluster.specs.Peers.{Partner, Down, Owed, Linking, Standby, Peers, ToPartner, Snapshot, Mirror, FromPartner, JoinAck, MirrorAck, link_of, back_of}
+use Rattle.pair_cluster.specs.Peers.{Partner, Down, Owed, Linking, Standby, Peers}
+use Rattle.pair_cluster.specs.Peers.{ToPartner, Snapshot, Mirror, FromPartner, JoinAck, MirrorAck, link_of, back_of}
 use Rattle.pair_servers.specs.declared.pair.Pair.{Pair}
 
 -- The active server.

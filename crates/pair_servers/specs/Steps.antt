@@ -71,4 +71,4 @@ abbrev pub EndsWork : EndOver pair_kit
 EndsWork setup fails state end = EndsPair (device_by setup fails) state end
 
 abbrev pub EndsCrashed : Server → EndOver pair_kit
-EndsCrashed server setup fails state end = EndsCrash server state end
+EndsCrashed server setup fails state end = EndsCrash (device_by setup fails) server state end

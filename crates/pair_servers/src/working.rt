@@ -74,7 +74,8 @@ pub fn work<D: SharedDisk>(
     requires ready { world.old.servers.active.waits ≡ None }
     ensures ok { OnOk result (Comes pair_kit any_state worked_by world.old world.new lines.old.items
         lines.new.items (grew world.old world.new)
-        (seen (D.files disk.old) (D.tally disk.old) (D.faults disk.old)) (seen (D.files disk.new) (D.tally disk.new) (D.faults disk.new))) }
+        (seen (D.files disk.old) (D.tally disk.old) (D.faults disk.old))
+        (seen (D.files disk.new) (D.tally disk.new) (D.faults disk.new))) }
     ensures err { IfErr result (λ answer. ComesOff pair_kit any_state EndsWork answer world.old
         world.new lines.old.items lines.new.items
         (seen (D.files disk.old) (D.tally disk.old) (D.faults disk.old))
