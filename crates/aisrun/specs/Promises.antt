@@ -14,6 +14,7 @@ use Rattle.cluster_facts.specs.Messages.{sent_by, messages_in}
 use Rattle.cluster_facts.specs.Agents.{can_serve, service_of, is_shut}
 use Rattle.cluster_facts.specs.Facts.{log_by, ntf_by}
 use Rattle.cluster_facts.specs.History.{Hand, Waiting, time_of}
+use Rattle.cluster_events.specs.declared.lines.ServerRole.TheVariants as role
 use Rattle.cluster_events.specs.Lines.{Told, Declined}
 use Rattle.cluster_events.specs.Saying.{gathered, entries_told, replies_told}
 use Rattle.cluster_events.specs.Servers.{State}
@@ -24,7 +25,7 @@ use Rattle.cluster_events.specs.Runs.{AtEachEnd, RunBy}
 use Rattle.cluster_events.specs.Runs.RunBy.{Started, Went}
 use Rattle.cluster_events.specs.Promises.{OneHistory, InOrder, PostsPrinted, RepliesRight, ReadersRight, CallbacksPrinted, ItemsInOrder, WritesCalledBack}
 use Rattle.cluster_events.specs.Settled.{IsSettled}
-use Rattle.pair_cluster.specs.Peers.{Peers}
+use Rattle.pair_cluster.specs.Peers.{Peers, other_server, role_of}
 use Rattle.pair_cluster.specs.Standing.{StayUp, is_crash, IsShort}
 use Rattle.service_laws.specs.Disks.{service_disk}
 use Rattle.service_laws.specs.PlainOf.{plain_of}
@@ -125,10 +126,18 @@ CommitsInTime before next told state outcome after =
 
 -- Which servers go down.
 
--- a server goes down only by `crash`, where the count that was armed came to its end, or where the disk's count of faults rose
+-- `crash` leaves both servers as they are, where it is refused, or it takes its own server down and no other one: that is active then
+abbrev pub CrashesOne : Line → (old new : Peers) → Type 0
+CrashesOne (line.Crash server) old new =
+    (new ≡ old) ⊎ ((role_of server new ≡ role.Down) × (role_of (other_server server) new ≡ role.Active))
+CrashesOne _ old new = Unit {0}
+
+-- a server goes down only by its own `crash`, where the count that was armed came to its end, or where the disk's count of faults rose
 abbrev pub FallsByCause : LineSentence
 FallsByCause before next told state outcome after =
-    is_crash next ≡ false → IsShort next state.peers.armed outcome.state.peers.armed → ¬ Rose before after → StayUp state.peers outcome.state.peers
+    (is_crash next ≡ false → IsShort next state.peers.armed outcome.state.peers.armed → ¬ Rose before after
+    → StayUp state.peers outcome.state.peers)
+    × CrashesOne next state.peers outcome.state.peers
 
 -- and where the count rose in a line that was done, it tells that a server is down
 abbrev pub FaultsFell : LineSentence
