@@ -30,7 +30,7 @@ use Rattle.pair_cluster.specs.Standing.{StayUp, is_crash, IsShort}
 use Rattle.service_laws.specs.Disks.{service_disk}
 use Rattle.service_laws.specs.PlainOf.{plain_of}
 use Rattle.service_laws.specs.StorageOf.{storage_of}
-use Rattle.cluster_rounds.specs.Came.{TellsDown}
+use Rattle.cluster_lines.specs.Playing.{FellIn}
 use Rattle.cluster_core.specs.Playing.{LineDone}
 use Rattle.aisrun.specs.Playing.{PlaysFront}
 
@@ -139,9 +139,9 @@ FallsByCause before next told state outcome after =
     → StayUp state.peers outcome.state.peers)
     × CrashesOne next state.peers outcome.state.peers
 
--- and where the count rose in a line that was done, it tells that a server is down
+-- and where the count rose in a line that was done, it is one that works entries, and tells that a server is down
 abbrev pub FaultsFell : LineSentence
-FaultsFell before next told state outcome after = (before ≤ after) × TellsDown before after outcome.told
+FaultsFell before next told state outcome after = (before ≤ after) × FellIn next before after outcome.told
 
 -- What clients' agents refuse by themselves, by the calls that a client sent, each with its number, the newest first.
 

@@ -17,9 +17,10 @@ use Rattle.pair_cluster.specs.Running.{PairStep}
 use Rattle.cluster_clients.specs.declared.answer.EventAnswer.{EventAnswer}
 use Rattle.cluster_clients.specs.declared.answer.EventAnswer.TheVariants.{Memory, DiskFault}
 use Rattle.cluster_rounds.specs.Kits.{device_by}
-use Rattle.cluster_rounds.specs.Came.{DiskSeen, TellsDown}
+use Rattle.cluster_rounds.specs.Came.{DiskSeen}
 use Rattle.cluster_core.specs.declared.world.World.{World}
 use Rattle.cluster_core.specs.Broken.{BreaksOn, EventEnded}
+use Rattle.cluster_lines.specs.Playing.{FellIn}
 use Rattle.cluster_lines.specs.Shelves.{shelf_of}
 use Rattle.cluster_core.specs.Worlds.{IsArmedBy, IsGood, Shows, TellsFiles, LeavesFiles}
 
@@ -34,15 +35,15 @@ abbrev pub calls_by : Setup → List Entry → Entry → ℕ
 calls_by setup = (device_by setup (λ number. false)).calls
 
 -- A line was done: what it led to and printed, by the works that failed in it, with the disk's count of faults before and after it. A
--- work fails only where that rose; and where it rose a line tells that a server is down. `files` and `cat` show what stands in the files
--- of the history, where the disk tells its files.
+-- work fails only where that rose; and where it rose the line is one that works entries, and tells that a server is down. `files` and
+-- `cat` show what stands in the files of the history, where the disk tells its files.
 pub record LineDone (setup : Setup) (held : Option Files) (before : ℕ) (next : Line) (state : State Peers) (outcome : Outcome (State Peers))
     (after : ℕ) : Type 0 where
   pub shelf : Shelf
   pub shown : IfSome held (λ _. shelf ≡ shelf_of setup)
   pub step : PairStep (plain_of setup) shelf (calls_by setup) before next state outcome after
   pub later : before ≤ after
-  pub felled : TellsDown before after outcome.told
+  pub felled : FellIn next before after outcome.told
 
 -- what a line led to: the world and the disk stand for the state after it, and the lines are those of the event
 pub record EventDone (setup : Setup) (state : State Peers) (next : Line) (lines : List (List ℕ)) (held left : DiskSeen) (world : World) : Type 0 where

@@ -41,7 +41,7 @@ use Rattle.cluster_rounds.proofs.KitSteps.{line-kept}
 use Rattle.cluster_lines.specs.Shelves.{shelf_of}
 use Rattle.cluster_lines.specs.Lines.{CanPlay, IsOwn, is_own}
 use Rattle.cluster_lines.specs.Showing.{StandsAs, refused, servers_listed}
-use Rattle.cluster_lines.specs.Playing.{LooksBy, Plays}
+use Rattle.cluster_lines.specs.Playing.{LooksBy, Plays, works_entries}
 use Rattle.cluster_lines.specs.Following.{IsInHand, IsScript}
 use Rattle.cluster_lines.specs.Answers.{EndsAs}
 use Rattle.cluster_lines.specs.Steps.{PlaysAlone, ShowsOn, deliver_at, file_shown, files_listed}
@@ -296,12 +296,13 @@ module _ {Peers Group : Type 0} (kit : Kit Peers Group) (laws : IsKit kit) (scri
         files = files-same setup state done.outcome.state held.files done.answered tells;
       }
 
-  -- **an event that came to an outcome is what its line leads to, where all its lines are printed**
+  -- **an event that came to an outcome is what its line leads to, where that works entries and all its lines are printed**
   pub plays-came : (next : Line) (event : (EventOver kit)) (old new : Cluster Group) (before after : List (List ℕ)) (loud : Bool) (held left : DiskSeen)
+      → works_entries next ≡ true
       → ((setup : Setup) (fails : ℕ → Bool) (state : State Peers) → (IsGood kit) setup state → (Shows kit) setup state old → kit.Armed state.peers held.armed → script.Leads (plain_of setup) (shelf_of setup) (device_by setup fails) next state (event setup fails state))
       → ((setup : Setup) (fails : ℕ → Bool) (state : State Peers) → (IsGood kit) setup state → (Shows kit) setup state old → kept_lines (event setup fails state).told ≡ printed (event setup fails state).told)
       → (Comes kit) any_state event old new before after loud held left → (Plays kit script) next old new before after held left
-  plays-came next event old new before after loud held left leads quiet comes setup state good shows count tells =
+  plays-came next event old new before after loud held left works leads quiet comes setup state good shows count tells =
       let came = comes setup state good shows count tt in
       let is : event setup came.happened state ≡ came.outcome = comes-once (event setup) came.happened state came.outcome came.comes in
       let L : Outcome (State Peers) → Type 0 = λ o. script.Leads (plain_of setup) (shelf_of setup) (device_by setup came.happened) next state o in
@@ -313,7 +314,7 @@ module _ {Peers Group : Type 0} (kit : Kit Peers Group) (laws : IsKit kit) (scri
         outcome = came.outcome;
         leads = subst L is (leads setup came.happened state good shows count);
         caused = came.caused;
-        felled = came.felled;
+        felled = λ rose. (works, came.felled rose);
         is = (came.played.shows, came.played.good, came.played.lines ∙ ap (λ lines. before ++ lines) (subst Q is (quiet setup came.happened state good shows)));
         count = came.count;
         files = came.played.files tells;
@@ -329,7 +330,7 @@ module _ {Peers Group : Type 0} (kit : Kit Peers Group) (laws : IsKit kit) (scri
         outcome = done.outcome;
         leads = follows.shares (plain_of setup) (shelf_of setup) (device_by setup done.happened) line.Settle state done.outcome done.settles;
         caused = done.caused;
-        felled = done.felled;
+        felled = λ rose. (refl, done.felled rose);
         is = done.is;
         count = done.count;
         files = done.files tells;

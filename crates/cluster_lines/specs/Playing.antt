@@ -1,5 +1,6 @@
 -- Words of public clauses: what each line of a script does to a cluster, over any servers, and what it leaves where it breaks off.
-use Rattle.std.specs.Prelude.{◌≡◌, ℕ, ◌≤◌, Bool, false, Option, IfSome, List, ◌++◌, Result, Ok, Err}
+use Rattle.std.specs.Prelude.{◌≡◌, ℕ, ◌<◌, ◌≤◌, Bool, true, false, Option, IfSome, List, ◌++◌, Result, Ok, Err}
+use Rattle.std.specs.List.{list_any}
 use Rattle.ais_values.specs.Causes.{Rose}
 use Rattle.disk_model.specs.Disk.{Files}
 use Rattle.disk_model.specs.declared.answers.DiskAnswer.{DiskAnswer}
@@ -10,6 +11,7 @@ use Rattle.script_lines.specs.declared.line.Line.TheVariants as line
 use Rattle.plain_service.specs.Setups.{Setup}
 use Rattle.service_laws.specs.PlainOf.{plain_of}
 use Rattle.cluster_facts.specs.History.{committed}
+use Rattle.cluster_events.specs.Lines.{Told}
 use Rattle.cluster_events.specs.Outcomes.{Outcome}
 use Rattle.cluster_events.specs.Servers.{State}
 use Rattle.cluster_events.specs.Saying.{Says}
@@ -24,7 +26,7 @@ use Rattle.cluster_rounds.specs.Kits.{Kit, device_by}
 use Rattle.cluster_rounds.specs.Scripts.{Script}
 use Rattle.cluster_rounds.specs.Worlds.{Happened, IsGood, LeavesFiles, Shows, TellsFiles}
 use Rattle.cluster_rounds.specs.Broken.{Broken, LeavesBetween}
-use Rattle.cluster_rounds.specs.Came.{DiskSeen, TellsDown}
+use Rattle.cluster_rounds.specs.Came.{DiskSeen, is_down}
 use Rattle.cluster_lines.specs.Lines.{is_own}
 use Rattle.cluster_lines.specs.Shelves.{shelf_of}
 
@@ -35,6 +37,16 @@ GoesOn Outlives before after (Ok done) = Outlives before after
 GoesOn Outlives before after (Err Memory) = Outlives before after
 GoesOn Outlives before after (Err Failed) = (before ≤ after) × Rose before after
 GoesOn Outlives before after (Err Stopped) = ⊥
+
+-- the lines that work entries
+abbrev pub works_entries : Line → Bool
+works_entries line.Work = true
+works_entries line.Settle = true
+works_entries _ = false
+
+-- where the disk's count of faults rose, the line is one that works entries, and it tells that a server is down
+abbrev pub FellIn : Line → ℕ → ℕ → List Told → Type 0
+FellIn next before now told = before < now → (works_entries next ≡ true) × (list_any is_down told ≡ true)
 
 -- which reading calls of the disk a line makes: those of the listing or of the file that it shows, all where it is done. One that is not
 -- the servers' own, and not `settle`, makes no call else
@@ -55,7 +67,7 @@ module _ {Peers Group : Type 0} (kit : Kit Peers Group) (script : Script Peers) 
     pub outcome : Outcome (State Peers)
     pub leads : script.Leads (plain_of setup) shelf (device_by setup happened) next state outcome
     pub caused : IsCaused held.faults left.faults happened
-    pub felled : TellsDown held.faults left.faults outcome.told
+    pub felled : FellIn next held.faults left.faults outcome.told
     pub is : Happened kit setup outcome new before after
     pub count : kit.Armed outcome.state.peers left.armed
     pub files : LeavesFiles setup outcome.state held.files left.files

@@ -201,7 +201,7 @@ pub work-line : {T : Type 0} (r : Result T DiskAnswer) (next : Line) (old new : 
 work-line r next old new before after loud held left is has comes off =
     subst (λ n. PlaysLine pair_kit pair_script r n old new before after held left) (sym is)
     (record {
-      ok = on_ok_weaker r (λ (does : (Comes pair_kit) any_state worked_by old new before after loud held left). (plays-came pair_kit pair_laws pair_script pair_follows) line.Work worked_by old new before after loud held left (λ setup fails state good shows count. refl) (λ setup fails state good shows. worked-quiet setup fails state) does) comes;
+      ok = on_ok_weaker r (λ (does : (Comes pair_kit) any_state worked_by old new before after loud held left). (plays-came pair_kit pair_laws pair_script pair_follows) line.Work worked_by old new before after loud held left refl (λ setup fails state good shows count. refl) (λ setup fails state good shows. worked-quiet setup fails state) does) comes;
       stands = on_ok_weaker r (λ (does : (Comes pair_kit) any_state worked_by old new before after loud held left). (came-stands pair_kit pair_laws) worked_by old new before after loud held left has does) comes;
       broken = work-broken r old new before after held left has off;
       counts = (off-counts pair_kit pair_laws) r EndsWork old new before after held left has (on_ok_weaker r (λ (does : (Comes pair_kit) any_state worked_by old new before after loud held left). (does has.setup has.state has.good has.shows has.count tt).outlives) comes) off;
