@@ -1,5 +1,5 @@
 -- The time in force behind a line; and the entries that it commits, which are of the time in force as they were accepted.
-use Rattle.std.proofs.Common.{◌≡◌, ℕ, ℤ, ◌⊎◌, inl, inr, Option, List, [], ◌∷◌, ◌++◌, length, refl, sym, ◌∙◌, subst}
+use Rattle.std.proofs.Common.{◌≡◌, ℕ, ℤ, inl, inr, Option, List, [], ◌∷◌, ◌++◌, length, refl, sym, ◌∙◌, subst}
 use Rattle.std.specs.List.{AllByRecursion}
 use Rattle.disk_model.specs.Disk.{Files}
 use Rattle.script_lines.specs.declared.line.Line.{Line}
@@ -7,9 +7,7 @@ use Rattle.script_lines.specs.declared.line.Line.TheVariants as line
 use Rattle.plain_service.specs.Setups.{Setup}
 use Rattle.cluster_facts.specs.Types.{Entry}
 use Rattle.cluster_facts.specs.Service.{Plain}
-use Rattle.cluster_facts.specs.History.{Hand, Empty, Waiting, Applied, Ready, time_of}
 use Rattle.cluster_facts.specs.World.{World}
-use Rattle.cluster_facts.proofs.Words.{All-append, All-map}
 use Rattle.cluster_events.specs.Lines.{Told, Refused, Stood, Listed, Shown}
 use Rattle.cluster_events.specs.Outcomes.{Outcome}
 use Rattle.cluster_events.specs.Servers.{State}
@@ -18,7 +16,6 @@ use Rattle.cluster_events.specs.Running.{Shelf}
 use Rattle.cluster_events.specs.Saying.{entry_in, entries_told}
 use Rattle.cluster_events.specs.Serving.{IsSteady}
 use Rattle.cluster_events.proofs.Promised.{gathered-without, gathered-handed}
-use Rattle.cluster_events.proofs.Telling.{gathered-append}
 use Rattle.cluster_events.proofs.Walking.{Kind, Times, Others, kind_of, IsShow, IsByKind}
 use Rattle.cluster_events.proofs.Carrying.{IsTold}
 use Rattle.pair_cluster.specs.Peers.{Peers, IsPair}
@@ -26,7 +23,9 @@ use Rattle.pair_cluster.specs.Running.{PairHappens}
 use Rattle.pair_cluster.proofs.Walking.{IsCored, pair-walks}
 use Rattle.service_laws.specs.PlainOf.{plain_of}
 use Rattle.service_laws.proofs.ServiceLaws.{is_plain}
-use Rattle.aisrun.specs.Promises.{OfAllLines, CommitsInTime, IsTimelyIn}
+use Rattle.cluster_rounds.specs.Timely.{AreTimely, IsTimely, IsTimelyIn}
+use Rattle.cluster_rounds.proofs.UnaskedSteps.{timely-both, waits-before, waits-same}
+use Rattle.aisrun.specs.Promises.{OfAllLines, CommitsInTime}
 use Rattle.aisrun.specs.Steps.{time_behind}
 use Rattle.aisrun.proofs.PlayLaws.{device_in, played-says, each-played}
 
@@ -39,60 +38,26 @@ time-by : (now : ℤ) (next : Line) → time_by now (kind_of next) ≡ time_behi
 time-by now (line.Time later) = refl
 time-by now _ = refl
 
--- an entry is of the time in force in a world, or waits in it
-abbrev IsFrom : World → Entry → Type 0
-IsFrom world entry = (time_of entry ≡ world.now) ⊎ (world.core.hand ≡ Waiting entry)
-
-abbrev WaitsFrom : World → Hand → Type 0
-WaitsFrom world (Waiting entry) = IsFrom world entry
-WaitsFrom world _ = Unit {0}
-
--- so are the entries that lines tell
-abbrev AreFrom : World → List Told → Type 0
-AreFrom world told = AllByRecursion (λ (line : ℕ × Entry). IsFrom world line.1) (entries_told told)
-
 -- only a line that sets the time moves it; what is committed in a line, or waits behind it, is from before it
 record InTime (kind : Kind) (old new : World) (told : List Told) : Type 0 where
   pub now : new.now ≡ time_by old.now kind
-  pub entries : AreFrom old told
-  pub waits : WaitsFrom old new.core.hand
-
--- an entry that waits is from its world
-waits-same : (world : World) (hand : Hand) → world.core.hand ≡ hand → WaitsFrom world hand
-waits-same world (Waiting entry) is = inr is
-waits-same world Empty is = tt
-waits-same world (Applied entry) is = tt
-waits-same world (Ready entry) is = tt
+  pub entries : AreTimely old told
+  pub waits : IsTimelyIn old new.core.hand
 
 -- an event that leaves the hand, and commits nothing
 in_time-quiet : (kind : Kind) (old new : World) (told : List Told) → new.now ≡ time_by old.now kind → new.core.hand ≡ old.core.hand → entries_told told ≡ [] → InTime kind old new told
 in_time-quiet kind old new told now hand none = record {
   now = now;
-  entries = subst (λ (lines : List (ℕ × Entry)). AllByRecursion (λ (line : ℕ × Entry). IsFrom old line.1) lines) (sym none) tt;
+  entries = subst (λ (lines : List (ℕ × Entry)). AllByRecursion (λ (line : ℕ × Entry). IsTimely old line.1) lines) (sym none) tt;
   waits = waits-same old new.core.hand (sym hand);
 }
 
--- what is from a world is from the one before it
-from-before : (one two : World) (first : List Told) (entry : Entry) → InTime Others one two first → IsFrom two entry → IsFrom one entry
-from-before one two first entry before (inl same) = inl (same ∙ before.now)
-from-before one two first entry before (inr waits) = subst (WaitsFrom one) waits before.waits
-
-waits-before : (one two : World) (first : List Told) (hand : Hand) → InTime Others one two first → WaitsFrom two hand → WaitsFrom one hand
-waits-before one two first (Waiting entry) before waits = from-before one two first entry before waits
-waits-before one two first Empty before waits = tt
-waits-before one two first (Applied entry) before waits = tt
-waits-before one two first (Ready entry) before waits = tt
-
 in_time-both : (one two three : World) (first second : List Told) → InTime Others one two first → InTime Others two three second → InTime Others one three (second ++ first)
-in_time-both one two three first second before after =
-    let A : World → ℕ × Entry → Type 0 = λ world line. IsFrom world line.1 in
-    let late : AreFrom one second = All-map (A two) (A one) (entries_told second) (λ line from. from-before one two first line.1 before from) after.entries in
-    let all = All-append (A one) (entries_told second) (entries_told first) late before.entries in
-    record {
-      now = after.now ∙ before.now;
-      entries = subst (λ lines. AllByRecursion (A one) lines) (sym (gathered-append entry_in second first)) all;
-      waits = waits-before one two first three.core.hand before after.waits;
-    }
+in_time-both one two three first second before after = record {
+  now = after.now ∙ before.now;
+  entries = timely-both one two first second before.now before.waits before.entries after.entries;
+  waits = waits-before one two three.core.hand before.now before.waits after.waits;
+}
 
 in_time-told : (plain : Plain) → IsTold plain (InTime Others)
 in_time-told plain = record {
@@ -133,7 +98,7 @@ in_time-by-kind plain = record {
   shows = λ world line shows. in_time-quiet Others world world (line ∷ []) refl refl (show-none line shows);
   printed = λ old new told goes. record {
     now = goes.now;
-    entries = subst (λ lines. AllByRecursion (λ (line : ℕ × Entry). IsFrom old line.1) lines) (sym (gathered-without entry_in (λ place why. refl) told)) goes.entries;
+    entries = subst (λ lines. AllByRecursion (λ (line : ℕ × Entry). IsTimely old line.1) lines) (sym (gathered-without entry_in (λ place why. refl) told)) goes.entries;
     waits = goes.waits;
   };
 }
@@ -148,12 +113,6 @@ pub line-now : (setup : Setup) (shelf : Shelf) (device : Device) (next : Line) (
 line-now setup shelf device next state outcome steady happens =
     (line-in-time setup shelf device next state outcome steady happens).now ∙ time-by state.world.now next
 
-waits-timely : (state : State Peers) (hand : Hand) → WaitsFrom state.world hand → IsTimelyIn state hand
-waits-timely state (Waiting entry) waits = waits
-waits-timely state Empty waits = tt
-waits-timely state (Applied entry) waits = tt
-waits-timely state (Ready entry) waits = tt
-
 pub commits-in-time : (held : Option Files) → OfAllLines held CommitsInTime
 commits-in-time held =
-    each-played held CommitsInTime (λ setup places first lines state told before next outcome after run done. let goes = line-in-time setup done.shelf (device_in done) next state outcome (played-says setup places held first run).0 done.step.happens in (goes.entries, waits-timely state outcome.state.world.core.hand goes.waits))
+    each-played held CommitsInTime (λ setup places first lines state told before next outcome after run done. let goes = line-in-time setup done.shelf (device_in done) next state outcome (played-says setup places held first run).0 done.step.happens in (goes.entries, goes.waits))

@@ -1,6 +1,5 @@
 -- Words of public clauses: what is promised at the end of each line that is played, each sentence by itself.
 use Rattle.std.specs.Prelude.{◌≡◌, ℕ, suc, ◌≤◌, ◌⊎◌, Bool, false, not, ◌||◌, ◌==◌, List, [], ◌∷◌, length, Option, Some, None}
-use Rattle.std.specs.List.{AllByRecursion}
 use Rattle.ais_values.specs.Causes.{Rose}
 use Rattle.ais_values.specs.FirstRow.{first_row}
 use Rattle.disk_model.specs.Disk.{Files}
@@ -8,15 +7,14 @@ use Rattle.script_lines.specs.declared.line.Line.{Line}
 use Rattle.script_lines.specs.declared.line.Line.TheVariants as line
 use Rattle.plain_service.specs.Setups.{Setup}
 use Rattle.plain_service.specs.Records.{StoredRecord, record_of, place_of}
-use Rattle.cluster_facts.specs.Types.{Which, Log, Ntf, Status, VersionRefused, TryAgain, BadHandle, Ask, Start, Other, Call, Reply, Entry, Message}
+use Rattle.cluster_facts.specs.Types.{Which, Log, Ntf, Status, VersionRefused, TryAgain, BadHandle, Ask, Start, Other, Call, Reply, Message}
 use Rattle.cluster_facts.specs.Lists.{without}
 use Rattle.cluster_facts.specs.Messages.{sent_by, messages_in}
 use Rattle.cluster_facts.specs.Agents.{can_serve, service_of, is_shut}
 use Rattle.cluster_facts.specs.Facts.{log_by, ntf_by}
-use Rattle.cluster_facts.specs.History.{Hand, Waiting, time_of}
 use Rattle.cluster_events.specs.declared.lines.ServerRole.TheVariants as role
 use Rattle.cluster_events.specs.Lines.{Told, Declined}
-use Rattle.cluster_events.specs.Saying.{gathered, entries_told, replies_told}
+use Rattle.cluster_events.specs.Saying.{gathered, replies_told}
 use Rattle.cluster_events.specs.Servers.{State}
 use Rattle.cluster_events.specs.Filing.{FilesStand, RecordsStay}
 use Rattle.cluster_events.specs.Outcomes.{Outcome}
@@ -30,6 +28,7 @@ use Rattle.pair_cluster.specs.Standing.{StayUp, is_crash, IsShort}
 use Rattle.service_laws.specs.Disks.{service_disk}
 use Rattle.service_laws.specs.PlainOf.{plain_of}
 use Rattle.service_laws.specs.StorageOf.{storage_of}
+use Rattle.cluster_rounds.specs.Timely.{AreTimely, IsTimelyIn}
 use Rattle.cluster_lines.specs.Playing.{FellIn}
 use Rattle.cluster_core.specs.Playing.{LineDone}
 use Rattle.aisrun.specs.Playing.{PlaysFront}
@@ -110,19 +109,11 @@ IsSettledAfter setup _ state = Unit {0}
 abbrev pub SettlesAll : Setup → Sentence
 SettlesAll setup lines state told files = IsSettledAfter setup lines state
 
--- an entry is of the time in force, or it waited for the partner before, so that its time was looked at as it was accepted
-abbrev pub IsTimely : State Peers → Entry → Type 0
-IsTimely state entry = (time_of entry ≡ state.world.now) ⊎ (state.world.core.hand ≡ Waiting entry)
-
-abbrev pub IsTimelyIn : State Peers → Hand → Type 0
-IsTimelyIn state (Waiting entry) = IsTimely state entry
-IsTimelyIn state _ = Unit {0}
-
 -- an entry is of the time that is in force as it is accepted: so is each one that a line commits, and one that waits for the partner
 -- behind the line
 abbrev pub CommitsInTime : LineSentence
 CommitsInTime before next told state outcome after =
-    AllByRecursion (λ (line : ℕ × Entry). IsTimely state line.1) (entries_told outcome.told) × IsTimelyIn state outcome.state.world.core.hand
+    AreTimely state.world outcome.told × IsTimelyIn state.world outcome.state.world.core.hand
 
 -- Which servers go down.
 

@@ -104,7 +104,7 @@ does-event next old new before after lines held left none same later whole setup
 
 -- **what a line left the parts as it left the world as**
 
-parts-broken : (acting : Server) (setup : Setup) (state : State Peers) (held left : Option Files) (parts : Cluster Pair) → cluster.Broken pair_kit.Within setup state held left parts → cluster.Broken pair_kit.Within setup state held left (parts_of acting (whole_of parts))
+parts-broken : (acting : Server) (setup : Setup) (state : State Peers) (held left : Option Files) (parts : Cluster Pair) → cluster.Broken setup state held left parts → cluster.Broken setup state held left (parts_of acting (whole_of parts))
 parts-broken acting setup state held left parts broken = record {
   rest = broken.rest;
   unseen = broken.unseen;

@@ -22,11 +22,10 @@ use Rattle.pair_servers.specs.PairKit.{pair_kit}
 use Rattle.cluster_core.specs.declared.world.World.{World}
 use Rattle.cluster_core.specs.Worlds.{parts_of, IsArmedBy, IsGood, Shows, TellsFiles}
 
--- An event broke off for want of memory, and left the parts of the world so. An entry that waited for the partner may have come to the
--- history at a later time than its own, and no other one.
+-- an event broke off for want of memory, and left the parts of the world so
 abbrev pub Broken : Setup → State Peers → Option Files → Option Files → World → Type 0
 Broken setup state held left world =
-    cluster.Broken pair_kit.Within setup state held left (parts_of state.peers.acting world)
+    cluster.Broken setup state held left (parts_of state.peers.acting world)
 
 -- so it is over each good state that the world and the disk stood for
 abbrev pub BreaksOn : World → World → DiskSeen → DiskSeen → Type 0

@@ -120,6 +120,6 @@ module _ {Peers Group : Type 0} (kit : Kit Peers Group) (script : Script Peers) 
   abbrev pub BreaksOff : DiskAnswer → Line → Cluster Group → Cluster Group → List (List ℕ) → List (List ℕ) → DiskSeen → DiskSeen → Type 0
   BreaksOff Memory next old new before after held left =
       (setup : Setup) (state : State Peers) → IsGood kit setup state → Shows kit setup state old → kit.Armed state.peers held.armed
-      → Broken kit.Within setup state held.files left.files new
+      → Broken setup state held.files left.files new
   BreaksOff Failed next old new before after held left = FaultLeaves next old new before after held left
   BreaksOff Stopped next old new before after held left = ⊥

@@ -55,7 +55,7 @@ module _ {Peers Group : Type 0} (kit : Kit Peers Group) (laws : IsKit kit) where
   -- **bytes that were injected without their line, or not**
   pub injects-break : (bytes : List ℕ) (old : Cluster Group) (net : List (List ℕ)) → InjectsOrNot bytes old.net net → (BreaksAlone kit) old (record old { net = net })
   injects-break bytes old net (inl same) held setup state good shows =
-      subst (λ n. Broken kit.Within setup state held held (record old { net = n })) (sym same) ((shown-broken kit laws) setup state held old good shows)
+      subst (λ n. Broken setup state held held (record old { net = n })) (sym same) ((shown-broken kit laws) setup state held old good shows)
   injects-break bytes old net (inr injects) held setup state good shows =
       let raw = injects.0 in
       let plain = plain_of setup in

@@ -19,7 +19,7 @@ use Rattle.cluster_facts.specs.Service.{Plain}
 use Rattle.cluster_facts.specs.Storage.{Attempt, Between, dealt_in}
 use Rattle.cluster_facts.specs.Storage.Attempts.{none as no_attempt, more as one_more}
 use Rattle.cluster_facts.specs.Agents.{fed_of}
-use Rattle.cluster_facts.specs.History.{Core, committed, time_of}
+use Rattle.cluster_facts.specs.History.{Core, committed}
 use Rattle.cluster_facts.specs.World.{World}
 use Rattle.cluster_facts.specs.Facts.{IsSound}
 use Rattle.cluster_events.specs.Lines.{Told}
@@ -39,10 +39,11 @@ use Rattle.cluster_clients.proofs.DispatchSteps.{agents-as}
 use Rattle.cluster_rounds.specs.Broken.{Broken, IsFedOf, LeavesBetween}
 use Rattle.cluster_rounds.specs.Kits.{IsKit, Kit}
 use Rattle.cluster_rounds.specs.PartlyDone.{SaysUnasked}
+use Rattle.cluster_rounds.specs.Timely.{IsTimely}
 use Rattle.cluster_rounds.specs.Worlds.{IsGood, LeavesFiles, Shows, TellsFiles}
 use Rattle.cluster_rounds.proofs.FilesSteps.{left-same, left-told}
 use Rattle.cluster_rounds.proofs.TakenSteps.{IsMoved}
-use Rattle.cluster_rounds.proofs.UnaskedSteps.{deals-both, grown-none, times-both, unasked-same}
+use Rattle.cluster_rounds.proofs.UnaskedSteps.{deals-both, grown-none, timely-both, unasked-same}
 
 module _ {Peers Group : Type 0} (kit : Kit Peers Group) (laws : IsKit kit) where
   -- Files between.
@@ -104,7 +105,7 @@ module _ {Peers Group : Type 0} (kit : Kit Peers Group) (laws : IsKit kit) where
       subst F (same client) (sound-fed plain new sound client)
 
   -- some whole events happened, and what was to come did not
-  pub whole-broken : (setup : Setup) (old new : State Peers) (told : List Told) (held left : Option Files) (world : Cluster Group) → IsSound (plain_of setup) new.world → SaysUnasked kit.Within (plain_of setup) old.world new.world told → AreSpelled new.world.net world.net → ShowsAgents new.world world.agents → world.history.entries ≡ committed new.world.core → world.now ≡ new.world.now → (TellsFiles setup old held → LeavesBetween setup (committed new.world.core) held left) → Broken kit.Within setup old held left world
+  pub whole-broken : (setup : Setup) (old new : State Peers) (told : List Told) (held left : Option Files) (world : Cluster Group) → IsSound (plain_of setup) new.world → SaysUnasked (plain_of setup) old.world new.world told → AreSpelled new.world.net world.net → ShowsAgents new.world world.agents → world.history.entries ≡ committed new.world.core → world.now ≡ new.world.now → (TellsFiles setup old held → LeavesBetween setup (committed new.world.core) held left) → Broken setup old held left world
   whole-broken setup old new told held left world sound says net agents history now files = record {
     rest = new.world;
     unseen = told;
@@ -123,11 +124,11 @@ module _ {Peers Group : Type 0} (kit : Kit Peers Group) (laws : IsKit kit) where
   }
 
   -- nothing happened yet
-  pub nothing-broken : (setup : Setup) (state : State Peers) (held : Option Files) (world : Cluster Group) → (IsGood kit) setup state → AreSpelled state.world.net world.net → ShowsAgents state.world world.agents → world.history.entries ≡ committed state.world.core → world.now ≡ state.world.now → Broken kit.Within setup state held held world
+  pub nothing-broken : (setup : Setup) (state : State Peers) (held : Option Files) (world : Cluster Group) → (IsGood kit) setup state → AreSpelled state.world.net world.net → ShowsAgents state.world world.agents → world.history.entries ≡ committed state.world.core → world.now ≡ state.world.now → Broken setup state held held world
   nothing-broken setup state held world good net agents history now =
       whole-broken setup state state [] held held world good.steady.sound (unasked-same (plain_of setup) state.world) net agents history now (same-between setup state held good)
 
-  pub shown-broken : (setup : Setup) (state : State Peers) (held : Option Files) (world : Cluster Group) → (IsGood kit) setup state → (Shows kit) setup state world → Broken kit.Within setup state held held world
+  pub shown-broken : (setup : Setup) (state : State Peers) (held : Option Files) (world : Cluster Group) → (IsGood kit) setup state → (Shows kit) setup state world → Broken setup state held held world
   shown-broken setup state held world good shows = nothing-broken setup state held world good shows.net shows.agents shows.history shows.now
 
   -- one event happened, and the next broke off
@@ -138,7 +139,7 @@ module _ {Peers Group : Type 0} (kit : Kit Peers Group) (laws : IsKit kit) where
   files-after setup state middle past (Some held) (Some between) left first next tells =
       next (left-told setup middle (Some held) (Some between) (first tells))
 
-  pub happened-broken : (setup : Setup) (state middle : State Peers) (told : List Told) (held between left : Option Files) (world : Cluster Group) → SaysUnasked kit.Within (plain_of setup) state.world middle.world told → (TellsFiles setup state held → LeavesFiles setup middle held between) → Broken kit.Within setup middle between left world → Broken kit.Within setup state held left world
+  pub happened-broken : (setup : Setup) (state middle : State Peers) (told : List Told) (held between left : Option Files) (world : Cluster Group) → SaysUnasked (plain_of setup) state.world middle.world told → (TellsFiles setup state held → LeavesFiles setup middle held between) → Broken setup middle between left world → Broken setup state held left world
   happened-broken setup state middle told held between left world says files broken = record {
     rest = broken.rest;
     unseen = broken.unseen ++ told;
@@ -147,7 +148,7 @@ module _ {Peers Group : Type 0} (kit : Kit Peers Group) (laws : IsKit kit) where
     deals = λ client. deals-both (plain_of setup) client middle.world.core.answered broken.rest.core.answered told broken.unseen broken.tells.answers (says.says.deals client) (broken.deals client);
     asked = λ client. subst (λ (sent : List (ℕ × Call)). EndsIn sent (calls_in client (committed broken.rest.core))) (says.asks.sent client) (broken.asked client);
     fed = λ client. subst (λ (sent : List (ℕ × Call)). IsFedOf (plain_of setup) broken.rest.core.answered sent client (fed_of (broken.rest.agents client))) (says.asks.sent client) (broken.fed client);
-    times = times-both state.world middle.world told broken.unseen says.asks broken.times;
+    times = timely-both state.world middle.world told broken.unseen says.asks.now says.asks.waits says.asks.times broken.times;
     stays = broken.stays ∙ says.asks.now;
     net = broken.net;
     agents = broken.agents;
@@ -196,7 +197,7 @@ module _ {Peers Group : Type 0} (kit : Kit Peers Group) (laws : IsKit kit) where
         fed = λ client. subst (F client) agents_are.same.core ((Sound-holds plain of_agents.state agents_are.sound).fed client);
       }
 
-  event-by : (setup : Setup) (state : State Peers) (of_net of_agents : Outcome World) (old : Cluster Group) (net : List (List ℕ)) (agents : List Seen) (held : Option Files) → (IsGood kit) setup state → (Shows kit) setup state old → IsOfWorld setup state.world of_net → IsOfWorld setup state.world of_agents → AreSpelled of_net.state.net net → ShowsAgents of_agents.state agents → Broken kit.Within setup state held held (record old { net = net; agents = agents })
+  event-by : (setup : Setup) (state : State Peers) (of_net of_agents : Outcome World) (old : Cluster Group) (net : List (List ℕ)) (agents : List Seen) (held : Option Files) → (IsGood kit) setup state → (Shows kit) setup state old → IsOfWorld setup state.world of_net → IsOfWorld setup state.world of_agents → AreSpelled of_net.state.net net → ShowsAgents of_agents.state agents → Broken setup state held held (record old { net = net; agents = agents })
   event-by setup state of_net of_agents old net agents held good shows net_is agents_are spelled seen =
       let plain = plain_of setup in
       let world = state.world in
@@ -212,7 +213,7 @@ module _ {Peers Group : Type 0} (kit : Kit Peers Group) (laws : IsKit kit) where
         deals = λ client. subst (D client) agents_are.same.core (agents_are.says.deals client);
         asked = (Sound-holds plain world good.steady.sound).calls;
         fed = λ client. subst (F client) agents_are.same.core (agents_are.fed client);
-        times = subst (λ (lines : List (ℕ × Entry)). AllByRecursion (λ (line : ℕ × Entry). kit.Within (time_of line.1) world.now) lines) (sym none) tt;
+        times = subst (λ (lines : List (ℕ × Entry)). AllByRecursion (λ (line : ℕ × Entry). IsTimely world line.1) lines) (sym none) tt;
         stays = refl;
         net = spelled;
         agents = agents-as of_agents.state rest agents (sym agents_are.same.places) refl refl seen;
@@ -221,7 +222,7 @@ module _ {Peers Group : Type 0} (kit : Kit Peers Group) (laws : IsKit kit) where
         files = same-between setup state held good;
       }
 
-  pub event-broken : (setup : Setup) (state : State Peers) (outcome : Outcome World) (old : Cluster Group) (net : List (List ℕ)) (agents : List Seen) (held : Option Files) → (IsGood kit) setup state → (Shows kit) setup state old → IsOfWorld setup state.world outcome → PartlyShows state.world outcome.state net agents → Broken kit.Within setup state held held (record old { net = net; agents = agents })
+  pub event-broken : (setup : Setup) (state : State Peers) (outcome : Outcome World) (old : Cluster Group) (net : List (List ℕ)) (agents : List Seen) (held : Option Files) → (IsGood kit) setup state → (Shows kit) setup state old → IsOfWorld setup state.world outcome → PartlyShows state.world outcome.state net agents → Broken setup state held held (record old { net = net; agents = agents })
   event-broken setup state outcome old net agents held good shows event partly =
       let before = quietly state.world in
       let nothing = nothing-is setup state.world good.steady.sound in

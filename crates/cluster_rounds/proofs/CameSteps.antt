@@ -38,18 +38,18 @@ module _ {Peers Group : Type 0} (kit : Kit Peers Group) (laws : IsKit kit) where
   abbrev pub Leads : (P Q : State Peers → Type 0) → (Event kit) → Type 0
   Leads P Q event =
       (setup : Setup) (state : State Peers) → (IsGood kit) setup state → P state
-      → Q (event setup state).state × SaysUnasked kit.Within (plain_of setup) state.world (event setup state).state.world (event setup state).told
+      → Q (event setup state).state × SaysUnasked (plain_of setup) state.world (event setup state).state.world (event setup state).told
 
   -- the same of one that may work entries, whichever works fail
   abbrev pub LeadsBy : (P Q : State Peers → Type 0) → (EventOver kit) → Type 0
   LeadsBy P Q event =
       (setup : Setup) (fails : ℕ → Bool) (state : State Peers) → (IsGood kit) setup state → P state
-      → Q (event setup fails state).state × SaysUnasked kit.Within (plain_of setup) state.world (event setup fails state).state.world (event setup fails state).told
+      → Q (event setup fails state).state × SaysUnasked (plain_of setup) state.world (event setup fails state).state.world (event setup fails state).told
 
   -- so it is of what it came to
-  came-leads : (P Q : State Peers → Type 0) (event : (EventOver kit)) (setup : Setup) (state : State Peers) (new : Cluster Group) (before after : List (List ℕ)) (loud : Bool) (held left : DiskSeen) → LeadsBy P Q event → (IsGood kit) setup state → P state → (came : (Came kit) setup state (event setup) new before after loud held left) → Q came.outcome.state × SaysUnasked kit.Within (plain_of setup) state.world came.outcome.state.world came.outcome.told
+  came-leads : (P Q : State Peers → Type 0) (event : (EventOver kit)) (setup : Setup) (state : State Peers) (new : Cluster Group) (before after : List (List ℕ)) (loud : Bool) (held left : DiskSeen) → LeadsBy P Q event → (IsGood kit) setup state → P state → (came : (Came kit) setup state (event setup) new before after loud held left) → Q came.outcome.state × SaysUnasked (plain_of setup) state.world came.outcome.state.world came.outcome.told
   came-leads P Q event setup state new before after loud held left leads good so came =
-      let L : Outcome (State Peers) → Type 0 = λ o. Q o.state × SaysUnasked kit.Within (plain_of setup) state.world o.state.world o.told in
+      let L : Outcome (State Peers) → Type 0 = λ o. Q o.state × SaysUnasked (plain_of setup) state.world o.state.world o.told in
       subst L (comes-once (event setup) came.happened state came.outcome came.comes) (leads setup came.happened state good so)
 
   came-both : (setup : Setup) (state : State Peers) (first second : EventBy Peers) (middle new : Cluster Group) (before between after : List (List ℕ)) (a b : Bool) (held told left : DiskSeen) → (one : (Came kit) setup state first middle before between a held told) → (Came kit) setup one.outcome.state second new between after b told left → (Came kit) setup state (after_by first second) new before after (a || b) held left

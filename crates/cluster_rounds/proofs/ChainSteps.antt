@@ -48,10 +48,10 @@ module _ {Peers Group : Type 0} (kit : Kit Peers Group) (laws : IsKit kit) where
 
   -- What an agent sends again is heard.
 
-  pub again-goes : (setup : Setup) (messages : List Message) (state : State Peers) → IsSteady (plain_of setup) kit.Good state → AllByRecursion (λ message. Stands message (messages_in state.world.net)) messages → Goes (SaysUnasked kit.Within (plain_of setup)) (IsSteady (plain_of setup) kit.Good) state (for_each ((again kit) setup) messages state)
+  pub again-goes : (setup : Setup) (messages : List Message) (state : State Peers) → IsSteady (plain_of setup) kit.Good state → AllByRecursion (λ message. Stands message (messages_in state.world.net)) messages → Goes (SaysUnasked (plain_of setup)) (IsSteady (plain_of setup) kit.Good) state (for_each ((again kit) setup) messages state)
   again-goes setup messages state steady stands =
       let plain = plain_of setup in
-      for_each-goes plain (is_plain setup) (calm_servers kit setup) kit.Good ((calm-serves kit laws) setup) (SaysUnasked kit.Within plain) ((calm-unasked kit laws) setup) (IsSteady plain kit.Good) (λ message world. Stands message (messages_in world.net)) ((again kit) setup) (λ message now held there. hear-goes plain (is_plain setup) (calm_servers kit setup) kit.Good ((calm-serves kit laws) setup) (SaysUnasked kit.Within plain) ((calm-unasked kit laws) setup) (number_of plain message now.world.net) message now there held) (λ message old new stays there. stays.net message there) messages state steady stands
+      for_each-goes plain (is_plain setup) (calm_servers kit setup) kit.Good ((calm-serves kit laws) setup) (SaysUnasked plain) ((calm-unasked kit laws) setup) (IsSteady plain kit.Good) (λ message world. Stands message (messages_in world.net)) ((again kit) setup) (λ message now held there. hear-goes plain (is_plain setup) (calm_servers kit setup) kit.Good ((calm-serves kit laws) setup) (SaysUnasked plain) ((calm-unasked kit laws) setup) (number_of plain message now.world.net) message now there held) (λ message old new stays there. stays.net message there) messages state steady stands
 
   all-front : {X : Type 0} (P : X → Type 0) (front : List X) (x : X) → AllByRecursion P (front ++ x ∷ []) → AllByRecursion P front
   all-front P [] x all = tt

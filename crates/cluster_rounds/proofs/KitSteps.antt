@@ -1,5 +1,5 @@
 -- What is asked of servers, at a setup and its device.
-use Rattle.std.proofs.Common.{◌≡◌, ℕ, ℤ, Bool, false, Option, Some, None, List, refl}
+use Rattle.std.proofs.Common.{◌≡◌, ℕ, Bool, false, Option, Some, None, List, refl}
 use Rattle.plain_service.specs.Setups.{Setup}
 use Rattle.service_laws.specs.PlainOf.{plain_of}
 use Rattle.service_laws.proofs.ServiceLaws.{is_plain}
@@ -20,7 +20,7 @@ use Rattle.cluster_rounds.specs.Kits.{IsKit, Kit, calm_servers, device_by, serve
 use Rattle.cluster_rounds.specs.PartlyDone.{SaysUnasked}
 
 -- what is carried with the lines and with what nobody asks is carried with the lines alone
-says-carried : {P : Type 0} {Within : ℤ → ℤ → Type 0} (plain : Plain) (servers : Servers P) (Good : State P → Type 0) → IsCarried plain servers Good (SaysUnasked Within plain) → IsCarried plain servers Good (Says plain)
+says-carried : {P : Type 0} (plain : Plain) (servers : Servers P) (Good : State P → Type 0) → IsCarried plain servers Good (SaysUnasked plain) → IsCarried plain servers Good (Says plain)
 says-carried plain servers Good carried = record {
   same = λ world. (carried.same world).says;
   both = λ one two three first second before after. Says-both plain one two three first second before after;
@@ -33,7 +33,7 @@ says-carried plain servers Good carried = record {
   drain = λ state steady. (carried.drain state steady).says;
 }
 
-says-stepped : {P : Type 0} {Within : ℤ → ℤ → Type 0} (plain : Plain) (Good : State P → Type 0) (step : State P → Option (Outcome (State P))) → IsStepped plain Good (SaysUnasked Within plain) step → IsStepped plain Good (Says plain) step
+says-stepped : {P : Type 0} (plain : Plain) (Good : State P → Type 0) (step : State P → Option (Outcome (State P))) → IsStepped plain Good (SaysUnasked plain) step → IsStepped plain Good (Says plain) step
 says-stepped plain Good step stepped = record {
   steps = λ state outcome is steady.
       let goes = stepped.steps state outcome is steady in
@@ -56,21 +56,21 @@ module _ {Peers Group : Type 0} (kit : Kit Peers Group) (laws : IsKit kit) where
   pub at-serves : (setup : Setup) (fails : ℕ → Bool) → IsServing (plain_of setup) (servers_at kit setup fails) kit.Good
   at-serves setup fails = laws.serves (plain_of setup) (device_by setup fails) (is_plain setup)
 
-  pub at-unasked : (setup : Setup) (fails : ℕ → Bool) → IsCarried (plain_of setup) (servers_at kit setup fails) kit.Good (SaysUnasked kit.Within (plain_of setup))
+  pub at-unasked : (setup : Setup) (fails : ℕ → Bool) → IsCarried (plain_of setup) (servers_at kit setup fails) kit.Good (SaysUnasked (plain_of setup))
   at-unasked setup fails = laws.unasked (plain_of setup) (device_by setup fails) (is_plain setup)
 
   pub at-spends : (setup : Setup) (fails : ℕ → Bool) → IsCarried (plain_of setup) (servers_at kit setup fails) kit.Good Spends
   at-spends setup fails = laws.spends (plain_of setup) (device_by setup fails) (is_plain setup)
 
-  pub at-steps : (setup : Setup) (fails : ℕ → Bool) (state : State Peers) (outcome : Outcome (State Peers)) → IsSteady (plain_of setup) kit.Good state → advance (servers_at kit setup fails) state ≡ Some outcome → IsSteady (plain_of setup) kit.Good outcome.state × SaysUnasked kit.Within (plain_of setup) state.world outcome.state.world outcome.told
+  pub at-steps : (setup : Setup) (fails : ℕ → Bool) (state : State Peers) (outcome : Outcome (State Peers)) → IsSteady (plain_of setup) kit.Good state → advance (servers_at kit setup fails) state ≡ Some outcome → IsSteady (plain_of setup) kit.Good outcome.state × SaysUnasked (plain_of setup) state.world outcome.state.world outcome.told
   at-steps setup fails state outcome steady is =
       let servers = servers_at kit setup fails in
-      steps-by (plain_of setup) servers kit.Good (SaysUnasked kit.Within (plain_of setup)) (laws.stepped (plain_of setup) (device_by setup fails) (is_plain setup)) state outcome steady (servers.mirror state) (servers.ack state) (servers.work state) refl refl refl is
+      steps-by (plain_of setup) servers kit.Good (SaysUnasked (plain_of setup)) (laws.stepped (plain_of setup) (device_by setup fails) (is_plain setup)) state outcome steady (servers.mirror state) (servers.ack state) (servers.work state) refl refl refl is
 
   pub calm-serves : (setup : Setup) → IsServing (plain_of setup) (calm_servers kit setup) kit.Good
   calm-serves setup = at-serves setup (λ number. false)
 
-  pub calm-unasked : (setup : Setup) → IsCarried (plain_of setup) (calm_servers kit setup) kit.Good (SaysUnasked kit.Within (plain_of setup))
+  pub calm-unasked : (setup : Setup) → IsCarried (plain_of setup) (calm_servers kit setup) kit.Good (SaysUnasked (plain_of setup))
   calm-unasked setup = at-unasked setup (λ number. false)
 
   pub calm-says : (setup : Setup) → IsCarried (plain_of setup) (calm_servers kit setup) kit.Good (Says (plain_of setup))

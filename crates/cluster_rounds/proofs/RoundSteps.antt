@@ -164,40 +164,40 @@ module _ {Peers Group : Type 0} (kit : Kit Peers Group) (laws : IsKit kit) where
 
   -- what Carrying says of servers, at a setup
   module _ (setup : Setup) where
-    pub turns-go : (fails : ℕ → Bool) (messages : List Message) (state : State Peers) → AtRest setup state → AllByRecursion (λ message. Stands message (messages_in state.world.net)) messages → Goes (SaysUnasked kit.Within (plain_of setup)) (AtRest setup) state ((turns_by kit) messages setup fails state)
+    pub turns-go : (fails : ℕ → Bool) (messages : List Message) (state : State Peers) → AtRest setup state → AllByRecursion (λ message. Stands message (messages_in state.world.net)) messages → Goes (SaysUnasked (plain_of setup)) (AtRest setup) state ((turns_by kit) messages setup fails state)
     turns-go fails messages state rest stands =
         let plain = plain_of setup in
         let servers = servers_at kit setup fails in
-        for_each-goes plain (is_plain setup) servers kit.Good ((at-serves kit laws) setup fails) (SaysUnasked kit.Within plain) ((at-unasked kit laws) setup fails) (IsAtRest plain kit.Good) (λ message world. Stands message (messages_in world.net)) (turn plain servers) (turn-goes plain (is_plain setup) servers kit.Good ((at-serves kit laws) setup fails) (SaysUnasked kit.Within plain) ((at-unasked kit laws) setup fails)) (λ message old new stays stands. stays.net message stands) messages state rest stands
+        for_each-goes plain (is_plain setup) servers kit.Good ((at-serves kit laws) setup fails) (SaysUnasked plain) ((at-unasked kit laws) setup fails) (IsAtRest plain kit.Good) (λ message world. Stands message (messages_in world.net)) (turn plain servers) (turn-goes plain (is_plain setup) servers kit.Good ((at-serves kit laws) setup fails) (SaysUnasked plain) ((at-unasked kit laws) setup fails)) (λ message old new stays stands. stays.net message stands) messages state rest stands
 
-    pub clients-go : (fails : ℕ → Bool) (clients : List ℕ) (state : State Peers) → AtRest setup state → Goes (SaysUnasked kit.Within (plain_of setup)) (AtRest setup) state ((clients_by kit) clients setup fails state)
+    pub clients-go : (fails : ℕ → Bool) (clients : List ℕ) (state : State Peers) → AtRest setup state → Goes (SaysUnasked (plain_of setup)) (AtRest setup) state ((clients_by kit) clients setup fails state)
     clients-go fails clients state rest =
-        all_turns-goes (plain_of setup) (is_plain setup) (servers_at kit setup fails) kit.Good ((at-serves kit laws) setup fails) (SaysUnasked kit.Within (plain_of setup)) ((at-unasked kit laws) setup fails) clients state rest
+        all_turns-goes (plain_of setup) (is_plain setup) (servers_at kit setup fails) kit.Good ((at-serves kit laws) setup fails) (SaysUnasked (plain_of setup)) ((at-unasked kit laws) setup fails) clients state rest
 
-    pub drain-go : (fails : ℕ → Bool) (state : State Peers) → IsSteady (plain_of setup) kit.Good state → Goes (SaysUnasked kit.Within (plain_of setup)) (AtRest setup) state ((drain_by kit) setup fails state)
+    pub drain-go : (fails : ℕ → Bool) (state : State Peers) → IsSteady (plain_of setup) kit.Good state → Goes (SaysUnasked (plain_of setup)) (AtRest setup) state ((drain_by kit) setup fails state)
     drain-go fails state steady =
-        drain-goes (plain_of setup) (is_plain setup) (servers_at kit setup fails) kit.Good ((at-serves kit laws) setup fails) (SaysUnasked kit.Within (plain_of setup)) ((at-unasked kit laws) setup fails) state steady
+        drain-goes (plain_of setup) (is_plain setup) (servers_at kit setup fails) kit.Good ((at-serves kit laws) setup fails) (SaysUnasked (plain_of setup)) ((at-unasked kit laws) setup fails) state steady
 
-    pub items-go : (items : List Message) (state : State Peers) → AtRest setup state → AllByRecursion (λ message. Stands message (messages_in state.world.net)) items → Goes (SaysUnasked kit.Within (plain_of setup)) (AtRest setup) state ((items_taken kit) items setup state)
+    pub items-go : (items : List Message) (state : State Peers) → AtRest setup state → AllByRecursion (λ message. Stands message (messages_in state.world.net)) items → Goes (SaysUnasked (plain_of setup)) (AtRest setup) state ((items_taken kit) items setup state)
     items-go items state rest stands =
         let plain = plain_of setup in
         let servers = calm_servers kit setup in
-        for_each-goes plain (is_plain setup) servers kit.Good ((calm-serves kit laws) setup) (SaysUnasked kit.Within plain) ((calm-unasked kit laws) setup) (IsAtRest plain kit.Good) (λ message world. Stands message (messages_in world.net)) (λ item. in_world (take_pushed plain item)) (take_pushed-rests plain (is_plain setup) servers kit.Good ((calm-serves kit laws) setup) (SaysUnasked kit.Within plain) ((calm-unasked kit laws) setup)) (λ message old new stays stands. stays.net message stands) items state rest stands
+        for_each-goes plain (is_plain setup) servers kit.Good ((calm-serves kit laws) setup) (SaysUnasked plain) ((calm-unasked kit laws) setup) (IsAtRest plain kit.Good) (λ message world. Stands message (messages_in world.net)) (λ item. in_world (take_pushed plain item)) (take_pushed-rests plain (is_plain setup) servers kit.Good ((calm-serves kit laws) setup) (SaysUnasked plain) ((calm-unasked kit laws) setup)) (λ message old new stays stands. stays.net message stands) items state rest stands
 
-    pub hear-go : (message : Message) (state : State Peers) → (IsGood kit) setup state → StandsIn message state → Goes (SaysUnasked kit.Within (plain_of setup)) (IsSteady (plain_of setup) kit.Good) state ((heard_so kit) message setup state)
+    pub hear-go : (message : Message) (state : State Peers) → (IsGood kit) setup state → StandsIn message state → Goes (SaysUnasked (plain_of setup)) (IsSteady (plain_of setup) kit.Good) state ((heard_so kit) message setup state)
     hear-go message state good stands =
         let plain = plain_of setup in
-        hear-goes plain (is_plain setup) (calm_servers kit setup) kit.Good ((calm-serves kit laws) setup) (SaysUnasked kit.Within plain) ((calm-unasked kit laws) setup) (number_of plain message state.world.net) message state stands good.steady
+        hear-goes plain (is_plain setup) (calm_servers kit setup) kit.Good ((calm-serves kit laws) setup) (SaysUnasked plain) ((calm-unasked kit laws) setup) (number_of plain message state.world.net) message state stands good.steady
 
-    pub push-go : (state : State Peers) → AtRest setup state → Goes (SaysUnasked kit.Within (plain_of setup)) (AtRest setup) state ((pushed kit) setup state)
+    pub push-go : (state : State Peers) → AtRest setup state → Goes (SaysUnasked (plain_of setup)) (AtRest setup) state ((pushed kit) setup state)
     push-go state rest =
         let plain = plain_of setup in
-        push-goes plain (is_plain setup) (calm_servers kit setup) kit.Good ((calm-serves kit laws) setup) (SaysUnasked kit.Within plain) ((calm-unasked kit laws) setup) state rest
+        push-goes plain (is_plain setup) (calm_servers kit setup) kit.Good ((calm-serves kit laws) setup) (SaysUnasked plain) ((calm-unasked kit laws) setup) state rest
 
     pushed-stand : (state : State Peers) → AtRest setup state → AllByRecursion (λ message. Stands message (messages_in ((pushed kit) setup state).state.world.net)) ((plain_of setup).held state.world.core.answered)
     pushed-stand state rest =
         let plain = plain_of setup in
-        push-stands plain (is_plain setup) (calm_servers kit setup) kit.Good ((calm-serves kit laws) setup) (SaysUnasked kit.Within plain) ((calm-unasked kit laws) setup) state rest
+        push-stands plain (is_plain setup) (calm_servers kit setup) kit.Good ((calm-serves kit laws) setup) (SaysUnasked plain) ((calm-unasked kit laws) setup) state rest
 
   -- a message that is heard stands in the net afterwards
   pub heard-ready : (message : Message) (old new : Cluster Group) (before after : List (List ℕ)) (loud : Bool) (armed : Option ℕ) → (HasStateOn kit) (StandsIn message) old armed → (Plays kit) (StandsIn message) ((heard_so kit) message) old new before after loud → (HasStateOn kit) (StandsIn message) new armed
@@ -339,7 +339,7 @@ module _ {Peers Group : Type 0} (kit : Kit Peers Group) (laws : IsKit kit) where
       let outcome = taken_as plain 0 message state.world in
       let done = takes plain state.world (is_plain setup) shows.net shows.agents in
       let goes = (taken-goes kit laws) setup 0 message state.world stands good.steady.sound in
-      let steady = (in_world-goes plain (is_plain setup) (calm_servers kit setup) kit.Good ((calm-serves kit laws) setup) (SaysUnasked kit.Within plain) ((calm-unasked kit laws) setup) (λ w. taken_as plain 0 message w) state good.steady goes).holds in
+      let steady = (in_world-goes plain (is_plain setup) (calm_servers kit setup) kit.Good ((calm-serves kit laws) setup) (SaysUnasked plain) ((calm-unasked kit laws) setup) (λ w. taken_as plain 0 message w) state good.steady goes).holds in
       let moved_so = (taken-moved kit laws) plain 0 message state.world goes in
       record {
         shows = (shows-moved kit laws) setup state outcome.state old net agents shows moved_so done.0 done.1;

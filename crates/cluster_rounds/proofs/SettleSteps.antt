@@ -129,11 +129,11 @@ module _ {Peers Group : Type 0} (kit : Kit Peers Group) (laws : IsKit kit) where
 
   -- a round breaks off after rounds that were loud
 
-  settling-says : (setup : Setup) (start : State Peers) (now : Cluster Group) (before between : List (List ℕ)) (held told : DiskSeen) → (IsGood kit) setup start → (so_far : (Settling kit) setup start now before between true held told) → SaysUnasked kit.Within (plain_of setup) start.world so_far.state.world so_far.told
+  settling-says : (setup : Setup) (start : State Peers) (now : Cluster Group) (before between : List (List ℕ)) (held told : DiskSeen) → (IsGood kit) setup start → (so_far : (Settling kit) setup start now before between true held told) → SaysUnasked (plain_of setup) start.world so_far.state.world so_far.told
   settling-says setup start now before between held told good so_far =
       let plain = plain_of setup in
       let rounds = so_far.rounds so_far.happened (λ number above within. refl) in
-      (rounds-carry plain (is_plain setup) (servers_at kit setup so_far.happened) kit.Good ((at-serves kit laws) setup so_far.happened) (SaysUnasked kit.Within plain) ((at-unasked kit laws) setup so_far.happened) start good.steady rounds).carried
+      (rounds-carry plain (is_plain setup) (servers_at kit setup so_far.happened) kit.Good ((at-serves kit laws) setup so_far.happened) (SaysUnasked plain) ((at-unasked kit laws) setup so_far.happened) start good.steady rounds).carried
 
   pub settling-off : (answer : DiskAnswer) (old now new : Cluster Group) (before between after : List (List ℕ)) (held told left : DiskSeen) → (SettlesSo kit) old now before between true held told → (ComesOff kit) any_state (EndsRound kit) answer now new between after told left → (ComesOff kit) any_state (EndsSettle kit) answer old new before after held left
   settling-off Memory old now new before between after held told left settles off setup state good shows counted so =

@@ -109,14 +109,14 @@ module _ {Peers Group : Type 0} (kit : Kit Peers Group) (laws : IsKit kit) where
 
   -- A message is delivered to an agent.
 
-  pub taken-goes : (setup : Setup) (place : ℕ) (message : Message) (world : World) → Stands message (messages_in world.net) → IsSound (plain_of setup) world → WorldGoes (plain_of setup) (SaysUnasked kit.Within (plain_of setup)) world (taken_as (plain_of setup) place message world)
+  pub taken-goes : (setup : Setup) (place : ℕ) (message : Message) (world : World) → Stands message (messages_in world.net) → IsSound (plain_of setup) world → WorldGoes (plain_of setup) (SaysUnasked (plain_of setup)) world (taken_as (plain_of setup) place message world)
   taken-goes setup place (Answer client number reply) world stands sound =
-      take_reply-goes (plain_of setup) (is_plain setup) (calm_servers kit setup) kit.Good ((calm-serves kit laws) setup) (SaysUnasked kit.Within (plain_of setup)) ((calm-unasked kit laws) setup) place client number reply world stands sound
+      take_reply-goes (plain_of setup) (is_plain setup) (calm_servers kit setup) kit.Good ((calm-serves kit laws) setup) (SaysUnasked (plain_of setup)) ((calm-unasked kit laws) setup) place client number reply world stands sound
   taken-goes setup place (Delivery client key item) world stands sound =
-      take_item-goes (plain_of setup) (is_plain setup) (calm_servers kit setup) kit.Good ((calm-serves kit laws) setup) (SaysUnasked kit.Within (plain_of setup)) ((calm-unasked kit laws) setup) place client key item world stands sound
+      take_item-goes (plain_of setup) (is_plain setup) (calm_servers kit setup) kit.Good ((calm-serves kit laws) setup) (SaysUnasked (plain_of setup)) ((calm-unasked kit laws) setup) place client key item world stands sound
   taken-goes setup place message world stands sound = record { sound = sound; carried = ((calm-unasked kit laws) setup).same world; stays = Stays-same world; core = refl }
 
-  pub taken-moved : (plain : Plain) (place : ℕ) (message : Message) (world : World) → WorldGoes plain (SaysUnasked kit.Within plain) world (taken_as plain place message world) → IsMoved world (taken_as plain place message world).state
+  pub taken-moved : (plain : Plain) (place : ℕ) (message : Message) (world : World) → WorldGoes plain (SaysUnasked plain) world (taken_as plain place message world) → IsMoved world (taken_as plain place message world).state
   taken-moved plain place message world goes = record { core = goes.core; now = goes.stays.now; places = goes.stays.places }
 
   pub good-taken : (setup : Setup) (place : ℕ) (message : Message) (state : State Peers) → (IsGood kit) setup state → Stands message (messages_in state.world.net) → (IsGood kit) setup (in_world (taken_as (plain_of setup) place message) state).state
@@ -124,7 +124,7 @@ module _ {Peers Group : Type 0} (kit : Kit Peers Group) (laws : IsKit kit) where
       let plain = plain_of setup in
       let plainly = is_plain setup in
       let goes = taken-goes setup place message state.world stands good.steady.sound in
-      let steady = (in_world-goes plain plainly (calm_servers kit setup) kit.Good ((calm-serves kit laws) setup) (SaysUnasked kit.Within plain) ((calm-unasked kit laws) setup) (taken_as plain place message) state good.steady goes).holds in
+      let steady = (in_world-goes plain plainly (calm_servers kit setup) kit.Good ((calm-serves kit laws) setup) (SaysUnasked plain) ((calm-unasked kit laws) setup) (taken_as plain place message) state good.steady goes).holds in
       good-moved setup state (taken_as plain place message state.world).state good (taken-moved plain place message state.world goes) steady
 
   pub shows-taken : (setup : Setup) (place : ℕ) (message : Message) (state : State Peers) (old : Cluster Group) (net : List (List ℕ)) (agents : List Seen) → (IsGood kit) setup state → Stands message (messages_in state.world.net) → (Shows kit) setup state old → AreSpelled (taken_as (plain_of setup) place message state.world).state.net net → ShowsAgents (taken_as (plain_of setup) place message state.world).state agents → (Shows kit) setup (in_world (taken_as (plain_of setup) place message) state).state (record old { net = net; agents = agents })

@@ -96,12 +96,12 @@ module _ {Peers Group : Type 0} (kit : Kit Peers Group) (laws : IsKit kit) where
   takes-lead : (message : Message) → (Leads kit laws) any_state any_state ((answer_taken kit) message)
   takes-lead message setup state good so =
       let plain = plain_of setup in
-      (tt, (take_answer-goes plain (is_plain setup) (calm_servers kit setup) kit.Good ((calm-serves kit laws) setup) (SaysUnasked kit.Within plain) ((calm-unasked kit laws) setup) message state.world good.steady.sound).carried)
+      (tt, (take_answer-goes plain (is_plain setup) (calm_servers kit setup) kit.Good ((calm-serves kit laws) setup) (SaysUnasked plain) ((calm-unasked kit laws) setup) message state.world good.steady.sound).carried)
 
   pushes-lead : (Leads kit laws) IsIdle any_state (round_pushed kit)
   pushes-lead setup state good idle =
       let plain = plain_of setup in
-      (tt, (push_round-goes plain (is_plain setup) (calm_servers kit setup) kit.Good ((calm-serves kit laws) setup) (SaysUnasked kit.Within plain) ((calm-unasked kit laws) setup) state ((at-rest kit laws) setup state good idle)).carried)
+      (tt, (push_round-goes plain (is_plain setup) (calm_servers kit setup) kit.Good ((calm-serves kit laws) setup) (SaysUnasked plain) ((calm-unasked kit laws) setup) state ((at-rest kit laws) setup state good idle)).carried)
 
   -- A message that is heard.
 
@@ -126,14 +126,14 @@ module _ {Peers Group : Type 0} (kit : Kit Peers Group) (laws : IsKit kit) where
 
   -- A drain.
 
-  step-leads : (setup : Setup) (fails : ℕ → Bool) (steps : ℕ) (state : State Peers) (next : Option (Outcome (State Peers))) → advance (servers_at kit setup fails) state ≡ next → IsSteady (plain_of setup) kit.Good state → ((now : State Peers) → IsSteady (plain_of setup) kit.Good now → SaysUnasked kit.Within (plain_of setup) now.world ((advances_by kit) steps setup fails now).state.world ((advances_by kit) steps setup fails now).told) → SaysUnasked kit.Within (plain_of setup) state.world (after_step (advances (servers_at kit setup fails) steps) next state).state.world (after_step (advances (servers_at kit setup fails) steps) next state).told
+  step-leads : (setup : Setup) (fails : ℕ → Bool) (steps : ℕ) (state : State Peers) (next : Option (Outcome (State Peers))) → advance (servers_at kit setup fails) state ≡ next → IsSteady (plain_of setup) kit.Good state → ((now : State Peers) → IsSteady (plain_of setup) kit.Good now → SaysUnasked (plain_of setup) now.world ((advances_by kit) steps setup fails now).state.world ((advances_by kit) steps setup fails now).told) → SaysUnasked (plain_of setup) state.world (after_step (advances (servers_at kit setup fails) steps) next state).state.world (after_step (advances (servers_at kit setup fails) steps) next state).told
   step-leads setup fails steps state None is steady deeper = ((at-unasked kit laws) setup fails).same state.world
   step-leads setup fails steps state (Some outcome) is steady deeper =
       let goes = (at-steps kit laws) setup fails state outcome steady is in
       let rest = advances (servers_at kit setup fails) steps outcome.state in
       ((at-unasked kit laws) setup fails).both state.world outcome.state.world rest.state.world outcome.told rest.told goes.1 (deeper outcome.state goes.0)
 
-  steps-say : (steps : ℕ) (setup : Setup) (fails : ℕ → Bool) (state : State Peers) → IsSteady (plain_of setup) kit.Good state → SaysUnasked kit.Within (plain_of setup) state.world ((advances_by kit) steps setup fails state).state.world ((advances_by kit) steps setup fails state).told
+  steps-say : (steps : ℕ) (setup : Setup) (fails : ℕ → Bool) (state : State Peers) → IsSteady (plain_of setup) kit.Good state → SaysUnasked (plain_of setup) state.world ((advances_by kit) steps setup fails state).state.world ((advances_by kit) steps setup fails state).told
   steps-say zero setup fails state steady = ((at-unasked kit laws) setup fails).same state.world
   steps-say (suc steps) setup fails state steady =
       step-leads setup fails steps state (advance (servers_at kit setup fails) state) refl steady (λ now so. steps-say steps setup fails now so)

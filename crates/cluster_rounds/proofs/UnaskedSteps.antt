@@ -1,39 +1,58 @@
 -- Events in which no client asks anything.
 -- What an event adds.
-use Rattle.std.proofs.Common.{◌≡◌, ℕ, ℤ, suc, List, [], ◌∷◌, ◌++◌, length, refl, ap, sym, ◌∙◌, subst, arith}
+use Rattle.std.proofs.Common.{◌≡◌, ℕ, suc, inl, inr, List, [], ◌∷◌, ◌++◌, length, refl, ap, sym, ◌∙◌, subst, arith}
 use Rattle.std.specs.List.{AllByRecursion}
 use Rattle.std.proofs.lemmas.List.{length-append}
 use Rattle.cluster_facts.specs.Types.{Call, Reply, Entry}
 use Rattle.cluster_facts.specs.Lists.{Stands, EndsIn}
 use Rattle.cluster_facts.specs.Service.{Plain}
 use Rattle.cluster_facts.specs.Storage.{dealt_in}
-use Rattle.cluster_facts.specs.History.{time_of}
+use Rattle.cluster_facts.specs.History.{Hand, Empty, Waiting, Applied, Ready}
 use Rattle.cluster_facts.specs.World.{World}
 use Rattle.cluster_facts.proofs.Words.{All-map, All-append, EndsIn-stands}
 use Rattle.cluster_events.specs.Lines.{Told}
 use Rattle.cluster_events.specs.Saying.{seconds, entry_in, deal_in, deals_told, entries_told}
 use Rattle.cluster_events.proofs.Telling.{gathered-append, Says-same, dealt-more}
 use Rattle.cluster_rounds.specs.PartlyDone.{AsksNone, SaysUnasked}
+use Rattle.cluster_rounds.specs.Timely.{AreTimely, IsTimely, IsTimelyIn}
 
-pub asks-none : {Within : ℤ → ℤ → Type 0} (world : World) → AsksNone Within world world []
-asks-none world = record { sent = λ client. refl; now = refl; times = tt }
+-- an entry that waits is timely
+pub waits-same : (world : World) (hand : Hand) → world.core.hand ≡ hand → IsTimelyIn world hand
+waits-same world (Waiting entry) is = inr is
+waits-same world Empty is = tt
+waits-same world (Applied entry) is = tt
+waits-same world (Ready entry) is = tt
 
--- entries that lines tell after events in which nobody asks stand so to the time before these
-pub times-both : {Within : ℤ → ℤ → Type 0} (one two : World) (first second : List Told) → AsksNone Within one two first → AllByRecursion (λ (line : ℕ × Entry). Within (time_of line.1) two.now) (entries_told second) → AllByRecursion (λ (line : ℕ × Entry). Within (time_of line.1) one.now) (entries_told (second ++ first))
-times-both {Within = Within} one two first second asks times =
-    let Old : ℕ × Entry → Type 0 = λ line. Within (time_of line.1) one.now in
-    let New : ℕ × Entry → Type 0 = λ line. Within (time_of line.1) two.now in
-    let late = All-map New Old (entries_told second) (λ line is. subst (λ now. Within (time_of line.1) now) asks.now is) times in
-    subst (λ lines. AllByRecursion Old lines) (sym (gathered-append entry_in second first)) (All-append Old (entries_told second) (entries_told first) late asks.times)
+-- what is timely in a world of the same time is so in the one before it, if what waits there is
+pub timely-before : (one two : World) (entry : Entry) → two.now ≡ one.now → IsTimelyIn one two.core.hand → IsTimely two entry → IsTimely one entry
+timely-before one two entry now before (inl same) = inl (same ∙ now)
+timely-before one two entry now before (inr waits) = subst (IsTimelyIn one) waits before
 
-pub asks-both : {Within : ℤ → ℤ → Type 0} (one two three : World) (first second : List Told) → AsksNone Within one two first → AsksNone Within two three second → AsksNone Within one three (second ++ first)
+pub waits-before : (one two : World) (hand : Hand) → two.now ≡ one.now → IsTimelyIn one two.core.hand → IsTimelyIn two hand → IsTimelyIn one hand
+waits-before one two (Waiting entry) now before waits = timely-before one two entry now before waits
+waits-before one two Empty now before waits = tt
+waits-before one two (Applied entry) now before waits = tt
+waits-before one two (Ready entry) now before waits = tt
+
+-- entries that lines tell, behind others
+pub timely-both : (one two : World) (first second : List Told) → two.now ≡ one.now → IsTimelyIn one two.core.hand → AreTimely one first → AreTimely two second → AreTimely one (second ++ first)
+timely-both one two first second now before early late =
+    let A : World → ℕ × Entry → Type 0 = λ world line. IsTimely world line.1 in
+    let moved : AreTimely one second = All-map (A two) (A one) (entries_told second) (λ line from. timely-before one two line.1 now before from) late in
+    subst (λ lines. AllByRecursion (A one) lines) (sym (gathered-append entry_in second first)) (All-append (A one) (entries_told second) (entries_told first) moved early)
+
+pub asks-none : (world : World) → AsksNone world world []
+asks-none world = record { sent = λ client. refl; now = refl; times = tt; waits = waits-same world world.core.hand refl }
+
+pub asks-both : (one two three : World) (first second : List Told) → AsksNone one two first → AsksNone two three second → AsksNone one three (second ++ first)
 asks-both one two three first second asks more = record {
   sent = λ client. more.sent client ∙ asks.sent client;
   now = more.now ∙ asks.now;
-  times = times-both one two first second asks more.times;
+  times = timely-both one two first second asks.now asks.waits asks.times more.times;
+  waits = waits-before one two three.core.hand asks.now asks.waits more.waits;
 }
 
-pub unasked-same : {Within : ℤ → ℤ → Type 0} (plain : Plain) (world : World) → SaysUnasked Within plain world world []
+pub unasked-same : (plain : Plain) (world : World) → SaysUnasked plain world world []
 unasked-same plain world = record { says = Says-same plain world; asks = asks-none world }
 
 -- Deals of events, one after another.

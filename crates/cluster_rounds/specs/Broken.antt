@@ -1,5 +1,5 @@
 -- Words of public clauses: what stands where an event breaks off for want of memory, over any servers.
-use Rattle.std.specs.Prelude.{◌≡◌, ℕ, ℤ, Option, Some, None, List}
+use Rattle.std.specs.Prelude.{◌≡◌, ℕ, Option, Some, None, List}
 use Rattle.std.specs.List.{AllByRecursion}
 use Rattle.disk_model.specs.Disk.{Files}
 use Rattle.plain_service.specs.Setups.{Setup}
@@ -12,17 +12,18 @@ use Rattle.cluster_facts.specs.Service.{Plain}
 use Rattle.cluster_facts.specs.Messages.{sent_by, calls_in, messages_in}
 use Rattle.cluster_facts.specs.Storage.{Between, dealt_in}
 use Rattle.cluster_facts.specs.Agents.{fed_of}
-use Rattle.cluster_facts.specs.History.{committed, time_of}
+use Rattle.cluster_facts.specs.History.{committed}
 use Rattle.cluster_facts.specs.World.{World}
 use Rattle.cluster_facts.specs.Facts.{Fits, IsToldItem}
 use Rattle.cluster_events.specs.Lines.{Told}
 use Rattle.cluster_events.specs.Servers.{State}
-use Rattle.cluster_events.specs.Saying.{entries_told, deals_told}
+use Rattle.cluster_events.specs.Saying.{deals_told}
 use Rattle.cluster_events.specs.Breaking.{Tells, Holds}
 use Rattle.cluster_rounds.specs.declared.cluster.Cluster.{Cluster}
 use Rattle.cluster_clients.specs.Clients.{ShowsAgents}
 use Rattle.cluster_clients.specs.Spelled.{AreSpelled}
 use Rattle.cluster_rounds.specs.Kits.{Kit}
+use Rattle.cluster_rounds.specs.Timely.{AreTimely}
 use Rattle.cluster_rounds.specs.Worlds.{IsGood, Shows, TellsFiles}
 
 -- a disk that told files tells some between those of the history without its last entry and those of the history: any attempts
@@ -40,10 +41,10 @@ pub record IsFedOf (plain : Plain) (past : List Entry) (sent : List (ℕ × Call
   pub items : Fits (IsToldItem plain past sent client) marks fed
 
 -- An event broke off for want of memory: from this state some of it happened, with lines that nobody sees. The history is legal;
--- each client's calls in it are the first of those that it had sent before the event, and what came to it is of a time
--- that may stand so to the time in force; that time stays. Each client was fed the beginning of the items of subscriptions that it had asked for
--- before the event, each reply that it took is the history's, and the files are between.
-pub record Broken {P S : Type 0} (Within : ℤ → ℤ → Type 0) (setup : Setup) (state : State P) (held left : Option Files) (world : Cluster S) : Type 0 where
+-- each client's calls in it are the first of those that it had sent before the event, and what came to it is of the time in force, or
+-- waited for the partner before the event; that time stays. Each client was fed the beginning of the items of subscriptions that it had
+-- asked for before the event, each reply that it took is the history's, and the files are between.
+pub record Broken {P S : Type 0} (setup : Setup) (state : State P) (held left : Option Files) (world : Cluster S) : Type 0 where
   pub rest : World
   pub unseen : List Told
   pub tells : Tells (plain_of setup) state.world rest unseen
@@ -53,7 +54,7 @@ pub record Broken {P S : Type 0} (Within : ℤ → ℤ → Type 0) (setup : Setu
       → AllByRecursion (λ (deal : ℕ × Call × Reply). Stands deal (dealt_in (plain_of setup) client rest.core.answered)) (deals_told client unseen)
   pub asked : (client : ℕ) → EndsIn (sent_by client (messages_in state.world.net)) (calls_in client (committed rest.core))
   pub fed : (client : ℕ) → IsFedOf (plain_of setup) rest.core.answered (sent_by client (messages_in state.world.net)) client (fed_of (rest.agents client))
-  pub times : AllByRecursion (λ (line : ℕ × Entry). Within (time_of line.1) state.world.now) (entries_told unseen)
+  pub times : AreTimely state.world unseen
   pub stays : rest.now ≡ state.world.now
   pub net : AreSpelled rest.net world.net
   pub agents : ShowsAgents rest world.agents
@@ -66,7 +67,7 @@ module _ {Peers Group : Type 0} (kit : Kit Peers Group) where
   abbrev pub BreaksIf : (State Peers → Type 0) → Cluster Group → Cluster Group → Option Files → Option Files → Type 0
   BreaksIf P old new held left =
       (setup : Setup) (state : State Peers) → (IsGood kit) setup state → (Shows kit) setup state old → P state
-      → Broken kit.Within setup state held left new
+      → Broken setup state held left new
 
   -- the same of an event that leaves the disk alone
   abbrev pub BreaksAloneIf : (State Peers → Type 0) → Cluster Group → Cluster Group → Type 0
@@ -74,7 +75,7 @@ module _ {Peers Group : Type 0} (kit : Kit Peers Group) where
 
   abbrev pub BreaksOn : Cluster Group → Cluster Group → Option Files → Option Files → Type 0
   BreaksOn old new held left =
-      (setup : Setup) (state : State Peers) → (IsGood kit) setup state → (Shows kit) setup state old → Broken kit.Within setup state held left new
+      (setup : Setup) (state : State Peers) → (IsGood kit) setup state → (Shows kit) setup state old → Broken setup state held left new
 
   abbrev pub BreaksAlone : Cluster Group → Cluster Group → Type 0
   BreaksAlone old new = (held : Option Files) → BreaksOn old new held held

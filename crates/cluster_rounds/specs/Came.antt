@@ -91,7 +91,7 @@ module _ {Peers Group : Type 0} (kit : Kit Peers Group) where
   abbrev pub LeavesOff :
       Setup → State Peers → EndBy Peers → DiskAnswer → Cluster Group → List (List ℕ) → List (List ℕ) → DiskSeen → DiskSeen → Type 0
   LeavesOff setup state Ends Memory new before after held left =
-      Broken kit.Within setup state held.files left.files new × kit.Outlives held.faults left.faults
+      Broken setup state held.files left.files new × kit.Outlives held.faults left.faults
   LeavesOff setup state Ends Failed new before after held left = Ended setup state Ends new before after held left
   LeavesOff setup state Ends Stopped new before after held left = ⊥
 

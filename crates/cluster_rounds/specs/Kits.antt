@@ -1,5 +1,5 @@
 -- Words of public clauses: what the cluster's code is told of servers, and what is asked of them.
-use Rattle.std.specs.Prelude.{◌≡◌, ℕ, ℤ, ◌≤◌, Bool, false, Option, List, length}
+use Rattle.std.specs.Prelude.{◌≡◌, ℕ, ◌≤◌, Bool, false, Option, List, length}
 use Rattle.stream_layout.specs.Deeds.{calls_of_all}
 use Rattle.plain_service.specs.Setups.{Setup}
 use Rattle.plain_service.specs.Storing.{deeds_of}
@@ -29,19 +29,17 @@ pub record Kit (P S : Type 0) : Type 1 where
   -- where an event ends as an entry is to be worked, by the device, and what servers of the code and the disk's armed count are then
   pub EndsAtWork : Device → EndAt P
   pub Fell : Setup → State P → S → Option ℕ → Type 0
-  -- how the time at which an entry was accepted may stand to the time in force when it comes to the history
-  pub Within : ℤ → ℤ → Type 0
   -- how the disk's count of faults may go from a number to another where an event is done
   pub Outlives : ℕ → ℕ → Type 0
 
 -- what is asked of them
 pub record IsKit {P S : Type 0} (kit : Kit P S) : Type 0 where
   pub serves : (plain : Plain) (device : Device) → IsPlain plain → IsServing plain (kit.servers plain device) kit.Good
-  pub unasked : (plain : Plain) (device : Device) → IsPlain plain → IsCarried plain (kit.servers plain device) kit.Good (SaysUnasked kit.Within plain)
+  pub unasked : (plain : Plain) (device : Device) → IsPlain plain → IsCarried plain (kit.servers plain device) kit.Good (SaysUnasked plain)
   pub spends : (plain : Plain) (device : Device) → IsPlain plain → IsCarried plain (kit.servers plain device) kit.Good Spends
   pub steps : (plain : Plain) (device : Device) → (kit.servers plain device).steps ≡ kit.steps
   -- each step of theirs keeps what holds, and says what happened
-  pub stepped : (plain : Plain) (device : Device) → IsPlain plain → AreStepped plain (kit.servers plain device) kit.Good (SaysUnasked kit.Within plain)
+  pub stepped : (plain : Plain) (device : Device) → IsPlain plain → AreStepped plain (kit.servers plain device) kit.Good (SaysUnasked plain)
   -- they accept alike whatever the device, leave what was answered and the armed count, and their lines tell what grew
   pub alike : (plain : Plain) (one other : Device) → (kit.servers plain one).accept ≡ (kit.servers plain other).accept
   pub keeps : (plain : Plain) (device : Device) (entry : Entry) (state : State P)

@@ -2,6 +2,7 @@ pub mod PartlyDone
 pub mod Measured
 pub mod Kits
 pub mod Scripts
+pub mod Timely
 pub mod Worlds
 pub mod Broken
 pub mod Rounds

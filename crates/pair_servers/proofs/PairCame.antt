@@ -122,7 +122,7 @@ module _ (setup : Setup) (state : State Peers) (old new : Cluster Pair) (before 
         (work-breaks setup state entry Failed count held.files mid ready broke) files unarmed shows lines
 
 -- **memory ran out**: nothing happened but to the disk, whose files are between
-pub lacks : (setup : Setup) (state : State Peers) (held left : Option Files) (old world : Cluster Pair) → IsGood pair_kit setup state → Shows pair_kit setup state old → world.net ≡ old.net → world.agents ≡ old.agents → world.history ≡ old.history → world.now ≡ old.now → (TellsFiles setup state held → LeavesBetween setup (committed state.world.core) held left) → Broken pair_kit.Within setup state held left world
+pub lacks : (setup : Setup) (state : State Peers) (held left : Option Files) (old world : Cluster Pair) → IsGood pair_kit setup state → Shows pair_kit setup state old → world.net ≡ old.net → world.agents ≡ old.agents → world.history ≡ old.history → world.now ≡ old.now → (TellsFiles setup state held → LeavesBetween setup (committed state.world.core) held left) → Broken setup state held left world
 lacks setup state held left old world good shown net agents history now files =
     (whole-broken pair_kit pair_laws) setup state state [] held left world good.steady.sound (unasked-same (plain_of setup) state.world)
     (subst (λ n. AreSpelled state.world.net n) (sym net) shown.net)

@@ -27,14 +27,14 @@ readied-range past (Ready entry) range = range
 
 module _ (setup : Setup) (state : State Peers) (good : IsGood pair_kit setup state) where
   abbrev Unasked : Outcome (State Peers) → Type 0
-  Unasked outcome = SaysUnasked pair_kit.Within (plain_of setup) state.world outcome.state.world outcome.told
+  Unasked outcome = SaysUnasked (plain_of setup) state.world outcome.state.world outcome.told
 
   abbrev Keeps : Outcome (State Peers) → Type 0
   Keeps outcome = IsSteady (plain_of setup) IsPair outcome.state × Unasked outcome
 
   over-kept : Keeps (taken_over state)
   over-kept =
-      over-keeps (plain_of setup) (is_plain setup) (device_by setup (λ number. false)) (SaysUnasked pair_kit.Within (plain_of setup)) (unasked-borne (plain_of setup)) state good.steady
+      over-keeps (plain_of setup) (is_plain setup) (device_by setup (λ number. false)) (SaysUnasked (plain_of setup)) (unasked-borne (plain_of setup)) state good.steady
 
   -- **the standby took over**
   pub over-good : IsGood pair_kit setup (taken_over state).state
@@ -47,7 +47,7 @@ module _ (setup : Setup) (state : State Peers) (good : IsGood pair_kit setup sta
 
   down-kept : Keeps (partner_down state)
   down-kept =
-      down-keeps (plain_of setup) (is_plain setup) (device_by setup (λ number. false)) (SaysUnasked pair_kit.Within (plain_of setup)) (unasked-borne (plain_of setup)) state good.steady
+      down-keeps (plain_of setup) (is_plain setup) (device_by setup (λ number. false)) (SaysUnasked (plain_of setup)) (unasked-borne (plain_of setup)) state good.steady
 
   -- **the partner went down**
   pub down-good : IsGood pair_kit setup (partner_down state).state

@@ -74,12 +74,12 @@ over-tells state = record { lines = refl; loud = sym (not-less (length (committe
 pub record IsStep (setup : Setup) (state : State Peers) (outcome : Outcome (State Peers)) : Type 0 where
   pub good : IsGood pair_kit setup outcome.state
   pub later : answered_in state ≤ answered_in outcome.state
-  pub unasked : SaysUnasked pair_kit.Within (plain_of setup) state.world outcome.state.world outcome.told
+  pub unasked : SaysUnasked (plain_of setup) state.world outcome.state.world outcome.told
   pub told : IsTold state outcome
 
 module _ (setup : Setup) where
   abbrev Near : State Peers → Outcome (State Peers) → Type 0
-  Near state outcome = Nears (plain_of setup) (SaysUnasked pair_kit.Within (plain_of setup)) state outcome
+  Near state outcome = Nears (plain_of setup) (SaysUnasked (plain_of setup)) state outcome
 
   near-step : (state : State Peers) (outcome : Outcome (State Peers)) → IsGood pair_kit setup state → Near state outcome → IsTold state outcome → IsStep setup state outcome
   near-step state outcome good near told = record {
@@ -95,7 +95,7 @@ module _ (setup : Setup) where
   }
 
   abbrev LeavesIf : Device → State Peers → Option (Outcome (State Peers)) → Type 0
-  LeavesIf device state found = Leaves (plain_of setup) (is_plain setup) device (SaysUnasked pair_kit.Within (plain_of setup)) (unasked-borne (plain_of setup)) state found
+  LeavesIf device state found = Leaves (plain_of setup) (is_plain setup) device (SaysUnasked (plain_of setup)) (unasked-borne (plain_of setup)) state found
 
   abbrev calm : Device
   calm = device_by setup (λ number. false)
@@ -103,12 +103,12 @@ module _ (setup : Setup) where
   -- **a message of the link comes, and one of the way back**
   pub mirror-step : (state : State Peers) (outcome : Outcome (State Peers)) → IsGood pair_kit setup state → mirror_pair state ≡ Some outcome → IsStep setup state outcome
   mirror-step state outcome good is =
-      let near : LeavesIf calm state (Some outcome) = subst (LeavesIf calm state) is (mirror-steps (plain_of setup) (is_plain setup) calm (SaysUnasked pair_kit.Within (plain_of setup)) (unasked-borne (plain_of setup)) state good.steady) in
+      let near : LeavesIf calm state (Some outcome) = subst (LeavesIf calm state) is (mirror-steps (plain_of setup) (is_plain setup) calm (SaysUnasked (plain_of setup)) (unasked-borne (plain_of setup)) state good.steady) in
       near-step state outcome good near (subst (TellsIf state) is (mirror-tells state state.peers.partner state.world.core.hand))
 
   pub ack-step : (state : State Peers) (outcome : Outcome (State Peers)) → IsGood pair_kit setup state → ack_pair state ≡ Some outcome → IsStep setup state outcome
   ack-step state outcome good is =
-      let near : LeavesIf calm state (Some outcome) = subst (LeavesIf calm state) is (ack-steps (plain_of setup) (is_plain setup) calm (SaysUnasked pair_kit.Within (plain_of setup)) (unasked-borne (plain_of setup)) state good.steady) in
+      let near : LeavesIf calm state (Some outcome) = subst (LeavesIf calm state) is (ack-steps (plain_of setup) (is_plain setup) calm (SaysUnasked (plain_of setup)) (unasked-borne (plain_of setup)) state good.steady) in
       near-step state outcome good near (subst (TellsIf state) is (ack-tells state state.peers.partner state.world.core.hand))
 
   -- The work of the entry in hand.
@@ -129,7 +129,7 @@ module _ (setup : Setup) where
   work-near : (fails : ℕ → Bool) (state : State Peers) (entry : Entry) → IsGood pair_kit setup state → state.world.core.hand ≡ Ready entry → Near state (work_so entry (falls_by fails entry state) state)
   work-near fails state entry good ready =
       let device = device_by setup fails in
-      subst (LeavesIf device state) (work-is fails state entry ready) (work-steps (plain_of setup) (is_plain setup) device (SaysUnasked pair_kit.Within (plain_of setup)) (unasked-borne (plain_of setup)) state good.steady)
+      subst (LeavesIf device state) (work-is fails state entry ready) (work-steps (plain_of setup) (is_plain setup) device (SaysUnasked (plain_of setup)) (unasked-borne (plain_of setup)) state good.steady)
 
   work-told : (entry : Entry) (fell : Bool) (state : State Peers) → state.world.core.hand ≡ Ready entry → IsTold state (work_so entry fell state)
   work-told entry true state ready = over-tells state

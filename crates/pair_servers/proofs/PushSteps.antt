@@ -82,7 +82,7 @@ each-posted plain (item ∷ items) state =
 push-steady : (setup : Setup) (state : State Peers) → IsSteady (plain_of setup) IsPair state → state.world.core.hand ≡ Empty → IsSteady (plain_of setup) IsPair (pushed pair_kit setup state).state
 push-steady setup state steady empty =
     let plain = plain_of setup in
-    (push-goes plain (is_plain setup) (calm_servers pair_kit setup) IsPair ((calm-serves pair_kit pair_laws) setup) (SaysUnasked pair_kit.Within plain) ((calm-unasked pair_kit pair_laws) setup) state (record { steady = steady; empty = empty })).holds.steady
+    (push-goes plain (is_plain setup) (calm_servers pair_kit setup) IsPair ((calm-serves pair_kit pair_laws) setup) (SaysUnasked plain) ((calm-unasked pair_kit pair_laws) setup) state (record { steady = steady; empty = empty })).holds.steady
 
 pushes-by : (setup : Setup) (state : State Peers) (hand : Hand) (old : Cluster Pair) (net : List (List ℕ)) (items : List Message) (before after : List (List ℕ)) → hand ≡ Empty → IsGood pair_kit setup (pair_at state.peers.partner hand state) → Shows pair_kit setup (pair_at state.peers.partner hand state) old → items ≡ (plain_of setup).held state.world.core.answered → PostsAll items old.net net before after → Happened pair_kit setup (pushed pair_kit setup (pair_at state.peers.partner hand state)) (record old { net = net }) before after
 pushes-by setup state Empty old net items before after empty good shows is posts =
@@ -120,7 +120,7 @@ pushes setup state old net items before after good shows idle are posts =
     (pushes-by setup state state.world.core.hand old net items before after idle good shows is posts, is)
 
 -- **what a push is left as of which some items were posted**
-pub push-breaks : (setup : Setup) (state : State Peers) (old : Cluster Pair) (net : List (List ℕ)) (items : List Message) (held : Option Files) → IsGood pair_kit setup state → Shows pair_kit setup state old → IsIdle state → PushesItems old items → PostsSome items old.net net → Broken pair_kit.Within setup state held held (record old { net = net })
+pub push-breaks : (setup : Setup) (state : State Peers) (old : Cluster Pair) (net : List (List ℕ)) (items : List Message) (held : Option Files) → IsGood pair_kit setup state → Shows pair_kit setup state old → IsIdle state → PushesItems old items → PostsSome items old.net net → Broken setup state held held (record old { net = net })
 push-breaks setup state old net items held good shows idle are posts =
     let plain = plain_of setup in
     let past = state.world.core.answered in
@@ -128,10 +128,10 @@ push-breaks setup state old net items held good shows idle are posts =
     let done = subst P (are setup past (rests-in setup state old shows idle)) posts plain state.world.net (is_plain setup) shows.net in
     let front = take done.0 (plain.held past) in
     let made = All-take (IsMadeItem plain past) done.0 (plain.held past) (held-made plain (is_plain setup) past) in
-    let goes = post_all-goes plain (is_plain setup) (calm_servers pair_kit setup) IsPair ((calm-serves pair_kit pair_laws) setup) (SaysUnasked pair_kit.Within plain) ((calm-unasked pair_kit pair_laws) setup) front state (record { steady = good.steady; empty = idle }) made in
+    let goes = post_all-goes plain (is_plain setup) (calm_servers pair_kit setup) IsPair ((calm-serves pair_kit pair_laws) setup) (SaysUnasked plain) ((calm-unasked pair_kit pair_laws) setup) front state (record { steady = good.steady; empty = idle }) made in
     let same = each-posted plain front state in
     let S : Outcome (State Peers) → Type 0 = λ outcome. IsSteady plain IsPair outcome.state in
-    let T : Outcome (State Peers) → Type 0 = λ outcome. SaysUnasked pair_kit.Within plain state.world outcome.state.world outcome.told in
+    let T : Outcome (State Peers) → Type 0 = λ outcome. SaysUnasked plain state.world outcome.state.world outcome.told in
     let other = record state.world { net = posted_all plain front state.world.net } in
     (whole-broken pair_kit pair_laws) setup state (record { world = other; peers = state.peers }) (lines_all plain front state.world.net) held held (record old { net = net }) (subst S same goes.holds.steady).sound (subst T same goes.carried) done.1
     (agents-as state.world other old.agents refl refl refl shows.agents)

@@ -307,7 +307,7 @@ answer-breaks setup past (Called client number time call) net old new posts spel
     posts-one setup (Answer client number ((plain_of setup).reply past client number time call)) net old new posts spelled
 answer-breaks setup past (Receipted client key through time) net old new posts spelled = inl (posts-none setup net old new posts spelled)
 
-untold-by : (setup : Setup) (state : State Peers) (hand : Hand) (entry : Entry) (old new : Cluster Pair) (heard : Heard) (active : Node) (held left : DiskSeen) → hand ≡ Ready entry → IsGood pair_kit setup (pair_at state.peers.partner hand state) → Shows pair_kit setup (pair_at state.peers.partner hand state) old → held.armed ≡ state.peers.armed → IsWorked old.servers.active heard active → PostsSome heard.to_net old.net new.net → left.files ≡ option_map (all_applied (calls_of_all (deeds_in old.servers.active.replica.owed))) held.files → counts.IsShort (length (calls_of_all (deeds_in old.servers.active.replica.owed))) held.armed → new.agents ≡ old.agents → new.history.entries ≡ old.history.entries → new.now ≡ old.now → Broken pair_kit.Within setup (pair_at state.peers.partner hand state) held.files left.files new
+untold-by : (setup : Setup) (state : State Peers) (hand : Hand) (entry : Entry) (old new : Cluster Pair) (heard : Heard) (active : Node) (held left : DiskSeen) → hand ≡ Ready entry → IsGood pair_kit setup (pair_at state.peers.partner hand state) → Shows pair_kit setup (pair_at state.peers.partner hand state) old → held.armed ≡ state.peers.armed → IsWorked old.servers.active heard active → PostsSome heard.to_net old.net new.net → left.files ≡ option_map (all_applied (calls_of_all (deeds_in old.servers.active.replica.owed))) held.files → counts.IsShort (length (calls_of_all (deeds_in old.servers.active.replica.owed))) held.armed → new.agents ≡ old.agents → new.history.entries ≡ old.history.entries → new.now ≡ old.now → Broken setup (pair_at state.peers.partner hand state) held.files left.files new
 untold-by setup state (Ready other) entry old new heard active held left is good shows armed worked posts files short agents history now =
     let past = state.world.core.answered in
     let before = pair_at state.peers.partner (Ready other) state in

@@ -1,5 +1,5 @@
 -- Words of public clauses: an active server and its partner, as the servers of a cluster.
-use Rattle.std.specs.Prelude.{◌≡◌, ℕ, ◌≤◌, ◌≤ℤ◌, false, Option, None, []}
+use Rattle.std.specs.Prelude.{◌≡◌, ℕ, ◌≤◌, false, Option, None, []}
 use Rattle.plain_service.specs.Setups.{Setup}
 use Rattle.cluster_events.specs.Servers.{State}
 use Rattle.mirror.specs.Replicas.{down}
@@ -24,8 +24,7 @@ pub record FellPair (setup : Setup) (state : State Peers) (servers : Pair) (left
   pub armed : servers.armed ≡ false
   pub count : left ≡ None
 
--- A drain is five steps. The disk's count to the call at which it stops is that of the active server. The clock may move while an entry
--- waits, so an entry may come to the history at a later time than its own; and a standby outlives faults.
+-- A drain is five steps. The disk's count to the call at which it stops is that of the active server. A standby outlives faults.
 abbrev pub pair_kit : Kit Peers Pair
 pair_kit = record {
   servers = pair;
@@ -35,7 +34,6 @@ pair_kit = record {
   Armed = λ peers count. count ≡ peers.armed;
   EndsAtWork = EndsPair;
   Fell = FellPair;
-  Within = λ accepted now. accepted ≤ℤ now;
   Outlives = λ before now. before ≤ now;
 }
 

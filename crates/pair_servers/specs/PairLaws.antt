@@ -1,17 +1,14 @@
 -- An active server and its partner are such servers as a cluster may have.
-use Rattle.std.specs.Prelude.{◌≡◌, ℕ, ℤ, suc, Bool, true, false, ◌||◌, if◌then◌else◌, List, [], ◌∷◌, length}
-use Rattle.std.proofs.Common.{refl, sym, subst, le_refl, le_trans}
-use Rattle.std.specs.List.{AllByRecursion}
-use lib.Signed.{≤ℤ_refl}
+use Rattle.std.specs.Prelude.{◌≡◌, ℕ, suc, Bool, true, false, ◌||◌, if◌then◌else◌, List, [], ◌∷◌, length}
+use Rattle.std.proofs.Common.{refl, sym, subst, inl, inr, le_refl, le_trans}
 use Rattle.cluster_facts.specs.Types.{Entry, Called, Receipted, Answer}
 use Rattle.cluster_facts.specs.Messages.{Posting}
 use Rattle.cluster_facts.specs.Service.{Plain, IsPlain}
-use Rattle.cluster_facts.specs.History.{Hand, Empty, committed_by, time_of}
+use Rattle.cluster_facts.specs.History.{Hand, Empty, Ready, committed_by}
 use Rattle.cluster_facts.specs.World.{World, knows}
-use Rattle.cluster_events.specs.Lines.{Told, Posted, Committed}
+use Rattle.cluster_events.specs.Lines.{Posted, Committed}
 use Rattle.cluster_events.specs.Servers.{State}
 use Rattle.cluster_events.specs.Devices.{Device}
-use Rattle.cluster_events.specs.Saying.{entries_told}
 use Rattle.cluster_events.specs.Serving.{IsCarried}
 use Rattle.event_text.specs.Texts.{printed}
 use Rattle.pair_cluster.specs.Answering.{lines_answering}
@@ -23,30 +20,26 @@ use Rattle.pair_cluster.specs.Pair.{is_linked, accept_by, pair}
 use Rattle.pair_cluster.proofs.Stepping.{Bears}
 use Rattle.pair_cluster.proofs.Serving.{pair-carries, pair-stepped}
 use Rattle.pair_cluster.proofs.Saying.{says-borne, pair-serves, pair-spends}
+use Rattle.pair_cluster.specs.Falling.{with_core}
 use Rattle.cluster_rounds.specs.PartlyDone.{SaysUnasked}
+use Rattle.cluster_rounds.specs.Timely.{AreTimely}
 use Rattle.cluster_rounds.specs.Measured.{Measured, IsMeasured}
 use Rattle.cluster_rounds.specs.Kits.{IsKit}
-use Rattle.cluster_rounds.proofs.UnaskedSteps.{asks-none, asks-both}
+use Rattle.cluster_rounds.proofs.UnaskedSteps.{waits-same, asks-none, asks-both}
 use Rattle.cluster_rounds.proofs.HearSteps.{measured-entry}
 use Rattle.cluster_clients.proofs.ToldLines.{not-less}
 use Rattle.pair_servers.specs.PairKit.{pair_kit}
 
 -- No step of the two asks anything.
 
--- the entries that lines tell are none, or of a time that is not later than this one
-abbrev AreEarly : ℤ → List Told → Type 0
-AreEarly now told = AllByRecursion (λ (line : ℕ × Entry). pair_kit.Within (time_of line.1) now) (entries_told told)
-
-answer-times : (plain : Plain) (past : List Entry) (entry : Entry) (net : List Posting) (now : ℤ) → AreEarly now (lines_answering plain past entry net)
-answer-times plain past (Called client number time call) net now =
+-- no line on a reply tells an entry
+answer-times : (plain : Plain) (past : List Entry) (entry : Entry) (net : List Posting) (world : World) → AreTimely world (lines_answering plain past entry net)
+answer-times plain past (Called client number time call) net world =
     let message = Answer client number (plain.reply past client number time call) in
-    elim (knows plain message net) as (λ b. AreEarly now (if b then [] else Posted (suc (length net)) message ∷ [])) [ true ↦ tt | false ↦ tt ]
-answer-times plain past (Receipted client key through time) net now = tt
+    elim (knows plain message net) as (λ b. AreTimely world (if b then [] else Posted (suc (length net)) message ∷ [])) [ true ↦ tt | false ↦ tt ]
+answer-times plain past (Receipted client key through time) net world = tt
 
-abbrev Unasked : Plain → World → World → List Told → Type 0
-Unasked plain old new told = SaysUnasked pair_kit.Within plain old new told
-
-pub unasked-borne : (plain : Plain) → Bears plain (Unasked plain)
+pub unasked-borne : (plain : Plain) → Bears plain (SaysUnasked plain)
 unasked-borne plain =
     let says = says-borne plain in
     record {
@@ -57,36 +50,41 @@ unasked-borne plain =
       };
       stood = λ world server stands_as. record {
         says = says.stood world server stands_as;
-        asks = record { sent = λ client. refl; now = refl; times = tt };
+        asks = record { sent = λ client. refl; now = refl; times = tt; waits = waits-same world world.core.hand refl };
       };
       refused = λ world line standing. record {
         says = says.refused world line standing;
-        asks = record { sent = λ client. refl; now = refl; times = tt };
+        asks = record { sent = λ client. refl; now = refl; times = tt; waits = waits-same world world.core.hand refl };
       };
       taken = λ world past entry in_force. record {
         says = says.taken world past entry in_force;
-        asks = record { sent = λ client. refl; now = refl; times = tt };
+        asks = record { sent = λ client. refl; now = refl; times = tt; waits = inl in_force };
       };
       applied = λ world past entry sound. record {
         says = says.applied world past entry sound;
-        asks = record { sent = λ client. refl; now = refl; times = (sound.facts.legal.times.0, tt) };
+        asks = record { sent = λ client. refl; now = refl; times = (inr refl, tt); waits = tt };
       };
       confirmed = λ world past entry. record {
         says = says.confirmed world past entry;
-        asks = record { sent = λ client. refl; now = refl; times = tt };
+        asks = record { sent = λ client. refl; now = refl; times = tt; waits = tt };
       };
       worked = λ world past entry. record {
         says = says.worked world past entry;
-        asks = record { sent = answer-sent plain past entry world.net; now = refl; times = answer-times plain past entry world.net world.now };
+        asks = record {
+          sent = answer-sent plain past entry world.net;
+          now = refl;
+          times = answer-times plain past entry world.net (with_core past (Ready entry) world);
+          waits = tt;
+        };
       };
       over = λ world past hand. record {
         says = says.over world past hand;
-        asks = record { sent = λ client. refl; now = refl; times = tt };
+        asks = record { sent = λ client. refl; now = refl; times = tt; waits = tt };
       };
     }
 
 -- nor does a step of the clients' side
-unasked-told : (plain : Plain) → IsTold plain (Unasked plain)
+unasked-told : (plain : Plain) → IsTold plain (SaysUnasked plain)
 unasked-told plain =
     let says = Says-told plain in
     record {
@@ -97,29 +95,29 @@ unasked-told plain =
       };
       ignored = λ world place why. record {
         says = says.ignored world place why;
-        asks = record { sent = λ client. refl; now = refl; times = tt };
+        asks = record { sent = λ client. refl; now = refl; times = tt; waits = waits-same world world.core.hand refl };
       };
       answer = λ world client number reply. record {
         says = says.answer world client number reply;
-        asks = record { sent = λ other. refl; now = refl; times = tt };
+        asks = record { sent = λ other. refl; now = refl; times = tt; waits = waits-same world world.core.hand refl };
       };
       pushed = λ world client key item. record {
         says = says.pushed world client key item;
-        asks = record { sent = λ other. refl; now = refl; times = tt };
+        asks = record { sent = λ other. refl; now = refl; times = tt; waits = waits-same world world.core.hand refl };
       };
       reply = λ world client number call reply sound kept place stands. record {
         says = says.reply world client number call reply sound kept place stands;
-        asks = record { sent = λ other. refl; now = refl; times = tt };
+        asks = record { sent = λ other. refl; now = refl; times = tt; waits = waits-same world world.core.hand refl };
       };
       item = λ world client key item found sound here next place stands. record {
         says = says.item world client key item found sound here next place stands;
-        asks = record { sent = λ other. refl; now = refl; times = tt };
+        asks = record { sent = λ other. refl; now = refl; times = tt; waits = waits-same world world.core.hand refl };
       };
     }
 
 -- so each step that a round is made of says what happened, and asks nothing
-pair-unasked : (plain : Plain) (device : Device) → IsPlain plain → IsCarried plain (pair plain device) IsPair (Unasked plain)
-pair-unasked plain device is_plain = pair-carries plain is_plain device (Unasked plain) (unasked-borne plain) (unasked-told plain)
+pair-unasked : (plain : Plain) (device : Device) → IsPlain plain → IsCarried plain (pair plain device) IsPair (SaysUnasked plain)
+pair-unasked plain device is_plain = pair-carries plain is_plain device (SaysUnasked plain) (unasked-borne plain) (unasked-told plain)
 
 -- What an acceptance leaves, and what its lines tell.
 
@@ -147,7 +145,8 @@ accept-measured false entry state empty =
     let past = state.world.core.answered in
     let net = length state.world.net in
     let told = Committed (suc (length past)) entry ∷ [] in
-    subst (λ (hand : Hand). Measured (length (committed_by past hand)) (suc (length past)) net net told) (sym empty) (measured-entry (length past) net (suc (length past)) entry)
+    subst (λ (hand : Hand). Measured (length (committed_by past hand)) (suc (length past)) net net told) (sym empty)
+    (measured-entry (length past) net (suc (length past)) entry)
 
 pub pair_laws : IsKit pair_kit
 pair_laws = record {
@@ -155,7 +154,7 @@ pair_laws = record {
   unasked = λ plain device is_plain. pair-unasked plain device is_plain;
   spends = λ plain device is_plain. pair-spends plain device is_plain;
   steps = λ plain device. refl;
-  stepped = λ plain device is_plain. pair-stepped plain is_plain device (Unasked plain) (unasked-borne plain);
+  stepped = λ plain device is_plain. pair-stepped plain is_plain device (SaysUnasked plain) (unasked-borne plain);
   alike = λ plain one other. refl;
   keeps = λ plain device entry state. accept-keeps (is_linked state.peers.partner) entry state;
   armed = λ plain device entry state count is. subst (λ armed. count ≡ armed) (accept-armed (is_linked state.peers.partner) entry state) is;
