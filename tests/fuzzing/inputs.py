@@ -44,7 +44,8 @@ class Inputs:
         sys.path.insert(0, bench)
         play = importlib.machinery.SourceFileLoader("play", os.path.join(bench, "play")).load_module()
         paths = sorted(glob.glob(os.path.join(TOP, "tests", "scripts", "*.ais")) + glob.glob(os.path.join(TOP, "examples", "*.ais")))
-        self.scripts = [read_file(path) for path in paths] + [play.script_of(40, called).encode() for called in (False, True)]
+        self.scripts = [read_file(path) for path in paths]
+        self.scripts += ["".join(line + "\n" for line in play.script_of(40, called, False)).encode() for called in (False, True)]
         self.scripts = [script for script in self.scripts if len(script) < 6000]
         logs = sorted(glob.glob(os.path.join(TOP, "tests", "scripts", "*.files", "**", "*.log"), recursive=True))
         self.records = [data for data in map(read_file, logs) if 0 < len(data) < 6000]
