@@ -73,17 +73,6 @@ file-unsized name held old new counted =
     let due = file-some name held in
     record { due = due.0; is_due = due.1; made = 1; within = due.2; whole = λ done. absurd (cc); counted = counted }
 
--- there is no file
-pub file-absent : (name : List ℕ) (held : Option Files) (old new : Tally) → IfSome held (λ f. None ≡ length_of f name) → new ≡ read_more 1 old → Looks (FileCalls name held) true old new
-file-absent name held old new told counted = record {
-  due = 1;
-  is_due = size-due name held None told;
-  made = 1;
-  within = omega arith;
-  whole = λ done. refl;
-  counted = counted;
-}
-
 -- its bytes were read, or not, behind the call for its length
 pub file-read : {T : Type 0} (name : List ℕ) (held : Option Files) (size : ℕ) (result : Result T DiskAnswer) (old mid new : Tally) → IfSome held (λ f. Some size ≡ length_of f name) → mid ≡ read_more 1 old → (size ≡ 0 → new ≡ mid) → (1 ≤ size → ReadsOnce result mid new) → Looks (FileCalls name held) (is_ok result) old new
 file-read name held zero result old mid new told first unread reads = record {
@@ -125,14 +114,3 @@ pub counted-next : (count : ℕ) (old mid new : Tally) → mid ≡ read_more (su
 counted-next count old mid new before last =
     let same : suc (suc count) ≡ suc (count + 1) = omega arith in
     subst (λ (calls : ℕ). new ≡ read_more calls old) same (last ∙ ap (read_more 1) before)
-
--- what was done in part of a whole
-pub looks-part : (Due : ℕ → Type 0) (done : Bool) (old new : Tally) → Looks Due done old new → Looks Due false old new
-looks-part Due done old new looks = record {
-  due = looks.due;
-  is_due = looks.is_due;
-  made = looks.made;
-  within = looks.within;
-  whole = λ none. absurd (cc);
-  counted = looks.counted;
-}

@@ -1,5 +1,5 @@
 //! What is shown of servers and files, and refusals.
-ghost use Rattle.std.specs.Prelude.{◌≡◌, OnOk, IsErrOf};
+ghost use Rattle.std.specs.Prelude.{◌≡◌, OnOk, OnErr, IsErrOf};
 ghost use Rattle.std.specs.Result.{is_ok};
 ghost use Rattle.ais_values.specs.Causes.{RoseExactlyOn};
 ghost use Rattle.disk_model.specs.declared.answers.DiskAnswer.{DiskAnswer};
@@ -28,8 +28,9 @@ pub fn put_refusal<S: Serving>(
     standing: &Standing,
 ) -> Result<(), AllocError>
     requires { StandsAs S.kit world.now standing.now }
-    ensures { OnOk result (Does S.kit (refused S.kit line.now) world.entry.now world.entry.now
+    ensures ok { OnOk result (Does S.kit (refused S.kit line.now) world.entry.now world.entry.now
         lines.old.items lines.new.items) }
+    ensures err { OnErr result (lines.new.items ≡ lines.old.items) }
 {
     put_refused(alloc, lines, line, standing)
 }
@@ -41,8 +42,9 @@ pub(crate) fn refused<S: Scripted>(
     lines: &mut Vec<Seq<u8>>,
     line: &Line,
 ) -> Result<(), AllocError>
-    ensures { OnOk result (Does S.kit (refused S.kit line.now) world.entry.now world.entry.now
+    ensures ok { OnOk result (Does S.kit (refused S.kit line.now) world.entry.now world.entry.now
         lines.old.items lines.new.items) }
+    ensures err { OnErr result (lines.new.items ≡ lines.old.items) }
 {
     let standing = S::standing(world);
     put_refusal(alloc, world, lines, line, &standing)

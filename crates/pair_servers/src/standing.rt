@@ -1,5 +1,5 @@
 //! The servers' roles and names, and refusals.
-ghost use Rattle.std.specs.Prelude.{◌≡◌, OnOk};
+ghost use Rattle.std.specs.Prelude.{◌≡◌, OnOk, OnErr};
 ghost use Rattle.cluster_rounds.specs.Worlds.{Does};
 ghost use Rattle.pair_cluster.specs.Peers.{same_server, other_server};
 ghost use Rattle.pair_servers.specs.PairKit.{pair_kit};
@@ -111,8 +111,9 @@ pub fn refused(
     lines: &mut Vec<Seq<u8>>,
     line: &Line,
 ) -> Result<(), AllocError>
-    ensures { OnOk result (Does pair_kit (refused_by line.now) world.entry.now world.entry.now
+    ensures ok { OnOk result (Does pair_kit (refused_by line.now) world.entry.now world.entry.now
         lines.old.items lines.new.items) }
+    ensures err { OnErr result (lines.new.items ≡ lines.old.items) }
 {
     let standing = standing_of(world);
     put_refused(alloc, lines, line, &standing)

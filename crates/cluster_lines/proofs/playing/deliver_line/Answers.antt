@@ -14,7 +14,7 @@ returns-then-done-clause-ok g c =
 pub returns-else-done-clause-ok : goal.returns-else-done-clause-ok
 returns-else-done-clause-ok g c =
     let D : Bool → Type 0 = λ done. (Delivers g.S.Serving.kit) c.args.place done c.args.world.now c.deliver.new.world c.args.lines.now.items c.deliver.new.lines.items in
-    on_ok_weaker c.refused.result (λ refuses. (delivers-refused-after g.S.Serving.kit g.met.S.Serving.laws) c.args.place c.args.line.now c.args.world.now c.deliver.new.world c.args.lines.now.items c.deliver.new.lines.items c.refused.new.lines.items c.requires.line (subst D c.if-done.false c.in-Ok.ensures.ok) refuses) c.refused.ensures
+    on_ok_weaker c.refused.result (λ refuses. (delivers-refused-after g.S.Serving.kit g.met.S.Serving.laws) c.args.place c.args.line.now c.args.world.now c.deliver.new.world c.args.lines.now.items c.deliver.new.lines.items c.refused.new.lines.items c.requires.line (subst D c.if-done.false c.in-Ok.ensures.ok) refuses) c.refused.ensures.ok
 
 pub returns-else-done-clause-err : goal.returns-else-done-clause-err
 returns-else-done-clause-err g c =

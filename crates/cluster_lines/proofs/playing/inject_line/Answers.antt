@@ -28,7 +28,7 @@ returns-then-not-done-clause-ok g c =
     let B : List ℕ → Type 0 = λ bytes. (Injects g.S.Serving.kit) bytes c.in-Ok.done old new before between in
     let D : Bool → Type 0 = λ done. (Injects g.S.Serving.kit) c.args.bytes.now done old new before between in
     let none = subst D c.if-not-done.true (subst B c.as_slice.ensures.bytes c.in-Ok.ensures.ok) in
-    on_ok_weaker c.refused.result (λ refuses. (plays-as g.S.Serving.kit g.met.S.Serving.laws) (line.Inject c.args.bytes.now) c.args.line.now old new before after c.requires ((plays-spelling g.S.Serving.kit g.met.S.Serving.laws) c.args.bytes.now c.args.line.now old new before between after c.requires none refuses)) c.refused.ensures
+    on_ok_weaker c.refused.result (λ refuses. (plays-as g.S.Serving.kit g.met.S.Serving.laws) (line.Inject c.args.bytes.now) c.args.line.now old new before after c.requires ((plays-spelling g.S.Serving.kit g.met.S.Serving.laws) c.args.bytes.now c.args.line.now old new before between after c.requires none refuses)) c.refused.ensures.ok
 
 pub returns-then-not-done-clause-err : goal.returns-then-not-done-clause-err
 returns-then-not-done-clause-err g c =

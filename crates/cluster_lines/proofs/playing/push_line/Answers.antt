@@ -15,7 +15,7 @@ push-requires g c =
 pub returns-then-is_some-clause-ok : goal.returns-then-is_some-clause-ok
 returns-then-is_some-clause-ok g c =
     let R : Line → Type 0 = λ next. (Does g.S.Serving.kit) ((refused g.S.Serving.kit) next) c.args.world.now c.args.world.now c.args.lines.now.items c.refused.new.lines.items in
-    on_ok_weaker c.refused.result (λ refuses. (pushes-busy g.S.Serving.kit g.met.S.Serving.laws g.S.Serving.script g.met.S.Scripted.follows) c.args.world.now c.standing.result c.args.lines.now.items c.refused.new.lines.items c.standing.ensures c.if-is_some.ensures (subst R c.requires.line refuses)) c.refused.ensures
+    on_ok_weaker c.refused.result (λ refuses. (pushes-busy g.S.Serving.kit g.met.S.Serving.laws g.S.Serving.script g.met.S.Scripted.follows) c.args.world.now c.standing.result c.args.lines.now.items c.refused.new.lines.items c.standing.ensures c.if-is_some.ensures (subst R c.requires.line refuses)) c.refused.ensures.ok
 
 pub returns-in-Ok-clause-ok : goal.returns-in-Ok-clause-ok
 returns-in-Ok-clause-ok g c =

@@ -19,4 +19,4 @@ returns-clause-ok g c =
     let after = c.refused.new.lines.items in
     on_ok_weaker c.refused.result
     (λ refuses. arm-refuses c.args.server c.args.count old before after (seen (g.D.SharedDisk.files c.args.disk.now) (g.D.SharedDisk.tally c.args.disk.now) (g.D.SharedDisk.faults c.args.disk.now)) (sym c.if-leads.ensures) (subst (λ line. Does pair_kit (refused_by line) old old before after) c.requires.line refuses))
-    c.refused.ensures
+    c.refused.ensures.ok

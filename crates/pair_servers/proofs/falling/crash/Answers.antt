@@ -34,7 +34,7 @@ returns-clause-ok g c =
     ends-ok c.refused.result c.as_answer-2.result _ c.as_answer-2.ensures
     (on_ok_weaker c.refused.result
     (λ refuses. crash-refuses c.args.server old before after (seen (g.D.SharedDisk.files c.args.disk.now) (g.D.SharedDisk.tally c.args.disk.now) (g.D.SharedDisk.faults c.args.disk.now)) (sym c.if-leads.ensures) (sym c.if-follows.ensures) (subst (λ line. Does pair_kit (refused_by line) old old before after) c.requires.line refuses))
-    c.refused.ensures)
+    c.refused.ensures.ok)
 
 pub returns-clause-err : goal.returns-clause-err
 returns-clause-err g c =

@@ -20,7 +20,7 @@ returns-clause-ok c =
     let old = c.args.world.now in
     let before = c.args.lines.now.items in
     let after = c.refused.new.lines.items in
-    on_ok_weaker c.refused.result (λ refuses. restart-refuses c.args.server old before after (sym c.if-rests.ensures) (subst (λ line. Does pair_kit (refused_by line) old old before after) c.requires.line refuses)) c.refused.ensures
+    on_ok_weaker c.refused.result (λ refuses. restart-refuses c.args.server old before after (sym c.if-rests.ensures) (subst (λ line. Does pair_kit (refused_by line) old old before after) c.requires.line refuses)) c.refused.ensures.ok
 
 pub returns-clause-err : goal.returns-clause-err
 returns-clause-err c = on-err c.refused.result (same-untold c.args.world.now c.args.world.now refl)

@@ -21,7 +21,7 @@ returns-else-went-clause-ok c =
     let S : Bool → Type 0 = λ went. StepsBy mirror_pair went c.args.world.now new c.args.lines.now.items between in
     on_ok_weaker c.refused.result
     (λ refuses. mirror-refused c.args.world.now new c.args.lines.now.items between c.refused.new.lines.items (subst S c.if-went.false c.in-Ok.ensures.ok) (subst (λ line. Does pair_kit (refused_by line) new new between c.refused.new.lines.items) c.requires.line refuses))
-    c.refused.ensures
+    c.refused.ensures.ok
 
 pub returns-else-went-clause-err : goal.returns-else-went-clause-err
 returns-else-went-clause-err c =

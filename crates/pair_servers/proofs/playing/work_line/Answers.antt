@@ -27,4 +27,4 @@ returns g c =
     let is = c.ready.ensures.1 ready in let no = c.if-ready.false in cc
     in
     let held = seen (g.D.SharedDisk.files c.args.disk.now) (g.D.SharedDisk.tally c.args.disk.now) (g.D.SharedDisk.faults c.args.disk.now) in
-    idle-line c.refused.result c.as_answer.result c.args.line.now old old c.args.lines.now.items c.refused.new.lines.items held c.requires.line idle c.as_answer.ensures c.requires.state c.refused.ensures (on-err c.refused.result ((same-breaks pair_kit pair_laws) old))
+    idle-line c.refused.result c.as_answer.result c.args.line.now old old c.args.lines.now.items c.refused.new.lines.items held c.requires.line idle c.as_answer.ensures c.requires.state c.refused.ensures.ok (on-err c.refused.result ((same-breaks pair_kit pair_laws) old))
