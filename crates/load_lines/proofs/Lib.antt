@@ -1,4 +1,4 @@
 mod Words
-mod Fixed
-mod Turns
-mod Whole
+pub mod Fixed
+pub mod Turns
+pub mod Whole

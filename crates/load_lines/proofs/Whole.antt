@@ -117,7 +117,7 @@ state-low : (seed turns : ℕ) → state_at seed turns < 2147483648
 state-low seed zero = omega arith
 state-low seed (suc turns) = omega arith
 
-number-low : (seed turns : ℕ) → number_in (state_at seed turns) < 65536
+pub number-low : (seed turns : ℕ) → number_in (state_at seed turns) < 65536
 number-low seed turns = let low = state-low seed turns in omega arith
 
 gives-turns : (seed turns : ℕ) → turns < 2 ^ 64 → Gives (turns_lines seed turns) (turns_text seed turns)

@@ -24,14 +24,20 @@ no_options = record { fmt = None; rec = None; max = None; full = None; rot = Non
 abbrev pub no_class : ClassId
 no_class = record { vendor = 0; major = 0; minor = 0 }
 
-abbrev pub opening_lines : List Line
-opening_lines =
-    Cluster (pos 1704067200000000000) 2 256 no_options no_options no_options
-    ∷ Log 1 (Start service.Log (record { release = 65; major = 2; minor = 1 }))
+-- the cluster line, and the lines before the first turn
+abbrev pub opening_line : Line
+opening_line = Cluster (pos 1704067200000000000) 2 256 no_options no_options no_options
+
+abbrev pub first_lines : List Line
+first_lines =
+    Log 1 (Start service.Log (record { release = 65; major = 2; minor = 1 }))
     ∷ Log 1 (Plain (LogOpen stream.System None))
     ∷ Ntf 2 (Start service.Ntf (record { release = 65; major = 1; minor = 1 }))
     ∷ Settle
     ∷ []
+
+abbrev pub opening_lines : List Line
+opening_lines = opening_line ∷ first_lines
 
 abbrev pub closing_lines : List Line
 closing_lines = Settle ∷ Servers ∷ []

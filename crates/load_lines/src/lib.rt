@@ -1,13 +1,8 @@
-//! The lines of the script of a large run, and that its text is the script of just these lines.
+//! The lines of the script of a large run, turn by turn, and that its text is the script of just these lines.
 #![tactic(auto)]
 
-ghost use Rattle.std.specs.Prelude.{◌<◌, ◌^◌, ℕ};
-ghost use Rattle.script_language.specs.Scripts.{IsScriptOf};
-ghost use Rattle.load_script.specs.Texts.{load_text};
-ghost use Rattle.load_lines.specs.Lines.{load_lines};
+mod law;
+mod lines;
 
-/// The text of a large run is a script, and these are its lines.
-pub fn law_of_loads()
-    ensures { (count seed : ℕ) → count < 2 ^ 64
-        → IsScriptOf (load_lines count seed) (load_text count seed) }
-{}
+pub use law::law_of_loads;
+pub use lines::{closing_lines, first_lines, opening_line, turn_lines};

@@ -5,4 +5,5 @@ mod numbers;
 mod turns;
 mod writing;
 
+pub use numbers::{first_state, next_state, number_in};
 pub use writing::write_script;

@@ -1,5 +1,5 @@
 use Rattle.load_lines.proofs.Whole.{load-script}
-use Rattle.load_lines.proofs.law_of_loads.Goals as goal
+use Rattle.load_lines.proofs.law.law_of_loads.Goals as goal
 
 pub returns : goal.returns
 returns c = load-script
