@@ -18,13 +18,13 @@ use Rattle.script_language.specs.Scripts.{IsScriptOf}
 use Rattle.aisrun.specs.declared.ending.Status8.{Status8}
 use Rattle.aisrun.specs.declared.ending.Status8.TheVariants.{Done, ScriptRefused, Usage, Memory, ReadFault, WriteFault, DiskFault, RootNotEmpty, TooLong, Inseparable}
 use Rattle.aisrun.specs.declared.command.Command.{Command}
-use Rattle.aisrun.specs.declared.command.Command.TheVariants.{Run, Check, Expr, Scan}
+use Rattle.aisrun.specs.declared.command.Command.TheVariants.{Run, Check, Expr, Load, Scan}
 use Rattle.aisrun.specs.declared.command.RecordQuery.{RecordQuery}
 use Rattle.aisrun.specs.Commands.{command_of, text_of}
 use Rattle.aisrun.specs.Completing.{CanCheck, CanParse, CanRun, HoldsRecords, IsDoneOrMemory}
 use Rattle.aisrun.specs.Counts.{HasRisen, RisesBefore}
 use Rattle.aisrun.specs.Edges.{Edge, before, after, fault_count, Around}
-use Rattle.aisrun.specs.Endings.{input_limit, ReadsWhole, InputTooLong, Ends, Reads, ReadsSource, NoScript, NoExpression}
+use Rattle.aisrun.specs.Endings.{input_limit, ReadsWhole, InputTooLong, Ends, Fails, HasLines, InLoad, InScript, Reads, ReadsSource, NoScript, NoExpression}
 use Rattle.aisrun.specs.RunSteps.{WordsLack}
 use Rattle.aisrun.specs.Scanning.{CanScan, CannotPart, TakesText}
 use Rattle.aisrun.specs.Steps.{Ended, Whole, SinkFailed, SinkLacked, Lacked}
@@ -56,7 +56,7 @@ not-too-long source bytes text left short long =
     not-longer bytes (after source) short (subst T left long.taken)
 
 -- a disk without files lists no name
-no-name : (name : List ℕ) (others : List (List ℕ)) → keys no_files ≡ name ∷ others → ⊥
+pub no-name : (name : List ℕ) (others : List (List ℕ)) → keys no_files ≡ name ∷ others → ⊥
 no-name name others same =
     let none : length (entries no_files) ≡ 0 = sym (len-entries no_files) ∙ len-empty (slice_cmp nat_cmp) File in
     let some : length (keys no_files) ≡ length others + 1 = omega (arith, ap length same) in
@@ -66,6 +66,15 @@ no-name name others same =
 module _ {S K D : Type 0} (run : Around S K D) where
   pub asked : (one other : Command) → command_of run.words ≡ Some one → command_of run.words ≡ Some other → one ≡ other
   asked one other first second = let same : Some one ≡ Some other = sym first ∙ second in cc
+
+  -- only the words of two commands have lines played
+  pub not-played : (one : Command) → command_of run.words ≡ Some one → (one ≡ Run → ⊥) → ((count seed : ℕ) → one ≡ Load count seed → ⊥) → (lines : List Line) → HasLines run lines → ⊥
+  not-played one is no_run no_load lines (inl script) = no_run (asked one Run is script.words)
+  not-played one is no_run no_load lines (inr load) = no_load load.count load.seed (asked one (Load load.count load.seed) is load.words)
+
+  pub not-failed : (one : Command) → command_of run.words ≡ Some one → (one ≡ Run → ⊥) → ((count seed : ℕ) → one ≡ Load count seed → ⊥) → (text : List ℕ) → Fails run text → ⊥
+  not-failed one is no_run no_load text (InScript lines script fails) = not-played one is no_run no_load lines (inl script)
+  not-failed one is no_run no_load text (InLoad lines load fails) = not-played one is no_run no_load lines (inr load)
 
   not-reading : (kind : StreamKind) → command_of run.words ≡ Some (Expr kind) → Reads run.words → ⊥
   not-reading kind is (inl runs) = let no : Expr kind ≡ Run = asked (Expr kind) Run is runs in cc
@@ -133,11 +142,9 @@ module _ {S K D : Type 0} (run : Around S K D) where
   checked lines bytes words left short script reads ReadFault text rises end = absurd (reads rises.0)
   checked lines bytes words left short script reads WriteFault text rises end = absurd end
   checked lines bytes words left short script reads DiskFault text rises end =
-      let no : Check ≡ Run = asked Check Run words end.1.words in
-      absurd cc
+      absurd (not-failed Check words (λ e. cc) (λ count seed e. cc) text end)
   checked lines bytes words left short script reads RootNotEmpty text rises end =
-      let no : Check ≡ Run = asked Check Run words end.1.words in
-      absurd cc
+      absurd (not-played Check words (λ e. cc) (λ count seed e. cc) end.0 end.1)
   checked lines bytes words left short script reads TooLong text rises end = absurd (not-too-long run.source bytes text left short end.why)
   checked lines bytes words left short script reads Inseparable text rises end =
       absurd (not-scripts end.cannot.query end.cannot.asked (inr words))
@@ -154,8 +161,8 @@ module _ {S K D : Type 0} (run : Around S K D) where
   parsed kind words faultless Memory text end = absurd end
   parsed kind words faultless ReadFault text end = absurd (not-asking kind words end.words)
   parsed kind words faultless WriteFault text end = absurd end
-  parsed kind words faultless DiskFault text end = absurd (not-reading kind words (inl end.1.words))
-  parsed kind words faultless RootNotEmpty text end = absurd (not-reading kind words (inl end.1.words))
+  parsed kind words faultless DiskFault text end = absurd (not-failed (Expr kind) words (λ e. cc) (λ count seed e. cc) text end)
+  parsed kind words faultless RootNotEmpty text end = absurd (not-played (Expr kind) words (λ e. cc) (λ count seed e. cc) end.0 end.1)
   parsed kind words faultless TooLong text end = absurd (not-asking kind words end.words)
   parsed kind words faultless Inseparable text end =
       let no : Expr kind ≡ Scan end.cannot.query = asked (Expr kind) (Scan end.cannot.query) words end.cannot.asked in
@@ -173,8 +180,10 @@ module _ {S K D : Type 0} (run : Around S K D) where
   scanned can bytes left short reads Memory text rises end = absurd end
   scanned can bytes left short reads ReadFault text rises end = absurd (reads rises.0)
   scanned can bytes left short reads WriteFault text rises end = absurd end
-  scanned can bytes left short reads DiskFault text rises end = absurd (not-scripts can.query can.asked (inl end.1.words))
-  scanned can bytes left short reads RootNotEmpty text rises end = absurd (not-scripts can.query can.asked (inl end.1.words))
+  scanned can bytes left short reads DiskFault text rises end =
+      absurd (not-failed (Scan can.query) can.asked (λ e. cc) (λ count seed e. cc) text end)
+  scanned can bytes left short reads RootNotEmpty text rises end =
+      absurd (not-played (Scan can.query) can.asked (λ e. cc) (λ count seed e. cc) end.0 end.1)
   scanned can bytes left short reads TooLong text rises end = absurd (not-too-long run.source bytes text left short end.why)
   scanned can bytes left short reads Inseparable text rises end =
       let cannot = end.cannot in

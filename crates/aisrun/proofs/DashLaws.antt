@@ -10,7 +10,7 @@ use Rattle.std.proofs.lemmas.Slice.Eq.{bytes_eq-Decides}
 use Rattle.command_line.specs.Lines.{is_dashed, is_line, line_of}
 use Rattle.scan_lines.specs.declared.shown.Shown.{Shown}
 use Rattle.scan_lines.specs.declared.shown.Shown.TheVariants as shown
-use Rattle.aisrun.specs.Commands.{command_of, command_of_three, expr_command, find_command, gen_command, is_word, kind_of_word, lone_command, number_of, record_size, records_command, scan_command}
+use Rattle.aisrun.specs.Commands.{command_of, command_of_three, expr_command, find_command, gen_command, is_word, kind_of_word, load_command, lone_command, number_of, record_size, records_command, scan_command}
 use Rattle.aisrun.proofs.WordLaws.{number-unspelled}
 
 -- A word that begins with a minus sign.
@@ -101,11 +101,20 @@ no-gen count seed (inr (inl dashed)) =
     nothing-then (number_of 1 100000 count) _ (λ turns. rw (no-number 0 18446744073709551615 seed (omega arith) dashed) refl)
 no-gen count seed (inr (inr never)) = absurd never
 
+no-load : (count seed : List ℕ) → AnyDashed (count ∷ seed ∷ []) → load_command count seed ≡ None
+no-load count seed (inl dashed) = rw (no-number 1 100000 count (omega arith) dashed) refl
+no-load count seed (inr (inl dashed)) =
+    nothing-then (number_of 1 100000 count) _ (λ turns. rw (no-number 0 18446744073709551615 seed (omega arith) dashed) refl)
+no-load count seed (inr (inr never)) = absurd never
+
 no-three : (word one two : List ℕ) → AnyDashed (word ∷ one ∷ two ∷ []) → command_of_three word one two ≡ None
 no-three word one two (inl dashed) =
-    ap (λ b. cond b (gen_command one two) (expr_command word one two)) (other-word word (codes "gen") dashed refl) ∙ no-expr word one two (inl dashed)
+    ap (λ b. cond b (gen_command one two) (cond (is_word word (codes "load")) (load_command one two) (expr_command word one two))) (other-word word (codes "gen") dashed refl)
+    ∙ ap (λ b. cond b (load_command one two) (expr_command word one two)) (other-word word (codes "load") dashed refl)
+    ∙ no-expr word one two (inl dashed)
 no-three word one two (inr others) =
-    both-none (is_word word (codes "gen")) (gen_command one two) (expr_command word one two) (no-gen one two others) (no-expr word one two (inr others))
+    both-none (is_word word (codes "gen")) (gen_command one two) (cond (is_word word (codes "load")) (load_command one two) (expr_command word one two)) (no-gen one two others)
+    (both-none (is_word word (codes "load")) (load_command one two) (expr_command word one two) (no-load one two others) (no-expr word one two (inr others)))
 
 no-records : (name size : List ℕ) (asked : Shown) → AnyDashed (name ∷ size ∷ []) → records_command name size asked ≡ None
 no-records name size asked (inl dashed) = rw (no-kind name dashed) refl

@@ -25,12 +25,12 @@ use Rattle.aisrun.specs.declared.ending.End.{End}
 use Rattle.aisrun.specs.declared.ending.Status8.{Status8}
 use Rattle.aisrun.specs.declared.ending.Status8.TheVariants.{Done, ScriptRefused, Usage, Memory, ReadFault, WriteFault, DiskFault, RootNotEmpty, TooLong, Inseparable}
 use Rattle.aisrun.specs.declared.command.Command.{Command}
-use Rattle.aisrun.specs.declared.command.Command.TheVariants.{Run, Check, Expr, Gen, Scan}
+use Rattle.aisrun.specs.declared.command.Command.TheVariants.{Run, Check, Expr, Gen, Load, Scan}
 use Rattle.aisrun.specs.Commands.{command_of, text_of}
 use Rattle.aisrun.specs.Checking.{CheckEnds, Judged, IsScript, IsNoScript, ExprEnds, IsExpression, IsNoExpression}
 use Rattle.aisrun.specs.Counts.{HasStood}
 use Rattle.aisrun.specs.Edges.{Edge, edge, before, after, fault_count, IsUntouched, Stage, stage, Around, LeavesAll}
-use Rattle.aisrun.specs.Endings.{input_limit, ReadsWhole, SourceFailed, InputTooLong, PlayEnds, PlayedTo, PlayLacks, Unopened, Opening, InEvent, Opens, FaultLeft, StoodUpTo, HasScript, DiskFails, AtNames, AtOpening, AtEvent, LacksBy, Unjudged, RunLacks, Unread as Unknown, Unplayed, Ends, Checked, Parsed, Ran, NoScript, NoExpression}
+use Rattle.aisrun.specs.Endings.{input_limit, ReadsWhole, SourceFailed, InputTooLong, PlayEnds, PlayedTo, PlayLacks, Unopened, Opening, InEvent, Opens, FaultLeft, StoodUpTo, HasScript, DiskFails, AtNames, AtOpening, AtEvent, InScript, LacksBy, Unbegun, Unjudged, RunLacks, Unread as Unknown, Unplayed, Ends, Checked, Parsed, Ran, NoScript, NoExpression}
 use Rattle.aisrun.specs.Inputs.{UnreadEnds, UnreadLacks}
 use Rattle.aisrun.specs.Playing.{files_told, Goes, PlaysFront, seen_behind, StandsAt}
 use Rattle.aisrun.specs.RunSteps.{EndWritten, InputEnds, InputLacks}
@@ -67,7 +67,7 @@ end-written E L (Err e) sink status written ends lacks =
 -- Lines behind the opening, and the whole script.
 
 -- the beginning of a script that was played
-abbrev front-of : (held : Option Files) (first : ℕ) (opening : Line) (events done rest : List Line) (setup : Setup) (places : ℕ) (text : List ℕ) → Begins opening setup places → HoldsNone held → events ≡ done ++ rest → Goes setup places held first done text → PlaysFront held first (opening ∷ events) done rest text
+abbrev pub front-of : (held : Option Files) (first : ℕ) (opening : Line) (events done rest : List Line) (setup : Setup) (places : ℕ) (text : List ℕ) → Begins opening setup places → HoldsNone held → events ≡ done ++ rest → Goes setup places held first done text → PlaysFront held first (opening ∷ events) done rest text
 front-of held first opening events done rest setup places text begins empty parts goes = record {
   opening = opening;
   parts = ap (λ (behind : List Line). opening ∷ behind) parts;
@@ -135,7 +135,7 @@ module _ {K D : Type 0} (told : K → Option (List ℕ)) (sink_faults : K → �
 
   -- The disk was asked before, and has the same files and the same count.
 
-  moved : (old mid : D) → held mid ≡ held old → disk_faults mid ≡ disk_faults old → (P : Option Files → ℕ → Type 0) → P (held mid) (disk_faults mid) → P (held old) (disk_faults old)
+  pub moved : (old mid : D) → held mid ≡ held old → disk_faults mid ≡ disk_faults old → (P : Option Files → ℕ → Type 0) → P (held mid) (disk_faults mid) → P (held old) (disk_faults old)
   moved old mid same stood P holds =
       subst (λ (first : ℕ). P (held old) first) stood (subst (λ (files : Option Files). P files (disk_faults mid)) same holds)
 
@@ -245,8 +245,8 @@ module _ {S K D : Type 0} (run : Around S K D) where
   input-run asked None text ends = inl (ends.2.0, has-script asked ends.0 ends.1 ends.2.0 ends.2.1, ends.2.2)
   input-run asked (Some Done) text ends =
       Ran ends.2.0 (has-script asked ends.0 ends.1 ends.2.0 ends.2.1) ends.2.2.0 ends.2.2.1
-  input-run asked (Some DiskFault) text ends = (ends.2.0, has-script asked ends.0 ends.1 ends.2.0 ends.2.1, ends.2.2)
-  input-run asked (Some RootNotEmpty) text ends = (ends.2.0, has-script asked ends.0 ends.1 ends.2.0 ends.2.1, ends.2.2)
+  input-run asked (Some DiskFault) text ends = InScript ends.2.0 (has-script asked ends.0 ends.1 ends.2.0 ends.2.1) ends.2.2
+  input-run asked (Some RootNotEmpty) text ends = (ends.2.0, inl (has-script asked ends.0 ends.1 ends.2.0 ends.2.1), ends.2.2)
   input-run asked (Some ScriptRefused) text ends = NoScript (inl asked) ends.2.0 ends.0 ends.1 ends.2.1
   input-run asked (Some ReadFault) text ends = record { words = inl (inl asked); all = ends.0; why = ends.1 }
   input-run asked (Some TooLong) text ends = record { words = inl (inl asked); all = ends.0; why = ends.1 }
@@ -306,6 +306,7 @@ lacks-early run (Some Run) all source = Unknown refl all
 lacks-early run (Some Check) all source = (refl, all)
 lacks-early run (Some (Expr kind)) all source = (refl, all, source)
 lacks-early run (Some (Gen count seed)) all source = (refl, all, source)
+lacks-early run (Some (Load count seed)) all source = Unbegun refl all source
 lacks-early run (Some (Scan query)) all source = Unjudged refl all source
 
 -- the end of a part

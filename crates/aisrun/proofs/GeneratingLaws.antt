@@ -14,7 +14,7 @@ use Rattle.aisrun.specs.Endings.{Ends, Generated, NoExpression, NoScript, Reads,
 use Rattle.aisrun.specs.RunSteps.{WordsLack}
 use Rattle.aisrun.specs.Scanning.{TakesText}
 use Rattle.aisrun.specs.Steps.{Counting, Ended, IsNever, IsText, Standing, Written}
-use Rattle.aisrun.proofs.CompletenessLaws.{asked, well}
+use Rattle.aisrun.proofs.CompletenessLaws.{asked, not-failed, not-played, well}
 use Rattle.aisrun.proofs.CountSteps.{untouched-on, untouched-stood}
 use Rattle.aisrun.proofs.EndingSteps.{text-written}
 
@@ -49,8 +49,8 @@ module _ {S K D : Type 0} (run : Around S K D) (count seed : ℕ) (words : comma
   generated Memory text end = absurd end
   generated ReadFault text end = absurd (not-source end.words)
   generated WriteFault text end = absurd end
-  generated DiskFault text end = absurd (not-scripts (inl end.1.words))
-  generated RootNotEmpty text end = absurd (not-scripts (inl end.1.words))
+  generated DiskFault text end = absurd (not-failed run (Gen count seed) words (λ e. cc) (λ n from e. cc) text end)
+  generated RootNotEmpty text end = absurd (not-played run (Gen count seed) words (λ e. cc) (λ n from e. cc) end.0 end.1)
   generated TooLong text end = absurd (not-source end.words)
   generated Inseparable text end =
       let no : Gen count seed ≡ Scan end.cannot.query = another (Scan end.cannot.query) end.cannot.asked in

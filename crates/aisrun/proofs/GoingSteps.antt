@@ -169,7 +169,7 @@ module _ (setup : Setup) (places : ℕ) (held : Option Files) (first : ℕ) wher
   line-events mid left Since old new done next others front going since (Some Inseparable) text ends = absurd ends
 
   -- memory that was wanting in a line was wanting behind those before it
-  line-lacks : (mid left : DiskSeen) (old new : World) (done : List Line) (next : Line) (others : List Line) (front : List ℕ) → (going : Going setup places held first mid old done front) → (text : List ℕ) → LineLacks setup going.state mid.files left.files new text → LacksBehind setup places held first left.files new (done ++ next ∷ others) (front ++ text)
+  pub line-lacks : (mid left : DiskSeen) (old new : World) (done : List Line) (next : Line) (others : List Line) (front : List ℕ) → (going : Going setup places held first mid old done front) → (text : List ℕ) → LineLacks setup going.state mid.files left.files new text → LacksBehind setup places held first left.files new (done ++ next ∷ others) (front ++ text)
   line-lacks mid left old new done next others front going text lacks =
       let stand = going-stand mid old done front going in
       let B : Option Files → Type 0 = λ one. Broken setup going.state one left.files new in

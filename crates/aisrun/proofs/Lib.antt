@@ -11,10 +11,16 @@ mod FallLaws
 mod GoingSteps
 mod FaultLaws
 mod EndingSteps
+mod LoadLines
+mod TurnSteps
+mod LoadPassing
+mod FigureLaws
+mod LoadEndings
 mod ScanEndings
 mod ScanLaws
 mod StatusLaws
 mod CompletenessLaws
 mod GeneratingLaws
+mod LoadCompleteness
 mod WordLaws
 mod DashLaws

@@ -11,7 +11,7 @@ use Rattle.command_line.specs.Lines.{is_dashed}
 use Rattle.scan_lines.specs.declared.shown.Shown.{Shown}
 use Rattle.scan_lines.specs.declared.shown.Shown.TheVariants as shown
 use Rattle.aisrun.specs.declared.command.Command.{Command}
-use Rattle.aisrun.specs.declared.command.Command.TheVariants.{Run, Check, Expr, Gen, Scan}
+use Rattle.aisrun.specs.declared.command.Command.TheVariants.{Run, Check, Expr, Gen, Load, Scan}
 
 -- the bytes of each word
 abbrev pub word_bytes : {Z : Type 0} → List (String Z) → List (List ℕ)
@@ -50,9 +50,17 @@ abbrev pub gen_command : (count seed : List ℕ) → Option Command
 gen_command count seed =
     option_and_then (λ turns. option_map (λ from. Gen turns from) (number_of 0 18446744073709551615 seed)) (number_of 1 100000 count)
 
+-- `load`, with the same
+abbrev pub load_command : (count seed : List ℕ) → Option Command
+load_command count seed =
+    option_and_then (λ turns. option_map (λ from. Load turns from) (number_of 0 18446744073709551615 seed)) (number_of 1 100000 count)
+
 -- the commands of three words
 abbrev pub command_of_three : (word one two : List ℕ) → Option Command
-command_of_three word one two = if is_word word (codes "gen") then gen_command one two else expr_command word one two
+command_of_three word one two =
+    if is_word word (codes "gen") then gen_command one two
+    else if is_word word (codes "load") then load_command one two
+    else expr_command word one two
 
 -- the size of records: 0, or 32 to 16,384
 abbrev pub record_size : List ℕ → Option ℕ

@@ -6,7 +6,7 @@ use Rattle.format_expr.specs.declared.fault.ExprFault.{ExprFault}
 use Rattle.format_expr.specs.Faults.{IsFault}
 use Rattle.script_lines.specs.declared.line.Line.{Line}
 use Rattle.script_language.specs.Scripts.{IsScriptOf}
-use Rattle.aisrun.specs.declared.command.Command.TheVariants.{Expr, Gen}
+use Rattle.aisrun.specs.declared.command.Command.TheVariants.{Expr, Gen, Load}
 use Rattle.aisrun.specs.declared.ending.Status8.{Status8}
 use Rattle.aisrun.specs.declared.ending.Status8.TheVariants.{Done, Memory}
 use Rattle.aisrun.specs.Commands.{command_of, text_of}
@@ -43,6 +43,13 @@ pub record CanGenerate (words : List (List ℕ)) : Type 0 where
   pub count : ℕ
   pub seed : ℕ
   pub asked : command_of words ≡ Some (Gen count seed)
+
+-- words that are the command `load`, and a disk without files
+pub record CanLoad (words : List (List ℕ)) (held : Option Files) : Type 0 where
+  pub count : ℕ
+  pub seed : ℕ
+  pub asked : command_of words ≡ Some (Load count seed)
+  pub empty : held ≡ Some no_files
 
 -- words that ask for records by a text that serves, and a source that has at most 16 MiB to give
 pub record HoldsRecords (words : List (List ℕ)) (left : Option (List ℕ)) : Type 0 where

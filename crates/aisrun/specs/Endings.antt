@@ -34,11 +34,12 @@ use Rattle.aisrun.specs.declared.ending.Status8.{Status8}
 use Rattle.aisrun.specs.declared.ending.Status8.TheVariants.{Done, ScriptRefused, Usage, Memory, ReadFault, WriteFault, DiskFault}
 use Rattle.aisrun.specs.declared.ending.Status8.TheVariants.{RootNotEmpty, TooLong, Inseparable}
 use Rattle.aisrun.specs.declared.command.Command.{Command}
-use Rattle.aisrun.specs.declared.command.Command.TheVariants.{Run, Check, Expr, Gen, Scan}
+use Rattle.aisrun.specs.declared.command.Command.TheVariants.{Run, Check, Expr, Gen, Load, Scan}
 use Rattle.aisrun.specs.Commands.{command_of, text_of as word_text}
 use Rattle.aisrun.specs.Counts.{HasGoneOn, HasRisen, HasStood, RisesBefore}
 use Rattle.aisrun.specs.Edges.{Edge, before, after, fault_count, first_count, disk_left, IsUntouched, Stage, Around, LeavesAll}
 use Rattle.aisrun.specs.Playing.{files_told, PlaysFront, seen_behind, StandsAt, text_of}
+use Rattle.aisrun.specs.Loading.{TellsLoad}
 use Rattle.aisrun.specs.Scanning.{CanScan, CannotScan, ScansAll, ScansFront, TakesText}
 use Rattle.aisrun.specs.Usage.{usage_line}
 
@@ -185,6 +186,28 @@ pub record HasScript {S K D : Type 0} (run : Around S K D) (lines : List Line) :
   pub words : command_of run.words ≡ Some Run
   pub script : ReadsScript run.source lines
 
+-- the script of so many turns from a seed on, which the words tell, was made to be played; the source was not asked
+pub record HasLoad {S K D : Type 0} (run : Around S K D) (lines : List Line) : Type 0 where
+  pub count : ℕ
+  pub seed : ℕ
+  pub words : command_of run.words ≡ Some (Load count seed)
+  pub source : IsUntouched run.source
+  pub script : IsScriptOf lines (load_text count seed)
+
+-- one of both was played
+abbrev pub HasLines : {S K D : Type 0} → Around S K D → List Line → Type 0
+HasLines run lines = HasScript run lines ⊎ HasLoad run lines
+
+-- the disk failed in a large run, of whose lines nothing is written: as they were played; or behind them, as the files were counted, where
+-- all stands where they led, but for the disk's count of faults
+pub data LoadFails {K D : Type 0} (script : List Line) (scene : Stage K D) (text : List ℕ) : Type 0 where
+  InPlay : (unwritten : List ℕ) → DiskFails script scene unwritten → text ≡ fault_line → LoadFails script scene text
+  AtCount :
+      (done : List Line) (unwritten : List ℕ) (front : PlaysFront (before scene.disk) (first_count scene) script done [] unwritten)
+      → StandsAt front.setup front.goes.state front.goes.files front.goes.faults (before scene.disk)
+      (record { files = after scene.disk; armed = scene.armed; faults = front.goes.faults }) scene.world_after
+      → HasRisen (front.goes.faults, scene.disk.faults scene.disk.new) → text ≡ fault_line → LoadFails script scene text
+
 -- what each command comes to where all is well
 pub data Succeeds {S K D : Type 0} (run : Around S K D) (text : List ℕ) : Type 0 where
   Ran : (lines : List Line) → HasScript run lines → (done : List Line) → PlayedTo run.stage lines done [] text → Succeeds run text
@@ -198,6 +221,9 @@ pub data Succeeds {S K D : Type 0} (run : Around S K D) (text : List ℕ) : Type
   Generated :
       (count seed : ℕ) → command_of run.words ≡ Some (Gen count seed) → LeavesAll run.stage → IsUntouched run.source → text ≡ load_text count seed
       → Succeeds run text
+  Loaded :
+      (lines : List Line) → HasLoad run lines → (done : List Line) (unwritten : List ℕ) (played : PlayedTo run.stage lines done [] unwritten)
+      → TellsLoad played.front.goes.state (after run.stage.disk) text → Succeeds run text
   Scanned :
       (can : CanScan run.words) → LeavesAll run.stage → (bytes : List ℕ) → ReadsWhole run.source bytes → ScansAll can bytes text
       → Succeeds run text
@@ -246,6 +272,11 @@ pub record ScansOn {S K D : Type 0} (run : Around S K D) (text : List ℕ) : Typ
   pub read : ReadsWhole run.source bytes
   pub told : ScansFront can bytes text
 
+-- the disk failed as a script was played, or a large run
+pub data Fails {S K D : Type 0} (run : Around S K D) (text : List ℕ) : Type 0 where
+  InScript : (lines : List Line) → HasScript run lines → DiskFails lines run.stage text → Fails run text
+  InLoad : (lines : List Line) → HasLoad run lines → LoadFails lines run.stage text → Fails run text
+
 -- how a run ends, and its text; or how far the lines of its script were played, or its records told
 abbrev pub Ends : {S K D : Type 0} → Around S K D → Option Status8 → List ℕ → Type 0
 Ends run None text = ((lines : List Line) × HasScript run lines × PlayEnds lines run.stage None text) ⊎ ScansOn run text
@@ -255,8 +286,8 @@ Ends run (Some Usage) text = KnowsNoWords run text
 Ends run (Some ReadFault) text = StopsReading run SourceFailed text
 Ends run (Some TooLong) text = StopsReading run InputTooLong text
 Ends run (Some Inseparable) text = PartsNoTexts run text
-Ends run (Some RootNotEmpty) text = (lines : List Line) × HasScript run lines × RootHolds run.stage text
-Ends run (Some DiskFault) text = (lines : List Line) × HasScript run lines × DiskFails lines run.stage text
+Ends run (Some RootNotEmpty) text = (lines : List Line) × HasLines run lines × RootHolds run.stage text
+Ends run (Some DiskFault) text = Fails run text
 Ends run _ text = ⊥
 
 -- a text is printed of which P holds
@@ -277,6 +308,15 @@ pub data RunLacks {S K D : Type 0} (run : Around S K D) (text : List ℕ) : Type
   Unread : text ≡ [] → LeavesAll run.stage → RunLacks run text
   Unplayed : (lines : List Line) → HasScript run lines → PlayLacks lines run.stage text → RunLacks run text
 
+-- memory ran out in a large run, of whose lines nothing is written: before it began; as it was played; or behind some of its lines, as the
+-- next one was made, or the line that is printed behind them all
+pub data LoadLacks {S K D : Type 0} (run : Around S K D) (text : List ℕ) : Type 0 where
+  Unbegun : text ≡ [] → LeavesAll run.stage → IsUntouched run.source → LoadLacks run text
+  Unended : text ≡ [] → (lines : List Line) → HasLoad run lines → (unwritten : List ℕ) → PlayLacks lines run.stage unwritten → LoadLacks run text
+  Unmade :
+      text ≡ [] → (lines : List Line) → HasLoad run lines → (done rest : List Line) (unwritten : List ℕ)
+      → PlayedTo run.stage lines done rest unwritten → LoadLacks run text
+
 -- memory ran out as records were told: before it was known whether the text serves, where the source is as it was; as the source was
 -- read for a text that serves; or behind the first records
 pub data RecordsLack {S K D : Type 0} (run : Around S K D) (text : List ℕ) : Type 0 where
@@ -284,13 +324,14 @@ pub data RecordsLack {S K D : Type 0} (run : Around S K D) (text : List ℕ) : T
   Unheld : CanScan run.words → text ≡ [] → LeavesAll run.stage → RecordsLack run text
   Untold : ScansOn run text → RecordsLack run text
 
--- the same of each command; `expr`, `gen` and words that are no command leave the source as it is
+-- the same of each command; `expr`, `gen`, `load` and words that are no command leave the source as it is
 abbrev pub LacksBy : {S K D : Type 0} → Option Command → Around S K D → List ℕ → Type 0
 LacksBy None run text = (text ≡ []) × LeavesAll run.stage × IsUntouched run.source
 LacksBy (Some Run) run text = RunLacks run text
 LacksBy (Some Check) run text = (text ≡ []) × LeavesAll run.stage
 LacksBy (Some (Expr kind)) run text = (text ≡ []) × LeavesAll run.stage × IsUntouched run.source
 LacksBy (Some (Gen count seed)) run text = (text ≡ []) × LeavesAll run.stage × IsUntouched run.source
+LacksBy (Some (Load count seed)) run text = LoadLacks run text
 LacksBy (Some (Scan query)) run text = RecordsLack run text
 
 -- memory ran out in the sink; or elsewhere, where no object had failed but the disk in works of servers that went down, and all text up to

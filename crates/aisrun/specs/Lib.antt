@@ -7,6 +7,8 @@ pub mod Edges
 pub mod Endings
 pub mod ExitStatus
 pub mod Inputs
+pub mod Loading
+pub mod LoadSteps
 pub mod Playing
 pub mod Promises
 pub mod Telling

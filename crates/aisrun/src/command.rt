@@ -1,6 +1,6 @@
 //! The words of the command line.
 ghost use Rattle.std.specs.Prelude.{◌≡◌, ◌<◌, ◌^◌, IfOk, map, string_bytes};
-ghost use Rattle.aisrun.specs.Commands.{command_of, command_of_three, expr_command, find_command, gen_command, kind_of_word, lone_command, number_of, record_size, records_command, scan_command, text_of, wanted_of};
+ghost use Rattle.aisrun.specs.Commands.{command_of, command_of_three, expr_command, find_command, gen_command, kind_of_word, load_command, lone_command, number_of, record_size, records_command, scan_command, text_of, wanted_of};
 
 use ais_values::StreamKind;
 use command_line::{is_dashed, read_line};
@@ -30,6 +30,8 @@ pub enum Command {
     Expr { kind: StreamKind },
     /// Print the script of so many turns, 1 to 100,000, from a seed on.
     Gen { count: u32, seed: u64 },
+    /// Run that script, and tell in one line where it led.
+    Load { count: u32, seed: u64 },
     /// Print the records that the source gives, with the texts of the tokens of the third word.
     Scan { query: RecordQuery },
 }
@@ -102,12 +104,27 @@ fn gen_command(count: &str, seed: &str) -> Option<Command>
     }
 }
 
+// The command that runs such a script.
+fn load_command(count: &str, seed: &str) -> Option<Command>
+    ensures { result ≡ load_command count.now seed.now }
+{
+    match number_of(count, 1, 100_000) {
+        None => None,
+        Some(count) => match seed_of(seed) {
+            None => None,
+            Some(seed) => Some(Command::Load { count, seed }),
+        },
+    }
+}
+
 // The command of three words.
 fn command_of_three(word: &str, one: &str, two: &str) -> Option<Command>
     ensures { result ≡ command_of_three word.now one.now two.now }
 {
     if word == "gen" {
         gen_command(one, two)
+    } else if word == "load" {
+        load_command(one, two)
     } else {
         expr_command(word, one, two)
     }

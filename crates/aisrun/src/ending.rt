@@ -83,7 +83,7 @@ pub fn end_with(alloc: Global, status: Status8, text: &[u8]) -> Result<End, Allo
 
 /// What is printed where the words are none of the program's.
 const USAGE: &[u8] =
-    b"usage: aisrun run, check, expr KIND TEXT, gen COUNT SEED, scan KIND TEXT SIZE or find KIND TEXT SIZE TOKEN WORD\n";
+    b"usage: aisrun run, check, expr KIND TEXT, gen COUNT SEED, load COUNT SEED, scan KIND TEXT SIZE or find KIND TEXT SIZE TOKEN WORD\n";
 
 /// The end where the words are none of the program's.
 #[tactic(auto, unfolding(crate::specs::Usage::usage_line))]

@@ -118,8 +118,8 @@ fn open<R: Threads + Wait + Sync, K: Sink, D: SharedDisk, G: Gate>(
     }
 }
 
-// The least name of the disk's files, if it holds one.
-fn first_name<D: SharedDisk>(alloc: Global, disk: &mut D) -> Result<Option<Text>, DiskAnswer>
+/// The least name of the disk's files, if it holds one. `Failed` comes exactly where its count of faults rose.
+pub fn first_name<D: SharedDisk>(alloc: Global, disk: &mut D) -> Result<Option<Text>, DiskAnswer>
     ensures found { IfOk result (λ found. FindsNames (D.files disk.old) found) }
     ensures same { D.files disk.new ≡ D.files disk.old }
     ensures armed { (D.tally disk.new).armed ≡ (D.tally disk.old).armed }
@@ -138,8 +138,8 @@ fn first_name<D: SharedDisk>(alloc: Global, disk: &mut D) -> Result<Option<Text>
     }
 }
 
-// Writes the end where the disk held a file of this name.
-fn write_held<K: Sink>(alloc: Global, out: &mut K, name: &[u8]) -> Status8
+/// Writes the end where the disk held a file of this name.
+pub fn write_held<K: Sink>(alloc: Global, out: &mut K, name: &[u8]) -> Status8
     ensures { Written (IsText Status8.RootNotEmpty
         (codes "root not empty: " ++ (name.now ++ codes "\n")))
         IsNone (edge K.written K.faults out.old out.new) result }

@@ -2,7 +2,7 @@
 ghost use Rattle.std.specs.Prelude.{◌≡◌, ◌≤◌, None, Some, length};
 ghost use Rattle.aisrun.specs.AfterFault.{KeepsAtFault};
 ghost use Rattle.aisrun.specs.Commands.{command_of, word_bytes};
-ghost use Rattle.aisrun.specs.Completing.{CanCheck, CanGenerate, CanParse, CanRun, HoldsRecords, IsDoneOrMemory};
+ghost use Rattle.aisrun.specs.Completing.{CanCheck, CanGenerate, CanLoad, CanParse, CanRun, HoldsRecords, IsDoneOrMemory};
 ghost use Rattle.aisrun.specs.Counts.{HasRisen, NoneRises, RisesBy};
 ghost use Rattle.aisrun.specs.declared.ending.Status8.{Status8};
 ghost use Rattle.aisrun.specs.Edges.{around, edge, fault_count, stage};
@@ -21,6 +21,7 @@ use crate::ending::{Status8, usage};
 use crate::expr::check_text;
 use crate::generating::generate;
 use crate::input::{INPUT_LIMIT, write_unread};
+use crate::loading::load;
 use crate::playing::play;
 use crate::reading::{Script, read_script};
 use crate::scanning::scan;
@@ -108,6 +109,7 @@ fn run_command<R: Threads + Wait + Sync, S: Source, K: Sink, D: SharedDisk, G: G
         Command::Check => run_check(alloc, source, out),
         Command::Expr { kind } => write_end(out, check_text(alloc, kind, text_of(words))),
         Command::Gen { count, seed } => generate(alloc, count, seed, out),
+        Command::Load { count, seed } => load(rt, alloc, count, seed, out, disk, gate, world),
         Command::Scan { query } => {
             scan(alloc, query, text_of(words), wanted_of(words), source, out)
         }
@@ -142,30 +144,31 @@ fn run_words<R: Threads + Wait + Sync, S: Source, K: Sink, D: SharedDisk, G: Gat
 
 /// Does what the words ask for, over a source, a sink, a disk and an empty world, and tells the status that the run ends with.
 ///
-/// The words `run` read the source to its end as a script and play it over the disk: its first line begins a cluster, and
-/// the others are its events, whose lines are written as each event ends; the workers of a dispatch pass the gate. The
-/// words `check` read it to its end and tell whether it is a script. The words `expr KIND TEXT` tell whether the text is a
-/// format expression, and the words `gen COUNT SEED` write the script of a large run, of so many turns from a seed on; the
-/// source stays unread. The words `scan KIND TEXT SIZE` read the source to its end as records of the size and print of each
-/// the texts of the tokens of the expression, `find KIND TEXT SIZE TOKEN WORD` of those in which the token of this number
-/// has the word as its text. Before the source is read a text is refused that is no expression (`ScriptRefused`), or of
-/// whose tokens the texts cannot be told apart in records of the size (`Inseparable`). SIZE is 0, for records that end with
-/// their first line feed, or 32 to 16,384; TOKEN is 1 to 1,024.
+/// The words `run` read the source to its end as a script and play it over the disk: its first line begins a cluster, and the
+/// others are its events, whose lines are written as each event ends; the workers of a dispatch pass the gate. The words
+/// `check` read it to its end and tell whether it is a script. The words `expr KIND TEXT` tell whether the text is a format
+/// expression, and the words `gen COUNT SEED` write the script of a large run, of so many turns from a seed on; the source
+/// stays unread, and so it does by the words `load COUNT SEED`, which play that script over the disk and write, in place of the
+/// lines of its events, one line behind the last one: on the world and on the disk's files. The words `scan KIND TEXT SIZE`
+/// read the source to its end as records of the size and print of each the texts of the tokens of the expression, `find KIND
+/// TEXT SIZE TOKEN WORD` of those in which the token of this number has the word as its text. Before the source is read a text
+/// is refused that is no expression (`ScriptRefused`), or of whose tokens the texts cannot be told apart in records of the size
+/// (`Inseparable`). SIZE is 0, for records that end with their first line feed, or 32 to 16,384; TOKEN is 1 to 1,024.
 ///
 /// The disk is not armed before.
 ///
-/// The clause `ends` says of each status what was read, what is written and what stands. Every count of faults stands but
-/// as the status says: `WriteFault` comes exactly where the sink's rose, whatever was to come; the source's rises by
-/// `ReadFault`, and only so, or where the sink failed or lacked memory as the text of just this end was written. The disk's
-/// goes along with the lines that are played: it rises in one that is done only where a line of it tells that a server is
-/// down, and by `DiskFault`: as the names were asked for, in the deeds of the start, as a line showed files, or in an event
-/// behind which no server is active. There no other server was in service as the disk failed: the works that failed
-/// before are those by which the count rose before, and a takeover in the event had a fault of its own. Of the count before
-/// that event it is said that a value of the disk with the files of the events before has it. Where memory ran out in the
-/// sink, `Memory`, a front of a text was written; elsewhere no object had failed but the disk in works of servers that went
-/// down, and all text up to there was written; `check`, `expr`, `gen`, `scan`, `find` and words that are none of the
-/// program's leave disk and world as they are all the same, `expr`, `gen` and such words the source too, and so do `scan`
-/// and `find` where it was not yet known whether their text serves.
+/// The clause `ends` says of each status what was read, what is written and what stands. Every count of faults stands but as
+/// the status says: `WriteFault` comes exactly where the sink's rose, whatever was to come; the source's rises by `ReadFault`,
+/// and only so, or where the sink failed or lacked memory as the text of just this end was written. The disk's goes along with
+/// the lines that are played: it rises in one that is done only where a line of it tells that a server is down, and by
+/// `DiskFault`: as the names were asked for, in the deeds of the start, as a line showed files, as `load` counted them behind
+/// the last event, or in an event behind which no server is active. There no other server was in service as the disk failed:
+/// the works that failed before are those by which the count rose before, and a takeover in the event had a fault of its own.
+/// Of the count before that event it is said that a value of the disk with the files of the events before has it. Where memory
+/// ran out in the sink, `Memory`, a front of a text was written; elsewhere no object had failed but the disk in works of
+/// servers that went down, and all text up to there was written, which is none of `load`; `check`, `expr`, `gen`, `scan`,
+/// `find` and words that are none of the program's leave disk and world as they are all the same, `expr`, `gen`, `load` and
+/// such words the source too, and so do `scan` and `find` where it was not yet known whether their text serves.
 ///
 /// The clauses behind them say of each run what holds at the end of every line that was played, by any status, whatever is
 /// lost, repeated, reordered, crashed, stopped, restarted or failed over. A line tells a refusal by a client's agent exactly
@@ -224,8 +227,8 @@ pub fn run<R: Threads + Wait + Sync, S: Source, K: Sink, D: SharedDisk, G: Gate>
     ensures want_tells { TellsAtWant (D.files disk.old)
         (seen (D.files disk.new) (D.tally disk.new) (D.faults disk.new)) world.new }
 
-    // Where nothing fails, a script is played, a script is checked, an expression is taken apart, a script is made, and records
-    // are told: only memory may be missing.
+    // Where nothing fails, a script is played, a script is checked, an expression is taken apart, a script is made, a large run
+    // is played, and records are told: only memory may be missing.
     ensures completes { CanRun (word_bytes words.now) (S.left source.old) (D.files disk.old)
         → NoneRises (S.faults source.old, S.faults source.new) (K.faults out.old, K.faults out.new)
         (D.faults disk.old, D.faults disk.new) → IsDoneOrMemory result }
@@ -236,6 +239,9 @@ pub fn run<R: Threads + Wait + Sync, S: Source, K: Sink, D: SharedDisk, G: Gate>
         → ¬ HasRisen (K.faults out.old, K.faults out.new) → IsDoneOrMemory result }
     ensures generates { CanGenerate (word_bytes words.now)
         → ¬ HasRisen (K.faults out.old, K.faults out.new) → IsDoneOrMemory result }
+    ensures loads { CanLoad (word_bytes words.now) (D.files disk.old)
+        → ¬ HasRisen (K.faults out.old, K.faults out.new)
+        → ¬ HasRisen (D.faults disk.old, D.faults disk.new) → IsDoneOrMemory result }
     ensures scans { HoldsRecords (word_bytes words.now) (S.left source.old)
         → ¬ HasRisen (S.faults source.old, S.faults source.new)
         → ¬ HasRisen (K.faults out.old, K.faults out.new) → IsDoneOrMemory result }

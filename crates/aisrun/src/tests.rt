@@ -23,7 +23,7 @@ const WRITE: &str =
     "log 1 init A.2.1\nlog 1 open system\nlog 1 write system inv=0 flags=0 gen sev=6 class=0.0.0 user=\"u\" body=\"a\"\nsettle\n";
 
 const USAGE: &str =
-    "usage: aisrun run, check, expr KIND TEXT, gen COUNT SEED, scan KIND TEXT SIZE or find KIND TEXT SIZE TOKEN WORD\n";
+    "usage: aisrun run, check, expr KIND TEXT, gen COUNT SEED, load COUNT SEED, scan KIND TEXT SIZE or find KIND TEXT SIZE TOKEN WORD\n";
 
 /// Words that are none of the program's, one row a line.
 const OTHER_WORDS: &str = "\
@@ -50,6 +50,11 @@ const OTHER_WORDS: &str = "\
     gen,1,-1\n\
     gen,1,18446744073709551616\n\
     gen,1,1,1\n\
+    load,1\n\
+    load,0,1\n\
+    load,100001,1\n\
+    load,1,18446744073709551616\n\
+    load,1,1,1\n\
     scan,system,a\n\
     scan,System,a,32\n\
     scan,system,-a,32\n\
@@ -93,7 +98,8 @@ const ENDS: &str = "\
     log 1 init A.2.1\nlog 1 open system\nntf 2 init A.1.1\nsettle\n\
     log 1 write system inv=1 flags=0 gen sev=3 class=0.0.0 user=\"g\" body=\"16838\"\n\
     log 1 write system inv=2 flags=0 gen sev=4 class=0.0.0 user=\"g\" body=\"5758\"\n\
-    settle\nservers\n";
+    settle\nservers\n;\
+    load,2,1||0|load entries=5 replies=5 net=10 files=6 bytes=995 a=active b=standby\n";
 
 /// The words, the input, the exit status and the text, parted by `|` and `;`. Where the status is not 0 the source fails, if it is read.
 const SCANS: &str = "\
@@ -116,11 +122,15 @@ const SCANS: &str = "\
 /// One digit each for the failing call of the source, of the sink and of the disk's reading ones, whether there is a file, and the
 /// exit status; then the word and the text, one row a line. The disk's first changing call fails.
 const REASONS: &str = "\
-    10002|run,run|usage: aisrun run, check, expr KIND TEXT, gen COUNT SEED, scan KIND TEXT SIZE or find KIND TEXT SIZE TOKEN WORD\n;\
+    10002|run,run|usage: aisrun run, check, expr KIND TEXT, gen COUNT SEED, load COUNT SEED, scan KIND TEXT SIZE or find KIND TEXT SIZE TOKEN WORD\n;\
     10014|run|read fault\n;\
     00017|run|root not empty: x\n;\
     00006|run|disk fault\n;\
     00116|run|disk fault\n;\
+    00017|load,1,1|root not empty: x\n;\
+    00006|load,1,1|disk fault\n;\
+    10116|load,1,1|disk fault\n;\
+    01005|load,1,1|;\
     11015|run,run|;\
     11015|run|;\
     01015|run|;\
@@ -521,6 +531,67 @@ fn no_other_look_is_taken_at_the_disk(rt: HostRuntime) {
     makes_fewer(&rt, alloc, empty, 3, "");
     let look = Failing { look: 3, ..NONE };
     breaks(&rt, alloc, "cat \"saLogAlarm.cfg\"\n", look, "");
+}
+
+/// The words `load`, over a disk with these failing calls, end with this status and this text, and nothing is read.
+fn loads<R: Abort + Threads + Wait + Sync>(
+    rt: &R,
+    alloc: Global,
+    words: &str,
+    failing: Failing,
+    status: u8,
+    text: &str,
+) {
+    let input = behind_cluster(rt, alloc, "");
+    let mut stage = prepared(rt, alloc, input, failing);
+    ends(rt, alloc, &mut stage, words, status, text.as_bytes());
+    assert!(rt; stage.source.unread() == CLUSTER.as_bytes(), "{words}");
+    drop(stage);
+}
+
+/// The start asks for the names, and what is counted behind the last line for the names and six lengths.
+#[test]
+fn each_look_of_a_large_run_fails_in_turn(rt: HostRuntime) {
+    let alloc = rt.alloc();
+    for look in 1..9 {
+        loads(
+            &rt,
+            alloc,
+            "load,1,1",
+            Failing { look, ..NONE },
+            6,
+            "disk fault\n",
+        );
+    }
+    let one = "load entries=4 replies=4 net=8 files=6 bytes=739 a=active b=standby\n";
+    loads(&rt, alloc, "load,1,1", Failing { look: 9, ..NONE }, 0, one);
+}
+
+/// The record's two changing calls follow the twelve of the start: where one of them fails, the standby takes over.
+#[test]
+fn each_change_of_a_large_run_fails_in_turn(rt: HostRuntime) {
+    let alloc = rt.alloc();
+    for change in 1..13 {
+        loads(
+            &rt,
+            alloc,
+            "load,1,1",
+            Failing { change, ..NONE },
+            6,
+            "disk fault\n",
+        );
+    }
+    let over = "load entries=4 replies=4 net=8 files=6 bytes=739 a=down b=active\n";
+    for change in 13..15 {
+        loads(&rt, alloc, "load,1,1", Failing { change, ..NONE }, 0, over);
+    }
+}
+
+#[test]
+fn a_large_run_ends_in_its_time(rt: HostRuntime) {
+    let told =
+        "load entries=100003 replies=100003 net=200006 files=12 bytes=2007523 a=active b=standby\n";
+    loads(&rt, rt.alloc(), "load,100000,1", NONE, 0, told);
 }
 
 /// What a read did not give is not shown.

@@ -8,6 +8,7 @@ use Rattle.aisrun.proofs.FallLaws.{falls-by-cause, faults-fell}
 use Rattle.aisrun.proofs.FaultLaws.{keeps-at-fault}
 use Rattle.aisrun.proofs.CompletenessLaws.{completes, checks, exprs, scans}
 use Rattle.aisrun.proofs.GeneratingLaws.{generates}
+use Rattle.aisrun.proofs.LoadCompleteness.{loads}
 use Rattle.aisrun.proofs.run.run.Goals as goal
 
 pub returns-clause-ends : goal.returns-clause-ends
@@ -81,6 +82,10 @@ returns-clause-exprs g c can sink =
 pub returns-clause-generates : goal.returns-clause-generates
 returns-clause-generates g c can sink =
     generates _ c.run_words.result c.run_words.ensures can sink
+
+pub returns-clause-loads : goal.returns-clause-loads
+returns-clause-loads g c can sink disk =
+    loads _ c.run_words.result c.run_words.ensures can sink disk
 
 pub returns-clause-scans : goal.returns-clause-scans
 returns-clause-scans g c holds reads sink =

@@ -1,11 +1,13 @@
 use Rattle.std.proofs.Common.{ℕ, List, [], ◌≡◌, map, Option, Some, refl, ap, sym, ◌∙◌, subst}
 use Rattle.std.specs.Prelude.{IfOk, string_bytes}
+use Rattle.load_lines.specs.Lines.{load_lines}
 use Rattle.aisrun.specs.declared.command.Command.{Command}
-use Rattle.aisrun.specs.declared.command.Command.TheVariants.{Run, Check, Expr, Gen, Scan}
+use Rattle.aisrun.specs.declared.command.Command.TheVariants.{Run, Check, Expr, Gen, Load, Scan}
 use Rattle.aisrun.specs.Checking.{CheckEnds, ExprEnds}
 use Rattle.aisrun.specs.Commands.{command_of, text_of, wanted_of}
 use Rattle.aisrun.specs.Edges.{around, edge, fault_count, stage}
 use Rattle.aisrun.specs.Endings.{Ends, LacksBy}
+use Rattle.aisrun.specs.LoadSteps.{LoadEnds, LoadWants}
 use Rattle.aisrun.specs.RunSteps.{InputEnds, InputLacks, WordsLack}
 use Rattle.aisrun.specs.ScanSteps.{ScanEnds, ScanLacks}
 use Rattle.aisrun.specs.Steps.{Counting, Ended, IsNone, Standing, unasked}
@@ -13,7 +15,8 @@ use Rattle.aisrun.proofs.CountSteps.{on-same}
 use Rattle.aisrun.proofs.EndingSteps.{check-run, end-written, expr-run, input-lack, input-run, ok-ends}
 use Rattle.aisrun.proofs.GeneratingLaws.{gen-run}
 use Rattle.aisrun.proofs.ScanEndings.{scan-lack, scan-run}
-use Rattle.aisrun.proofs.WritingSteps.{ended-alone, ended-as}
+use Rattle.aisrun.proofs.LoadEndings.{load-lack, load-run}
+use Rattle.aisrun.proofs.WritingSteps.{ended-alone, ended-as, ended-read}
 use Rattle.aisrun.proofs.run.run_command.Goals as goal
 
 pub returns-in-Run : goal.returns-in-Run
@@ -57,6 +60,21 @@ returns-in-Gen g c =
     let disk = edge g.D.SharedDisk.files g.D.SharedDisk.faults c.args.disk.now c.args.disk.now in
     let run = around words source sink disk (g.D.SharedDisk.tally c.args.disk.now).armed c.args.world.now c.args.world.now in
     gen-run run c.in-Gen.count c.in-Gen.seed asked (record { disk = refl; world = refl }) refl c.generate.result c.generate.ensures
+
+pub returns-in-Load : goal.returns-in-Load
+returns-in-Load g c =
+    let words : List (List ℕ) = map (λ word. string_bytes word) c.args.words.now in
+    let count = c.in-Load.count in
+    let seed = c.in-Load.seed in
+    let asked : command_of words ≡ Some (Load count seed) = sym c.requires.asked ∙ ap Some c.in-Load.is in
+    let source = edge g.S.Source.left g.S.Source.faults c.args.source.now c.args.source.now in
+    let sink = edge g.K.Sink.written g.K.Sink.faults c.args.out.now c.load.new.out in
+    let disk = edge g.D.SharedDisk.files g.D.SharedDisk.faults c.args.disk.now c.load.new.disk in
+    let armed = (g.D.SharedDisk.tally c.load.new.disk).armed in
+    let scene = stage sink disk armed c.args.world.now c.load.new.world in
+    let run = around words source sink disk armed c.args.world.now c.load.new.world in
+    let lines = load_lines count seed in
+    ended-read (fault_count source) (fault_count disk) (LoadEnds lines scene) (Ends run) (LoadWants lines scene) (WordsLack run) sink c.load.result refl (load-run run count seed asked refl c.load.ensures.script) (load-lack run count seed asked refl c.load.ensures.script) c.load.ensures.ends
 
 pub returns-in-Scan : goal.returns-in-Scan
 returns-in-Scan g c =

@@ -1,0 +1,74 @@
+use Rattle.std.proofs.Common.{◌≡◌, ℕ, List, [], ◌∷◌, ◌++◌, ◌∙◌, Err, inl, refl, ap, sym, subst}
+use Rattle.std.specs.Prelude.{codes, IfSome}
+use Rattle.std.specs.FinMap.{keys}
+use Rattle.disk_model.specs.declared.answers.DiskAnswer.TheVariants as answer
+use Rattle.load_lines.specs.Lines.{load_lines}
+use Rattle.aisrun.specs.declared.ending.Status8.TheVariants.{DiskFault, RootNotEmpty}
+use Rattle.aisrun.specs.Counts.{HasRisen}
+use Rattle.aisrun.specs.Edges.{edge, fault_count, stage}
+use Rattle.aisrun.specs.Endings.{AtNames, InPlay, Unopened, fault_line}
+use Rattle.aisrun.specs.LoadSteps.{LoadEnds, LoadWants}
+use Rattle.aisrun.specs.Steps.{Counting, IsNone, IsText, Standing, unasked}
+use Rattle.aisrun.proofs.CountSteps.{other-stood, stood-on}
+use Rattle.aisrun.proofs.EndingSteps.{lacked, text-ends, text-written}
+use Rattle.aisrun.proofs.LoadEndings.{load-before, wants-before}
+use Rattle.aisrun.proofs.WritingSteps.{ended-later, written-as}
+use Rattle.aisrun.proofs.loading.load.Goals as goal
+
+pub returns-in-Ok-None-clause-ends : goal.returns-in-Ok-None-clause-ends
+returns-in-Ok-None-clause-ends g c =
+    let written = g.K.Sink.written in
+    let sink_faults = g.K.Sink.faults in
+    let files = g.D.SharedDisk.files in
+    let faults = g.D.SharedDisk.faults in
+    let sink = edge written sink_faults c.args.out.now c.open_load.new.out in
+    let script = load_lines c.args.count c.args.seed in
+    let armed = (g.D.SharedDisk.tally c.open_load.new.disk).armed in
+    let scene = stage sink (edge files faults c.args.disk.now c.open_load.new.disk) armed c.args.world.now c.open_load.new.world in
+    let later = stage sink (edge files faults c.first_name.new.disk c.open_load.new.disk) armed c.args.world.now c.open_load.new.world in
+    let found = c.in-Ok-None.ensures in
+    ended-later unasked (faults c.args.disk.now) (faults c.first_name.new.disk) (faults c.open_load.new.disk) (LoadEnds script later) (LoadEnds script scene) (LoadWants script later) (LoadWants script scene) sink c.open_load.result found.cause.stands
+    (load-before written sink_faults c.args.out.now c.open_load.new.out files faults armed c.args.world.now c.open_load.new.world c.args.disk.now c.first_name.new.disk c.open_load.new.disk script found.same found.cause.stands)
+    (wants-before written sink_faults c.args.out.now c.open_load.new.out files faults armed c.args.world.now c.open_load.new.world c.args.disk.now c.first_name.new.disk c.open_load.new.disk script found.same found.cause.stands)
+    c.open_load.ensures
+
+pub returns-in-Ok-Some-clause-ends : goal.returns-in-Ok-Some-clause-ends
+returns-in-Ok-Some-clause-ends g c =
+    let found = c.in-Ok-Some.ensures in
+    let stood = found.cause.stands in
+    let names = rw c.in-Ok-Some.field-0-is at found.found in
+    let script = load_lines c.args.count c.args.seed in
+    let sink = edge g.K.Sink.written g.K.Sink.faults c.args.out.now c.write_held.new.out in
+    let scene = stage sink (edge g.D.SharedDisk.files g.D.SharedDisk.faults c.args.disk.now c.first_name.new.disk) (g.D.SharedDisk.tally c.first_name.new.disk).armed c.args.world.now c.args.world.now in
+    let disk = fault_count scene.disk in
+    let name = c.as_slice.result.now in
+    let L : List ℕ → Type 0 = λ one. IfSome (g.D.SharedDisk.files c.args.disk.now) (λ f. (others : List (List ℕ)) × (keys f ≡ one ∷ others)) in
+    let least = subst L (sym c.as_slice.ensures.bytes) names in
+    let text = codes "root not empty: " ++ (name ++ codes "\n") in
+    let E = Counting unasked disk (LoadEnds script scene) in
+    written-as (IsText RootNotEmpty text) E IsNone (Standing unasked disk (LoadWants script scene)) sink c.write_held.result (text-ends E RootNotEmpty text (record { name = name; least = least; same = found.same; world = refl; printed = refl }, (refl, stood))) (λ one none. ((none, inl ([], Unopened refl found.same refl)), refl, stood-on disk stood)) c.write_held.ensures
+
+pub returns-in-Err-Memory-clause-ends : goal.returns-in-Err-Memory-clause-ends
+returns-in-Err-Memory-clause-ends g c =
+    let faults = g.D.SharedDisk.faults in
+    let stood = other-stood (faults c.args.disk.now) (faults c.first_name.new.disk) c.in-Err-Memory.field-0 answer.Failed answer.Memory c.in-Err-Memory.ensures.cause c.in-Err-Memory.field-0-is (λ is. cc) in
+    lacked _ _ _ ((refl, inl ([], Unopened refl c.in-Err-Memory.ensures.same refl)), refl, stood-on (faults c.args.disk.now, faults c.first_name.new.disk) stood) refl
+
+pub returns-in-Err-Stopped-clause-ends : goal.returns-in-Err-Stopped-clause-ends
+returns-in-Err-Stopped-clause-ends g c =
+    let faults = g.D.SharedDisk.faults in
+    let stood = other-stood (faults c.args.disk.now) (faults c.first_name.new.disk) c.in-Err-Stopped.field-0 answer.Failed answer.Stopped c.in-Err-Stopped.ensures.cause c.in-Err-Stopped.field-0-is (λ is. cc) in
+    lacked _ _ _ ((refl, inl ([], Unopened refl c.in-Err-Stopped.ensures.same refl)), refl, stood-on (faults c.args.disk.now, faults c.first_name.new.disk) stood) refl
+
+pub returns-in-Err-Failed-clause-ends : goal.returns-in-Err-Failed-clause-ends
+returns-in-Err-Failed-clause-ends g c =
+    let script = load_lines c.args.count c.args.seed in
+    let sink = edge g.K.Sink.written g.K.Sink.faults c.args.out.now c.write_broken.new.out in
+    let scene = stage sink (edge g.D.SharedDisk.files g.D.SharedDisk.faults c.args.disk.now c.first_name.new.disk) (g.D.SharedDisk.tally c.first_name.new.disk).armed c.args.world.now c.args.world.now in
+    let disk = fault_count scene.disk in
+    let failed = c.in-Err-Failed.ensures in
+    let risen : HasRisen disk = (failed.cause.later, failed.cause.rose (ap Err c.in-Err-Failed.field-0-is)) in
+    text-written (Counting unasked disk (LoadEnds script scene)) (Standing unasked disk (LoadWants script scene)) DiskFault fault_line sink c.write_broken.result (InPlay fault_line (AtNames failed.same refl refl) refl, (refl, risen)) c.write_broken.ensures
+
+pub open_load-requires-clause-unarmed : goal.open_load-requires-clause-unarmed
+open_load-requires-clause-unarmed g c κs within = c.in-Ok-None.ensures.armed ∙ c.requires.unarmed

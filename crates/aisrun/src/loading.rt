@@ -1,0 +1,356 @@
+//! The command `load`: the script of a large run is made turn by turn and played, and one line tells where it led.
+ghost use Rattle.std.specs.Prelude.{◌≡◌, ◌<◌, ◌∷◌, ◌++◌, ℕ, [], List, Option, None};
+ghost use Rattle.ais_values.specs.Causes.{RoseExactlyOn};
+ghost use Rattle.disk_model.specs.Disk.{Files};
+ghost use Rattle.plain_service.specs.Setups.{Setup};
+ghost use Rattle.cluster_events.specs.Servers.{State};
+ghost use Rattle.cluster_rounds.specs.Came.{seen};
+ghost use Rattle.script_language.specs.Lines.{Spells};
+ghost use Rattle.script_language.specs.Scripts.{IsScriptOf};
+ghost use Rattle.load_script.specs.Texts.{load_text};
+ghost use Rattle.load_lines.specs.Lines.{closing_lines, first_lines, load_lines, turn_lines, turns_lines};
+ghost use Rattle.pair_cluster.specs.Peers.{Peers};
+ghost use Rattle.cluster_core.specs.Beginning.{Begun, HoldsNone};
+ghost use Rattle.cluster_core.specs.Playing.{IsEventLine};
+ghost use Rattle.cluster_core.specs.Worlds.{empty_world, HasState, Shows};
+ghost use Rattle.aisrun.specs.Edges.{edge, fault_count, stage};
+ghost use Rattle.aisrun.specs.Endings.{StoodUpTo};
+ghost use Rattle.aisrun.specs.LoadSteps.{CanPass, HasGone, LoadEnds, LoadWants, Passes, RisesPassing, RunEnds, RunWants, TellEnds, TellLacks};
+ghost use Rattle.aisrun.specs.Steps.{Ended, HasBegun, Written, unasked};
+
+use crate::ending::Status8;
+use crate::figures::tell_load;
+use crate::playing::{first_name, write_held};
+use crate::writing::{write_broken, write_text};
+use callback_dispatch::Gate;
+use cluster_clients::EventAnswer;
+use cluster_core::World;
+use disk_model::{DiskAnswer, SharedDisk};
+use io_edge::Sink;
+use load_lines::{closing_lines, first_lines, law_of_loads, opening_line, turn_lines};
+use load_script::{first_state, next_state, number_in};
+use script_lines::Line;
+use std::alloc::Global;
+use std::mem;
+use std::sync::Wait;
+use std::thread::Threads;
+
+/// Why a large run was not brought to its end.
+#[derive(Clone, Copy, Debug, PartialEq, Eq)]
+pub enum Halt {
+    /// Memory ran out.
+    Memory,
+    /// The disk failed.
+    DiskFault,
+}
+
+// Plays a line, and lets go what it prints.
+fn pass_line<R: Threads + Wait + Sync, D: SharedDisk, G: Gate>(
+    rt: &R,
+    alloc: Global,
+    line: &Line,
+    disk: &mut D,
+    gate: &G,
+    world: &mut World,
+) -> Result<(), Halt>
+    requires spelled { (raw : List ℕ) × Spells line.now raw }
+    requires event { IsEventLine world.old.now line.now }
+    requires state { HasState world.old (D.tally disk.old).armed }
+    ensures passes { Passes (StoodUpTo (edge D.files D.faults disk.old disk.new)) (line.now ∷ [])
+        (seen (D.files disk.old) (D.tally disk.old) (D.faults disk.old))
+        (seen (D.files disk.new) (D.tally disk.new) (D.faults disk.new)) world.old world.new result }
+    ensures counts { RisesPassing (D.faults disk.old, D.faults disk.new) result }
+{
+    match world.event(rt, alloc, line, disk, gate) {
+        Ok(printed) => {
+            mem::drop(printed);
+            Ok(())
+        }
+        Err(EventAnswer::Memory) => Err(Halt::Memory),
+        Err(EventAnswer::DiskFault { printed }) => {
+            mem::drop(printed);
+            Err(Halt::DiskFault)
+        }
+    }
+}
+
+// Plays lines one after another.
+fn pass_lines<R: Threads + Wait + Sync, D: SharedDisk, G: Gate>(
+    rt: &R,
+    alloc: Global,
+    lines: &[Line],
+    disk: &mut D,
+    gate: &G,
+    world: &mut World,
+) -> Result<(), Halt>
+    requires gone { HasGone (seen (D.files disk.old) (D.tally disk.old) (D.faults disk.old))
+        world.old }
+    requires can { CanPass lines.now }
+    ensures passes { Passes (StoodUpTo (edge D.files D.faults disk.old disk.new)) lines.now
+        (seen (D.files disk.old) (D.tally disk.old) (D.faults disk.old))
+        (seen (D.files disk.new) (D.tally disk.new) (D.faults disk.new)) world.old world.new result }
+    ensures counts { RisesPassing (D.faults disk.old, D.faults disk.new) result }
+{
+    for line in lines {
+        match pass_line(rt, alloc, line, disk, gate, world) {
+            Ok(()) => {}
+            Err(halt) => return Err(halt),
+        }
+    }
+    Ok(())
+}
+
+// Plays a turn.
+fn pass_turn<R: Threads + Wait + Sync, D: SharedDisk, G: Gate>(
+    rt: &R,
+    alloc: Global,
+    turn: u32,
+    number: u32,
+    disk: &mut D,
+    gate: &G,
+    world: &mut World,
+) -> Result<(), Halt>
+    requires gone { HasGone (seen (D.files disk.old) (D.tally disk.old) (D.faults disk.old))
+        world.old }
+    requires small { number < 65536 }
+    ensures passes { Passes (StoodUpTo (edge D.files D.faults disk.old disk.new))
+        (turn_lines turn number)
+        (seen (D.files disk.old) (D.tally disk.old) (D.faults disk.old))
+        (seen (D.files disk.new) (D.tally disk.new) (D.faults disk.new)) world.old world.new result }
+    ensures counts { RisesPassing (D.faults disk.old, D.faults disk.new) result }
+{
+    match turn_lines(alloc, turn, number) {
+        Ok(lines) => pass_lines(rt, alloc, lines.as_slice(), disk, gate, world),
+        Err(_) => Err(Halt::Memory),
+    }
+}
+
+// Plays all turns.
+fn pass_turns<R: Threads + Wait + Sync, D: SharedDisk, G: Gate>(
+    rt: &R,
+    alloc: Global,
+    count: u32,
+    seed: u64,
+    disk: &mut D,
+    gate: &G,
+    world: &mut World,
+) -> Result<(), Halt>
+    requires gone { HasGone (seen (D.files disk.old) (D.tally disk.old) (D.faults disk.old))
+        world.old }
+    ensures passes { Passes (StoodUpTo (edge D.files D.faults disk.old disk.new))
+        (turns_lines seed count)
+        (seen (D.files disk.old) (D.tally disk.old) (D.faults disk.old))
+        (seen (D.files disk.new) (D.tally disk.new) (D.faults disk.new)) world.old world.new result }
+    ensures counts { RisesPassing (D.faults disk.old, D.faults disk.new) result }
+{
+    let mut state = first_state(seed);
+    for done in 0..count {
+        state = next_state(state);
+        match pass_turn(rt, alloc, done + 1, number_in(state), disk, gate, world) {
+            Ok(()) => {}
+            Err(halt) => return Err(halt),
+        }
+    }
+    Ok(())
+}
+
+// Plays the lines before the first turn.
+fn pass_first<R: Threads + Wait + Sync, D: SharedDisk, G: Gate>(
+    rt: &R,
+    alloc: Global,
+    disk: &mut D,
+    gate: &G,
+    world: &mut World,
+) -> Result<(), Halt>
+    requires gone { HasGone (seen (D.files disk.old) (D.tally disk.old) (D.faults disk.old))
+        world.old }
+    ensures passes { Passes (StoodUpTo (edge D.files D.faults disk.old disk.new)) first_lines
+        (seen (D.files disk.old) (D.tally disk.old) (D.faults disk.old))
+        (seen (D.files disk.new) (D.tally disk.new) (D.faults disk.new)) world.old world.new result }
+    ensures counts { RisesPassing (D.faults disk.old, D.faults disk.new) result }
+{
+    match first_lines(alloc) {
+        Ok(lines) => pass_lines(rt, alloc, lines.as_slice(), disk, gate, world),
+        Err(_) => Err(Halt::Memory),
+    }
+}
+
+// Plays the lines behind the last turn.
+fn pass_closing<R: Threads + Wait + Sync, D: SharedDisk, G: Gate>(
+    rt: &R,
+    alloc: Global,
+    disk: &mut D,
+    gate: &G,
+    world: &mut World,
+) -> Result<(), Halt>
+    requires gone { HasGone (seen (D.files disk.old) (D.tally disk.old) (D.faults disk.old))
+        world.old }
+    ensures passes { Passes (StoodUpTo (edge D.files D.faults disk.old disk.new)) closing_lines
+        (seen (D.files disk.old) (D.tally disk.old) (D.faults disk.old))
+        (seen (D.files disk.new) (D.tally disk.new) (D.faults disk.new)) world.old world.new result }
+    ensures counts { RisesPassing (D.faults disk.old, D.faults disk.new) result }
+{
+    match closing_lines(alloc) {
+        Ok(lines) => pass_lines(rt, alloc, lines.as_slice(), disk, gate, world),
+        Err(_) => Err(Halt::Memory),
+    }
+}
+
+// Plays the lines up to the last turn.
+fn pass_front<R: Threads + Wait + Sync, D: SharedDisk, G: Gate>(
+    rt: &R,
+    alloc: Global,
+    count: u32,
+    seed: u64,
+    disk: &mut D,
+    gate: &G,
+    world: &mut World,
+) -> Result<(), Halt>
+    requires gone { HasGone (seen (D.files disk.old) (D.tally disk.old) (D.faults disk.old))
+        world.old }
+    ensures passes { Passes (StoodUpTo (edge D.files D.faults disk.old disk.new))
+        (first_lines ++ turns_lines seed count)
+        (seen (D.files disk.old) (D.tally disk.old) (D.faults disk.old))
+        (seen (D.files disk.new) (D.tally disk.new) (D.faults disk.new)) world.old world.new result }
+    ensures counts { RisesPassing (D.faults disk.old, D.faults disk.new) result }
+{
+    match pass_first(rt, alloc, disk, gate, world) {
+        Ok(()) => pass_turns(rt, alloc, count, seed, disk, gate, world),
+        Err(halt) => Err(halt),
+    }
+}
+
+// Plays all lines behind the cluster line.
+fn pass_events<R: Threads + Wait + Sync, D: SharedDisk, G: Gate>(
+    rt: &R,
+    alloc: Global,
+    count: u32,
+    seed: u64,
+    disk: &mut D,
+    gate: &G,
+    world: &mut World,
+) -> Result<(), Halt>
+    requires gone { HasGone (seen (D.files disk.old) (D.tally disk.old) (D.faults disk.old))
+        world.old }
+    ensures passes { Passes (StoodUpTo (edge D.files D.faults disk.old disk.new))
+        (first_lines ++ turns_lines seed count ++ closing_lines)
+        (seen (D.files disk.old) (D.tally disk.old) (D.faults disk.old))
+        (seen (D.files disk.new) (D.tally disk.new) (D.faults disk.new)) world.old world.new result }
+    ensures counts { RisesPassing (D.faults disk.old, D.faults disk.new) result }
+{
+    match pass_front(rt, alloc, count, seed, disk, gate, world) {
+        Ok(()) => pass_closing(rt, alloc, disk, gate, world),
+        Err(halt) => Err(halt),
+    }
+}
+
+// Writes the line that tells where the run led. The disk is only read.
+fn tell<K: Sink, D: SharedDisk>(alloc: Global, out: &mut K, disk: &mut D, world: &World) -> Status8
+    ensures told { (setup : Setup) (state : State Peers) → Shows setup state world.entry.now
+        → Written (TellEnds (D.faults disk.old, D.faults disk.new) state (D.files disk.old))
+        (TellLacks (D.faults disk.old, D.faults disk.new))
+        (edge K.written K.faults out.old out.new) result }
+    ensures same { D.files disk.new ≡ D.files disk.old }
+    ensures armed { (D.tally disk.new).armed ≡ (D.tally disk.old).armed }
+{
+    match tell_load(alloc, disk, world) {
+        Ok(line) => write_text(out, Status8::Done, line.as_bytes()),
+        Err(Halt::Memory) => Status8::Memory,
+        Err(Halt::DiskFault) => write_broken(out, &[]),
+    }
+}
+
+// Plays all lines behind the cluster line, and tells where they led.
+fn run_events<R: Threads + Wait + Sync, K: Sink, D: SharedDisk, G: Gate>(
+    rt: &R,
+    alloc: Global,
+    count: u32,
+    seed: u64,
+    out: &mut K,
+    disk: &mut D,
+    gate: &G,
+    world: &mut World,
+) -> Status8
+    requires begun { HasBegun (seen (D.files disk.old) (D.tally disk.old) (D.faults disk.old))
+        world.old }
+    ensures { (setup : Setup) (places : ℕ) (held : Option Files)
+        → Begun setup places held
+        (seen (D.files disk.old) (D.tally disk.old) (D.faults disk.old)) world.old
+        → let events = first_lines ++ turns_lines seed count ++ closing_lines
+        in let left = seen (D.files disk.new) (D.tally disk.new) (D.faults disk.new)
+        in let since = StoodUpTo (edge D.files D.faults disk.old disk.new)
+        in Ended unasked (D.faults disk.old, D.faults disk.new)
+        (RunEnds setup places held (D.faults disk.old) left since world.new events)
+        (RunWants setup places held (D.faults disk.old) left since world.new events)
+        (edge K.written K.faults out.old out.new) result }
+{
+    match pass_events(rt, alloc, count, seed, disk, gate, world) {
+        Ok(()) => tell(alloc, out, disk, world),
+        Err(Halt::Memory) => Status8::Memory,
+        Err(Halt::DiskFault) => write_broken(out, &[]),
+    }
+}
+
+// Begins the cluster, and plays the lines behind its line.
+fn open_load<R: Threads + Wait + Sync, K: Sink, D: SharedDisk, G: Gate>(
+    rt: &R,
+    alloc: Global,
+    count: u32,
+    seed: u64,
+    out: &mut K,
+    disk: &mut D,
+    gate: &G,
+    world: &mut World,
+) -> Status8
+    requires empty { world.old ≡ empty_world }
+    requires bare { HoldsNone (D.files disk.old) }
+    requires unarmed { (D.tally disk.old).armed ≡ None }
+    ensures { let scene = stage (edge K.written K.faults out.old out.new)
+        (edge D.files D.faults disk.old disk.new) (D.tally disk.new).armed world.old world.new
+        in Ended unasked (fault_count scene.disk) (LoadEnds (load_lines count seed) scene)
+        (LoadWants (load_lines count seed) scene) scene.sink result }
+{
+    match world.begin(rt, alloc, &opening_line(), disk) {
+        Ok(()) => run_events(rt, alloc, count, seed, out, disk, gate, world),
+        Err(EventAnswer::Memory) => Status8::Memory,
+        Err(EventAnswer::DiskFault { printed }) => {
+            mem::drop(printed);
+            write_broken(out, &[])
+        }
+    }
+}
+
+/// Plays the script of so many turns from a seed on, whose lines are made one turn after another and whose events
+/// write nothing, and writes the line that tells where it led.
+///
+/// `RootNotEmpty` comes where the disk holds a file; its least name is written, and disk and world stay. `DiskFault`
+/// comes only where the disk's count of faults rose: where it comes in the playing of the same script, or as the files were
+/// counted behind the last line, where all stands as that line left it. It takes the memory of the world and of one turn.
+pub fn load<R: Threads + Wait + Sync, K: Sink, D: SharedDisk, G: Gate>(
+    rt: &R,
+    alloc: Global,
+    count: u32,
+    seed: u64,
+    out: &mut K,
+    disk: &mut D,
+    gate: &G,
+    world: &mut World,
+) -> Status8
+    requires empty { world.old ≡ empty_world }
+    requires unarmed { (D.tally disk.old).armed ≡ None }
+    ensures script { IsScriptOf (load_lines count seed) (load_text count seed) }
+    ensures ends { let scene = stage (edge K.written K.faults out.old out.new)
+        (edge D.files D.faults disk.old disk.new) (D.tally disk.new).armed world.old world.new
+        in Ended unasked (fault_count scene.disk) (LoadEnds (load_lines count seed) scene)
+        (LoadWants (load_lines count seed) scene) scene.sink result }
+{
+    law_of_loads();
+    match first_name(alloc, disk) {
+        Ok(None) => open_load(rt, alloc, count, seed, out, disk, gate, world),
+        Ok(Some(name)) => write_held(alloc, out, name.as_slice()),
+        Err(DiskAnswer::Memory) => Status8::Memory,
+        // Names are read, so that the disk does not stop.
+        Err(DiskAnswer::Stopped) => Status8::Memory,
+        Err(DiskAnswer::Failed) => write_broken(out, &[]),
+    }
+}
