@@ -1,7 +1,9 @@
 //! Whole runs over objects in memory: what they print, and the calls outside failing in turn.
+mod failing_calls;
 mod failing_servers;
 mod rows;
 mod short_disk;
+mod stops;
 
 use crate::{Status8, run};
 use ais_values::Duplicate;
@@ -263,41 +265,48 @@ fn behind_cluster(rt: &impl Abort, alloc: Global, rest: &str) -> Vec<u8> {
     input.into_bytes()
 }
 
-/// A script over a disk of which these changing calls fail, and whose torn ranges hold these bytes, prints this text.
-fn plays_on<R: Abort + Threads + Wait + Sync>(
+/// The script and the text of a row, which `^` parts.
+fn parts<'a>(rt: &impl Abort, rows: &'a str, place: usize) -> (&'a str, &'a str) {
+    let row = rows.split('`').nth(place).expect(rt, "a row");
+    row.split_once('^').expect(rt, "a script and a text")
+}
+
+/// A script ends with this status and this text over a disk of which these changing calls fail, and
+/// whose torn ranges hold other bytes.
+fn ends_on<R: Abort + Threads + Wait + Sync>(
     rt: &R,
     alloc: Global,
     changes: &[u64],
-    torn: &[u8],
     script: &str,
+    status: u8,
     text: &str,
 ) {
     let input = script.as_bytes().to_vec(alloc).expect(rt, "memory");
     let mut stage = prepared(rt, alloc, input, NONE);
     let failing = changes.to_vec(alloc).expect(rt, "memory");
-    let torn = torn.to_vec(alloc).expect(rt, "memory");
+    let torn = b"\x00torn\n".to_vec(alloc).expect(rt, "memory");
     stage.disk = MemDisk::new(alloc, failing, Vec::new(alloc), torn);
-    ends(rt, alloc, &mut stage, "run", 0, text.as_bytes());
+    ends(rt, alloc, &mut stage, "run", status, text.as_bytes());
     drop(stage);
 }
 
-/// The script of a row prints the row's text, whatever bytes torn ranges hold.
-fn row_plays<R: Abort + Threads + Wait + Sync>(rt: &R, alloc: Global, torn: &[u8], row: &str) {
+/// The script of a row prints the row's text.
+fn row_plays<R: Abort + Threads + Wait + Sync>(rt: &R, alloc: Global, row: &str) {
     let (script, text) = row.split_once('^').expect(rt, "a script and a text");
-    plays_on(rt, alloc, &[], torn, script, text);
+    ends_on(rt, alloc, &[], script, 0, text);
 }
 
 #[test]
 fn scripts_are_played(rt: HostRuntime) {
     for row in PLAYED.split('`') {
-        row_plays(&rt, rt.alloc(), &[], row);
+        row_plays(&rt, rt.alloc(), row);
     }
 }
 
 #[test]
 fn scripts_of_failing_servers_are_played(rt: HostRuntime) {
     for row in FAILING.split('`') {
-        row_plays(&rt, rt.alloc(), b"\x00torn\n", row);
+        row_plays(&rt, rt.alloc(), row);
     }
 }
 
@@ -318,10 +327,9 @@ const WRAPPED: &str = "\
 /// A call that fails is taken over as one in which the server stops.
 #[test]
 fn each_change_of_a_wrapped_record_fails_in_turn(rt: HostRuntime) {
-    let row = FAILING.split('`').nth(1).expect(&rt, "a second row");
-    let (_, text) = row.split_once('^').expect(&rt, "a script and a text");
+    let (_, text) = parts(&rt, FAILING, 1);
     for change in 21..23 {
-        plays_on(&rt, rt.alloc(), &[change], b"torn", WRAPPED, text);
+        ends_on(&rt, rt.alloc(), &[change], WRAPPED, 0, text);
     }
 }
 
@@ -434,14 +442,6 @@ fn breaks<R: Abort + Threads + Wait + Sync>(
     drop(stage);
 }
 
-/// The opening makes twelve changing calls.
-#[test]
-fn each_change_of_the_start_fails_in_turn(rt: HostRuntime) {
-    for change in 1..13 {
-        breaks(&rt, rt.alloc(), WRITE, Failing { change, ..NONE }, "");
-    }
-}
-
 /// The run over a disk of which these changing calls fail ends so, behind the lines before the record's deeds.
 fn fails_at<R: Abort + Threads + Wait + Sync>(
     rt: &R,
@@ -458,14 +458,6 @@ fn fails_at<R: Abort + Threads + Wait + Sync>(
     let text = format!(in alloc; "{BEFORE}{shown}").expect(rt, "memory");
     ends(rt, alloc, &mut stage, "run", status, text.as_bytes());
     drop(stage);
-}
-
-/// The record makes two changing calls: where one of them fails, the standby takes over.
-#[test]
-fn each_change_of_a_record_fails_in_turn(rt: HostRuntime) {
-    for change in 13..15 {
-        fails_at(&rt, rt.alloc(), &[change], WRITE, 0, TAKEN_OVER);
-    }
 }
 
 /// A fault in the takeover takes the standby down too, and so does one in its own work.
@@ -495,16 +487,6 @@ const FILES: &str =
 
 const SYSTEM: &str =
     "text STREAM: system\ntext VERSION: A.02.01\ntext FORMAT: @Cr @Ch:@Cn:@Cs @Cm/@Cd/@CY @Sv @Sl \"@Cb\"\ntext MAX_FILE_SIZE: 262144\ntext RECORD_SIZE: 256\ntext FULL_ACTION: ROTATE\ntext ROTATED_FILES: 4\ntext HA: 0\n";
-
-/// The start asks for the names, `files` for the names and six lengths, and `cat` for a length and bytes. The line
-/// whose reading call fails prints nothing.
-#[test]
-fn each_look_at_the_disk_fails_in_turn(rt: HostRuntime) {
-    for look in 1..11 {
-        let shown = if look <= 8 { "" } else { FILES };
-        breaks(&rt, rt.alloc(), SHOWING, Failing { look, ..NONE }, shown);
-    }
-}
 
 /// Where the reading call of this number fails, the line prints this all the same: it does not make that call.
 fn makes_fewer<R: Abort + Threads + Wait + Sync>(
@@ -594,20 +576,33 @@ fn a_large_run_ends_in_its_time(rt: HostRuntime) {
     loads(&rt, rt.alloc(), "load,100000,1", NONE, 0, told);
 }
 
+/// This input prints this text over this disk.
+fn prints_over<R: Abort + Threads + Wait + Sync, D: SharedDisk>(
+    rt: &R,
+    alloc: Global,
+    disk: &mut D,
+    input: Vec<u8>,
+    text: &str,
+) {
+    let mut source = MemSource::new(input, Vec::new(alloc));
+    let inner = MemSink::new(alloc, Vec::new(alloc));
+    let mut out = Narrow { inner };
+    let status = play(rt, alloc, &mut source, &mut out, disk, "run");
+    let written = out.inner.written();
+    assert!(rt; status == 0 && written == text.as_bytes(), "{text}");
+    drop(source);
+    drop(out);
+}
+
 /// What a read did not give is not shown.
 #[test]
 fn a_short_read_is_shown_short(rt: HostRuntime) {
     let alloc = rt.alloc();
     let input = behind_cluster(&rt, alloc, "cat \"saLogSystem.cfg\"\n");
-    let mut source = MemSource::new(input, Vec::new(alloc));
-    let inner = MemSink::new(alloc, Vec::new(alloc));
-    let mut out = Narrow { inner };
     let inner = MemDisk::new(alloc, Vec::new(alloc), Vec::new(alloc), Vec::new(alloc));
     let mut disk = ShortDisk { inner };
-    let status = play(&rt, alloc, &mut source, &mut out, &mut disk, "run");
-    assert!(rt; status == 0 && out.inner.written() == b"text ab\n".as_slice());
-    drop(source);
-    drop(out);
+    prints_over(&rt, alloc, &mut disk, input, "text ab\n");
+    drop(disk);
 }
 
 #[test]
@@ -619,8 +614,82 @@ fn an_input_has_at_most_16_mebibytes(rt: HostRuntime) {
     drop(stage);
 }
 
+/// The request of client 1, number 1, `LogInit`.
+const INIT: &str = "\\x01\\x00\\x01\\x00\\x00\\x00\\x01\\x01";
+
+/// The request of client 1, number 1, `LogWrite`, up to a body that is to have 16,384 bytes: 45 bytes.
+const BODY_NEXT: &str = "\
+    \\x01\\x00\\x01\\x00\\x00\\x00\\x01\\x03\\x03\
+    \\x00\\x00\\x00\\x00\\x00\\x00\\x00\\x00\\x00\\x00\\x00\\x00\\x00\\x00\\x00\\x00\\x00\\x00\\x00\\x00\
+    \\x02\\x00\\x00\\x00\\x00\\x00\\x00\\x00\\x00\\x00\\x01u\\x00\\x06\\x40\\x00";
+
+/// The bytes that are spelled so and as many bytes `a` behind them are injected and delivered.
+fn injects<R: Abort + Threads + Wait + Sync>(
+    rt: &R,
+    alloc: Global,
+    front: &str,
+    count: usize,
+    status: u8,
+    text: &str,
+) {
+    let mut input = behind_cluster(rt, alloc, "inject \"");
+    input
+        .extend_from_slice(front.as_bytes())
+        .expect(rt, "memory");
+    for _ in 0..count {
+        input.push(b'a').expect(rt, "memory");
+    }
+    let rest = b"\"\ndeliver 1\n";
+    input.extend_from_slice(rest).expect(rt, "memory");
+    let mut stage = prepared(rt, alloc, input, NONE);
+    ends(rt, alloc, &mut stage, "run", status, text.as_bytes());
+    drop(stage);
+}
+
+#[test]
+fn an_injected_string_has_at_most_16384_bytes(rt: HostRuntime) {
+    let alloc = rt.alloc();
+    let trailing = "post 1 raw 16384\nignored 1 bad 8 trailing\n";
+    injects(&rt, alloc, INIT, 16_376, 0, trailing);
+    let short = "post 1 raw 16384\nignored 1 bad 16384 short\n";
+    injects(&rt, alloc, BODY_NEXT, 16_339, 0, short);
+    injects(&rt, alloc, BODY_NEXT, 16_340, 1, "script line 2: grammar\n");
+}
+
 #[test]
 fn statuses_are_copied(rt: HostRuntime) {
     let status = Status8::TooLong;
     assert!(rt; status.copy(rt.alloc()).expect(&rt, "memory") == status);
+}
+
+#[test]
+fn a_world_has_these_fields_and_no_others(rt: HostRuntime) {
+    let World {
+        a,
+        b,
+        link,
+        back,
+        net,
+        agents,
+        history,
+        now,
+        armed,
+        callbacks,
+    } = World::empty(rt.alloc());
+    assert!(rt; a.in_hand().is_none() && b.in_hand().is_none());
+    assert!(rt; link.as_slice().is_empty() && back.as_slice().is_empty());
+    assert!(rt; net.len() == 0 && agents.as_slice().is_empty() && history.len() == 0);
+    assert!(rt; now == 0_i64 && !armed && callbacks == 0_u32);
+    drop(World {
+        a,
+        b,
+        link,
+        back,
+        net,
+        agents,
+        history,
+        now,
+        armed,
+        callbacks,
+    });
 }
