@@ -20,7 +20,7 @@ pub returns-in_err-reserve-2-clause-err : goal.returns-in_err-reserve-2-clause-e
 returns-in_err-reserve-2-clause-err c =
     let inside = c.self.inside in
     let Stands : List Kept → List Subscription → Type 0 =
-        λ kept living. record (seen_inside inside) { kept = calls_kept kept; living = all_living living } ≡ c.args.self.now in
+    λ kept living. record (seen_inside inside) { kept = calls_kept kept; living = all_living living } ≡ c.args.self.now in
     let before : Stands inside.kept.items inside.living.items = c.self.view_is in
     let one = subst (λ (kept : List Kept). Stands kept inside.living.items) (sym c.reserve.ensures.items) before in
     let both = subst (λ (living : List Subscription). Stands c.reserve.new.self.items living) (sym c.reserve-2.ensures.items) one in
