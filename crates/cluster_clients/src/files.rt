@@ -40,7 +40,8 @@ fn put_file_of<D: SharedDisk>(
 
 /// The lines of the files, in byte order of their names. A name without a length is left out.
 ///
-/// The disk is asked once for the names, and once for the length of each. It is only read, so it never stops. `Failed` comes exactly where its count of faults rose.
+/// The disk is asked once for the names, and once for the length of each. It is only read, so it never stops.
+/// `Failed` comes exactly where its count of faults rose.
 pub fn list_files<D: SharedDisk>(alloc: Global, disk: &mut D) -> Result<Vec<Seq<u8>>, DiskAnswer>
     ensures listed { IfOk result (λ lines. ListsFiles (D.files disk.old) lines.items) }
     ensures same { D.files disk.new ≡ D.files disk.old }
@@ -100,7 +101,8 @@ fn read_front<D: SharedDisk>(
 
 /// The bytes of a file; `None` where there is no file of that name.
 ///
-/// The disk is asked once for the length, and once for the bytes where there are any. It is only read, so it never stops. `Failed` comes exactly where its count of faults rose.
+/// The disk is asked once for the length, and once for the bytes where there are any. It is only read, so it never
+/// stops. `Failed` comes exactly where its count of faults rose.
 pub fn read_file<D: SharedDisk>(
     alloc: Global,
     disk: &mut D,

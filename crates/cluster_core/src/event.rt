@@ -35,7 +35,8 @@ impl World {
     /// there are any; another line that is not the servers' own, and not `settle`, asks it nothing.
     ///
     /// `Memory` comes where memory ran out: some of the line was done, without its lines. The history is legal; each client's calls in it
-    /// are the first of those that it had sent before, and what came to it is of the time in force, which stays, or waited for the partner before. Each client
+    /// are the first of those that it had sent before, and what came to it is of the time in force, which stays, or
+    /// waited for the partner before. Each client
     /// was fed the beginning of its items, each reply that it took is the history's, and the files are between. The same is answered
     /// where the history has 4,000,000,000 entries, where a client's agent has numbered 4,294,967,294 calls, and where a string of the
     /// net has more than 4,294,967,294 bytes.
