@@ -1,6 +1,7 @@
 -- Where no work fails and none is armed, both servers stand.
 use Rattle.std.proofs.Common.{◌≡◌, ℕ, suc, Bool, true, false, ◌&&◌, ◌||◌, nat_le, Option, Some, None, length, refl, sym, subst}
 use Rattle.std.proofs.lemmas.Bool.{and_right}
+use Rattle.disk_model.specs.Counts.{reaches, lowered}
 use Rattle.script_lines.specs.declared.line.Server.{Server}
 use Rattle.cluster_facts.specs.Types.{Entry}
 use Rattle.cluster_facts.specs.Service.{Plain}
@@ -11,7 +12,7 @@ use Rattle.cluster_events.specs.Devices.{Device}
 use Rattle.cluster_events.specs.Saying.{Says}
 use Rattle.cluster_events.proofs.Promised.{happens-kept}
 use Rattle.pair_cluster.specs.Peers.{Partner, Down, Owed, Linking, Standby, Peers, IsPair}
-use Rattle.pair_cluster.specs.Pair.{is_linked, accept_by, mirror_by, ack_by, linked, lowered, reaches, is_standby, fails_in, work_as, work_by, pair}
+use Rattle.pair_cluster.specs.Pair.{is_linked, accept_by, mirror_by, ack_by, linked, is_standby, fails_in, work_as, work_by, pair}
 use Rattle.pair_cluster.specs.Standing.{IsUp, BothStand, ServersStand}
 use Rattle.pair_cluster.proofs.Stepping.{pair_at}
 use Rattle.pair_cluster.proofs.Serving.{pair-stepped}
@@ -25,7 +26,7 @@ linked-up Owed up = tt
 linked-up Linking up = tt
 linked-up (Standby on_way) up = tt
 
-pub lowered-none : (armed : Option ℕ) (calls : ℕ) → armed ≡ None → lowered armed calls ≡ None
+pub lowered-none : (armed : Option ℕ) (calls : ℕ) → armed ≡ None → lowered calls armed ≡ None
 lowered-none None calls none = refl
 lowered-none (Some left) calls none = cc
 
@@ -48,7 +49,7 @@ module _ (plain : Plain) (device : Device) (never : (number : ℕ) → device.fa
   ack-stands state (Standby None) (Applied entry) stands = stands
   ack-stands state _ _ stands = tt
 
-  never-falls : (armed : Option ℕ) (partner : Bool) (fails : Bool) (calls : ℕ) → armed ≡ None → fails ≡ false → (partner && (fails || reaches armed calls)) ≡ false
+  never-falls : (armed : Option ℕ) (partner : Bool) (fails : Bool) (calls : ℕ) → armed ≡ None → fails ≡ false → (partner && (fails || reaches calls armed)) ≡ false
   never-falls None true false calls none calm = refl
   never-falls None false false calls none calm = refl
   never-falls None partner true calls none calm = cc

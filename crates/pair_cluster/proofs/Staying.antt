@@ -1,6 +1,7 @@
 -- Only `crash`, a work that fails and an armed count that comes to its end take a server down.
 use Rattle.std.proofs.Common.{◌≡◌, ℕ, suc, inl, inr, ◌⊎◌, Bool, true, false, ◌&&◌, ◌||◌, Option, Some, None, length, refl, ap, sym, subst}
 use Rattle.std.specs.Prelude.{IsSome}
+use Rattle.disk_model.specs.Counts.{reaches}
 use Rattle.script_lines.specs.declared.line.Line.{Line}
 use Rattle.script_lines.specs.declared.line.Line.TheVariants as line
 use Rattle.script_lines.specs.declared.line.Server.{Server}
@@ -16,7 +17,7 @@ use Rattle.cluster_events.specs.Serving.{IsSteady}
 use Rattle.cluster_events.proofs.Promised.{happens-kept}
 use Rattle.pair_cluster.specs.Peers.{Partner, Down, Owed, Linking, Standby, Peers, IsPair, same_server}
 use Rattle.pair_cluster.specs.Falling.{arm_by, restart_by}
-use Rattle.pair_cluster.specs.Pair.{is_linked, accept_by, mirror_by, ack_by, linked, reaches, is_standby, fails_in, falls, work_as, work_by, pair}
+use Rattle.pair_cluster.specs.Pair.{is_linked, accept_by, mirror_by, ack_by, linked, is_standby, fails_in, falls, work_as, work_by, pair}
 use Rattle.pair_cluster.specs.Standing.{IsUp, BothStand, StayUp, ServersStayUp}
 use Rattle.pair_cluster.proofs.Stepping.{pair_at}
 use Rattle.pair_cluster.proofs.Serving.{pair-stepped}
@@ -82,7 +83,7 @@ module _ (plain : Plain) (device : Device) (acting : Server) where
   work-alone state (Ready entry) alone =
       let past = state.world.core.answered in
       let calls = device.calls past entry in
-      let calm = alone-falls-not state.peers.partner (fails_in calls (device.fails (suc (length past))) || reaches state.peers.armed calls) alone.down in
+      let calm = alone-falls-not state.peers.partner (fails_in calls (device.fails (suc (length past))) || reaches calls state.peers.armed) alone.down in
       let S : Bool → Type 0 = λ fell. StaysAlone acting (work_as plain calls entry fell (pair_at state.peers.partner (Ready entry) state)).state.peers in
       let done : S false = record { active = alone.active; down = ap linked alone.down } in
       subst S (sym calm) done

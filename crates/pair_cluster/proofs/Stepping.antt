@@ -1,6 +1,7 @@
 -- What each step of the pair leaves, as one record, over any relation of worlds and lines that its steps keep; and a drain, by a number
 -- that falls with each step.
 use Rattle.std.proofs.Common.{◌≡◌, ℕ, zero, suc, ◌+◌, ◌*◌, ◌-◌, ◌≤◌, Bool, true, false, ◌&&◌, ◌||◌, nat_le, Option, Some, None, List, [], ◌∷◌, ◌++◌, length, refl, ap, ◌∙◌, arith, leb-false}
+use Rattle.disk_model.specs.Counts.{reaches, lowered}
 use Rattle.script_lines.specs.declared.line.Line.{Line}
 use Rattle.script_lines.specs.declared.line.Server.{Server}
 use Rattle.cluster_facts.specs.Types.{Entry}
@@ -21,7 +22,7 @@ use Rattle.cluster_events.proofs.Carrying.{Stays-same, Stays-both}
 use Rattle.pair_cluster.specs.Answering.{net_answering, lines_answering}
 use Rattle.pair_cluster.specs.Peers.{Partner, Down, Owed, Linking, Standby, Peers, link_of, back_of, Agree, IsArmed, IsPair, other_server}
 use Rattle.pair_cluster.specs.Falling.{with_core, taken_over}
-use Rattle.pair_cluster.specs.Pair.{mirror_by, ack_by, linked, lowered, reaches, is_standby, fails_in, falls, work_done, work_as, work_by, pair}
+use Rattle.pair_cluster.specs.Pair.{mirror_by, ack_by, linked, is_standby, fails_in, falls, work_done, work_as, work_by, pair}
 use Rattle.pair_cluster.proofs.Answering.{answer-facts, answer-net}
 use Rattle.pair_cluster.proofs.Sounding.{sound-over}
 
@@ -116,7 +117,7 @@ short-of : (left calls : ℕ) (fails : Bool) → (fails || nat_le left calls) �
 short-of left calls true not = cc
 short-of left calls false not = let below = leb-false left calls not in omega arith
 
-worked-armed : (partner : Partner) (armed : Option ℕ) (calls : ℕ) (fails : Bool) → (is_standby partner && (fails || reaches armed calls)) ≡ false → IsArmed armed partner → IsArmed (lowered armed calls) (linked partner)
+worked-armed : (partner : Partner) (armed : Option ℕ) (calls : ℕ) (fails : Bool) → (is_standby partner && (fails || reaches calls armed)) ≡ false → IsArmed armed partner → IsArmed (lowered calls armed) (linked partner)
 worked-armed partner None calls fails not is = tt
 worked-armed Down (Some left) calls fails not is = elim is [ ]
 worked-armed Owed (Some left) calls fails not is = elim is [ ]
@@ -262,7 +263,7 @@ module _ (plain : Plain) (is_plain : IsPlain plain) (device : Device) (R : World
     fewer = omega arith;
   }
 
-  done-nears : (state : State Peers) (partner : Partner) (entry : Entry) (calls : ℕ) (fails : Bool) → (is_standby partner && (fails || reaches state.peers.armed calls)) ≡ false → Agree partner (Ready entry) state.peers.keeps → IsArmed state.peers.armed partner → IsSound plain (with_core state.world.core.answered (Ready entry) state.world) → Nears plain R (pair_at partner (Ready entry) state) (work_done plain calls entry (pair_at partner (Ready entry) state))
+  done-nears : (state : State Peers) (partner : Partner) (entry : Entry) (calls : ℕ) (fails : Bool) → (is_standby partner && (fails || reaches calls state.peers.armed)) ≡ false → Agree partner (Ready entry) state.peers.keeps → IsArmed state.peers.armed partner → IsSound plain (with_core state.world.core.answered (Ready entry) state.world) → Nears plain R (pair_at partner (Ready entry) state) (work_done plain calls entry (pair_at partner (Ready entry) state))
   done-nears state partner entry calls fails not agree armed sound =
       let world = state.world in
       let past = world.core.answered in

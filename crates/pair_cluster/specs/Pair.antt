@@ -1,5 +1,6 @@
 -- Words of public clauses: an active server and its partner, as servers of a cluster.
-use Rattle.std.specs.Prelude.{ℕ, ℤ, suc, ◌-◌, Bool, true, false, ◌&&◌, ◌||◌, nat_le, Option, Some, None, option_map, List, [], ◌∷◌, length}
+use Rattle.std.specs.Prelude.{ℕ, ℤ, suc, Bool, true, false, ◌&&◌, ◌||◌, nat_le, Option, Some, None, List, [], ◌∷◌, length}
+use Rattle.disk_model.specs.Counts.{reaches, lowered}
 use Rattle.script_lines.specs.declared.line.Server.TheVariants.{A}
 use Rattle.cluster_facts.specs.Types.{Entry}
 use Rattle.cluster_facts.specs.Service.{Plain}
@@ -64,14 +65,6 @@ ack_by _ _ state = None
 abbrev pub ack_pair : State Peers → Option (Outcome (State Peers))
 ack_pair state = ack_by state.peers.partner state.world.core.hand state
 
--- whether the active server stops in so many changing calls, and what is left of its count after them
-abbrev pub reaches : Option ℕ → ℕ → Bool
-reaches None calls = false
-reaches (Some left) calls = nat_le left calls
-
-abbrev pub lowered : Option ℕ → ℕ → Option ℕ
-lowered armed calls = option_map (λ left. left - calls) armed
-
 abbrev pub is_standby : Partner → Bool
 is_standby (Standby on_way) = true
 is_standby _ = false
@@ -85,7 +78,7 @@ fails_in calls fails = nat_le 1 calls && fails
 abbrev pub falls : Device → List Entry → Entry → Peers → Bool
 falls device past entry peers =
     let calls = device.calls past entry in
-    is_standby peers.partner && (fails_in calls (device.fails (suc (length past))) || reaches peers.armed calls)
+    is_standby peers.partner && (fails_in calls (device.fails (suc (length past))) || reaches calls peers.armed)
 
 -- the snapshot that is owed goes out
 abbrev pub linked : Partner → Partner
@@ -102,7 +95,7 @@ work_done plain calls entry state =
           core = record { answered = entry ∷ past; hand = Empty };
           net = net_answering plain past entry state.world.net;
         };
-        peers = record state.peers { partner = linked state.peers.partner; armed = lowered state.peers.armed calls };
+        peers = record state.peers { partner = linked state.peers.partner; armed = lowered calls state.peers.armed };
       };
       told = lines_answering plain past entry state.world.net;
     }

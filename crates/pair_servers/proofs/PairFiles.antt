@@ -27,7 +27,7 @@ use Rattle.cluster_facts.specs.Ranges.{AreInRange}
 use Rattle.cluster_events.specs.Servers.{State}
 use Rattle.pair_cluster.specs.Peers.{Partner, Down, Owed, Linking, Standby, Peers, IsArmed}
 use Rattle.pair_cluster.specs.Falling.{taken_over}
-use Rattle.pair_cluster.specs.Pair.{is_standby, fails_in, reaches}
+use Rattle.pair_cluster.specs.Pair.{is_standby, fails_in}
 use Rattle.pair_cluster.specs.Ended.{calls_kept}
 use Rattle.pair_files.specs.Takeovers.{last_deeds as last_calls, kept_deeds, FilesLeft, CanFall}
 use Rattle.pair_files.proofs.Taking.{takeover-files, takeover-between}
@@ -188,7 +188,7 @@ not-reached left calls some short = elim (leb_tells left calls) [
 ]
 
 -- **a work that is done does not take the server down**
-pub done-stands : (partner : Partner) (armed : Option ℕ) (calls : ℕ) (fails : Bool) → fails ≡ false → IsArmed armed partner → counts.IsShort calls armed → (is_standby partner && (fails_in calls fails || reaches armed calls)) ≡ false
+pub done-stands : (partner : Partner) (armed : Option ℕ) (calls : ℕ) (fails : Bool) → fails ≡ false → IsArmed armed partner → counts.IsShort calls armed → (is_standby partner && (fails_in calls fails || counts.reaches calls armed)) ≡ false
 done-stands (Standby number) None calls fails not is short = ap (λ b. b || false) (and_right (nat_le 1 calls) fails not)
 done-stands (Standby number) (Some left) calls fails not is short =
     let none = and_right (nat_le 1 calls) fails not in
@@ -211,7 +211,7 @@ pub stop-standby : (partner : Partner) (armed : Option ℕ) (count : ℕ) → Is
 stop-standby partner None count is reached = cc
 stop-standby partner (Some left) count is reached = armed-standby partner left is
 
-pub stop-falls : (partner : Partner) (armed : Option ℕ) (count calls : ℕ) (fails : Bool) → IsArmed armed partner → counts.reaches (suc count) armed ≡ true → count < calls → (is_standby partner && (fails_in calls fails || reaches armed calls)) ≡ true
+pub stop-falls : (partner : Partner) (armed : Option ℕ) (count calls : ℕ) (fails : Bool) → IsArmed armed partner → counts.reaches (suc count) armed ≡ true → count < calls → (is_standby partner && (fails_in calls fails || counts.reaches calls armed)) ≡ true
 stop-falls partner None count calls fails is reached within = cc
 stop-falls (Standby number) (Some left) count calls fails is reached within = or_right (fails_in calls fails) (nat_le left calls) (reached-more left count calls reached within)
 stop-falls Down (Some left) count calls fails is reached within = elim is [ ]
@@ -225,7 +225,7 @@ some-calls count calls within = elim (leb_tells 1 calls) [
 ]
 
 -- **one in which a call fails does where there is a standby**
-pub fault-falls : (partner : Partner) (number : Option ℕ) (armed : Option ℕ) (count calls : ℕ) (fails : Bool) → count < calls → partner ≡ Standby number → fails ≡ true → (is_standby partner && (fails_in calls fails || reaches armed calls)) ≡ true
+pub fault-falls : (partner : Partner) (number : Option ℕ) (armed : Option ℕ) (count calls : ℕ) (fails : Bool) → count < calls → partner ≡ Standby number → fails ≡ true → (is_standby partner && (fails_in calls fails || counts.reaches calls armed)) ≡ true
 fault-falls partner number armed count calls fails within standby is =
     let some = some-calls count calls within in
-    λ i. is_standby (standby i) && ((some i && is i) || reaches armed calls)
+    λ i. is_standby (standby i) && ((some i && is i) || counts.reaches calls armed)

@@ -30,7 +30,7 @@ use Rattle.mirror.specs.Replicas.{replies_owed}
 use Rattle.mirror.specs.Working.{deeds_in, replies_in, worked}
 use Rattle.mirror.specs.Pairing.{alone, with_peer, worked_out}
 use Rattle.pair_cluster.specs.Peers.{Partner, Down, Owed, Linking, Standby, Peers, Agree, IsArmed}
-use Rattle.pair_cluster.specs.Pair.{is_standby, lowered, work_done}
+use Rattle.pair_cluster.specs.Pair.{is_standby, work_done}
 use Rattle.pair_cluster.specs.Ended.{ended}
 use Rattle.pair_cluster.proofs.Stepping.{pair_at}
 use Rattle.cluster_clients.specs.Spelled.{AreSpelled}
@@ -82,12 +82,12 @@ answer-posts : (setup : Setup) (past : List Entry) (entry : Entry) (net : List P
 answer-posts setup past (Called client number time call) net old new before after posts spelled = posts (plain_of setup) net (is_plain setup) spelled
 answer-posts setup past (Receipted client key through time) net old new before after posts spelled = posts (plain_of setup) net (is_plain setup) spelled
 
-armed-lowered : (armed : Option ℕ) (calls : ℕ) → is_some armed ≡ is_some (lowered armed calls)
+armed-lowered : (armed : Option ℕ) (calls : ℕ) → is_some armed ≡ is_some (counts.lowered calls armed)
 armed-lowered None calls = refl
 armed-lowered (Some left) calls = refl
 
 -- the servers then
-done-by : (setup : Setup) (state : State Peers) (entry : Entry) (partner : Partner) (calls : ℕ) → Agree partner (Ready entry) state.peers.keeps → record (servers_of setup (pair_at partner (Ready entry) state)) { active = worked_out (active_by setup state.world.core.answered (Ready entry) partner); link = link_messages setup state.world.core.answered (Ready entry) partner ++ promised_to setup (entry ∷ state.world.core.answered) partner; armed = is_some (lowered state.peers.armed calls) } ≡ servers_of setup (work_done (plain_of setup) calls entry (pair_at partner (Ready entry) state)).state
+done-by : (setup : Setup) (state : State Peers) (entry : Entry) (partner : Partner) (calls : ℕ) → Agree partner (Ready entry) state.peers.keeps → record (servers_of setup (pair_at partner (Ready entry) state)) { active = worked_out (active_by setup state.world.core.answered (Ready entry) partner); link = link_messages setup state.world.core.answered (Ready entry) partner ++ promised_to setup (entry ∷ state.world.core.answered) partner; armed = is_some (counts.lowered calls state.peers.armed) } ≡ servers_of setup (work_done (plain_of setup) calls entry (pair_at partner (Ready entry) state)).state
 done-by setup state entry Down calls agree = refl
 done-by setup state entry Owed calls agree = refl
 done-by setup state entry Linking calls agree = elim agree [ ]
