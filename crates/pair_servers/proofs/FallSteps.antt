@@ -37,12 +37,14 @@ use Rattle.cluster_rounds.specs.Rounds.{EndOver}
 use Rattle.cluster_rounds.proofs.CameSteps.{alone-off}
 use Rattle.cluster_rounds.specs.Worlds.{Shows, Happened, Does, LeavesFiles, any_state}
 use Rattle.cluster_rounds.proofs.FilesSteps.{left-same}
+use Rattle.cluster_lines.specs.Answers.{EndsAs}
+use Rattle.cluster_lines.specs.Own.{DoesOn}
 use Rattle.pair_servers.specs.declared.pair.Pair.{Pair}
-use Rattle.pair_servers.specs.Falls.{EndsAs, TakesOver, stands_by, stays_down, waiting_in, waiting_lines, waiting_entries}
+use Rattle.pair_servers.specs.Falls.{TakesOver, stands_by, stays_down, waiting_in, waiting_lines, waiting_entries}
 use Rattle.pair_servers.specs.PairKit.{pair_kit}
 use Rattle.pair_servers.specs.PairLaws.{pair_laws}
 use Rattle.pair_servers.specs.PairNodes.{active_by, partner_by, servers_of, waits_by}
-use Rattle.pair_servers.specs.Steps.{DoesOn, crashed_by, armed_by, disarmed_by, restarted_by, EndsCrashed, refused_by}
+use Rattle.pair_servers.specs.Steps.{crashed_by, armed_by, disarmed_by, restarted_by, EndsCrashed, refused_by}
 use Rattle.pair_servers.proofs.OverSteps.{fell, with_servers, standby-shown, kept-shown, over-shows, over-told, fallen-told, fallen-fell}
 use Rattle.pair_servers.proofs.PairCame.{lacks}
 use Rattle.pair_servers.proofs.PairEnds.{crash-ended}
@@ -124,12 +126,12 @@ restart-refused server false (Standby number) state is = refl
 abbrev HappenedAs : Setup → Cluster Pair → List (List ℕ) → List (List ℕ) → Outcome (State Peers) → Type 0
 HappenedAs setup new before after outcome = Happened pair_kit setup outcome new before after
 
-pub crash-refuses : (server : Server) (world : Cluster Pair) (before after : List (List ℕ)) (disk : DiskSeen) → (same_server server world.servers.acting && stands_by world.servers.partner.replica.role) ≡ false → (not (same_server server world.servers.acting) && (not world.servers.armed && not (stays_down world.servers.partner.replica.role))) ≡ false → Does pair_kit (refused_by (line.Crash server)) world world before after → DoesOn (crashed_by server) world world before after disk disk
+pub crash-refuses : (server : Server) (world : Cluster Pair) (before after : List (List ℕ)) (disk : DiskSeen) → (same_server server world.servers.acting && stands_by world.servers.partner.replica.role) ≡ false → (not (same_server server world.servers.acting) && (not world.servers.armed && not (stays_down world.servers.partner.replica.role))) ≡ false → Does pair_kit (refused_by (line.Crash server)) world world before after → DoesOn pair_kit (crashed_by server) world world before after disk disk
 crash-refuses server world before after disk leads follows does setup state good shows armed =
     let is = crash-refused server (same_server server state.peers.acting) state (sym (leads-shown setup state world shows server) ∙ leads) (sym (follows-shown setup state world shows server) ∙ follows) in
     (subst (HappenedAs setup world before after) (sym is) (does setup state good shows), subst (λ (o : Outcome (State Peers)). disk.armed ≡ o.state.peers.armed) (sym is) armed, λ tells. subst (λ (o : Outcome (State Peers)). LeavesFiles setup o.state disk.files disk.files) (sym is) (left-same setup state disk.files tells), refl)
 
-pub arm-refuses : (server : Server) (count : ℕ) (world : Cluster Pair) (before after : List (List ℕ)) (disk : DiskSeen) → (same_server server world.servers.acting && stands_by world.servers.partner.replica.role) ≡ false → Does pair_kit (refused_by (line.Arm server count)) world world before after → DoesOn (armed_by server count) world world before after disk disk
+pub arm-refuses : (server : Server) (count : ℕ) (world : Cluster Pair) (before after : List (List ℕ)) (disk : DiskSeen) → (same_server server world.servers.acting && stands_by world.servers.partner.replica.role) ≡ false → Does pair_kit (refused_by (line.Arm server count)) world world before after → DoesOn pair_kit (armed_by server count) world world before after disk disk
 arm-refuses server count world before after disk leads does setup state good shows armed =
     let is = arm-refused server count (same_server server state.peers.acting) state.peers.partner state (sym (leads-shown setup state world shows server) ∙ leads) in
     (subst (HappenedAs setup world before after) (sym is) (does setup state good shows), subst (λ (o : Outcome (State Peers)). disk.armed ≡ o.state.peers.armed) (sym is) armed, λ tells. subst (λ (o : Outcome (State Peers)). LeavesFiles setup o.state disk.files disk.files) (sym is) (left-same setup state disk.files tells), refl)
@@ -178,7 +180,7 @@ leads-in setup state old server shows leads =
     }
 
 module _ (server : Server) (old : Cluster Pair) (new : Pair) (before after : List (List ℕ)) (held left : DiskSeen) (leads : (same_server server old.servers.acting && stands_by old.servers.partner.replica.role) ≡ true) where
-  pub crash-does : (result : Result (Unit {0}) DiskAnswer) → TakesOver result (fell old.servers) new before after held left → OnOk result (DoesOn (crashed_by server) old (with_servers old new) before after held left)
+  pub crash-does : (result : Result (Unit {0}) DiskAnswer) → TakesOver result (fell old.servers) new before after held left → OnOk result (DoesOn pair_kit (crashed_by server) old (with_servers old new) before after held left)
   crash-does (Ok done) takes = λ setup state good shows armed.
       let found = leads-in setup state old server shows leads in
       let files = takes.2 ∙ ap (λ c. option_map (all_applied c) held.files) (kept-shown setup state found.number old shows found.standby) in
@@ -340,7 +342,7 @@ none-is None is = refl
 none-is (Some left) is = cc
 
 -- the disk is left alone
-pub crash-on : (server : Server) (old new : Cluster Pair) (before after : List (List ℕ)) (disk : DiskSeen) → (not (same_server server old.servers.acting) && (not old.servers.armed && not (stays_down old.servers.partner.replica.role))) ≡ true → Does pair_kit (crashed_by server) old new before after → DoesOn (crashed_by server) old new before after disk disk
+pub crash-on : (server : Server) (old new : Cluster Pair) (before after : List (List ℕ)) (disk : DiskSeen) → (not (same_server server old.servers.acting) && (not old.servers.armed && not (stays_down old.servers.partner.replica.role))) ≡ true → Does pair_kit (crashed_by server) old new before after → DoesOn pair_kit (crashed_by server) old new before after disk disk
 crash-on server old new before after disk follows does setup state good shows armed =
     let found = follows-in setup state old server shows follows in (
       does setup state good shows,
@@ -390,7 +392,7 @@ armed-shows setup state armed old shows = record {
   callbacks = shows.callbacks;
 }
 
-pub arms : (server : Server) (count : ℕ) (old : Cluster Pair) (lines : List (List ℕ)) (held left : DiskSeen) → (same_server server old.servers.acting && stands_by old.servers.partner.replica.role) ≡ true → 1 ≤ count → left.files ≡ held.files → left.armed ≡ Some count → left.faults ≡ held.faults → DoesOn (armed_by server count) old (with_servers old (record old.servers { armed = true })) lines lines held left
+pub arms : (server : Server) (count : ℕ) (old : Cluster Pair) (lines : List (List ℕ)) (held left : DiskSeen) → (same_server server old.servers.acting && stands_by old.servers.partner.replica.role) ≡ true → 1 ≤ count → left.files ≡ held.files → left.armed ≡ Some count → left.faults ≡ held.faults → DoesOn pair_kit (armed_by server count) old (with_servers old (record old.servers { armed = true })) lines lines held left
 arms server count old lines held left leads some files armed faults setup state good shows count_is =
     let both = both-true (same_server server state.peers.acting) (is_standby state.peers.partner) (sym (leads-shown setup state old shows server) ∙ leads) in
     let is = arm-is server count (same_server server state.peers.acting) state.peers.partner state both.0 both.1 in
@@ -404,7 +406,7 @@ arms server count old lines held left leads some files armed faults setup state 
       faults,
     )
 
-pub disarms : (old : Cluster Pair) (lines : List (List ℕ)) (held left : DiskSeen) → left.files ≡ held.files → left.armed ≡ None → left.faults ≡ held.faults → DoesOn disarmed_by old (with_servers old (record old.servers { armed = false })) lines lines held left
+pub disarms : (old : Cluster Pair) (lines : List (List ℕ)) (held left : DiskSeen) → left.files ≡ held.files → left.armed ≡ None → left.faults ≡ held.faults → DoesOn pair_kit disarmed_by old (with_servers old (record old.servers { armed = false })) lines lines held left
 disarms old lines held left files armed faults setup state good shows count_is =
     ((armed-shows setup state None old shows, armed-good setup state good None tt, sym (append-nil lines)), armed, λ tells. files ∙ left-same setup state held.files tells, faults)
 

@@ -99,9 +99,3 @@ abbrev pub waiting_entries : Bool → Option Entry → List Entry → List Entry
 waiting_entries false committed entries = entries
 waiting_entries true None entries = entries
 waiting_entries true (Some entry) entries = entry ∷ entries
-
--- a disk's answer is done where the other result is, and otherwise memory ran out
-abbrev pub EndsAs : {E : Type 0} → Result (Unit {0}) E → Result (Unit {0}) DiskAnswer → Type 0
-EndsAs (Ok one) (Ok other) = Unit {0}
-EndsAs (Err one) (Err answer) = answer ≡ Memory
-EndsAs _ _ = ⊥

@@ -12,8 +12,7 @@ use Rattle.pair_cluster.specs.Ended.{EndsPair, EndsCrash}
 use Rattle.cluster_rounds.specs.declared.cluster.Cluster.{Cluster}
 use Rattle.cluster_rounds.specs.Kits.{calm_servers, device_by, servers_at}
 use Rattle.cluster_rounds.specs.Rounds.{EventOver, EndOver}
-use Rattle.cluster_rounds.specs.Came.{DiskSeen}
-use Rattle.cluster_rounds.specs.Worlds.{Event, Happened, IsGood, LeavesFiles, Shows, TellsFiles}
+use Rattle.cluster_rounds.specs.Worlds.{Event, Happened, IsGood, Shows}
 use Rattle.pair_servers.specs.declared.pair.Pair.{Pair}
 use Rattle.pair_servers.specs.PairKit.{pair_kit}
 
@@ -45,13 +44,7 @@ acked_next setup state = ack_next (calm_servers pair_kit setup) state
 abbrev pub restarted_by : Server → Event pair_kit
 restarted_by server setup state = restart server state
 
--- Lines over a disk: an event that works nothing happened over each state that tells of the disk's armed count, and no fault came in it.
-abbrev pub DoesOn : Event pair_kit → Cluster Pair → Cluster Pair → List (List ℕ) → List (List ℕ) → DiskSeen → DiskSeen → Type 0
-DoesOn event old new before after held left =
-    (setup : Setup) (state : State Peers) → IsGood pair_kit setup state → Shows pair_kit setup state old
-    → pair_kit.Armed state.peers held.armed → Happened pair_kit setup (event setup state) new before after
-    × pair_kit.Armed (event setup state).state.peers left.armed
-    × (TellsFiles setup state held.files → LeavesFiles setup (event setup state).state held.files left.files) × (left.faults ≡ held.faults)
+-- Lines over a disk.
 
 abbrev pub crashed_by : Server → Event pair_kit
 crashed_by server setup state = crash server state

@@ -6,10 +6,11 @@ ghost use Rattle.pair_cluster.specs.Peers.{same_server};
 ghost use Rattle.cluster_rounds.specs.Worlds.{HasStateOn, Does, any_state};
 ghost use Rattle.cluster_rounds.specs.Broken.{BreaksAlone};
 ghost use Rattle.cluster_rounds.specs.Came.{seen, ComesOff};
+ghost use Rattle.cluster_lines.specs.Own.{DoesOn};
 ghost use Rattle.pair_servers.specs.PairKit.{pair_kit};
-ghost use Rattle.pair_servers.specs.Steps.{DoesOn, restarted_by, crashed_by, armed_by, disarmed_by, EndsCrashed};
+ghost use Rattle.pair_servers.specs.Steps.{restarted_by, crashed_by, armed_by, disarmed_by, EndsCrashed};
 ghost use Rattle.pair_servers.specs.Heard.{IsUntold};
-ghost use Rattle.pair_servers.specs.Falls.{EndsAs, stands_by, stays_down, waiting_in, waiting_lines, waiting_entries};
+ghost use Rattle.pair_servers.specs.Falls.{stands_by, stays_down, waiting_in, waiting_lines, waiting_entries};
 
 use crate::Pair;
 use crate::sending::{clear, send_all};
@@ -18,6 +19,7 @@ use crate::taking_over::{go_down, put_ends, take_over};
 use ais_values::Seq;
 use calls::{Entry, History};
 use cluster_events::ServerRole;
+use cluster_lines::as_answer;
 use cluster_rounds::Cluster;
 use disk_model::{DiskAnswer, SharedDisk};
 use event_text::{put_entry, put_server};
@@ -25,16 +27,6 @@ use mirror::{Heard, Node};
 use script_lines::{Line, Server};
 use std::alloc::{AllocError, Global};
 use std::mem;
-
-/// The same end, as a disk's answer.
-fn as_answer(done: Result<(), AllocError>) -> Result<(), DiskAnswer>
-    ensures { EndsAs done result }
-{
-    match done {
-        Ok(()) => Ok(()),
-        Err(_) => Err(DiskAnswer::Memory),
-    }
-}
 
 /// Whether a server is the active one and its partner is standby.
 fn leads(servers: &Pair, server: Server) -> bool
@@ -71,7 +63,7 @@ fn crash_active<D: SharedDisk>(
     requires state { HasStateOn pair_kit any_state world.old (D.tally disk.old).armed }
     requires leads { (same_server server world.old.servers.acting && stands_by
         world.old.servers.partner.replica.role) ≡ true }
-    ensures ok { OnOk result (DoesOn (crashed_by server) world.old world.new lines.old.items
+    ensures ok { OnOk result (DoesOn pair_kit (crashed_by server) world.old world.new lines.old.items
         lines.new.items (seen (D.files disk.old) (D.tally disk.old) (D.faults disk.old))
         (seen (D.files disk.new) (D.tally disk.new) (D.faults disk.new))) }
     ensures err { IfErr result (λ answer. ComesOff pair_kit any_state (EndsCrashed server) answer
@@ -179,7 +171,7 @@ pub fn crash<D: SharedDisk>(
 ) -> Result<(), DiskAnswer>
     requires state { HasStateOn pair_kit any_state world.old (D.tally disk.old).armed }
     requires line { line.now ≡ Crash server }
-    ensures ok { OnOk result (DoesOn (crashed_by server) world.old world.new lines.old.items
+    ensures ok { OnOk result (DoesOn pair_kit (crashed_by server) world.old world.new lines.old.items
         lines.new.items (seen (D.files disk.old) (D.tally disk.old) (D.faults disk.old))
         (seen (D.files disk.new) (D.tally disk.new) (D.faults disk.new))) }
     ensures err { IfErr result (λ answer. ComesOff pair_kit any_state (EndsCrashed server) answer
@@ -209,7 +201,7 @@ pub fn arm<D: SharedDisk>(
 ) -> Result<(), AllocError>
     requires count { 1 ≤ count }
     requires line { line.now ≡ Arm server count }
-    ensures ok { OnOk result (DoesOn (armed_by server count) world.old world.new lines.old.items
+    ensures ok { OnOk result (DoesOn pair_kit (armed_by server count) world.old world.new lines.old.items
         lines.new.items (seen (D.files disk.old) (D.tally disk.old) (D.faults disk.old))
         (seen (D.files disk.new) (D.tally disk.new) (D.faults disk.new))) }
     ensures world { OnErr result (world.new ≡ world.old) }
@@ -226,7 +218,7 @@ pub fn arm<D: SharedDisk>(
 
 /// `disarm`: no server stops any more.
 pub fn disarm<D: SharedDisk>(world: &mut Cluster<Pair>, disk: &mut D)
-    ensures { (lines : List (List ℕ)) → DoesOn disarmed_by world.old world.new lines lines
+    ensures { (lines : List (List ℕ)) → DoesOn pair_kit disarmed_by world.old world.new lines lines
         (seen (D.files disk.old) (D.tally disk.old) (D.faults disk.old))
         (seen (D.files disk.new) (D.tally disk.new) (D.faults disk.new)) }
 {
