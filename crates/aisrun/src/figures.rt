@@ -25,6 +25,7 @@ use cluster_core::World;
 use disk_model::{DiskAnswer, DiskFault, SharedDisk};
 use message_net::Net;
 use mirror::Role;
+use pair_servers::role_shown;
 use std::alloc::{AllocError, Global};
 use std::mem;
 use wire::Message;
@@ -198,12 +199,7 @@ fn count_files<D: SharedDisk>(alloc: Global, disk: &mut D) -> Result<Held, Halt>
 fn role_word(armed: bool, role: Role) -> &'static str
     ensures { result.now ≡ role_text (role_shown armed role) }
 {
-    match role {
-        Role::Active => { if armed { "armed" } else { "active" } }
-        Role::Standby => "standby",
-        Role::Joining => "joining",
-        Role::Down => "down",
-    }
+    event_text::role_word(role_shown(armed, role))
 }
 
 /// The part of the line on the world.

@@ -111,16 +111,16 @@ fn put_why(alloc: Global, out: &mut Vec<u8>, why: Why) -> Result<(), AllocError>
     }
 }
 
-/// Adds the word of a server's role.
-fn put_role(out: &mut Vec<u8>, role: ServerRole) -> Result<(), AllocError>
-    ensures { OnOk result (out.new.items ≡ out.old.items ++ role_text role) }
+/// The word of a server's role, as lines print it.
+pub fn role_word(role: ServerRole) -> &'static str
+    ensures { result.now ≡ role_text role }
 {
     match role {
-        ServerRole::Active => put(out, b"active"),
-        ServerRole::Armed => put(out, b"armed"),
-        ServerRole::Standby => put(out, b"standby"),
-        ServerRole::Joining => put(out, b"joining"),
-        ServerRole::Down => put(out, b"down"),
+        ServerRole::Active => "active",
+        ServerRole::Armed => "armed",
+        ServerRole::Standby => "standby",
+        ServerRole::Joining => "joining",
+        ServerRole::Down => "down",
     }
 }
 
@@ -143,7 +143,7 @@ fn put_piece(alloc: Global, out: &mut Vec<u8>, piece: &Piece) -> Result<(), Allo
         }
         Piece::Ids(ids) => put_ids(alloc, out, ids),
         Piece::Reason(why) => put_why(alloc, out, *why),
-        Piece::Role(role) => put_role(out, *role),
+        Piece::Role(role) => put(out, role_word(*role).as_bytes()),
         Piece::Hand(Some(number)) => put_number(alloc, out, *number),
         Piece::Hand(None) => put(out, b"-"),
         Piece::Node(Server::A) => put(out, b"a"),

@@ -20,5 +20,5 @@ mod working;
 pub use falling::{arm, crash, disarm, restart};
 pub use lines::{ack_line, mirror_line};
 pub use pair::Pair;
-pub use standing::{refused, standing_of};
+pub use standing::{refused, role_shown, standing_of};
 pub use working::work;

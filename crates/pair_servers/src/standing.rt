@@ -62,8 +62,8 @@ pub(crate) fn is_down(node: &Node) -> bool
     }
 }
 
-/// How a line tells a role.
-fn role_shown(armed: bool, role: Role) -> ServerRole
+/// How a line tells the role of a server of two, of which the active one is armed or not.
+pub fn role_shown(armed: bool, role: Role) -> ServerRole
     ensures { result ≡ role_shown armed role }
 {
     match role {
