@@ -18,16 +18,17 @@ use Rattle.pair_cluster.specs.Peers.{Peers}
 use Rattle.cluster_rounds.specs.Came.{DiskSeen}
 use Rattle.cluster_core.specs.declared.world.World.{World}
 use Rattle.cluster_core.specs.Playing.{IsEventLine}
+use Rattle.aisrun.specs.declared.ending.Status8.{Status8}
 use Rattle.aisrun.specs.declared.ending.Status8.TheVariants.{Done, DiskFault as Faulted, RootNotEmpty}
 use Rattle.aisrun.specs.declared.figures.Held.{Held}
 use Rattle.aisrun.specs.declared.loading.Halt.{Halt}
 use Rattle.aisrun.specs.declared.loading.Halt.TheVariants.{Memory, DiskFault}
 use Rattle.aisrun.specs.Counts.{HasGoneOn, HasStood, HasRisen}
-use Rattle.aisrun.specs.Edges.{Stage, after}
+use Rattle.aisrun.specs.Edges.{Stage, after, fault_count}
 use Rattle.aisrun.specs.Endings.{LoadFails, PlayedTo, PlayLacks, RootHolds, fault_line}
 use Rattle.aisrun.specs.Loading.{TellsLoad, bytes_in, is_request}
 use Rattle.aisrun.specs.Playing.{Goes, StandsAt}
-use Rattle.aisrun.specs.Steps.{EventsEnd, Going, LacksBehind, Plays, Reaching}
+use Rattle.aisrun.specs.Steps.{Ended, EventsEnd, Going, LacksBehind, Plays, Reaching, unasked}
 
 -- Lines that are played, of which nothing is written.
 
@@ -155,3 +156,8 @@ LoadWants lines scene text =
     (text ≡ [])
     × (((unwritten : List ℕ) × PlayLacks lines scene unwritten)
     ⊎ ((done rest : List Line) × (unwritten : List ℕ) × PlayedTo scene lines done rest unwritten))
+
+-- how a large run ends on its stage
+abbrev pub LoadedOn : {K D : Type 0} → List Line → Stage K D → Status8 → Type 0
+LoadedOn lines scene status =
+    Ended unasked (fault_count scene.disk) (LoadEnds lines scene) (LoadWants lines scene) scene.sink status

@@ -236,8 +236,8 @@ fn joined_line(front: String, files: String, roles: String) -> Result<String, Al
 
 /// The line of a world and of files that were counted.
 fn load_line(alloc: Global, world: &World, held: &Held) -> Result<String, AllocError>
-    ensures { IfOk result (λ line. (setup : Setup) (state : State Peers) → Shows setup state world.entry.now →
-        string_bytes line ≡ state_line state held.now.files held.now.bytes) }
+    ensures { IfOk result (λ line. (setup : Setup) (state : State Peers) → Shows setup state
+        world.entry.now → string_bytes line ≡ state_line state held.now.files held.now.bytes) }
 {
     let entries = world.history.len();
     let net = world.net.len();
@@ -257,8 +257,8 @@ fn load_line(alloc: Global, world: &World, held: &Held) -> Result<String, AllocE
 ///
 /// `DiskFault` comes exactly where the disk's count of faults rose; the disk is only read.
 pub fn tell_load<D: SharedDisk>(alloc: Global, disk: &mut D, world: &World) -> Result<String, Halt>
-    ensures told { IfOk result (λ line. (setup : Setup) (state : State Peers) → Shows setup state world.entry.now →
-        TellsLoad state (D.files disk.old) (string_bytes line)) }
+    ensures told { IfOk result (λ line. (setup : Setup) (state : State Peers) → Shows setup state
+        world.entry.now → TellsLoad state (D.files disk.old) (string_bytes line)) }
     ensures same { D.files disk.new ≡ D.files disk.old }
     ensures armed { (D.tally disk.new).armed ≡ (D.tally disk.old).armed }
     ensures cause { RoseExactlyOn (D.faults disk.old) (D.faults disk.new) result Halt.DiskFault }

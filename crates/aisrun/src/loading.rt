@@ -4,7 +4,7 @@ ghost use Rattle.ais_values.specs.Causes.{RoseExactlyOn};
 ghost use Rattle.disk_model.specs.Disk.{Files};
 ghost use Rattle.plain_service.specs.Setups.{Setup};
 ghost use Rattle.cluster_events.specs.Servers.{State};
-ghost use Rattle.cluster_rounds.specs.Came.{seen};
+ghost use Rattle.cluster_rounds.specs.Came.{seen_by};
 ghost use Rattle.script_language.specs.Lines.{Spells};
 ghost use Rattle.script_language.specs.Scripts.{IsScriptOf};
 ghost use Rattle.load_script.specs.Texts.{load_text};
@@ -13,9 +13,9 @@ ghost use Rattle.pair_cluster.specs.Peers.{Peers};
 ghost use Rattle.cluster_core.specs.Beginning.{Begun, HoldsNone};
 ghost use Rattle.cluster_core.specs.Playing.{IsEventLine};
 ghost use Rattle.cluster_core.specs.Worlds.{empty_world, HasState, Shows};
-ghost use Rattle.aisrun.specs.Edges.{edge, fault_count, stage};
+ghost use Rattle.aisrun.specs.Edges.{edge, stage};
 ghost use Rattle.aisrun.specs.Endings.{StoodUpTo};
-ghost use Rattle.aisrun.specs.LoadSteps.{CanPass, HasGone, LoadEnds, LoadWants, Passes, RisesPassing, RunEnds, RunWants, TellEnds, TellLacks};
+ghost use Rattle.aisrun.specs.LoadSteps.{CanPass, HasGone, LoadedOn, Passes, RisesPassing, RunEnds, RunWants, TellEnds, TellLacks};
 ghost use Rattle.aisrun.specs.Steps.{Ended, HasBegun, Written, unasked};
 
 use crate::ending::Status8;
@@ -57,8 +57,8 @@ fn pass_line<R: Threads + Wait + Sync, D: SharedDisk, G: Gate>(
     requires event { IsEventLine world.old.now line.now }
     requires state { HasState world.old (D.tally disk.old).armed }
     ensures passes { Passes (StoodUpTo (edge D.files D.faults disk.old disk.new)) (line.now ∷ [])
-        (seen (D.files disk.old) (D.tally disk.old) (D.faults disk.old))
-        (seen (D.files disk.new) (D.tally disk.new) (D.faults disk.new)) world.old world.new result }
+        (seen_by D.files D.tally D.faults disk.old) (seen_by D.files D.tally D.faults disk.new)
+        world.old world.new result }
     ensures counts { RisesPassing (D.faults disk.old, D.faults disk.new) result }
 {
     match world.event(rt, alloc, line, disk, gate) {
@@ -83,12 +83,11 @@ fn pass_lines<R: Threads + Wait + Sync, D: SharedDisk, G: Gate>(
     gate: &G,
     world: &mut World,
 ) -> Result<(), Halt>
-    requires gone { HasGone (seen (D.files disk.old) (D.tally disk.old) (D.faults disk.old))
-        world.old }
+    requires gone { HasGone (seen_by D.files D.tally D.faults disk.old) world.old }
     requires can { CanPass lines.now }
     ensures passes { Passes (StoodUpTo (edge D.files D.faults disk.old disk.new)) lines.now
-        (seen (D.files disk.old) (D.tally disk.old) (D.faults disk.old))
-        (seen (D.files disk.new) (D.tally disk.new) (D.faults disk.new)) world.old world.new result }
+        (seen_by D.files D.tally D.faults disk.old) (seen_by D.files D.tally D.faults disk.new)
+        world.old world.new result }
     ensures counts { RisesPassing (D.faults disk.old, D.faults disk.new) result }
 {
     for line in lines {
@@ -110,13 +109,11 @@ fn pass_turn<R: Threads + Wait + Sync, D: SharedDisk, G: Gate>(
     gate: &G,
     world: &mut World,
 ) -> Result<(), Halt>
-    requires gone { HasGone (seen (D.files disk.old) (D.tally disk.old) (D.faults disk.old))
-        world.old }
+    requires gone { HasGone (seen_by D.files D.tally D.faults disk.old) world.old }
     requires small { number < 65536 }
     ensures passes { Passes (StoodUpTo (edge D.files D.faults disk.old disk.new))
-        (turn_lines turn number)
-        (seen (D.files disk.old) (D.tally disk.old) (D.faults disk.old))
-        (seen (D.files disk.new) (D.tally disk.new) (D.faults disk.new)) world.old world.new result }
+        (turn_lines turn number) (seen_by D.files D.tally D.faults disk.old)
+        (seen_by D.files D.tally D.faults disk.new) world.old world.new result }
     ensures counts { RisesPassing (D.faults disk.old, D.faults disk.new) result }
 {
     match turn_lines(alloc, turn, number) {
@@ -135,12 +132,10 @@ fn pass_turns<R: Threads + Wait + Sync, D: SharedDisk, G: Gate>(
     gate: &G,
     world: &mut World,
 ) -> Result<(), Halt>
-    requires gone { HasGone (seen (D.files disk.old) (D.tally disk.old) (D.faults disk.old))
-        world.old }
+    requires gone { HasGone (seen_by D.files D.tally D.faults disk.old) world.old }
     ensures passes { Passes (StoodUpTo (edge D.files D.faults disk.old disk.new))
-        (turns_lines seed count)
-        (seen (D.files disk.old) (D.tally disk.old) (D.faults disk.old))
-        (seen (D.files disk.new) (D.tally disk.new) (D.faults disk.new)) world.old world.new result }
+        (turns_lines seed count) (seen_by D.files D.tally D.faults disk.old)
+        (seen_by D.files D.tally D.faults disk.new) world.old world.new result }
     ensures counts { RisesPassing (D.faults disk.old, D.faults disk.new) result }
 {
     let mut state = first_state(seed);
@@ -162,11 +157,10 @@ fn pass_first<R: Threads + Wait + Sync, D: SharedDisk, G: Gate>(
     gate: &G,
     world: &mut World,
 ) -> Result<(), Halt>
-    requires gone { HasGone (seen (D.files disk.old) (D.tally disk.old) (D.faults disk.old))
-        world.old }
+    requires gone { HasGone (seen_by D.files D.tally D.faults disk.old) world.old }
     ensures passes { Passes (StoodUpTo (edge D.files D.faults disk.old disk.new)) first_lines
-        (seen (D.files disk.old) (D.tally disk.old) (D.faults disk.old))
-        (seen (D.files disk.new) (D.tally disk.new) (D.faults disk.new)) world.old world.new result }
+        (seen_by D.files D.tally D.faults disk.old) (seen_by D.files D.tally D.faults disk.new)
+        world.old world.new result }
     ensures counts { RisesPassing (D.faults disk.old, D.faults disk.new) result }
 {
     match first_lines(alloc) {
@@ -183,11 +177,10 @@ fn pass_closing<R: Threads + Wait + Sync, D: SharedDisk, G: Gate>(
     gate: &G,
     world: &mut World,
 ) -> Result<(), Halt>
-    requires gone { HasGone (seen (D.files disk.old) (D.tally disk.old) (D.faults disk.old))
-        world.old }
+    requires gone { HasGone (seen_by D.files D.tally D.faults disk.old) world.old }
     ensures passes { Passes (StoodUpTo (edge D.files D.faults disk.old disk.new)) closing_lines
-        (seen (D.files disk.old) (D.tally disk.old) (D.faults disk.old))
-        (seen (D.files disk.new) (D.tally disk.new) (D.faults disk.new)) world.old world.new result }
+        (seen_by D.files D.tally D.faults disk.old) (seen_by D.files D.tally D.faults disk.new)
+        world.old world.new result }
     ensures counts { RisesPassing (D.faults disk.old, D.faults disk.new) result }
 {
     match closing_lines(alloc) {
@@ -206,12 +199,10 @@ fn pass_front<R: Threads + Wait + Sync, D: SharedDisk, G: Gate>(
     gate: &G,
     world: &mut World,
 ) -> Result<(), Halt>
-    requires gone { HasGone (seen (D.files disk.old) (D.tally disk.old) (D.faults disk.old))
-        world.old }
+    requires gone { HasGone (seen_by D.files D.tally D.faults disk.old) world.old }
     ensures passes { Passes (StoodUpTo (edge D.files D.faults disk.old disk.new))
-        (first_lines ++ turns_lines seed count)
-        (seen (D.files disk.old) (D.tally disk.old) (D.faults disk.old))
-        (seen (D.files disk.new) (D.tally disk.new) (D.faults disk.new)) world.old world.new result }
+        (first_lines ++ turns_lines seed count) (seen_by D.files D.tally D.faults disk.old)
+        (seen_by D.files D.tally D.faults disk.new) world.old world.new result }
     ensures counts { RisesPassing (D.faults disk.old, D.faults disk.new) result }
 {
     match pass_first(rt, alloc, disk, gate, world) {
@@ -230,12 +221,11 @@ fn pass_events<R: Threads + Wait + Sync, D: SharedDisk, G: Gate>(
     gate: &G,
     world: &mut World,
 ) -> Result<(), Halt>
-    requires gone { HasGone (seen (D.files disk.old) (D.tally disk.old) (D.faults disk.old))
-        world.old }
+    requires gone { HasGone (seen_by D.files D.tally D.faults disk.old) world.old }
     ensures passes { Passes (StoodUpTo (edge D.files D.faults disk.old disk.new))
         (first_lines ++ turns_lines seed count ++ closing_lines)
-        (seen (D.files disk.old) (D.tally disk.old) (D.faults disk.old))
-        (seen (D.files disk.new) (D.tally disk.new) (D.faults disk.new)) world.old world.new result }
+        (seen_by D.files D.tally D.faults disk.old) (seen_by D.files D.tally D.faults disk.new)
+        world.old world.new result }
     ensures counts { RisesPassing (D.faults disk.old, D.faults disk.new) result }
 {
     match pass_front(rt, alloc, count, seed, disk, gate, world) {
@@ -271,13 +261,11 @@ fn run_events<R: Threads + Wait + Sync, K: Sink, D: SharedDisk, G: Gate>(
     gate: &G,
     world: &mut World,
 ) -> Status8
-    requires begun { HasBegun (seen (D.files disk.old) (D.tally disk.old) (D.faults disk.old))
-        world.old }
+    requires begun { HasBegun (seen_by D.files D.tally D.faults disk.old) world.old }
     ensures { (setup : Setup) (places : ℕ) (held : Option Files)
-        → Begun setup places held
-        (seen (D.files disk.old) (D.tally disk.old) (D.faults disk.old)) world.old
+        → Begun setup places held (seen_by D.files D.tally D.faults disk.old) world.old
         → let events = first_lines ++ turns_lines seed count ++ closing_lines
-        in let left = seen (D.files disk.new) (D.tally disk.new) (D.faults disk.new)
+        in let left = seen_by D.files D.tally D.faults disk.new
         in let since = StoodUpTo (edge D.files D.faults disk.old disk.new)
         in Ended unasked (D.faults disk.old, D.faults disk.new)
         (RunEnds setup places held (D.faults disk.old) left since world.new events)
@@ -305,10 +293,9 @@ fn open_load<R: Threads + Wait + Sync, K: Sink, D: SharedDisk, G: Gate>(
     requires empty { world.old ≡ empty_world }
     requires bare { HoldsNone (D.files disk.old) }
     requires unarmed { (D.tally disk.old).armed ≡ None }
-    ensures { let scene = stage (edge K.written K.faults out.old out.new)
-        (edge D.files D.faults disk.old disk.new) (D.tally disk.new).armed world.old world.new
-        in Ended unasked (fault_count scene.disk) (LoadEnds (load_lines count seed) scene)
-        (LoadWants (load_lines count seed) scene) scene.sink result }
+    ensures { LoadedOn (load_lines count seed) (stage (edge K.written K.faults out.old out.new)
+        (edge D.files D.faults disk.old disk.new) (D.tally disk.new).armed world.old world.new)
+        result }
 {
     match world.begin(rt, alloc, &opening_line(), disk) {
         Ok(()) => run_events(rt, alloc, count, seed, out, disk, gate, world),
@@ -339,10 +326,9 @@ pub fn load<R: Threads + Wait + Sync, K: Sink, D: SharedDisk, G: Gate>(
     requires empty { world.old ≡ empty_world }
     requires unarmed { (D.tally disk.old).armed ≡ None }
     ensures script { IsScriptOf (load_lines count seed) (load_text count seed) }
-    ensures ends { let scene = stage (edge K.written K.faults out.old out.new)
-        (edge D.files D.faults disk.old disk.new) (D.tally disk.new).armed world.old world.new
-        in Ended unasked (fault_count scene.disk) (LoadEnds (load_lines count seed) scene)
-        (LoadWants (load_lines count seed) scene) scene.sink result }
+    ensures ends { LoadedOn (load_lines count seed) (stage (edge K.written K.faults out.old out.new)
+        (edge D.files D.faults disk.old disk.new) (D.tally disk.new).armed world.old world.new)
+        result }
 {
     law_of_loads();
     match first_name(alloc, disk) {

@@ -64,7 +64,8 @@ fn inject_raw(
     bytes: &[u8],
 ) -> Result<(), AllocError>
     requires { IsRaw bytes.now }
-    ensures ok { OnOk result (InjectsRaw bytes.now net.old net.new lines.old.items lines.new.items) }
+    ensures ok { OnOk result (InjectsRaw bytes.now net.old net.new lines.old.items
+        lines.new.items) }
     ensures err { OnErr result (InjectsOrNot bytes.now net.old net.new) }
 {
     let posted = net.post(alloc, bytes)?;

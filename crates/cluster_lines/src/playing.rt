@@ -4,7 +4,7 @@ ghost use Rattle.std.specs.Result.{is_ok};
 ghost use Rattle.script_lines.specs.declared.line.Line.TheVariants.{Deliver, Push, Inject};
 ghost use Rattle.cluster_rounds.specs.Worlds.{HasState, HasStateOn, Does, any_state, pushed};
 ghost use Rattle.cluster_rounds.specs.Broken.{BreaksAlone};
-ghost use Rattle.cluster_rounds.specs.Came.{seen};
+ghost use Rattle.cluster_rounds.specs.Came.{seen_by};
 ghost use Rattle.cluster_lines.specs.Lines.{IsInRange, CanPlay, is_own};
 ghost use Rattle.cluster_lines.specs.Playing.{Plays, BreaksOff, GoesOn, LooksBy};
 ghost use Rattle.cluster_lines.specs.Answers.{EndsAs};
@@ -175,13 +175,12 @@ fn play_shared<R: Threads + Wait + Sync, S: Scripted, D: SharedDisk, G: Gate>(
     requires range { IsInRange line.now }
     requires can { CanPlay S.script world.old.now line.now }
     ensures ok { OnOk result (Plays S.kit S.script line.now world.old world.new lines.old.items
-        lines.new.items (seen (D.files disk.old) (D.tally disk.old) (D.faults disk.old))
-        (seen (D.files disk.new) (D.tally disk.new) (D.faults disk.new))) }
+        lines.new.items (seen_by D.files D.tally D.faults disk.old)
+        (seen_by D.files D.tally D.faults disk.new)) }
     ensures stands { OnOk result (HasStateOn S.kit any_state world.new (D.tally disk.new).armed) }
     ensures broken { IfErr result (λ answer. BreaksOff S.kit S.script answer line.now world.old
-        world.new lines.old.items lines.new.items
-        (seen (D.files disk.old) (D.tally disk.old) (D.faults disk.old))
-        (seen (D.files disk.new) (D.tally disk.new) (D.faults disk.new))) }
+        world.new lines.old.items lines.new.items (seen_by D.files D.tally D.faults disk.old)
+        (seen_by D.files D.tally D.faults disk.new)) }
     ensures counts { GoesOn S.kit.Outlives (D.faults disk.old) (D.faults disk.new) result }
     ensures looks { LooksBy line.now (D.files disk.old) (is_ok result) (D.tally disk.old)
         (D.tally disk.new) }
@@ -214,13 +213,12 @@ pub fn play<R: Threads + Wait + Sync, S: Scripted, D: SharedDisk, G: Gate>(
     requires range { IsInRange line.now }
     requires can { CanPlay S.script world.old.now line.now }
     ensures ok { OnOk result (Plays S.kit S.script line.now world.old world.new lines.old.items
-        lines.new.items (seen (D.files disk.old) (D.tally disk.old) (D.faults disk.old))
-        (seen (D.files disk.new) (D.tally disk.new) (D.faults disk.new))) }
+        lines.new.items (seen_by D.files D.tally D.faults disk.old)
+        (seen_by D.files D.tally D.faults disk.new)) }
     ensures stands { OnOk result (HasStateOn S.kit any_state world.new (D.tally disk.new).armed) }
     ensures broken { IfErr result (λ answer. BreaksOff S.kit S.script answer line.now world.old
-        world.new lines.old.items lines.new.items
-        (seen (D.files disk.old) (D.tally disk.old) (D.faults disk.old))
-        (seen (D.files disk.new) (D.tally disk.new) (D.faults disk.new))) }
+        world.new lines.old.items lines.new.items (seen_by D.files D.tally D.faults disk.old)
+        (seen_by D.files D.tally D.faults disk.new)) }
     ensures counts { GoesOn S.kit.Outlives (D.faults disk.old) (D.faults disk.new) result }
     ensures looks { LooksBy line.now (D.files disk.old) (is_ok result) (D.tally disk.old)
         (D.tally disk.new) }

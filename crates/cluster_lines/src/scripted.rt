@@ -1,7 +1,7 @@
 //! What the lines of a script ask of servers.
 ghost use Rattle.std.specs.Prelude.{OnOk, IfErr};
 ghost use Rattle.cluster_rounds.specs.Worlds.{HasStateOn, any_state};
-ghost use Rattle.cluster_rounds.specs.Came.{seen};
+ghost use Rattle.cluster_rounds.specs.Came.{seen_by};
 ghost use Rattle.cluster_lines.specs.Lines.{IsInRange, IsOwn};
 ghost use Rattle.cluster_lines.specs.Showing.{StandsAs};
 ghost use Rattle.cluster_lines.specs.Playing.{Plays, BreaksOff, GoesOn};
@@ -35,15 +35,13 @@ pub trait Scripted: Serving {
         requires range { IsInRange line.now }
         requires own { IsOwn Self.script line.now }
         ensures ok { OnOk result (Plays Self.kit Self.script line.now world.old world.new
-            lines.old.items lines.new.items
-            (seen (D.files disk.old) (D.tally disk.old) (D.faults disk.old))
-            (seen (D.files disk.new) (D.tally disk.new) (D.faults disk.new))) }
+            lines.old.items lines.new.items (seen_by D.files D.tally D.faults disk.old)
+            (seen_by D.files D.tally D.faults disk.new)) }
         ensures stands { OnOk result (HasStateOn Self.kit any_state world.new
             (D.tally disk.new).armed) }
         ensures broken { IfErr result (λ answer. BreaksOff Self.kit Self.script answer line.now
-            world.old world.new lines.old.items lines.new.items
-            (seen (D.files disk.old) (D.tally disk.old) (D.faults disk.old))
-            (seen (D.files disk.new) (D.tally disk.new) (D.faults disk.new))) }
+            world.old world.new lines.old.items lines.new.items (seen_by D.files D.tally D.faults
+            disk.old) (seen_by D.files D.tally D.faults disk.new)) }
         ensures counts { GoesOn Self.kit.Outlives (D.faults disk.old) (D.faults disk.new) result };
 
     /// What is asked of their lines holds.

@@ -34,6 +34,10 @@ pub record DiskSeen : Type 0 where
 abbrev pub seen : Option Files → Tally → ℕ → DiskSeen
 seen files tally faults = record { files = files; armed = tally.armed; faults = faults }
 
+-- the same of a disk, by what it says of its files, its counts and its faults
+abbrev pub seen_by : {D : Type 0} → (D → Option Files) → (D → Tally) → (D → ℕ) → D → DiskSeen
+seen_by files tally faults disk = seen (files disk) (tally disk) (faults disk)
+
 -- whether the line tells that a server is down
 abbrev pub is_down : Told → Bool
 is_down (Stood server Down) = true

@@ -7,7 +7,7 @@ ghost use Rattle.cluster_rounds.specs.Scripts.{Script};
 ghost use Rattle.cluster_rounds.specs.Worlds.{HasState, HasStateOf, HasStateOn, IsIdle, StandsIn, DoesIf, heard_by, Pushes, any_state};
 ghost use Rattle.cluster_rounds.specs.Broken.{BreaksAloneIf};
 ghost use Rattle.cluster_rounds.specs.Rounds.{EndsStep};
-ghost use Rattle.cluster_rounds.specs.Came.{seen, Advances, ComesOff};
+ghost use Rattle.cluster_rounds.specs.Came.{seen_by, Advances, ComesOff};
 
 use crate::Cluster;
 use ais_values::Seq;
@@ -68,11 +68,11 @@ pub trait Serving {
     ) -> Result<bool, DiskAnswer>
         requires { HasStateOn kit any_state world.old (D.tally disk.old).armed }
         ensures ok { IfOk result (λ went. Advances kit went world.old world.new lines.old.items
-            lines.new.items (seen (D.files disk.old) (D.tally disk.old) (D.faults disk.old))
-            (seen (D.files disk.new) (D.tally disk.new) (D.faults disk.new))) }
+            lines.new.items (seen_by D.files D.tally D.faults disk.old)
+            (seen_by D.files D.tally D.faults disk.new)) }
         ensures err { IfErr result (λ answer. ComesOff kit any_state (EndsStep kit) answer world.old
-            world.new lines.old.items lines.new.items (seen (D.files disk.old) (D.tally disk.old)
-            (D.faults disk.old)) (seen (D.files disk.new) (D.tally disk.new) (D.faults disk.new))) };
+            world.new lines.old.items lines.new.items (seen_by D.files D.tally D.faults disk.old)
+            (seen_by D.files D.tally D.faults disk.new)) };
 
     /// What is asked of them holds.
     ghost laws: { IsKit kit };

@@ -3,7 +3,7 @@ ghost use Rattle.std.specs.Prelude.{IfErr, IsErrOf, OnOk};
 ghost use Rattle.disk_model.specs.declared.answers.DiskAnswer.{DiskAnswer};
 ghost use Rattle.cluster_rounds.specs.Worlds.{HasStateOn, any_state};
 ghost use Rattle.cluster_rounds.specs.Rounds.{EndsSettle};
-ghost use Rattle.cluster_rounds.specs.Came.{seen, ComesOff};
+ghost use Rattle.cluster_rounds.specs.Came.{seen_by, ComesOff};
 ghost use Rattle.cluster_rounds.specs.Settling.{DoesSettle};
 
 use crate::rounds::round;
@@ -27,12 +27,10 @@ pub fn settle<R: Wait, S: Serving, D: SharedDisk>(
 ) -> Result<(), DiskAnswer>
     requires { HasStateOn S.kit any_state world.old (D.tally disk.old).armed }
     ensures ok { OnOk result (DoesSettle S.kit world.old world.new lines.old.items lines.new.items
-        (seen (D.files disk.old) (D.tally disk.old) (D.faults disk.old)) (seen (D.files disk.new)
-        (D.tally disk.new) (D.faults disk.new))) }
+        (seen_by D.files D.tally D.faults disk.old) (seen_by D.files D.tally D.faults disk.new)) }
     ensures err { IfErr result (λ answer. ComesOff S.kit any_state (EndsSettle S.kit) answer
-        world.old world.new lines.old.items lines.new.items (seen (D.files disk.old)
-        (D.tally disk.old) (D.faults disk.old)) (seen (D.files disk.new) (D.tally disk.new)
-        (D.faults disk.new))) }
+        world.old world.new lines.old.items lines.new.items
+        (seen_by D.files D.tally D.faults disk.old) (seen_by D.files D.tally D.faults disk.new)) }
     ensures never_stopped { IsErrOf result DiskAnswer.Stopped → ⊥ }
 {
     let mut loud = true;

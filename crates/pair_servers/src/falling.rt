@@ -5,7 +5,7 @@ ghost use Rattle.mirror.specs.Pairing.{alone, joining};
 ghost use Rattle.pair_cluster.specs.Peers.{same_server};
 ghost use Rattle.cluster_rounds.specs.Worlds.{HasStateOn, Does, any_state};
 ghost use Rattle.cluster_rounds.specs.Broken.{BreaksAlone};
-ghost use Rattle.cluster_rounds.specs.Came.{seen, ComesOff};
+ghost use Rattle.cluster_rounds.specs.Came.{seen_by, ComesOff};
 ghost use Rattle.cluster_lines.specs.Own.{DoesOn};
 ghost use Rattle.pair_servers.specs.PairKit.{pair_kit};
 ghost use Rattle.pair_servers.specs.Steps.{restarted_by, crashed_by, armed_by, disarmed_by, EndsCrashed};
@@ -63,13 +63,12 @@ fn crash_active<D: SharedDisk>(
     requires state { HasStateOn pair_kit any_state world.old (D.tally disk.old).armed }
     requires leads { (same_server server world.old.servers.acting && stands_by
         world.old.servers.partner.replica.role) ≡ true }
-    ensures ok { OnOk result (DoesOn pair_kit (crashed_by server) world.old world.new lines.old.items
-        lines.new.items (seen (D.files disk.old) (D.tally disk.old) (D.faults disk.old))
-        (seen (D.files disk.new) (D.tally disk.new) (D.faults disk.new))) }
+    ensures ok { OnOk result (DoesOn pair_kit (crashed_by server) world.old world.new
+        lines.old.items lines.new.items (seen_by D.files D.tally D.faults disk.old)
+        (seen_by D.files D.tally D.faults disk.new)) }
     ensures err { IfErr result (λ answer. ComesOff pair_kit any_state (EndsCrashed server) answer
         world.old world.new lines.old.items lines.new.items
-        (seen (D.files disk.old) (D.tally disk.old) (D.faults disk.old))
-        (seen (D.files disk.new) (D.tally disk.new) (D.faults disk.new))) }
+        (seen_by D.files D.tally D.faults disk.old) (seen_by D.files D.tally D.faults disk.new)) }
 {
     let count = lines.as_slice().len();
     match put_ends(alloc, lines, world.servers.acting) {
@@ -131,8 +130,9 @@ fn crash_partner(
     lines: &mut Vec<Seq<u8>>,
     server: Server,
 ) -> Result<(), AllocError>
-    requires follows { (not (same_server server world.old.servers.acting) && (not
-        world.old.servers.armed && not (stays_down world.old.servers.partner.replica.role))) ≡ true }
+    requires follows { (not (same_server server world.old.servers.acting)
+        && (not world.old.servers.armed && not (stays_down world.old.servers.partner.replica.role)))
+        ≡ true }
     ensures ok { OnOk result (Does pair_kit (crashed_by server) world.old world.new lines.old.items
         lines.new.items) }
     ensures err { OnErr result (BreaksAlone pair_kit world.old world.new) }
@@ -171,13 +171,12 @@ pub fn crash<D: SharedDisk>(
 ) -> Result<(), DiskAnswer>
     requires state { HasStateOn pair_kit any_state world.old (D.tally disk.old).armed }
     requires line { line.now ≡ Crash server }
-    ensures ok { OnOk result (DoesOn pair_kit (crashed_by server) world.old world.new lines.old.items
-        lines.new.items (seen (D.files disk.old) (D.tally disk.old) (D.faults disk.old))
-        (seen (D.files disk.new) (D.tally disk.new) (D.faults disk.new))) }
+    ensures ok { OnOk result (DoesOn pair_kit (crashed_by server) world.old world.new
+        lines.old.items lines.new.items (seen_by D.files D.tally D.faults disk.old)
+        (seen_by D.files D.tally D.faults disk.new)) }
     ensures err { IfErr result (λ answer. ComesOff pair_kit any_state (EndsCrashed server) answer
         world.old world.new lines.old.items lines.new.items
-        (seen (D.files disk.old) (D.tally disk.old) (D.faults disk.old))
-        (seen (D.files disk.new) (D.tally disk.new) (D.faults disk.new))) }
+        (seen_by D.files D.tally D.faults disk.old) (seen_by D.files D.tally D.faults disk.new)) }
 {
     if leads(&world.servers, server) {
         return crash_active(alloc, world, lines, server, disk);
@@ -201,12 +200,12 @@ pub fn arm<D: SharedDisk>(
 ) -> Result<(), AllocError>
     requires count { 1 ≤ count }
     requires line { line.now ≡ Arm server count }
-    ensures ok { OnOk result (DoesOn pair_kit (armed_by server count) world.old world.new lines.old.items
-        lines.new.items (seen (D.files disk.old) (D.tally disk.old) (D.faults disk.old))
-        (seen (D.files disk.new) (D.tally disk.new) (D.faults disk.new))) }
+    ensures ok { OnOk result (DoesOn pair_kit (armed_by server count) world.old world.new
+        lines.old.items lines.new.items (seen_by D.files D.tally D.faults disk.old)
+        (seen_by D.files D.tally D.faults disk.new)) }
     ensures world { OnErr result (world.new ≡ world.old) }
-    ensures disk { OnErr result (seen (D.files disk.new) (D.tally disk.new) (D.faults disk.new)
-        ≡ seen (D.files disk.old) (D.tally disk.old) (D.faults disk.old)) }
+    ensures disk { OnErr result (seen_by D.files D.tally D.faults disk.new
+        ≡ seen_by D.files D.tally D.faults disk.old) }
 {
     if leads(&world.servers, server) {
         disk.arm(count);
@@ -219,8 +218,7 @@ pub fn arm<D: SharedDisk>(
 /// `disarm`: no server stops any more.
 pub fn disarm<D: SharedDisk>(world: &mut Cluster<Pair>, disk: &mut D)
     ensures { (lines : List (List ℕ)) → DoesOn pair_kit disarmed_by world.old world.new lines lines
-        (seen (D.files disk.old) (D.tally disk.old) (D.faults disk.old))
-        (seen (D.files disk.new) (D.tally disk.new) (D.faults disk.new)) }
+        (seen_by D.files D.tally D.faults disk.old) (seen_by D.files D.tally D.faults disk.new) }
 {
     disk.disarm();
     world.servers.armed = false;
@@ -242,8 +240,8 @@ fn rejoin(
 ) -> Result<(), AllocError>
     requires { (not (same_server server world.old.servers.acting) && stays_down
         world.old.servers.partner.replica.role) ≡ true }
-    ensures ok { OnOk result (Does pair_kit (restarted_by server) world.old world.new lines.old.items
-        lines.new.items) }
+    ensures ok { OnOk result (Does pair_kit (restarted_by server) world.old world.new
+        lines.old.items lines.new.items) }
     ensures err { OnErr result (IsUntold world.old world.new) }
 {
     put_server(alloc, lines, server, ServerRole::Joining)?;
@@ -269,8 +267,8 @@ pub fn restart(
     server: Server,
 ) -> Result<(), AllocError>
     requires line { line.now ≡ Restart server }
-    ensures ok { OnOk result (Does pair_kit (restarted_by server) world.old world.new lines.old.items
-        lines.new.items) }
+    ensures ok { OnOk result (Does pair_kit (restarted_by server) world.old world.new
+        lines.old.items lines.new.items) }
     ensures err { OnErr result (BreaksAlone pair_kit world.old world.new) }
 {
     if rests(&world.servers, server) {
