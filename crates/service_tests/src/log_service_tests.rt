@@ -6,9 +6,9 @@ ghost use Rattle.stream_config.specs.WellKnown.{default_file};
 ghost use Rattle.log_service.specs.State.{IsNotified};
 
 use ais_values::{ClassId, Duplicate, Name, Seq, Status, StreamKind, Text};
-use log_service::{LogState, Step};
+use log_service::{LogPlan, LogState, Step};
 use record_print::{Header, LogRecord};
-use std::alloc::Global;
+use std::alloc::{AllocError, Global};
 use std::process::Abort;
 use std::test::Fail;
 use stream_config::{
@@ -21,26 +21,21 @@ const START: i64 = 1_704_067_200_000_000_000;
 const SECOND: i64 = 1_704_067_200;
 
 /// Attributes of a stream with records of 32 bytes.
-fn attrs(
-    alloc: Global,
-    file: &[u8],
-    max_file: u64,
-    action: FullAction,
-) -> Result<StreamAttrs, Fail> {
-    Ok(StreamAttrs {
-        file: Text::new(alloc, file)?,
-        path: Text::new(alloc, b".")?,
-        max_file,
+fn attrs(rt: &impl Abort, alloc: Global, file: &[u8]) -> StreamAttrs {
+    StreamAttrs {
+        file: Text::new(alloc, file).expect(rt, "a text"),
+        path: Text::new(alloc, b".").expect(rt, "a text"),
+        max_file: 64,
         record_size: 32,
         ha: 0,
-        action,
+        action: FullAction::Wrap,
         rotated: 1,
-        expr: Text::new(alloc, b"@Cr @Cb")?,
-    })
+        expr: Text::new(alloc, b"@Cr @Cb").expect(rt, "a text"),
+    }
 }
 
 /// Attributes of the system stream with records of 32 bytes.
-fn system(alloc: Global, max_file: u64, action: FullAction) -> Result<StreamAttrs, Fail>
+fn system(alloc: Global, max_file: u64, action: FullAction) -> Result<StreamAttrs, AllocError>
     requires least { 32 ≤ max_file }
     requires most { max_file ≤ 64 }
     ensures file { IfOk result (λ attrs. attrs.file ≡ default_file System) }
@@ -57,7 +52,7 @@ fn system(alloc: Global, max_file: u64, action: FullAction) -> Result<StreamAttr
 }
 
 /// A service with such a system stream.
-fn begun(alloc: Global, max_file: u64, action: FullAction) -> Result<LogState, Fail>
+fn begun(alloc: Global, max_file: u64, action: FullAction) -> Result<LogState, AllocError>
     requires least { 32 ≤ max_file }
     requires most { max_file ≤ 64 }
 {
@@ -72,8 +67,20 @@ fn begun(alloc: Global, max_file: u64, action: FullAction) -> Result<LogState, F
     Ok(state)
 }
 
-fn init(alloc: Global, state: &mut LogState, client: u16) -> Result<Status, Fail> {
-    Ok(state.init(alloc, client, START)?.status)
+fn init(rt: &impl Abort, alloc: Global, state: &mut LogState, client: u16) -> Status {
+    let step = state.init(alloc, client, START).expect(rt, "memory");
+    let status = step.status;
+    drop(step);
+    status
+}
+
+/// The status of a step that came as it was planned.
+fn status_as_planned(rt: &impl Abort, step: Step, plan: LogPlan) -> Status {
+    let status = step.status;
+    assert!(rt; step == *plan.step());
+    drop(step);
+    drop(plan);
+    status
 }
 
 /// A client opens a stream. What was planned comes.
@@ -84,12 +91,15 @@ fn open(
     client: u16,
     name: &StreamName,
     create: Option<&StreamAttrs>,
-) -> Result<Status, Fail> {
+) -> Status {
     assert!(rt; state.is_call_time(START));
-    let plan = state.plan_open_stream(alloc, client, name, create, START)?;
-    let step = state.open_stream(alloc, client, name, create, START)?;
-    assert!(rt; step == *plan.step());
-    Ok(step.status)
+    let plan = state
+        .plan_open_stream(alloc, client, name, create, START)
+        .expect(rt, "memory");
+    let step = state
+        .open_stream(alloc, client, name, create, START)
+        .expect(rt, "memory");
+    status_as_planned(rt, step, plan)
 }
 
 /// A client asks for the application's stream that is named by a letter.
@@ -100,53 +110,59 @@ fn asks(
     client: u16,
     letter: u8,
     asked: &StreamAttrs,
-) -> Result<Status, Fail> {
-    let name = StreamName::App {
-        name: Name::new(alloc, [letter].as_slice())?,
-    };
-    open(rt, alloc, state, client, &name, Some(asked))
+) -> Status {
+    let name = app(rt, alloc, letter);
+    let status = open(rt, alloc, state, client, &name, Some(asked));
+    drop(name);
+    status
 }
 
-fn header(alloc: Global) -> Result<Header, Fail> {
-    Ok(Header::Generic {
+/// The name of the application's stream that is named by a letter.
+fn app(rt: &impl Abort, alloc: Global, letter: u8) -> StreamName {
+    StreamName::App {
+        name: Name::new(alloc, [letter].as_slice()).expect(rt, "a name"),
+    }
+}
+
+fn header(rt: &impl Abort, alloc: Global) -> Header {
+    Header::Generic {
         class: ClassId {
             vendor: 0,
             major: 0,
             minor: 0,
         },
-        user: Name::new(alloc, b"u")?,
+        user: Name::new(alloc, b"u").expect(rt, "a name"),
         severity: 6,
-    })
+    }
 }
 
 /// Client 1 writes a record to the system stream. What was planned comes.
-fn writes(rt: &impl Abort, alloc: Global, state: &mut LogState) -> Result<Status, Fail> {
-    let header = header(alloc)?;
-    let body = Text::new(alloc, b"x")?;
+fn writes(rt: &impl Abort, alloc: Global, state: &mut LogState) -> Status {
+    let header = header(rt, alloc);
+    let body = Text::new(alloc, b"x").expect(rt, "a text");
     let name = StreamName::System;
     assert!(rt; state.is_call_time(START));
     assert!(rt; state.has_number_left(&name));
-    let plan = state.plan_write(alloc, 1, &name, 0, START, &header, &body, START)?;
-    let step = state.write(alloc, 1, &name, 0, START, &header, &body, START)?;
-    assert!(rt; step == *plan.step());
-    Ok(step.status)
+    let plan = state
+        .plan_write(alloc, 1, &name, 0, START, &header, &body, START)
+        .expect(rt, "memory");
+    let step = state
+        .write(alloc, 1, &name, 0, START, &header, &body, START)
+        .expect(rt, "memory");
+    drop(header);
+    status_as_planned(rt, step, plan)
 }
 
 /// A service with such a system stream, which client 1 has open.
-fn opened(
-    rt: &impl Abort,
-    alloc: Global,
-    max_file: u64,
-    action: FullAction,
-) -> Result<LogState, Fail>
+fn opened(rt: &impl Abort, alloc: Global, max_file: u64, action: FullAction) -> LogState
     requires least { 32 ≤ max_file }
     requires most { max_file ≤ 64 }
 {
-    let mut state = begun(alloc, max_file, action)?;
-    assert!(rt; init(alloc, &mut state, 1)? == Status::Ok);
-    let status = open(rt, alloc, &mut state, 1, &StreamName::System, None)?;
+    let mut state = begun(alloc, max_file, action).expect(rt, "memory");
+    assert!(rt; init(rt, alloc, &mut state, 1) == Status::Ok);
+    let status = open(rt, alloc, &mut state, 1, &StreamName::System, None);
     assert!(rt; status == Status::Ok);
-    Ok(state)
+    state
 }
 
 /// How many records the stream at a place has taken, and the stamp of its last file.
@@ -170,33 +186,33 @@ fn ends(step: &Step) -> (i64, usize) {
 }
 
 /// Client 2 closes the application's stream that is named by a letter.
-fn closes(
-    rt: &impl Abort,
-    alloc: Global,
-    state: &mut LogState,
-    letter: u8,
-) -> Result<(i64, usize), Fail> {
-    let name = StreamName::App {
-        name: Name::new(alloc, [letter].as_slice())?,
-    };
+fn closes(rt: &impl Abort, alloc: Global, state: &mut LogState, letter: u8) -> (i64, usize) {
+    let name = app(rt, alloc, letter);
     assert!(rt; state.is_call_time(START));
-    let plan = state.plan_close(alloc, 2, &name, START)?;
-    let step = state.close(alloc, 2, &name, START)?;
-    assert!(rt; step == *plan.step());
-    Ok(ends(&step))
+    let plan = state
+        .plan_close(alloc, 2, &name, START)
+        .expect(rt, "memory");
+    let step = state.close(alloc, 2, &name, START).expect(rt, "memory");
+    drop(name);
+    ends_as_planned(rt, step, plan)
 }
 
-fn closes_all(
-    rt: &impl Abort,
-    alloc: Global,
-    state: &mut LogState,
-    client: u16,
-) -> Result<(i64, usize), Fail> {
-    assert!(rt; state.is_call_time(START));
-    let plan = state.plan_close_all(alloc, client, START)?;
-    let step = state.close_all(alloc, client, START)?;
+/// The ends of streams in a step that came as it was planned.
+fn ends_as_planned(rt: &impl Abort, step: Step, plan: LogPlan) -> (i64, usize) {
+    let told = ends(&step);
     assert!(rt; step == *plan.step());
-    Ok(ends(&step))
+    drop(step);
+    drop(plan);
+    told
+}
+
+fn closes_all(rt: &impl Abort, alloc: Global, state: &mut LogState, client: u16) -> (i64, usize) {
+    assert!(rt; state.is_call_time(START));
+    let plan = state
+        .plan_close_all(alloc, client, START)
+        .expect(rt, "memory");
+    let step = state.close_all(alloc, client, START).expect(rt, "memory");
+    ends_as_planned(rt, step, plan)
 }
 
 /// The record of an alarm.
@@ -222,14 +238,17 @@ fn notified(alloc: Global) -> Result<LogRecord, Fail>
 }
 
 /// Stores the record of an alarm, as planned.
-fn stores(rt: &impl Abort, alloc: Global, state: &mut LogState) -> Result<Status, Fail> {
-    let rec = notified(alloc)?;
+fn stores(rt: &impl Abort, alloc: Global, state: &mut LogState, rec: &LogRecord) -> Status
+    requires { IsNotified Alarm rec.now }
+{
     assert!(rt; state.is_call_time(START));
     assert!(rt; state.has_number_left(&StreamName::Alarm));
-    let plan = state.plan_store(alloc, StreamKind::Alarm, &rec, START)?;
+    let plan = state
+        .plan_store(alloc, StreamKind::Alarm, rec, START)
+        .expect(rt, "memory");
     let status = plan.step().status;
     state.commit(plan);
-    Ok(status)
+    status
 }
 
 /// The alarm stream, made at the second 7.
@@ -258,59 +277,61 @@ fn plays(
     action: FullAction,
     taken: u32,
     created: i64,
-) -> Result<Status, Fail>
+) -> Status
     requires least { 32 ≤ max_file }
     requires most { max_file ≤ 64 }
 {
-    let mut state = opened(rt, alloc, max_file, action)?;
+    let mut state = opened(rt, alloc, max_file, action);
     for _ in 0..taken {
-        assert!(rt; writes(rt, alloc, &mut state)? == Status::Ok);
+        assert!(rt; writes(rt, alloc, &mut state) == Status::Ok);
     }
     assert!(rt; told(&state, 2) == (taken, created));
-    writes(rt, alloc, &mut state)
+    let status = writes(rt, alloc, &mut state);
+    drop(state);
+    status
 }
 
 /// A stream that halts takes two records; one that wraps takes five in one file; one that rotates has changed its
 /// file twice when it has the third.
 #[test]
-fn full_actions(rt: HostRuntime) -> Result<(), Fail> {
+fn full_actions(rt: HostRuntime) {
     let alloc = rt.alloc();
-    let halts = plays(&rt, alloc, 64, FullAction::Halt, 2, SECOND + 2)?;
+    let halts = plays(&rt, alloc, 64, FullAction::Halt, 2, SECOND + 2);
     assert!(rt; halts == Status::NoSpace);
-    let wraps = plays(&rt, alloc, 64, FullAction::Wrap, 5, SECOND + 2)?;
+    let wraps = plays(&rt, alloc, 64, FullAction::Wrap, 5, SECOND + 2);
     assert!(rt; wraps == Status::Ok);
-    let rotates = plays(&rt, alloc, 32, FullAction::Rotate, 3, SECOND + 6)?;
+    let rotates = plays(&rt, alloc, 32, FullAction::Rotate, 3, SECOND + 6);
     assert!(rt; rotates == Status::Ok);
-    Ok(())
 }
 
 /// Two clients ask for streams of applications.
-fn asked(rt: &impl Abort, alloc: Global, state: &mut LogState) -> Result<(), Fail> {
-    let one = attrs(alloc, b"one", 64, FullAction::Wrap)?;
-    let two = attrs(alloc, b"two", 64, FullAction::Wrap)?;
-    assert!(rt; asks(rt, alloc, state, 1, b'a', &one)? == Status::Ok);
-    assert!(rt; asks(rt, alloc, state, 2, b'a', &one)? == Status::Ok);
-    assert!(rt; asks(rt, alloc, state, 1, b'a', &two)? == Status::Exist);
-    assert!(rt; asks(rt, alloc, state, 1, b'b', &one)? == Status::Exist);
-    assert!(rt; asks(rt, alloc, state, 1, b'b', &two)? == Status::Ok);
-    assert!(rt; asks(rt, alloc, state, 3, b'c', &two)? == Status::BadHandle);
-    Ok(())
+fn asked(rt: &impl Abort, alloc: Global, state: &mut LogState) {
+    let one = attrs(rt, alloc, b"one");
+    let two = attrs(rt, alloc, b"two");
+    assert!(rt; asks(rt, alloc, state, 1, b'a', &one) == Status::Ok);
+    assert!(rt; asks(rt, alloc, state, 2, b'a', &one) == Status::Ok);
+    assert!(rt; asks(rt, alloc, state, 1, b'a', &two) == Status::Exist);
+    assert!(rt; asks(rt, alloc, state, 1, b'b', &one) == Status::Exist);
+    assert!(rt; asks(rt, alloc, state, 1, b'b', &two) == Status::Ok);
+    assert!(rt; asks(rt, alloc, state, 3, b'c', &two) == Status::BadHandle);
+    drop(one);
+    drop(two);
 }
 
 /// Streams of applications are made, asked for again, and end when nobody has them open.
 #[test]
-fn application_streams(rt: HostRuntime) -> Result<(), Fail> {
+fn application_streams(rt: HostRuntime) {
     let alloc = rt.alloc();
-    let mut state = opened(&rt, alloc, 64, FullAction::Wrap)?;
-    assert!(rt; init(alloc, &mut state, 2)? == Status::Ok);
-    asked(&rt, alloc, &mut state)?;
+    let mut state = opened(&rt, alloc, 64, FullAction::Wrap);
+    assert!(rt; init(&rt, alloc, &mut state, 2) == Status::Ok);
+    asked(&rt, alloc, &mut state);
     assert!(rt; told(&state, 3) == (0, SECOND + 3) && told(&state, 4) == (0, SECOND + 4));
     assert!(rt; state.openers_at(3) == Some([1, 2].as_slice()));
-    assert!(rt; closes(&rt, alloc, &mut state, b'a')? == (0, 0));
-    assert!(rt; closes_all(&rt, alloc, &mut state, 1)? == (SECOND + 6, 2));
+    assert!(rt; closes(&rt, alloc, &mut state, b'a') == (0, 0));
+    assert!(rt; closes_all(&rt, alloc, &mut state, 1) == (SECOND + 6, 2));
     assert!(rt; state.count() == 3 && state.users() == [2].as_slice());
     assert!(rt; state.last_stamp() == SECOND + 6);
-    Ok(())
+    drop(state);
 }
 
 /// Whether the application's stream of this letter ends with this closing stamp.
@@ -332,28 +353,36 @@ fn end_in_order(
     state: &mut LogState,
     first: (u8, i64),
     second: (u8, i64),
-) -> Result<bool, Fail> {
+) -> bool {
     assert!(rt; state.is_call_time(START));
-    let step = state.close_all(alloc, 1, START)?;
+    let step = state.close_all(alloc, 1, START).expect(rt, "memory");
     let in_order = match step.events.as_slice() {
         [one, other] => is_end(one, first.0, first.1) && is_end(other, second.0, second.1),
         _ => false,
     };
-    let equal = step.copy(alloc)? == step;
+    let copy = step.copy(alloc).expect(rt, "memory");
+    let equal = copy == step;
+    drop(copy);
     drop(step);
-    Ok(in_order && equal)
+    in_order && equal
+}
+
+/// A client makes the application's stream that is named by a letter.
+fn makes(rt: &impl Abort, alloc: Global, state: &mut LogState, client: u16, letter: u8) {
+    let own = attrs(rt, alloc, [letter].as_slice());
+    assert!(rt; asks(rt, alloc, state, client, letter, &own) == Status::Ok);
+    drop(own);
 }
 
 /// Streams end in the order in which they were made, and not in that of their names. One that another client has
 /// open stays.
 #[test]
-fn streams_end_in_order_of_creation(rt: HostRuntime) -> Result<(), Fail> {
+fn streams_end_in_order_of_creation(rt: HostRuntime) {
     let alloc = rt.alloc();
-    let mut state = opened(&rt, alloc, 64, FullAction::Wrap)?;
-    assert!(rt; init(alloc, &mut state, 2)? == Status::Ok);
+    let mut state = opened(&rt, alloc, 64, FullAction::Wrap);
+    assert!(rt; init(&rt, alloc, &mut state, 2) == Status::Ok);
     for (client, letter) in [(1, b'c'), (1, b'a'), (1, b'b'), (2, b'a')] {
-        let own = attrs(alloc, [letter].as_slice(), 64, FullAction::Wrap)?;
-        assert!(rt; asks(&rt, alloc, &mut state, client, letter, &own)? == Status::Ok);
+        makes(&rt, alloc, &mut state, client, letter);
     }
     let ends = end_in_order(
         &rt,
@@ -361,35 +390,40 @@ fn streams_end_in_order_of_creation(rt: HostRuntime) -> Result<(), Fail> {
         &mut state,
         (b'c', SECOND + 6),
         (b'b', SECOND + 7),
-    )?;
+    );
     assert!(rt; ends && state.count() == 4 && state.openers_at(3) == Some([2].as_slice()));
     assert!(rt; state.last_stamp() == SECOND + 7);
-    Ok(())
+    drop(state);
 }
 
 /// The 65th stream of an application is refused.
 #[test]
-fn holds_64_application_streams(rt: HostRuntime) -> Result<(), Fail> {
+fn holds_64_application_streams(rt: HostRuntime) {
     let alloc = rt.alloc();
-    let mut state = opened(&rt, alloc, 64, FullAction::Wrap)?;
+    let mut state = opened(&rt, alloc, 64, FullAction::Wrap);
     for place in 0..64u8 {
         let file = [97 + place / 8, 97 + place % 8];
-        let own = attrs(alloc, file.as_slice(), 64, FullAction::Wrap)?;
-        assert!(rt; asks(&rt, alloc, &mut state, 1, place + 60, &own)? == Status::Ok);
+        let own = attrs(&rt, alloc, file.as_slice());
+        assert!(rt; asks(&rt, alloc, &mut state, 1, place + 60, &own) == Status::Ok);
+        drop(own);
     }
-    let own = attrs(alloc, b"own", 64, FullAction::Wrap)?;
-    assert!(rt; asks(&rt, alloc, &mut state, 1, b' ', &own)? == Status::NoResources);
+    let own = attrs(&rt, alloc, b"own");
+    assert!(rt; asks(&rt, alloc, &mut state, 1, b' ', &own) == Status::NoResources);
+    drop(own);
     assert!(rt; state.count() == 67);
-    Ok(())
+    drop(state);
 }
 
 /// The record of a notification is stored in the stream of its kind.
 #[test]
 fn stores_for_notifications(rt: HostRuntime) -> Result<(), Fail> {
     let alloc = rt.alloc();
-    let mut state = opened(&rt, alloc, 64, FullAction::Wrap)?;
-    assert!(rt; stores(&rt, alloc, &mut state)? == Status::Ok);
+    let rec = notified(alloc)?;
+    let mut state = opened(&rt, alloc, 64, FullAction::Wrap);
+    assert!(rt; stores(&rt, alloc, &mut state, &rec) == Status::Ok);
     assert!(rt; told(&state, 0) == (1, SECOND) && told(&state, 1) == (0, SECOND + 1));
+    drop(state);
+    drop(rec);
     Ok(())
 }
 

@@ -64,12 +64,12 @@ fn a_reader_reads_the_stored_alarm_once(rt: HostRuntime) {
     let absent = end_reading(&mut readers, true, 5);
     drop(view);
     drop(readers);
-    assert_eq!(rt; missing, Status::NotExist);
-    assert_eq!(rt; started, Status::Ok);
-    assert_eq!(rt; again, Status::NoResources);
-    assert_eq!(rt; (first, second), (1, 0));
-    assert_eq!(rt; ended, Status::Ok);
-    assert_eq!(rt; absent, Status::BadHandle);
+    assert!(rt; missing == Status::NotExist);
+    assert!(rt; started == Status::Ok);
+    assert!(rt; again == Status::NoResources);
+    assert!(rt; (first, second) == (1, 0));
+    assert!(rt; ended == Status::Ok);
+    assert!(rt; absent == Status::BadHandle);
 }
 
 #[test]
@@ -83,8 +83,8 @@ fn a_reader_stops_with_its_client(rt: HostRuntime) {
     let after = readers.len();
     drop(view);
     drop(readers);
-    assert_eq!(rt; started, Status::Ok);
-    assert_eq!(rt; (before, after), (1, 0));
+    assert!(rt; started == Status::Ok);
+    assert!(rt; (before, after) == (1, 0));
 }
 
 #[test]
@@ -98,7 +98,7 @@ fn the_moment_of_acceptance_is_filled_in(rt: HostRuntime) {
         drop(given);
         drop(taken);
         drop(rec);
-        assert_eq!(rt; told, (7, want, 50, true));
+        assert!(rt; told == (7, want, 50, true));
     }
 }
 
@@ -129,7 +129,7 @@ fn a_first_call_is_answered(rt: HostRuntime) {
     let repeated = matches!(judge_call(callers.as_slice(), 9, 1), Judged::Repeat { .. });
     let new = matches!(judge_call(callers.as_slice(), 9, 2), Judged::New);
     drop(callers);
-    assert_eq!(rt; (first, second), (1, 2));
+    assert!(rt; (first, second) == (1, 2));
     assert!(rt; repeated && new);
 }
 
@@ -158,6 +158,6 @@ fn standing_after(rt: &impl Abort, alloc: Global, taken: u32) -> u32 {
 fn records_stand_until_their_file_is_removed(rt: HostRuntime) {
     for (taken, want) in [(0, 0), (4096, 0), (4097, 1024), (5120, 1024), (5121, 2048)] {
         let first = standing_after(&rt, rt.alloc(), taken);
-        assert_eq!(rt; first, want, "after {taken}");
+        assert!(rt; first == want, "after {taken}");
     }
 }

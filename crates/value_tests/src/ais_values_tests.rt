@@ -1,23 +1,25 @@
 //! What no clause says: that each call succeeds while there is memory.
 use ais_values::tables::*;
 use ais_values::*;
+use std::alloc::Global;
+use std::process::Abort;
 use std::test::Fail;
 
 #[test]
 fn codes_and_names(rt: HostRuntime) {
     for (code, name) in [(0x3001, "state change"), (0x4002, "QoS")] {
-        assert_eq!(rt; code_of(&EVENT_TYPES, name), Some(code));
-        assert_eq!(rt; name_of(&EVENT_TYPES, code), Some(name));
+        assert!(rt; code_of(&EVENT_TYPES, name) == Some(code));
+        assert!(rt; name_of(&EVENT_TYPES, code) == Some(name));
     }
-    assert_eq!(rt; code_of(&MONTHS, "nothing"), None);
-    assert_eq!(rt; name_of(&MONTHS, 13), None);
+    assert!(rt; code_of(&MONTHS, "nothing") == None);
+    assert!(rt; name_of(&MONTHS, 13) == None);
     for (code, found) in [
         (0x1000, false),
         (0x1001, true),
         (0x5005, true),
         (0x5006, false),
     ] {
-        assert_eq!(rt; is_event_type(code), found);
+        assert!(rt; is_event_type(code) == found);
     }
     for (time, accepted) in [
         (i64::MIN, true),
@@ -25,7 +27,7 @@ fn codes_and_names(rt: HostRuntime) {
         (-1, false),
         (0, true),
     ] {
-        assert_eq!(rt; is_time(time), accepted);
+        assert!(rt; is_time(time) == accepted);
     }
 }
 
@@ -45,9 +47,9 @@ fn statuses_have_their_rows(rt: HostRuntime) -> Result<(), Fail> {
         Status::BadFlags,
     ] {
         let word = status.word();
-        assert_eq!(rt; code_of(&STATUSES, word), Some(u32::from(status.code())));
+        assert!(rt; code_of(&STATUSES, word) == Some(u32::from(status.code())));
         assert!(rt; format!(in alloc; "{status}")?.as_str() == word);
-        assert_eq!(rt; status.copy(alloc)?, status);
+        assert!(rt; status.copy(alloc)? == status);
     }
     Ok(())
 }
@@ -73,7 +75,7 @@ fn versions(rt: HostRuntime) {
         (Which::Ntf, b'A', 0, 255, Ok(ntf)),
         (Which::Ntf, b'A', 2, 0, Err(Status::Version)),
     ] {
-        assert_eq!(rt;
+        assert!(rt;
             negotiate(
                 service,
                 Version {
@@ -81,14 +83,39 @@ fn versions(rt: HostRuntime) {
                     major,
                     minor
                 }
-            ),
-            want
+            ) == want
         );
     }
 }
 
+/// Whether so many of a byte are a name, of which a copy is equal to it.
+fn is_name(rt: &impl Abort, alloc: Global, length: usize, byte: u8) -> bool {
+    let bytes = vec![in alloc; byte; length].expect(rt, "memory");
+    match Name::new(alloc, bytes.as_slice()) {
+        Ok(name) => {
+            let copy = name.copy(alloc).expect(rt, "memory");
+            assert!(rt; name.as_slice() == bytes.as_slice() && copy == name);
+            true
+        }
+        Err(why) => why != NameAnswer::Refused,
+    }
+}
+
+/// Whether so many bytes are a text, of which a copy is equal to it.
+fn is_text(rt: &impl Abort, alloc: Global, length: usize) -> bool {
+    let bytes = vec![in alloc; 200; length].expect(rt, "memory");
+    match Text::new(alloc, bytes.as_slice()) {
+        Ok(text) => {
+            let copy = text.copy(alloc).expect(rt, "memory");
+            assert!(rt; text.as_slice() == bytes.as_slice() && copy == text);
+            true
+        }
+        Err(why) => why != TextAnswer::Refused,
+    }
+}
+
 #[test]
-fn names_and_texts_have_bounds(rt: HostRuntime) -> Result<(), Fail> {
+fn names_and_texts_have_bounds(rt: HostRuntime) {
     let alloc = rt.alloc();
     for (length, byte, accepted) in [
         (0, b'a', false),
@@ -100,28 +127,13 @@ fn names_and_texts_have_bounds(rt: HostRuntime) -> Result<(), Fail> {
         (3, 126, true),
         (3, 127, false),
     ] {
-        let bytes = vec![in alloc; byte; length]?;
-        match Name::new(alloc, bytes.as_slice()) {
-            Ok(name) => {
-                assert!(rt; accepted && name.as_slice() == bytes.as_slice());
-                assert!(rt; name.copy(alloc)? == name);
-            }
-            Err(why) => assert!(rt; !accepted && why == NameAnswer::Refused),
-        }
+        assert!(rt; is_name(&rt, alloc, length, byte) == accepted);
     }
     for (length, accepted) in [(0, true), (16_384, true), (16_385, false)] {
-        let bytes = vec![in alloc; 200; length]?;
-        match Text::new(alloc, bytes.as_slice()) {
-            Ok(text) => {
-                assert!(rt; accepted && text.as_slice() == bytes.as_slice());
-                assert!(rt; text.copy(alloc)? == text);
-            }
-            Err(why) => assert!(rt; !accepted && why == TextAnswer::Refused),
-        }
+        assert!(rt; is_text(&rt, alloc, length) == accepted);
     }
-    let text = Text::from_vec(vec![in alloc; 1, 2]?);
+    let text = Text::from_vec(vec![in alloc; 1, 2].expect(&rt, "memory"));
     assert!(rt; text.as_slice() == [1, 2].as_slice());
-    Ok(())
 }
 
 #[test]
@@ -131,30 +143,30 @@ fn lists_and_copies(rt: HostRuntime) -> Result<(), Fail> {
     for number in 0..40u16 {
         numbers.push(number)?;
     }
-    assert_eq!(rt; numbers.as_slice().len(), 40);
+    assert!(rt; numbers.as_slice().len() == 40);
     let again = numbers.copy(alloc)?;
     assert!(rt; again == numbers);
     let vector = again.into_vec();
     assert!(rt; Seq::from_vec(vector) == numbers);
-    assert_eq!(rt; Some(7u8).copy(alloc)?, Some(7));
-    assert_eq!(rt; None::<u32>.copy(alloc)?, None);
-    assert_eq!(rt; u64::MAX.copy(alloc)?, u64::MAX);
-    assert_eq!(rt; i64::MIN.copy(alloc)?, i64::MIN);
+    assert!(rt; Some(7u8).copy(alloc)? == Some(7));
+    assert!(rt; None::<u32>.copy(alloc)? == None);
+    assert!(rt; u64::MAX.copy(alloc)? == u64::MAX);
+    assert!(rt; i64::MIN.copy(alloc)? == i64::MIN);
     assert!(rt; true.copy(alloc)?);
-    assert_eq!(rt; MONTHS[3].copy(alloc)?, MONTHS[3]);
-    assert_eq!(rt; Which::Ntf.copy(alloc)?, Which::Ntf);
-    assert_eq!(rt; StreamKind::System.copy(alloc)?, StreamKind::System);
+    assert!(rt; MONTHS[3].copy(alloc)? == MONTHS[3]);
+    assert!(rt; Which::Ntf.copy(alloc)? == Which::Ntf);
+    assert!(rt; StreamKind::System.copy(alloc)? == StreamKind::System);
     let version = Version {
         release: b'A',
         major: 2,
         minor: 1,
     };
-    assert_eq!(rt; version.copy(alloc)?, version);
+    assert!(rt; version.copy(alloc)? == version);
     let class = ClassId {
         vendor: 1,
         major: 2,
         minor: 3,
     };
-    assert_eq!(rt; class.copy(alloc)?, class);
+    assert!(rt; class.copy(alloc)? == class);
     Ok(())
 }

@@ -18,11 +18,10 @@ fn stamps_of_an_almanac(rt: HostRuntime) {
     ];
     for (second, stamp, weekday) in table {
         assert!(rt; second <= LAST_SECOND);
-        assert_eq!(rt;
-            stamp_at(second).as_slice(),
-            stamp.as_slice(),
+        assert!(rt;
+            stamp_at(second).as_slice() == stamp.as_slice(),
             "at {second}"
         );
-        assert_eq!(rt; civil_at(second).weekday, weekday, "at {second}");
+        assert!(rt; civil_at(second).weekday == weekday, "at {second}");
     }
 }

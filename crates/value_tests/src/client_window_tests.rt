@@ -47,7 +47,7 @@ fn judges_by_number(rt: HostRuntime) -> Result<(), Fail> {
         (40, u32::MAX, 3),
     ] {
         let window = answered(&rt, alloc, count)?;
-        assert_eq!(rt; told(window.judge(seq)), want, "{count} {seq}");
+        assert!(rt; told(window.judge(seq)) == want, "{count} {seq}");
     }
     Ok(())
 }
@@ -56,15 +56,15 @@ fn judges_by_number(rt: HostRuntime) -> Result<(), Fail> {
 fn is_rebuilt_of_its_parts(rt: HostRuntime) -> Result<(), Fail> {
     let alloc = rt.alloc();
     let window = answered(&rt, alloc, 40)?;
-    assert_eq!(rt; window.reply_at(0), Some(&109));
-    assert_eq!(rt; window.reply_at(31), Some(&140));
-    assert_eq!(rt; window.reply_at(32), None);
+    assert!(rt; window.reply_at(0) == Some(&109));
+    assert!(rt; window.reply_at(31) == Some(&140));
+    assert!(rt; window.reply_at(32) == None);
     let mut replies = Seq::new(alloc);
     replies.push(7)?;
     replies.push(8)?;
     let rebuilt = Window::rebuild(alloc, 3, replies)?;
-    assert_eq!(rt; rebuilt.next(), 3);
-    assert_eq!(rt; told(rebuilt.judge(1)), 7);
-    assert_eq!(rt; told(rebuilt.judge(2)), 8);
+    assert!(rt; rebuilt.next() == 3);
+    assert!(rt; told(rebuilt.judge(1)) == 7);
+    assert!(rt; told(rebuilt.judge(2)) == 8);
     Ok(())
 }

@@ -1,3 +1,5 @@
+ghost use Rattle.ais_values.specs.Texts.{IsText};
+
 use ais_values::Text;
 use disk_model::*;
 use std::alloc::Global;
@@ -33,7 +35,7 @@ fn holds<D: SharedDisk>(
     match (&found, want) {
         (None, None) => {}
         (Some(bytes), Some(want)) => {
-            assert_eq!(rt; bytes.as_slice(), want, "bytes of {name}");
+            assert!(rt; bytes.as_slice() == want, "bytes of {name}");
         }
         _ => assert!(rt; false, "{name} stands or not"),
     }
@@ -48,11 +50,74 @@ fn lists<D: SharedDisk>(
 ) -> Result<(), DiskAnswer> {
     let names = disk.names(alloc)?;
     let names: &[Text] = names.as_slice();
-    assert_eq!(rt; names.len(), want.len(), "how many names");
+    assert!(rt; names.len() == want.len(), "how many names");
     for (name, want) in names.iter().zip(want) {
-        assert_eq!(rt; name.as_slice(), want.as_bytes());
+        assert!(rt; name.as_slice() == want.as_bytes());
     }
     Ok(())
+}
+
+// A file is made, and written within, at its end and past it.
+fn writes_file<D: SharedDisk>(disk: &mut D, name: &[u8]) -> Result<(), DiskAnswer>
+    requires { IsText name.now }
+{
+    disk.create(name)?;
+    disk.write_at(name, 0, b"hello")?;
+    disk.write_at(name, 3, b"LOW")?;
+    disk.write_at(name, 7, b"far")?;
+    disk.sync(name)
+}
+
+// The last bytes of a file, and what is behind them.
+fn reads_the_end<D: SharedDisk>(rt: &impl Abort, disk: &mut D) -> Result<(), DiskAnswer> {
+    let mut part = [7; 4];
+    let count = disk.read(b"z", 4, &mut part)?;
+    assert!(rt; count == 2 && part == *b"OW\x07\x07");
+    let none = disk.read(b"z", 9, &mut part)?;
+    assert!(rt; none == 0);
+    Ok(())
+}
+
+// Files are renamed, over others and from names that have none.
+fn renames_files<D: SharedDisk>(
+    rt: &impl Abort,
+    disk: &mut D,
+    alloc: Global,
+) -> Result<(), DiskAnswer> {
+    disk.rename(b"z", b"b/y")?;
+    disk.rename(b"b/y", b"b/y")?;
+    disk.rename(b"z", b"a/x.cfg")?;
+    holds(rt, disk, alloc, "z", None)?;
+    holds(rt, disk, alloc, "b/y", Some(b"helLOW"))?;
+    disk.create(b"a/x.cfg")?;
+    disk.rename(b"a/x.cfg", b"a0/x.cfg")
+}
+
+// Files of four names, which are listed in their order.
+fn makes_files<D: SharedDisk>(
+    rt: &impl Abort,
+    disk: &mut D,
+    alloc: Global,
+) -> Result<(), DiskAnswer> {
+    lists(rt, disk, alloc, &[])?;
+    for name in ["a0/x.cfg", "a/x.cfg", "a-b/x.cfg", "z"] {
+        writes_file(disk, name.as_bytes())?;
+        holds(rt, disk, alloc, name, Some(b"helLOW"))?;
+    }
+    lists(rt, disk, alloc, &["a-b/x.cfg", "a/x.cfg", "a0/x.cfg", "z"])
+}
+
+// A file is removed, and asked for behind that.
+fn removes_files<D: SharedDisk>(
+    rt: &impl Abort,
+    disk: &mut D,
+    alloc: Global,
+) -> Result<(), DiskAnswer> {
+    disk.remove(b"a-b/x.cfg")?;
+    disk.remove(b"a-b/x.cfg")?;
+    disk.sync(b"a-b/x.cfg")?;
+    lists(rt, disk, alloc, &["a0/x.cfg", "b/y"])?;
+    holds(rt, disk, alloc, "a0/x.cfg", Some(b""))
 }
 
 // What every disk does where nothing fails.
@@ -61,32 +126,10 @@ fn changes_files<D: SharedDisk>(
     disk: &mut D,
     alloc: Global,
 ) -> Result<(), DiskAnswer> {
-    lists(rt, disk, alloc, &[])?;
-    for name in ["a0/x.cfg", "a/x.cfg", "a-b/x.cfg", "z"] {
-        disk.create(name.as_bytes())?;
-        disk.write_at(name.as_bytes(), 0, b"hello")?;
-        disk.write_at(name.as_bytes(), 3, b"LOW")?;
-        disk.write_at(name.as_bytes(), 7, b"far")?;
-        disk.sync(name.as_bytes())?;
-        holds(rt, disk, alloc, name, Some(b"helLOW"))?;
-    }
-    lists(rt, disk, alloc, &["a-b/x.cfg", "a/x.cfg", "a0/x.cfg", "z"])?;
-    let mut part = [7; 4];
-    assert_eq!(rt; disk.read(b"z", 4, &mut part)?, 2);
-    assert_eq!(rt; part, *b"OW\x07\x07");
-    assert_eq!(rt; disk.read(b"z", 9, &mut part)?, 0);
-    disk.rename(b"z", b"b/y")?;
-    disk.rename(b"b/y", b"b/y")?;
-    disk.rename(b"z", b"a/x.cfg")?;
-    holds(rt, disk, alloc, "z", None)?;
-    holds(rt, disk, alloc, "b/y", Some(b"helLOW"))?;
-    disk.create(b"a/x.cfg")?;
-    disk.rename(b"a/x.cfg", b"a0/x.cfg")?;
-    disk.remove(b"a-b/x.cfg")?;
-    disk.remove(b"a-b/x.cfg")?;
-    disk.sync(b"a-b/x.cfg")?;
-    lists(rt, disk, alloc, &["a0/x.cfg", "b/y"])?;
-    holds(rt, disk, alloc, "a0/x.cfg", Some(b""))
+    makes_files(rt, disk, alloc)?;
+    reads_the_end(rt, disk)?;
+    renames_files(rt, disk, alloc)?;
+    removes_files(rt, disk, alloc)
 }
 
 #[test]
@@ -94,7 +137,7 @@ fn a_disk_in_memory_changes_its_files(rt: HostRuntime) -> Result<(), Fail> {
     let alloc = rt.alloc();
     let mut disk = MemDisk::new(alloc, Vec::new(alloc), Vec::new(alloc), Vec::new(alloc));
     changes_files(&rt, &mut disk, alloc)?;
-    assert_eq!(rt; disk.read(b"absent", 0, &mut [0; 2])?, 0);
+    assert!(rt; disk.read(b"absent", 0, &mut [0; 2])? == 0);
     disk.write_at(b"absent", 0, b"x")?;
     holds(&rt, &mut disk, alloc, "absent", None)?;
     Ok(())
@@ -109,10 +152,7 @@ fn stops_in_a_write<D: SharedDisk>(
     disk.create(b"stop/f")?;
     disk.arm(2);
     disk.write_at(b"stop/f", 0, b"abcdef")?;
-    assert_eq!(rt;
-        disk.write_at(b"stop/f", 6, b"WXYZU"),
-        Err(DiskAnswer::Stopped)
-    );
+    assert!(rt; disk.write_at(b"stop/f", 6, b"WXYZU") == Err(DiskAnswer::Stopped));
     holds(rt, disk, alloc, "stop/f", Some(b"abcdefWX"))?;
     disk.cut(b"stop/f", 7)?;
     holds(rt, disk, alloc, "stop/f", Some(b"abcdefW"))?;
@@ -125,7 +165,7 @@ fn stops_in_a_write<D: SharedDisk>(
 // What another program finds in a file below the root.
 fn stands(rt: &(impl Abort + Files + AllocGlobal), path: &str, want: &[u8]) -> Result<(), Fail> {
     let found = fs::read(rt, path)?;
-    assert_eq!(rt; found.as_slice(), want, "bytes of {path}");
+    assert!(rt; found.as_slice() == want, "bytes of {path}");
     Ok(())
 }
 
@@ -144,7 +184,7 @@ fn follows_names<D: SharedDisk>(
     disk.sync(b"k/a")?;
     stands(rt, "ais_log_root/k/a", b"k/a+")?;
     disk.rename(b"k/a", b"k/b")?;
-    assert_eq!(rt; disk.write_at(b"k/a", 0, b"x"), Err(DiskAnswer::Failed));
+    assert!(rt; disk.write_at(b"k/a", 0, b"x") == Err(DiskAnswer::Failed));
     disk.sync(b"k/a")?;
     disk.write_at(b"k/b", 4, b"new")?;
     stands(rt, "ais_log_root/k/b", b"k/a+new")
@@ -160,7 +200,7 @@ fn follows_lengths<D: SharedDisk>(
     disk.write_at(b"k/b", 1, b"past the end")?;
     stands(rt, "ais_log_root/k/b", b"")?;
     disk.remove(b"k/b")?;
-    assert_eq!(rt; disk.write_at(b"k/b", 0, b"x"), Err(DiskAnswer::Failed));
+    assert!(rt; disk.write_at(b"k/b", 0, b"x") == Err(DiskAnswer::Failed));
     disk.cut(b"k/b", 0)?;
     disk.create(b"k/b")?;
     disk.write_at(b"k/b", 0, b"anew")?;
@@ -184,14 +224,11 @@ fn a_disk_on_folders_changes_its_files(rt: HostRuntime) -> Result<(), Fail> {
     changes_files(&rt, &mut disk, alloc)?;
     follows_names(&rt, &mut disk)?;
     follows_lengths(&rt, &mut disk)?;
-    assert_eq!(rt;
-        disk.read(b"absent", 0, &mut [0; 2]),
-        Err(DiskFault::Failed)
-    );
-    assert_eq!(rt; disk.write_at(b"absent", 0, b"x"), Err(DiskAnswer::Failed));
-    assert_eq!(rt; disk.create(b"../x"), Err(DiskAnswer::Failed));
-    assert_eq!(rt; disk.len(b"../x")?, None, "no file has such a name");
-    assert_eq!(rt; disk.len(b"b")?, None, "a folder is no file");
+    assert!(rt; disk.read(b"absent", 0, &mut [0; 2]) == Err(DiskFault::Failed));
+    assert!(rt; disk.write_at(b"absent", 0, b"x") == Err(DiskAnswer::Failed));
+    assert!(rt; disk.create(b"../x") == Err(DiskAnswer::Failed));
+    assert!(rt; disk.len(b"../x")? == None, "no file has such a name");
+    assert!(rt; disk.len(b"b")? == None, "a folder is no file");
     fs::write(&rt, "ais_log_root/b/a\nb", "x")?;
     assert!(rt; disk.names(alloc).is_err(), "a name that is not plain");
     stops_in_a_write(&rt, &mut disk, alloc)?;
@@ -201,8 +238,8 @@ fn a_disk_on_folders_changes_its_files(rt: HostRuntime) -> Result<(), Fail> {
         disk.names(alloc).is_err(),
         "a plain file in the root's place"
     );
-    assert_eq!(rt; disk.len(b"x"), Err(DiskFault::Failed));
-    assert_eq!(rt; disk.create(b"x"), Err(DiskAnswer::Failed));
+    assert!(rt; disk.len(b"x") == Err(DiskFault::Failed));
+    assert!(rt; disk.create(b"x") == Err(DiskAnswer::Failed));
     fs::remove_file(&rt, ROOT)?;
     Ok(())
 }
@@ -223,17 +260,17 @@ fn listed_calls_fail_and_no_others(rt: HostRuntime) -> Result<(), Fail> {
         let mut disk = MemDisk::new(alloc, failing, Vec::new(alloc), torn.to_vec(alloc)?);
         disk.hold(b"f", b"abcdef".to_vec(alloc)?)?;
         disk.sync(b"f")?;
-        assert_eq!(rt; disk.write_at(b"f", at, bytes), Err(DiskAnswer::Failed));
+        assert!(rt; disk.write_at(b"f", at, bytes) == Err(DiskAnswer::Failed));
         holds(&rt, &mut disk, alloc, "f", Some(left))?;
     }
     let failing = [1, 2, 3].to_vec(alloc)?;
     let mut disk = MemDisk::new(alloc, failing, [2].to_vec(alloc)?, Vec::new(alloc));
     disk.hold(b"f", b"abcdef".to_vec(alloc)?)?;
-    assert_eq!(rt; disk.create(b"g"), Err(DiskAnswer::Failed));
-    assert_eq!(rt; disk.rename(b"f", b"g"), Err(DiskAnswer::Failed));
-    assert_eq!(rt; disk.remove(b"f"), Err(DiskAnswer::Failed));
-    assert_eq!(rt; disk.len(b"g")?, None);
-    assert_eq!(rt; disk.len(b"f"), Err(DiskFault::Failed));
+    assert!(rt; disk.create(b"g") == Err(DiskAnswer::Failed));
+    assert!(rt; disk.rename(b"f", b"g") == Err(DiskAnswer::Failed));
+    assert!(rt; disk.remove(b"f") == Err(DiskAnswer::Failed));
+    assert!(rt; disk.len(b"g")? == None);
+    assert!(rt; disk.len(b"f") == Err(DiskFault::Failed));
     holds(&rt, &mut disk, alloc, "f", Some(b"abcdef"))?;
     Ok(())
 }
@@ -252,7 +289,7 @@ fn a_failed_sync_tears_what_is_loose_also_under_a_new_name(rt: HostRuntime) -> R
     disk.write_at(b"f", 1, b"XY")?;
     disk.write_at(b"f", 4, b"WXYZUV")?;
     disk.rename(b"f", b"g")?;
-    assert_eq!(rt; disk.sync(b"g"), Err(DiskAnswer::Failed));
+    assert!(rt; disk.sync(b"g") == Err(DiskAnswer::Failed));
     holds(
         &rt,
         &mut disk,
@@ -288,7 +325,7 @@ fn stops_in_write(
 ) -> Result<(), DiskAnswer> {
     let mut disk = armed(alloc, [2].to_vec(alloc)?, torn, b"abcdef", 2)?;
     disk.sync(b"f")?;
-    assert_eq!(rt; disk.write_at(b"f", at, bytes), Err(DiskAnswer::Stopped));
+    assert!(rt; disk.write_at(b"f", at, bytes) == Err(DiskAnswer::Stopped));
     holds(rt, &mut disk, alloc, "f", Some(left))?;
     disk.sync(b"f")
 }
@@ -321,7 +358,7 @@ fn stops_in_call(rt: &impl Abort, alloc: Global, call: u8) -> Result<(), DiskAns
         2 => disk.remove(b"f"),
         _ => disk.sync(b"f"),
     };
-    assert_eq!(rt; answer, Err(DiskAnswer::Stopped));
+    assert!(rt; answer == Err(DiskAnswer::Stopped));
     holds(rt, &mut disk, alloc, "f", Some(b"a\x07\x07def"))?;
     holds(rt, &mut disk, alloc, "g", Some(b"\x07\x07"))
 }
@@ -337,10 +374,10 @@ fn a_stop_tears_what_is_loose_in_any_file(rt: HostRuntime) -> Result<(), Fail> {
 // A cut that fails, one that changes nothing, and one at which the disk stops.
 fn cuts(rt: &impl Abort, alloc: Global) -> Result<(), DiskAnswer> {
     let mut disk = armed(alloc, [1].to_vec(alloc)?, b"", b"abcdef", 3)?;
-    assert_eq!(rt; disk.cut(b"f", 5), Err(DiskAnswer::Failed));
+    assert!(rt; disk.cut(b"f", 5) == Err(DiskAnswer::Failed));
     disk.cut(b"f", 9)?;
     holds(rt, &mut disk, alloc, "f", Some(b"abcde"))?;
-    assert_eq!(rt; disk.cut(b"f", 2), Err(DiskAnswer::Stopped));
+    assert!(rt; disk.cut(b"f", 2) == Err(DiskAnswer::Stopped));
     holds(rt, &mut disk, alloc, "f", Some(b"ab"))
 }
 

@@ -2,6 +2,8 @@ use ais_values::{Duplicate, StreamKind};
 use format_expr::{
     Expr, ExprAnswer, ExprFault, ExprWhy, Part, Piece, Token, check_expr, parse_expr, print_expr,
 };
+use std::alloc::Global;
+use std::process::Abort;
 use std::test::Fail;
 
 #[test]
@@ -29,9 +31,8 @@ fn refused_texts(rt: HostRuntime) -> Result<(), Fail> {
         (StreamKind::System, b"a\xc3\xa9", 1, ExprWhy::ControlByte),
     ];
     for (kind, text, place, why) in table {
-        assert_eq!(rt;
-            check_expr(kind, text),
-            Err(ExprFault { place, why }),
+        assert!(rt;
+            check_expr(kind, text) == Err(ExprFault { place, why }),
             "{text:?}"
         );
         let answer = parse_expr(rt.alloc(), kind, text);
@@ -40,11 +41,8 @@ fn refused_texts(rt: HostRuntime) -> Result<(), Fail> {
             "{text:?}"
         );
     }
-    assert_eq!(rt;
-        format!(in rt.alloc(); "{}", ExprWhy::LoneAt)?.as_str(),
-        "LoneAt"
-    );
-    assert_eq!(rt; ExprWhy::TooLong.copy(rt.alloc())?, ExprWhy::TooLong);
+    assert!(rt; format!(in rt.alloc(); "{}", ExprWhy::LoneAt)?.as_str() == "LoneAt");
+    assert!(rt; ExprWhy::TooLong.copy(rt.alloc())? == ExprWhy::TooLong);
     Ok(())
 }
 
@@ -67,9 +65,8 @@ fn long_texts(rt: HostRuntime) -> Result<(), Fail> {
             None => Ok(()),
             Some((place, why)) => Err(ExprFault { place, why }),
         };
-        assert_eq!(rt;
-            check_expr(StreamKind::Alarm, text.as_slice()),
-            want,
+        assert!(rt;
+            check_expr(StreamKind::Alarm, text.as_slice()) == want,
             "{length} and {end:?}"
         );
     }
@@ -77,7 +74,7 @@ fn long_texts(rt: HostRuntime) -> Result<(), Fail> {
 }
 
 #[test]
-fn parsed_texts(rt: HostRuntime) -> Result<(), Fail> {
+fn parsed_texts(rt: HostRuntime) {
     let table: [(StreamKind, &[u8], usize); 9] = [
         (StreamKind::System, b"", 0),
         (StreamKind::System, b"plain text", 1),
@@ -106,21 +103,51 @@ fn parsed_texts(rt: HostRuntime) -> Result<(), Fail> {
         (StreamKind::Application, b"@Sl@Sv", 2),
     ];
     for (kind, text, pieces) in table {
-        let expr = parse_expr(rt.alloc(), kind, text).ok().ok_or("parsed")?;
-        assert_eq!(rt; expr.pieces.as_slice().len(), pieces, "{text:?}");
-        let printed = print_expr(rt.alloc(), &expr.copy(rt.alloc())?)?;
-        assert_eq!(rt; printed.as_slice(), text);
+        assert!(rt; has_pieces(&rt, rt.alloc(), kind, text, pieces), "{text:?}");
     }
-    let expr = parse_expr(rt.alloc(), StreamKind::System, b"@Cr1000")
+}
+
+fn parsed(rt: &impl Abort, alloc: Global, kind: StreamKind, text: &[u8]) -> Expr {
+    parse_expr(alloc, kind, text)
         .ok()
-        .ok_or("parsed")?;
-    let Expr { kind: _, pieces } = &expr;
+        .expect(rt, "an expression")
+}
+
+/// Whether the text is an expression of so many pieces, of which a copy prints the text.
+fn has_pieces(
+    rt: &impl Abort,
+    alloc: Global,
+    kind: StreamKind,
+    text: &[u8],
+    pieces: usize,
+) -> bool {
+    let expr = parsed(rt, alloc, kind, text);
+    let copy = expr.copy(alloc).expect(rt, "memory");
+    let counted = expr.pieces.as_slice().len() == pieces;
+    drop(expr);
+    let printed = print_expr(alloc, &copy).expect(rt, "memory");
+    drop(copy);
+    counted && printed.as_slice() == text
+}
+
+/// Whether the pieces are a number of 100 places, and a nought.
+fn is_number_of_100(pieces: &[Piece]) -> bool {
     let token = Token {
         part: Part::Number,
         width: Some(100),
     };
-    assert!(rt;
-        matches!(pieces.as_slice(), [Piece::Field { token: found }, Piece::Plain { text }] if *found == token && text.as_slice() == b"0".as_slice())
-    );
-    Ok(())
+    match pieces {
+        [Piece::Field { token: found }, Piece::Plain { text }] => {
+            *found == token && text.as_slice() == b"0".as_slice()
+        }
+        _ => false,
+    }
+}
+
+#[test]
+fn a_width_has_three_digits_at_most(rt: HostRuntime) {
+    let expr = parsed(&rt, rt.alloc(), StreamKind::System, b"@Cr1000");
+    let is_so = is_number_of_100(expr.pieces.as_slice());
+    drop(expr);
+    assert!(rt; is_so);
 }

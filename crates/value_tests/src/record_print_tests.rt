@@ -3,7 +3,6 @@ use format_expr::parse_expr;
 use record_print::{Header, LogRecord, check_write, is_printable, print_record};
 use std::alloc::Global;
 use std::process::Abort;
-use std::test::Fail;
 
 /// The first second of 2024.
 const T: i64 = 1_704_067_200_000_000_000;
@@ -16,37 +15,53 @@ const CLASS: ClassId = ClassId {
     minor: 0xffff,
 };
 
-fn generic(alloc: Global, time: i64, severity: u16, body: &[u8]) -> Result<LogRecord, Fail> {
-    Ok(LogRecord {
+fn name(rt: &impl Abort, alloc: Global, bytes: &[u8]) -> Name {
+    Name::new(alloc, bytes).expect(rt, "a name")
+}
+
+fn text(rt: &impl Abort, alloc: Global, bytes: &[u8]) -> Text {
+    Text::new(alloc, bytes).expect(rt, "a text")
+}
+
+fn generic(rt: &impl Abort, alloc: Global, time: i64, severity: u16, body: &[u8]) -> LogRecord {
+    LogRecord {
         time,
         header: Header::Generic {
             class: CLASS,
-            user: Name::new(alloc, b"safApp=web")?,
+            user: name(rt, alloc, b"safApp=web"),
             severity,
         },
-        body: Text::new(alloc, body)?,
-    })
+        body: text(rt, alloc, body),
+    }
 }
 
 /// A record at the first second of 2024.
 fn notified(
+    rt: &impl Abort,
     alloc: Global,
     event_time: i64,
     event_type: u16,
     object: &[u8],
-) -> Result<LogRecord, Fail> {
-    Ok(LogRecord {
+) -> LogRecord {
+    LogRecord {
         time: T,
         header: Header::Ntf {
             id: 0x2a,
             event_type,
-            object: Name::new(alloc, object)?,
-            notifier: Name::new(alloc, b"hw")?,
+            object: name(rt, alloc, object),
+            notifier: name(rt, alloc, b"hw"),
             class: CLASS,
             event_time,
         },
-        body: Text::new(alloc, b"fan")?,
-    })
+        body: text(rt, alloc, b"fan"),
+    }
+}
+
+/// A copy of a record, which is let go.
+fn copied(rt: &impl Abort, alloc: Global, rec: LogRecord) -> LogRecord {
+    let copy = rec.copy(alloc).expect(rt, "memory");
+    drop(rec);
+    copy
 }
 
 /// Whether the line is this text, padded with spaces, and a line feed.
@@ -61,21 +76,23 @@ fn is_line(line: &[u8], want: &[u8]) -> bool {
 fn prints(
     rt: &impl Abort,
     alloc: Global,
-    rec: &LogRecord,
+    rec: LogRecord,
     number: u32,
     size: u32,
     kind: StreamKind,
     expr: &[u8],
     want: &[u8],
-) -> Result<bool, Fail> {
-    let expr = parse_expr(alloc, kind, expr).ok().ok_or("parsed")?;
-    assert!(rt; size >= 32 && size <= 16_384 && is_printable(rec));
-    let line = print_record(alloc, &expr, number, rec, size)?;
-    Ok(line.as_slice().len() == size as usize && is_line(line.as_slice(), want))
+) -> bool {
+    let expr = parse_expr(alloc, kind, expr).ok().expect(rt, "parsed");
+    assert!(rt; size >= 32 && size <= 16_384 && is_printable(&rec));
+    let line = print_record(alloc, &expr, number, &rec, size).expect(rt, "memory");
+    drop(expr);
+    drop(rec);
+    line.as_slice().len() == size as usize && is_line(line.as_slice(), want)
 }
 
 #[test]
-fn generic_records(rt: HostRuntime) -> Result<(), Fail> {
+fn generic_records(rt: HostRuntime) {
     let table: [(i64, &[u8], &[u8]); 16] = [
         (T, b"@Ch@Ca", b"12am"),
         (T + 12 * HOUR, b"@Ch@Ca", b"12pm"),
@@ -123,24 +140,24 @@ fn generic_records(rt: HostRuntime) -> Result<(), Fail> {
         ),
     ];
     for (time, expr, want) in table {
-        let rec = generic(rt.alloc(), time, 6, b"a\x00\x1f\x7f\x80\xffb")?.copy(rt.alloc())?;
+        let rec = generic(&rt, rt.alloc(), time, 6, b"a\x00\x1f\x7f\x80\xffb");
+        let copy = copied(&rt, rt.alloc(), rec);
         let printed = prints(
             &rt,
             rt.alloc(),
-            &rec,
+            copy,
             7,
             256,
             StreamKind::System,
             expr,
             want,
-        )?;
+        );
         assert!(rt; printed, "{expr:?} at {time}");
     }
-    Ok(())
 }
 
 #[test]
-fn numbers_and_cuts(rt: HostRuntime) -> Result<(), Fail> {
+fn numbers_and_cuts(rt: HostRuntime) {
     let table: [(&[u8], u32, &[u8], &[u8]); 8] = [
         (
             b"@Cx @Cb",
@@ -167,24 +184,23 @@ fn numbers_and_cuts(rt: HostRuntime) -> Result<(), Fail> {
         (b"@Cb31@Cr", 1, b"abc", b"abc"),
     ];
     for (expr, number, body, want) in table {
-        let rec = generic(rt.alloc(), T, 0, body)?;
+        let rec = generic(&rt, rt.alloc(), T, 0, body);
         let printed = prints(
             &rt,
             rt.alloc(),
-            &rec,
+            rec,
             number,
             32,
             StreamKind::Application,
             expr,
             want,
-        )?;
+        );
         assert!(rt; printed, "{expr:?} of {body:?}");
     }
-    Ok(())
 }
 
 #[test]
-fn notified_records(rt: HostRuntime) -> Result<(), Fail> {
+fn notified_records(rt: HostRuntime) {
     let names = [b'n'; 256];
     let table: [(&[u8], &[u8], &[u8]); 6] = [
         (b"@No3", &names, b"nnn"),
@@ -203,15 +219,15 @@ fn notified_records(rt: HostRuntime) -> Result<(), Fail> {
         ),
     ];
     for (expr, object, want) in table {
-        let rec = notified(rt.alloc(), T + 13 * HOUR, 0x4001, object)?.copy(rt.alloc())?;
-        let printed = prints(&rt, rt.alloc(), &rec, 1, 256, StreamKind::Alarm, expr, want)?;
+        let rec = notified(&rt, rt.alloc(), T + 13 * HOUR, 0x4001, object);
+        let copy = copied(&rt, rt.alloc(), rec);
+        let printed = prints(&rt, rt.alloc(), copy, 1, 256, StreamKind::Alarm, expr, want);
         assert!(rt; printed, "{expr:?}");
     }
-    Ok(())
 }
 
 #[test]
-fn tested_writes(rt: HostRuntime) -> Result<(), Fail> {
+fn tested_writes(rt: HostRuntime) {
     let table: [(i64, u16, u16, bool); 8] = [
         (0, 0x1001, 0, true),
         (i64::MAX, 0x5005, 6, true),
@@ -223,24 +239,25 @@ fn tested_writes(rt: HostRuntime) -> Result<(), Fail> {
         (0, 0x4006, 7, false),
     ];
     for (time, event_type, severity, fits) in table {
-        let own = generic(rt.alloc(), 0, severity, b"")?;
-        let other = notified(rt.alloc(), time, event_type, b"o")?;
-        assert_eq!(rt;
-            check_write(StreamKind::System, time, &own.header).is_ok(),
-            fits
-        );
-        assert_eq!(rt;
-            check_write(StreamKind::Notification, 0, &other.header).is_ok(),
-            fits
-        );
-        assert_eq!(rt;
-            check_write(StreamKind::Alarm, 0, &own.header),
-            Err(Status::InvalidParam)
-        );
-        assert_eq!(rt;
-            check_write(StreamKind::Application, 0, &other.header),
-            Err(Status::InvalidParam)
+        let own = generic(&rt, rt.alloc(), 0, severity, b"");
+        assert!(rt; is_checked(own, time, StreamKind::System, StreamKind::Alarm, fits));
+        let other = notified(&rt, rt.alloc(), time, event_type, b"o");
+        assert!(rt;
+            is_checked(
+                other,
+                0,
+                StreamKind::Notification,
+                StreamKind::Application,
+                fits
+            )
         );
     }
-    Ok(())
+}
+
+/// Whether the header of a record fits a stream of one kind or not, and none of another.
+fn is_checked(rec: LogRecord, time: i64, kind: StreamKind, other: StreamKind, fits: bool) -> bool {
+    let first = check_write(kind, time, &rec.header).is_ok();
+    let second = check_write(other, 0, &rec.header) == Err(Status::InvalidParam);
+    drop(rec);
+    first == fits && second
 }

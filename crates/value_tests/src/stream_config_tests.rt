@@ -45,7 +45,7 @@ fn each_bound_of_names(rt: HostRuntime) -> Result<(), Fail> {
         (b"a", b"..", false),
     ];
     for (file, path, accepted) in cases {
-        assert_eq!(rt; passes(&attrs_of(alloc, file, path)?), accepted);
+        assert!(rt; passes(&attrs_of(alloc, file, path)?) == accepted);
     }
     Ok(())
 }
@@ -71,7 +71,7 @@ fn each_bound_of_numbers(rt: HostRuntime) -> Result<(), Fail> {
         attrs.max_file = max_file;
         attrs.ha = ha;
         attrs.rotated = rotated;
-        assert_eq!(rt; passes(&attrs), accepted);
+        assert!(rt; passes(&attrs) == accepted);
     }
     Ok(())
 }
@@ -89,7 +89,7 @@ fn expressions_of_each_kind(rt: HostRuntime) -> Result<(), Fail> {
     for (kind, expr, accepted) in cases {
         let mut attrs = attrs_of(alloc, b"f", b".")?;
         attrs.expr = Text::new(alloc, expr)?;
-        assert_eq!(rt; check_attrs(kind, &attrs).is_ok(), accepted);
+        assert!(rt; check_attrs(kind, &attrs).is_ok() == accepted);
     }
     Ok(())
 }
@@ -102,7 +102,7 @@ fn cfg_is(
     want: &[u8],
 ) -> Result<(), Fail> {
     assert!(rt; attrs.expr.as_slice().len() <= 1024);
-    assert_eq!(rt; cfg_text(alloc, name, attrs)?.as_slice(), want);
+    assert!(rt; cfg_text(alloc, name, attrs)?.as_slice() == want);
     Ok(())
 }
 
@@ -112,7 +112,7 @@ fn cfg_texts(rt: HostRuntime) -> Result<(), Fail> {
     let mut attrs = attrs_of(alloc, b"saLogSystem", b".")?;
     let system =
         b"STREAM: system\nVERSION: A.02.01\nFORMAT: @Cr @Cb\nMAX_FILE_SIZE: 32\nRECORD_SIZE: 32\nFULL_ACTION: ROTATE\nROTATED_FILES: 1\nHA: 0\n";
-    assert_eq!(rt; system.len(), 125);
+    assert!(rt; system.len() == 125);
     cfg_is(&rt, alloc, &StreamName::System, &attrs, system.as_slice())?;
     attrs.action = FullAction::Halt;
     let name = StreamName::App {
@@ -124,34 +124,25 @@ fn cfg_texts(rt: HostRuntime) -> Result<(), Fail> {
 }
 
 #[test]
-fn well_known_streams(rt: HostRuntime) -> Result<(), Fail> {
+fn well_known_streams(rt: HostRuntime) {
     let alloc = rt.alloc();
-    let alarm = well_known(alloc, StreamKind::Alarm)?;
-    let system = well_known(alloc, StreamKind::System)?;
-    assert_eq!(rt; alarm.file.as_slice(), b"saLogAlarm".as_slice());
-    assert_eq!(rt; per_file(&system), 1024);
+    let mut alarm = well_known(alloc, StreamKind::Alarm).expect(&rt, "memory");
+    let system = well_known(alloc, StreamKind::System).expect(&rt, "memory");
+    assert!(rt; alarm.file.as_slice() == b"saLogAlarm".as_slice());
+    assert!(rt; per_file(&system) == 1024);
     assert!(rt; !have_one_place(&alarm, &system));
-    let file = system.file.copy(alloc)?;
-    let other = StreamAttrs { file, ..alarm };
-    assert!(rt; have_one_place(&other, &system));
-    Ok(())
+    alarm.file = system.file.copy(alloc).expect(&rt, "memory");
+    assert!(rt; have_one_place(&alarm, &system));
+    drop(alarm);
+    drop(system);
 }
 
 #[test]
 fn stamps_rise(rt: HostRuntime) {
-    assert_eq!(rt; stamp(0, 1_704_067_200_999_999_999), 1_704_067_200);
-    assert_eq!(rt;
-        stamp(1_704_067_200, 1_704_067_200_000_000_000),
-        1_704_067_201
-    );
-    assert_eq!(rt;
-        stamp(1_704_067_202, 1_704_067_203_000_000_000),
-        1_704_067_203
-    );
-    assert_eq!(rt;
-        stamp(1_704_067_206, 1_704_067_203_000_000_000),
-        1_704_067_207
-    );
+    assert!(rt; stamp(0, 1_704_067_200_999_999_999) == 1_704_067_200);
+    assert!(rt; stamp(1_704_067_200, 1_704_067_200_000_000_000) == 1_704_067_201);
+    assert!(rt; stamp(1_704_067_202, 1_704_067_203_000_000_000) == 1_704_067_203);
+    assert!(rt; stamp(1_704_067_206, 1_704_067_203_000_000_000) == 1_704_067_207);
 }
 
 #[test]

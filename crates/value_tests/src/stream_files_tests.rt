@@ -1,41 +1,45 @@
 use ais_values::{Duplicate, Seq, Text};
 use disk_model::{DiskAnswer, MemDisk, SharedDisk};
-use std::alloc::{AllocError, Global};
+use std::alloc::Global;
 use std::process::Abort;
-use std::test::Fail;
 use stream_files::*;
 use stream_layout::Deed;
 
-fn text(alloc: Global, bytes: &[u8]) -> Result<Text, AllocError> {
-    match Text::new(alloc, bytes) {
-        Ok(text) => Ok(text),
-        Err(_) => Err(AllocError),
-    }
+fn text(rt: &impl Abort, alloc: Global, bytes: &[u8]) -> Text {
+    Text::new(alloc, bytes).expect(rt, "a text")
 }
 
 // A file made anew, another made empty and written, renamed, and a third removed: 8 device calls.
-fn some_deeds(alloc: Global) -> Result<Seq<Deed>, AllocError> {
+fn some_deeds(rt: &impl Abort, alloc: Global) -> Seq<Deed> {
     let mut deeds = Seq::new(alloc);
-    deeds.push(Deed::Put {
-        name: text(alloc, b"a.cfg")?,
-        bytes: text(alloc, b"new")?,
-    })?;
-    deeds.push(Deed::Create {
-        name: text(alloc, b"b")?,
-    })?;
-    deeds.push(Deed::Write {
-        name: text(alloc, b"b")?,
-        at: 0,
-        bytes: text(alloc, b"data")?,
-    })?;
-    deeds.push(Deed::Rename {
-        from: text(alloc, b"b")?,
-        to: text(alloc, b"c")?,
-    })?;
-    deeds.push(Deed::Remove {
-        name: text(alloc, b"old")?,
-    })?;
-    Ok(deeds)
+    for place in 0..5u8 {
+        deeds.push(deed_at(rt, alloc, place)).expect(rt, "memory");
+    }
+    deeds
+}
+
+fn deed_at(rt: &impl Abort, alloc: Global, place: u8) -> Deed {
+    match place {
+        0 => Deed::Put {
+            name: text(rt, alloc, b"a.cfg"),
+            bytes: text(rt, alloc, b"new"),
+        },
+        1 => Deed::Create {
+            name: text(rt, alloc, b"b"),
+        },
+        2 => Deed::Write {
+            name: text(rt, alloc, b"b"),
+            at: 0,
+            bytes: text(rt, alloc, b"data"),
+        },
+        3 => Deed::Rename {
+            from: text(rt, alloc, b"b"),
+            to: text(rt, alloc, b"c"),
+        },
+        _ => Deed::Remove {
+            name: text(rt, alloc, b"old"),
+        },
+    }
 }
 
 fn holds(
@@ -46,13 +50,13 @@ fn holds(
     want: Option<&[u8]>,
 ) -> Result<(), DiskAnswer> {
     let Some(want) = want else {
-        assert_eq!(rt; disk.len(name)?, None);
+        assert!(rt; disk.len(name)? == None);
         return Ok(());
     };
-    assert_eq!(rt; disk.len(name)?, Some(want.len() as u64));
+    assert!(rt; disk.len(name)? == Some(want.len() as u64));
     let mut bytes = vec![in alloc; 0; want.len()]?;
     disk.read(name, 0, bytes.as_mut_slice())?;
-    assert_eq!(rt; bytes.as_slice(), want);
+    assert!(rt; bytes.as_slice() == want);
     Ok(())
 }
 
@@ -72,22 +76,46 @@ fn holds_all(
 }
 
 // A disk with the two old files, on which the changing call of this number fails, or stops it.
-fn disk_before(alloc: Global, number: u64, stops: bool) -> Result<MemDisk, AllocError> {
-    let failing = if stops {
-        Vec::new(alloc)
-    } else {
-        [number].to_vec(alloc)?
-    };
-    let mut disk = MemDisk::new(alloc, failing, Vec::new(alloc), b"#".to_vec(alloc)?);
-    disk.hold(b"a.cfg", b"older".to_vec(alloc)?)?;
-    disk.hold(b"old", b"before".to_vec(alloc)?)?;
+fn disk_before(rt: &impl Abort, alloc: Global, number: u64, stops: bool) -> MemDisk {
+    let failing = if stops { 0 } else { number };
+    let numbers = [failing].to_vec(alloc).expect(rt, "memory");
+    let torn = b"#".to_vec(alloc).expect(rt, "memory");
+    let mut disk = MemDisk::new(alloc, numbers, Vec::new(alloc), torn);
+    let first = b"older".to_vec(alloc).expect(rt, "memory");
+    disk.hold(b"a.cfg", first).expect(rt, "memory");
+    let second = b"before".to_vec(alloc).expect(rt, "memory");
+    disk.hold(b"old", second).expect(rt, "memory");
     if stops {
         disk.arm(number.max(1));
     }
-    Ok(disk)
+    disk
 }
 
 // The deeds are performed up to the call of this number, which fails or stops the disk, and then again.
+fn breaks_off_on(
+    rt: &impl Abort,
+    disk: &mut MemDisk,
+    alloc: Global,
+    deeds: &Seq<Deed>,
+    number: u64,
+    stops: bool,
+    left: Left,
+) -> Result<(), DiskAnswer> {
+    let want = match (number < 9, stops) {
+        (false, _) => Ok(()),
+        (true, false) => Err(DiskAnswer::Failed),
+        (true, true) => Err(DiskAnswer::Stopped),
+    };
+    assert!(rt; perform(disk, deeds) == want, "call {number}");
+    holds_all(rt, disk, alloc, left)?;
+    if number == 9 {
+        return Ok(());
+    }
+    disk.disarm();
+    perform(disk, deeds)?;
+    holds_all(rt, disk, alloc, [Some(b"new"), None, Some(b"data"), None])
+}
+
 fn breaks_off(
     rt: &impl Abort,
     alloc: Global,
@@ -95,30 +123,15 @@ fn breaks_off(
     number: u64,
     stops: bool,
     left: Left,
-) -> Result<(), DiskAnswer> {
-    let mut disk = disk_before(alloc, number, stops)?;
-    let want = match (number < 9, stops) {
-        (false, _) => Ok(()),
-        (true, false) => Err(DiskAnswer::Failed),
-        (true, true) => Err(DiskAnswer::Stopped),
-    };
-    assert_eq!(rt; perform(&mut disk, deeds), want, "call {number}");
-    holds_all(rt, &mut disk, alloc, left)?;
-    if number == 9 {
-        return Ok(());
-    }
-    disk.disarm();
-    perform(&mut disk, deeds)?;
-    holds_all(
-        rt,
-        &mut disk,
-        alloc,
-        [Some(b"new"), None, Some(b"data"), None],
-    )
+) -> bool {
+    let mut disk = disk_before(rt, alloc, number, stops);
+    let done = breaks_off_on(rt, &mut disk, alloc, deeds, number, stops, left).is_ok();
+    drop(disk);
+    done
 }
 
 #[test]
-fn each_device_call_fails_or_stops_in_turn(rt: HostRuntime) -> Result<(), Fail> {
+fn each_device_call_fails_or_stops_in_turn(rt: HostRuntime) {
     let alloc = rt.alloc();
     let old: Option<&[u8]> = Some(b"before");
     let rows: [Left; 9] = [
@@ -132,22 +145,38 @@ fn each_device_call_fails_or_stops_in_turn(rt: HostRuntime) -> Result<(), Fail> 
         [Some(b"new"), None, Some(b"data"), old],
         [Some(b"new"), None, Some(b"data"), None],
     ];
-    let deeds = some_deeds(alloc)?;
+    let deeds = some_deeds(&rt, alloc);
     for (before, row) in rows.iter().enumerate() {
         let number = before as u64 + 1;
-        breaks_off(&rt, alloc, &deeds, number, false, *row)?;
-        breaks_off(&rt, alloc, &deeds, number, true, *row)?;
+        assert!(rt;
+            breaks_off(&rt, alloc, &deeds, number, false, *row),
+            "call {number}"
+        );
+        assert!(rt;
+            breaks_off(&rt, alloc, &deeds, number, true, *row),
+            "call {number}"
+        );
     }
-    Ok(())
+    drop(deeds);
+}
+
+fn copy_of_deeds(rt: &impl Abort, alloc: Global) -> Seq<Deed> {
+    let deeds = some_deeds(rt, alloc);
+    let copy = deeds.copy(alloc).expect(rt, "memory");
+    drop(deeds);
+    copy
 }
 
 #[test]
-fn a_copy_of_deeds_is_done_alike(rt: HostRuntime) -> Result<(), Fail> {
+fn a_copy_of_deeds_is_done_alike(rt: HostRuntime) {
     let alloc = rt.alloc();
-    let deeds = some_deeds(alloc)?.copy(alloc)?;
+    let deeds = copy_of_deeds(&rt, alloc);
     let mut disk = MemDisk::new(alloc, Vec::new(alloc), Vec::new(alloc), Vec::new(alloc));
-    perform(&mut disk, &deeds)?;
-    holds(&rt, &mut disk, alloc, b"a.cfg", Some(b"new"))?;
-    holds(&rt, &mut disk, alloc, b"c", Some(b"data"))?;
-    Ok(())
+    let done = perform(&mut disk, &deeds).is_ok();
+    drop(deeds);
+    assert!(rt; done);
+    let left: Left = [Some(b"new"), None, Some(b"data"), None];
+    let held = holds_all(&rt, &mut disk, alloc, left).is_ok();
+    drop(disk);
+    assert!(rt; held);
 }

@@ -6,7 +6,7 @@ ghost use Rattle.ais_values.specs.declared.kind.StreamKind.TheVariants as kinds;
 ghost use Rattle.stream_config.specs.declared.attrs.FullAction.TheVariants as actions;
 
 use ais_values::{Duplicate, Seq, StreamKind, Text};
-use std::alloc::{AllocError, Global};
+use std::alloc::Global;
 use std::process::Abort;
 use std::test::Fail;
 use stream_config::{
@@ -31,7 +31,7 @@ fn attrs_of(alloc: Global, path: &[u8], action: FullAction) -> Result<StreamAttr
 
 fn is_at(rt: &impl Abort, attrs: &StreamAttrs, k: u32, file: u32, at: u64) {
     assert!(rt; check_attrs(StreamKind::System, attrs).is_ok());
-    assert_eq!(rt; place(attrs, k), Spot { file, at });
+    assert!(rt; place(attrs, k) == Spot { file, at });
 }
 
 #[test]
@@ -43,7 +43,7 @@ fn places_of_records(rt: HostRuntime) -> Result<(), Fail> {
     is_at(&rt, &attrs_of(alloc, b".", FullAction::Halt)?, 1, 0, 32);
     is_at(&rt, &attrs_of(alloc, b".", FullAction::Rotate)?, 5, 2, 32);
     let spot = Spot { file: 2, at: 32 };
-    assert_eq!(rt; spot.copy(alloc)?, spot);
+    assert!(rt; spot.copy(alloc)? == spot);
     Ok(())
 }
 
@@ -59,12 +59,12 @@ fn is_named(
     match closed {
         None => {
             let name = file_name(alloc, &attrs, 1_704_067_202, None)?;
-            assert_eq!(rt; name.as_slice(), want);
+            assert!(rt; name.as_slice() == want);
         }
         Some(closed) => {
             assert!(rt; closed >= 0 && closed <= 20_000_000_100);
             let name = file_name(alloc, &attrs, 1_704_067_202, Some(closed))?;
-            assert_eq!(rt; name.as_slice(), want);
+            assert!(rt; name.as_slice() == want);
         }
     }
     Ok(())
@@ -132,61 +132,91 @@ fn ended(alloc: Global) -> Result<StreamEvent, Fail>
     })
 }
 
-/// A deed in words: its name, where it has them a place and the number of bytes, and its names of files.
-fn put_words(alloc: Global, words: &mut Vec<u8>, deed: &Deed) -> Result<(), AllocError> {
-    let (word, name) = match deed {
-        Deed::Put { name, bytes } => (format!(in alloc; "put {} ", bytes.as_slice().len())?, name),
-        Deed::Create { name } => (format!(in alloc; "create ")?, name),
-        Deed::Write { name, at, bytes } => {
-            (
-                format!(in alloc; "write {at} {} ", bytes.as_slice().len())?,
-                name,
-            )
+/// The word of a deed, with the place and the number of bytes where it has them. What is renamed stands before its word.
+fn word_of(rt: &impl Abort, alloc: Global, deed: &Deed) -> String {
+    match deed {
+        Deed::Put { bytes, .. } => number_word(rt, alloc, "put ", bytes),
+        Deed::Create { .. } => word(rt, alloc, "create "),
+        Deed::Write { at, bytes, .. } => {
+            let number = bytes.as_slice().len();
+            format!(in alloc; "write {at} {number} ").expect(rt, "memory")
         }
-        Deed::Rename { from, to } => {
-            words.extend_from_slice(from.as_slice())?;
-            (format!(in alloc; " to ")?, to)
-        }
-        Deed::Remove { name } => (format!(in alloc; "remove ")?, name),
-    };
-    words.extend_from_slice(word.as_bytes())?;
-    words.extend_from_slice(name.as_slice())?;
-    words.extend_from_slice(b"\n")?;
-    Ok(())
+        Deed::Rename { .. } => word(rt, alloc, " to "),
+        Deed::Remove { .. } => word(rt, alloc, "remove "),
+    }
 }
 
-fn does(rt: &impl Abort, alloc: Global, event: &StreamEvent, want: &[u8]) -> Result<(), Fail>
-    requires { IsFitEvent event.now }
+fn word(rt: &impl Abort, alloc: Global, text: &str) -> String {
+    format!(in alloc; "{text}").expect(rt, "memory")
+}
+
+fn number_word(rt: &impl Abort, alloc: Global, text: &str, bytes: &Text) -> String {
+    let number = bytes.as_slice().len();
+    format!(in alloc; "{text}{number} ").expect(rt, "memory")
+}
+
+/// The file that a deed leaves, or removes.
+fn name_of(deed: &Deed) -> &[u8] {
+    match deed {
+        Deed::Put { name, .. } => name.as_slice(),
+        Deed::Create { name } => name.as_slice(),
+        Deed::Write { name, .. } => name.as_slice(),
+        Deed::Rename { to, .. } => to.as_slice(),
+        Deed::Remove { name } => name.as_slice(),
+    }
+}
+
+/// Adds a deed in words: its name, where it has them a place and the number of bytes, and its names of files.
+fn put_words(rt: &impl Abort, alloc: Global, words: &mut Vec<u8>, deed: &Deed) {
+    if let Deed::Rename { from, .. } = deed {
+        words
+            .extend_from_slice(from.as_slice())
+            .expect(rt, "memory");
+    }
+    let word = word_of(rt, alloc, deed);
+    words
+        .extend_from_slice(word.as_bytes())
+        .expect(rt, "memory");
+    drop(word);
+    words.extend_from_slice(name_of(deed)).expect(rt, "memory");
+    words.extend_from_slice(b"\n").expect(rt, "memory");
+}
+
+fn does(rt: &impl Abort, alloc: Global, event: StreamEvent, want: &[u8])
+    requires { IsFitEvent event }
 {
-    let list = deeds(alloc, event)?;
+    let list = deeds(alloc, &event).expect(rt, "memory");
+    drop(event);
     let mut words = Vec::new(alloc);
     for deed in list.as_slice() {
-        put_words(alloc, &mut words, deed)?;
+        put_words(rt, alloc, &mut words, deed);
     }
-    assert_eq!(rt; words.as_slice(), want);
+    drop(list);
+    assert!(rt; words.as_slice() == want);
+}
+
+#[test]
+fn deeds_of_streams_that_begin_and_end(rt: HostRuntime) -> Result<(), Fail> {
+    let alloc = rt.alloc();
+    let making = b"put 164 saLogSystem.cfg\ncreate saLogSystem_20240101_000002.log\n".as_slice();
+    does(&rt, alloc, made(alloc)?, making);
+    let ending =
+        b"saLogSystem_20240101_000002.log to saLogSystem_20240101_000002_20240101_000005.log\n".as_slice();
+    does(&rt, alloc, ended(alloc)?, ending);
     Ok(())
 }
 
 #[test]
-fn deeds_of_events(rt: HostRuntime) -> Result<(), Fail> {
+fn deeds_of_records(rt: HostRuntime) -> Result<(), Fail> {
     let alloc = rt.alloc();
-    let making = b"put 164 saLogSystem.cfg\ncreate saLogSystem_20240101_000002.log\n".as_slice();
-    does(&rt, alloc, &made(alloc)?, making)?;
     let storing = b"write 256 256 saLogSystem_20240101_000002.log\n".as_slice();
-    does(&rt, alloc, &stored(alloc, 1, None)?, storing)?;
-    let ending =
-        b"saLogSystem_20240101_000002.log to saLogSystem_20240101_000002_20240101_000005.log\n".as_slice();
-    does(&rt, alloc, &ended(alloc)?, ending)
-}
-
-#[test]
-fn deeds_of_a_change_of_file(rt: HostRuntime) -> Result<(), Fail> {
-    let alloc = rt.alloc();
+    does(&rt, alloc, stored(alloc, 1, None)?, storing);
     let stamps = Stamps {
         closed: 1_704_067_205,
         created: 1_704_067_206,
     };
     let changing =
         b"saLogSystem_20240101_000002.log to saLogSystem_20240101_000002_20240101_000005.log\ncreate saLogSystem_20240101_000006.log\nwrite 0 256 saLogSystem_20240101_000006.log\n".as_slice();
-    does(&rt, alloc, &stored(alloc, 1024, Some(stamps))?, changing)
+    does(&rt, alloc, stored(alloc, 1024, Some(stamps))?, changing);
+    Ok(())
 }
