@@ -97,7 +97,10 @@ fn is_name(rt: &impl Abort, alloc: Global, length: usize, byte: u8) -> bool {
             assert!(rt; name.as_slice() == bytes.as_slice() && copy == name);
             true
         }
-        Err(why) => why != NameAnswer::Refused,
+        Err(why) => {
+            assert!(rt; why == NameAnswer::Refused);
+            false
+        }
     }
 }
 
@@ -110,7 +113,10 @@ fn is_text(rt: &impl Abort, alloc: Global, length: usize) -> bool {
             assert!(rt; text.as_slice() == bytes.as_slice() && copy == text);
             true
         }
-        Err(why) => why != TextAnswer::Refused,
+        Err(why) => {
+            assert!(rt; why == TextAnswer::Refused);
+            false
+        }
     }
 }
 
