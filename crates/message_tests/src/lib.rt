@@ -1,6 +1,8 @@
-//! Tests of what is written and read: messages, scripts, lines of events; and of a client that takes its messages.
+//! Tests of what is written and read: messages, scripts, lines of events; and of a client that takes its messages and hands out callbacks.
 #![tactic(auto)]
 
+#[cfg(test)]
+mod callback_dispatch_tests;
 #[cfg(test)]
 mod client_agent_tests;
 #[cfg(test)]

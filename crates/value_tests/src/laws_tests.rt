@@ -25,6 +25,12 @@ fn laws_of_record_print() {
 }
 
 #[test]
+fn laws_of_record_scan() {
+    record_scan::law_of_records();
+    record_scan::law_of_texts();
+}
+
+#[test]
 fn laws_of_stream_config() {
     stream_config::law_of_equality();
     stream_config::law_of_tests();

@@ -1,4 +1,4 @@
-//! Tests of the crates of values, streams, disks and messages in flight, a file a tested crate: what no clause says.
+//! Tests of the crates of values, records, streams, disks and messages in flight, a file a tested crate: what no clause says.
 #![tactic(auto)]
 
 #[cfg(test)]
@@ -22,7 +22,11 @@ mod load_script_tests;
 #[cfg(test)]
 mod message_net_tests;
 #[cfg(test)]
+mod record_find_tests;
+#[cfg(test)]
 mod record_print_tests;
+#[cfg(test)]
+mod record_scan_tests;
 #[cfg(test)]
 mod stream_config_tests;
 #[cfg(test)]
