@@ -352,12 +352,6 @@ crash-on server old new before after disk follows does setup state good shows ar
     )
 
 -- the same, as a disk's answer
-pub ends-ok : {E : Type 0} (r : Result (Unit {0}) E) (s : Result (Unit {0}) DiskAnswer) (P : Type 0) → EndsAs r s → OnOk r P → OnOk s P
-ends-ok (Ok one) (Ok other) P ends so = so
-ends-ok (Ok one) (Err answer) P ends so = absurd ends
-ends-ok (Err e) (Ok other) P ends so = absurd ends
-ends-ok (Err e) (Err answer) P ends so = tt
-
 pub ends-off : {E : Type 0} (r : Result (Unit {0}) E) (s : Result (Unit {0}) DiskAnswer) (Ends : EndOver pair_kit) (old new : Cluster Pair) (before after : List (List ℕ)) (disk : DiskSeen) → EndsAs r s → OnErr r (BreaksAlone pair_kit old new) → IfErr s (λ answer. ComesOff pair_kit any_state Ends answer old new before after disk disk)
 ends-off (Ok one) (Ok other) Ends old new before after disk ends so = tt
 ends-off (Ok one) (Err answer) Ends old new before after disk ends so = absurd ends

@@ -1,12 +1,12 @@
 use Rattle.std.proofs.Common.{refl, sym, subst}
-use Rattle.std.proofs.lemmas.Result.{on_ok_weaker}
 use Rattle.cluster_rounds.specs.Came.{seen}
 use Rattle.cluster_rounds.specs.Worlds.{Does}
 use Rattle.cluster_clients.proofs.DispatchSteps.{on-err}
+use Rattle.cluster_lines.proofs.LineSteps.{ends-ok}
 use Rattle.pair_servers.specs.PairKit.{pair_kit}
 use Rattle.pair_servers.specs.Steps.{EndsCrashed, refused_by}
 use Rattle.pair_servers.proofs.HearBroken.{same-untold}
-use Rattle.pair_servers.proofs.FallSteps.{crash-on, crash-refuses, ends-ok, ends-off}
+use Rattle.pair_servers.proofs.FallSteps.{crash-on, crash-refuses, ends-off}
 use Rattle.pair_servers.proofs.falling.crash.Goals as goal
 
 pub crash_active-requires : goal.crash_active-requires
@@ -19,8 +19,9 @@ pub returns-then-follows-clause-ok : goal.returns-then-follows-clause-ok
 returns-then-follows-clause-ok g c =
     let old = c.args.world.now in
     let new = c.crash_partner.new.world in
-    ends-ok c.crash_partner.result c.as_answer.result _ c.as_answer.ensures
-    (on_ok_weaker c.crash_partner.result (λ does. crash-on c.args.server old new c.args.lines.now.items c.crash_partner.new.lines.items (seen (g.D.SharedDisk.files c.args.disk.now) (g.D.SharedDisk.tally c.args.disk.now) (g.D.SharedDisk.faults c.args.disk.now)) (sym c.if-follows.ensures) does) c.crash_partner.ensures.ok)
+    ends-ok c.crash_partner.result c.as_answer.result c.as_answer.ensures
+    (λ does. crash-on c.args.server old new c.args.lines.now.items c.crash_partner.new.lines.items (seen (g.D.SharedDisk.files c.args.disk.now) (g.D.SharedDisk.tally c.args.disk.now) (g.D.SharedDisk.faults c.args.disk.now)) (sym c.if-follows.ensures) does)
+    c.crash_partner.ensures.ok
 
 pub returns-then-follows-clause-err : goal.returns-then-follows-clause-err
 returns-then-follows-clause-err g c =
@@ -31,10 +32,9 @@ returns-clause-ok g c =
     let old = c.args.world.now in
     let before = c.args.lines.now.items in
     let after = c.refused.new.lines.items in
-    ends-ok c.refused.result c.as_answer-2.result _ c.as_answer-2.ensures
-    (on_ok_weaker c.refused.result
+    ends-ok c.refused.result c.as_answer-2.result c.as_answer-2.ensures
     (λ refuses. crash-refuses c.args.server old before after (seen (g.D.SharedDisk.files c.args.disk.now) (g.D.SharedDisk.tally c.args.disk.now) (g.D.SharedDisk.faults c.args.disk.now)) (sym c.if-leads.ensures) (sym c.if-follows.ensures) (subst (λ line. Does pair_kit (refused_by line) old old before after) c.requires.line refuses))
-    c.refused.ensures.ok)
+    c.refused.ensures.ok
 
 pub returns-clause-err : goal.returns-clause-err
 returns-clause-err g c =
