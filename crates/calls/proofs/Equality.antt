@@ -1,9 +1,9 @@
 -- `==` of calls, replies and entries decides whether they are equal.
-use Rattle.std.proofs.Common.{◌≡◌, refl}
+use Rattle.std.proofs.Common.{◌≡◌, ℕ, refl}
 use Rattle.std.specs.Bool.{Decides}
 use Rattle.std.proofs.lemmas.Bool.Decides.{Decides-eqb, Decides-int_eq, Decides-and, Decides-like}
 use Rattle.std.proofs.lemmas.Slice.Eq.{bytes_eq-Decides}
-use Rattle.ais_values.proofs.Equality.{eq-decides_through, option_eq-decides}
+use Rattle.ais_values.proofs.Equality.{eq-decides_through, eq-decides_apart, option_eq-decides}
 use Rattle.ntf_types.proofs.Equality.{notification_eq-decides}
 use Rattle.ntf_filters.proofs.Equality.{filter_set_eq-decides}
 use Rattle.record_print.proofs.Equality.{header_eq-decides}
@@ -21,6 +21,18 @@ use Rattle.calls.specs.declared.entry.Entry.{Entry}
 use Rattle.calls.specs.declared.entry.Entry.TheVariants as entry
 use Rattle.calls.specs.contracts.entry.EntryPartialEq.TheImpl as entry_impl
 
+abbrev status_number : Status → ℕ
+status_number status.Ok = 0
+status_number status.Version = 1
+status_number status.TryAgain = 2
+status_number status.InvalidParam = 3
+status_number status.BadHandle = 4
+status_number status.NotExist = 5
+status_number status.Exist = 6
+status_number status.NoSpace = 7
+status_number status.NoResources = 8
+status_number status.BadFlags = 9
+
 pub status_eq-decides : (one other : Status) → Decides ((status_impl.ghosts).eq one other) (one ≡ other)
 status_eq-decides status.Ok status.Ok = (λ _. refl, λ _. refl)
 status_eq-decides status.Version status.Version = (λ _. refl, λ _. refl)
@@ -32,7 +44,22 @@ status_eq-decides status.Exist status.Exist = (λ _. refl, λ _. refl)
 status_eq-decides status.NoSpace status.NoSpace = (λ _. refl, λ _. refl)
 status_eq-decides status.NoResources status.NoResources = (λ _. refl, λ _. refl)
 status_eq-decides status.BadFlags status.BadFlags = (λ _. refl, λ _. refl)
-status_eq-decides one other = (λ e. absurd (cc), λ e. absurd (cc))
+status_eq-decides one other = eq-decides_apart status_number _ one other refl refl
+
+abbrev call_number : Call → ℕ
+call_number call.LogInit = 0
+call_number (call.LogOpen stream create) = 1
+call_number (call.LogWrite stream invocation flags time header body) = 2
+call_number (call.LogClose stream) = 3
+call_number call.LogFini = 4
+call_number call.NtfInit = 5
+call_number (call.NtfSend notification) = 6
+call_number (call.NtfSubscribe id filters) = 7
+call_number (call.NtfUnsubscribe id) = 8
+call_number (call.ReaderStart mode value filters) = 9
+call_number (call.ReaderRead direction) = 10
+call_number call.ReaderEnd = 11
+call_number call.NtfFini = 12
 
 pub call_eq-decides : (one other : Call) → Decides ((call_impl.ghosts).eq one other) (one ≡ other)
 call_eq-decides call.LogInit call.LogInit = (λ _. refl, λ _. refl)
@@ -68,7 +95,13 @@ call_eq-decides (call.ReaderRead one) (call.ReaderRead other) =
     eq-decides_through call.ReaderRead _ one other (λ e. cc) (Decides-eqb one other)
 call_eq-decides call.ReaderEnd call.ReaderEnd = (λ _. refl, λ _. refl)
 call_eq-decides call.NtfFini call.NtfFini = (λ _. refl, λ _. refl)
-call_eq-decides one other = (λ e. absurd (cc), λ e. absurd (cc))
+call_eq-decides one other = eq-decides_apart call_number _ one other refl refl
+
+abbrev reply_number : Reply → ℕ
+reply_number (reply.Refused status) = 0
+reply_number reply.Done = 1
+reply_number (reply.Sent id) = 2
+reply_number (reply.Found notification) = 3
 
 pub reply_eq-decides : (one other : Reply) → Decides ((reply_impl.ghosts).eq one other) (one ≡ other)
 reply_eq-decides (reply.Refused one) (reply.Refused other) =
@@ -78,7 +111,11 @@ reply_eq-decides (reply.Sent one) (reply.Sent other) =
     eq-decides_through reply.Sent _ one other (λ e. cc) (Decides-eqb one other)
 reply_eq-decides (reply.Found one) (reply.Found other) =
     eq-decides_through reply.Found _ one other (λ e. cc) (notification_eq-decides one other)
-reply_eq-decides one other = (λ e. absurd (cc), λ e. absurd (cc))
+reply_eq-decides one other = eq-decides_apart reply_number _ one other refl refl
+
+abbrev entry_number : Entry → ℕ
+entry_number (entry.Called client seq time call) = 0
+entry_number (entry.Receipted client key through time) = 1
 
 pub entry_eq-decides : (one other : Entry) → Decides ((entry_impl.ghosts).eq one other) (one ≡ other)
 entry_eq-decides (entry.Called client1 seq1 time1 call1) (entry.Called client2 seq2 time2 call2) =
@@ -91,4 +128,4 @@ entry_eq-decides (entry.Receipted client1 key1 through1 time1) (entry.Receipted 
     (λ e. λ i. entry.Receipted (e.0 i) ((e.1).0 i) ((e.1).1.0 i) ((e.1).1.1 i))
     (λ e. (cc, (cc, (cc, cc))))
     (Decides-and _ _ (Decides-eqb client1 client2) (Decides-and _ _ (Decides-eqb key1 key2) (Decides-and _ _ (Decides-eqb through1 through2) (Decides-int_eq time1 time2))))
-entry_eq-decides one other = (λ e. absurd (cc), λ e. absurd (cc))
+entry_eq-decides one other = eq-decides_apart entry_number _ one other refl refl

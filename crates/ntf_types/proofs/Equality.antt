@@ -1,10 +1,10 @@
 -- `==` of notifications and of the values in them decides whether they are equal.
-use Rattle.std.proofs.Common.{◌≡◌, nat_eq, ap}
+use Rattle.std.proofs.Common.{◌≡◌, ℕ, refl, nat_eq, ap}
 use Rattle.std.specs.Bool.{Decides}
 use Rattle.std.specs.Cmp.Lexicographic.{pointwise_decides}
 use Rattle.std.proofs.lemmas.Bool.Decides.{Decides-eqb, Decides-int_eq, Decides-and, Decides-like}
 use Rattle.std.proofs.lemmas.Slice.Eq.{bytes_eq-Decides}
-use Rattle.ais_values.proofs.Equality.{eq-decides_through, option_eq-decides, class_eq-decides}
+use Rattle.ais_values.proofs.Equality.{eq-decides_through, eq-decides_apart, option_eq-decides, class_eq-decides}
 use Rattle.ntf_types.specs.declared.value.Value.{Value}
 use Rattle.ntf_types.specs.declared.value.Value.TheVariants.{Int, NameOf, TextOf, Binary}
 use Rattle.ntf_types.specs.declared.value.Pair.{Pair}
@@ -20,23 +20,18 @@ use Rattle.ntf_types.specs.contracts.value.StateChangePartialEq.TheImpl as state
 use Rattle.ntf_types.specs.contracts.notification.BodyPartialEq.TheImpl as body_impl
 use Rattle.ntf_types.specs.contracts.notification.NotificationPartialEq.TheImpl as notification_impl
 
+abbrev value_number : Value → ℕ
+value_number (Int value) = 0
+value_number (NameOf value) = 1
+value_number (TextOf value) = 2
+value_number (Binary value) = 3
+
 pub value_eq-decides : (one other : Value) → Decides ((value_impl.ghosts).eq one other) (one ≡ other)
 value_eq-decides (Int one) (Int other) = eq-decides_through Int _ one other (λ e. cc) (Decides-int_eq one other)
 value_eq-decides (NameOf one) (NameOf other) = eq-decides_through NameOf _ one other (λ e. cc) (bytes_eq-Decides one other)
 value_eq-decides (TextOf one) (TextOf other) = eq-decides_through TextOf _ one other (λ e. cc) (bytes_eq-Decides one other)
 value_eq-decides (Binary one) (Binary other) = eq-decides_through Binary _ one other (λ e. cc) (bytes_eq-Decides one other)
-value_eq-decides (Int one) (NameOf other) = (λ e. absurd (cc), λ e. absurd (cc))
-value_eq-decides (Int one) (TextOf other) = (λ e. absurd (cc), λ e. absurd (cc))
-value_eq-decides (Int one) (Binary other) = (λ e. absurd (cc), λ e. absurd (cc))
-value_eq-decides (NameOf one) (Int other) = (λ e. absurd (cc), λ e. absurd (cc))
-value_eq-decides (NameOf one) (TextOf other) = (λ e. absurd (cc), λ e. absurd (cc))
-value_eq-decides (NameOf one) (Binary other) = (λ e. absurd (cc), λ e. absurd (cc))
-value_eq-decides (TextOf one) (Int other) = (λ e. absurd (cc), λ e. absurd (cc))
-value_eq-decides (TextOf one) (NameOf other) = (λ e. absurd (cc), λ e. absurd (cc))
-value_eq-decides (TextOf one) (Binary other) = (λ e. absurd (cc), λ e. absurd (cc))
-value_eq-decides (Binary one) (Int other) = (λ e. absurd (cc), λ e. absurd (cc))
-value_eq-decides (Binary one) (NameOf other) = (λ e. absurd (cc), λ e. absurd (cc))
-value_eq-decides (Binary one) (TextOf other) = (λ e. absurd (cc), λ e. absurd (cc))
+value_eq-decides one other = eq-decides_apart value_number _ one other refl refl
 
 pub pair_eq-decides : (one other : Pair) → Decides ((pair_impl.ghosts).eq one other) (one ≡ other)
 pair_eq-decides one other =
@@ -59,6 +54,13 @@ state_change_eq-decides one other =
     (λ e. (ap (λ (c : StateChange). c.id) e, (ap (λ (c : StateChange). c.after) e, ap (λ (c : StateChange). c.before) e)))
     (Decides-and _ _ (Decides-eqb one.id other.id) (Decides-and _ _ (Decides-eqb one.after other.after) (option_eq-decides nat_eq Decides-eqb one.before other.before)))
 
+abbrev body_number : Body → ℕ
+body_number (Objects source attributes) = 0
+body_number (Attributes source changes) = 1
+body_number (States source changes) = 2
+body_number (Alarm cause severity) = 3
+body_number (Security cause severity detector user provider) = 4
+
 pub body_eq-decides : (one other : Body) → Decides ((body_impl.ghosts).eq one other) (one ≡ other)
 body_eq-decides (Objects s1 a1) (Objects s2 a2) =
     Decides-like _ (λ e. λ i. Objects (e.0 i) (e.1 i)) (λ e. (cc, cc)) (Decides-and _ _ (Decides-eqb s1 s2) (pointwise_decides pair_eq-decides a1 a2))
@@ -71,26 +73,7 @@ body_eq-decides (Alarm c1 s1) (Alarm c2 s2) =
 body_eq-decides (Security c1 s1 d1 u1 p1) (Security c2 s2 d2 u2 p2) =
     Decides-like _ (λ e. λ i. Security (e.0 i) ((e.1).0 i) ((e.1).1.0 i) ((e.1).1.1.0 i) ((e.1).1.1.1 i)) (λ e. (cc, (cc, (cc, (cc, cc)))))
     (Decides-and _ _ (Decides-eqb c1 c2) (Decides-and _ _ (Decides-eqb s1 s2) (Decides-and _ _ (value_eq-decides d1 d2) (Decides-and _ _ (value_eq-decides u1 u2) (value_eq-decides p1 p2)))))
-body_eq-decides (Objects x1 x2) (Attributes y1 y2) = (λ e. absurd (cc), λ e. absurd (cc))
-body_eq-decides (Objects x1 x2) (States y1 y2) = (λ e. absurd (cc), λ e. absurd (cc))
-body_eq-decides (Objects x1 x2) (Alarm y1 y2) = (λ e. absurd (cc), λ e. absurd (cc))
-body_eq-decides (Objects x1 x2) (Security y1 y2 y3 y4 y5) = (λ e. absurd (cc), λ e. absurd (cc))
-body_eq-decides (Attributes x1 x2) (Objects y1 y2) = (λ e. absurd (cc), λ e. absurd (cc))
-body_eq-decides (Attributes x1 x2) (States y1 y2) = (λ e. absurd (cc), λ e. absurd (cc))
-body_eq-decides (Attributes x1 x2) (Alarm y1 y2) = (λ e. absurd (cc), λ e. absurd (cc))
-body_eq-decides (Attributes x1 x2) (Security y1 y2 y3 y4 y5) = (λ e. absurd (cc), λ e. absurd (cc))
-body_eq-decides (States x1 x2) (Objects y1 y2) = (λ e. absurd (cc), λ e. absurd (cc))
-body_eq-decides (States x1 x2) (Attributes y1 y2) = (λ e. absurd (cc), λ e. absurd (cc))
-body_eq-decides (States x1 x2) (Alarm y1 y2) = (λ e. absurd (cc), λ e. absurd (cc))
-body_eq-decides (States x1 x2) (Security y1 y2 y3 y4 y5) = (λ e. absurd (cc), λ e. absurd (cc))
-body_eq-decides (Alarm x1 x2) (Objects y1 y2) = (λ e. absurd (cc), λ e. absurd (cc))
-body_eq-decides (Alarm x1 x2) (Attributes y1 y2) = (λ e. absurd (cc), λ e. absurd (cc))
-body_eq-decides (Alarm x1 x2) (States y1 y2) = (λ e. absurd (cc), λ e. absurd (cc))
-body_eq-decides (Alarm x1 x2) (Security y1 y2 y3 y4 y5) = (λ e. absurd (cc), λ e. absurd (cc))
-body_eq-decides (Security x1 x2 x3 x4 x5) (Objects y1 y2) = (λ e. absurd (cc), λ e. absurd (cc))
-body_eq-decides (Security x1 x2 x3 x4 x5) (Attributes y1 y2) = (λ e. absurd (cc), λ e. absurd (cc))
-body_eq-decides (Security x1 x2 x3 x4 x5) (States y1 y2) = (λ e. absurd (cc), λ e. absurd (cc))
-body_eq-decides (Security x1 x2 x3 x4 x5) (Alarm y1 y2) = (λ e. absurd (cc), λ e. absurd (cc))
+body_eq-decides one other = eq-decides_apart body_number _ one other refl refl
 
 pub notification_eq-decides : (one other : Notification) → Decides ((notification_impl.ghosts).eq one other) (one ≡ other)
 notification_eq-decides one other =

@@ -1,11 +1,11 @@
 -- `==` of names, attributes, states and events of streams decides whether they are equal.
-use Rattle.std.proofs.Common.{◌≡◌, refl, ap}
+use Rattle.std.proofs.Common.{◌≡◌, ℕ, refl, ap}
 use Rattle.std.specs.Bool.{Decides}
 use Rattle.std.specs.Ordering.{int_eq}
 use Rattle.std.specs.Cmp.Lexicographic.{pointwise_decides}
 use Rattle.std.proofs.lemmas.Bool.Decides.{Decides-eqb, Decides-int_eq, Decides-and, Decides-like}
 use Rattle.std.proofs.lemmas.Slice.Eq.{bytes_eq-Decides}
-use Rattle.ais_values.proofs.Equality.{option_eq-decides, eq-decides_through}
+use Rattle.ais_values.proofs.Equality.{option_eq-decides, eq-decides_through, eq-decides_apart}
 use Rattle.stream_config.specs.declared.attrs.FullAction.{FullAction}
 use Rattle.stream_config.specs.declared.attrs.FullAction.TheVariants.{Wrap, Halt, Rotate}
 use Rattle.stream_config.specs.declared.attrs.StreamAttrs.{StreamAttrs}
@@ -24,18 +24,29 @@ use Rattle.stream_config.specs.contracts.state.StreamStatePartialEq.TheImpl as s
 use Rattle.stream_config.specs.contracts.event.StampsPartialEq.TheImpl as stamps_impl
 use Rattle.stream_config.specs.contracts.event.StreamEventPartialEq.TheImpl as event_impl
 
+abbrev action_number : FullAction → ℕ
+action_number Wrap = 0
+action_number Halt = 1
+action_number Rotate = 2
+
 action_eq-decides : (one other : FullAction) → Decides ((action_impl.ghosts).eq one other) (one ≡ other)
 action_eq-decides Wrap Wrap = (λ _. refl, λ _. refl)
 action_eq-decides Halt Halt = (λ _. refl, λ _. refl)
 action_eq-decides Rotate Rotate = (λ _. refl, λ _. refl)
-action_eq-decides one other = (λ e. absurd (cc), λ e. absurd (cc))
+action_eq-decides one other = eq-decides_apart action_number _ one other refl refl
+
+abbrev name_number : StreamName → ℕ
+name_number Alarm = 0
+name_number Notification = 1
+name_number System = 2
+name_number (App name) = 3
 
 pub name_eq-decides : (one other : StreamName) → Decides ((name_impl.ghosts).eq one other) (one ≡ other)
 name_eq-decides Alarm Alarm = (λ _. refl, λ _. refl)
 name_eq-decides Notification Notification = (λ _. refl, λ _. refl)
 name_eq-decides System System = (λ _. refl, λ _. refl)
 name_eq-decides (App one) (App other) = eq-decides_through App _ one other (λ e. cc) (bytes_eq-Decides one other)
-name_eq-decides one other = (λ e. absurd (cc), λ e. absurd (cc))
+name_eq-decides one other = eq-decides_apart name_number _ one other refl refl
 
 pub attrs_eq-decides : (one other : StreamAttrs) → Decides ((attrs_impl.ghosts).eq one other) (one ≡ other)
 attrs_eq-decides one other =
@@ -65,6 +76,11 @@ stamps_eq-decides one other =
     (λ e. (ap (λ (s : Stamps). s.closed) e, ap (λ (s : Stamps). s.created) e))
     (Decides-and _ _ (Decides-int_eq one.closed other.closed) (Decides-int_eq one.created other.created))
 
+abbrev event_number : StreamEvent → ℕ
+event_number (Made state) = 0
+event_number (Stored state bytes stamps) = 1
+event_number (Ended state closed) = 2
+
 pub event_eq-decides : (one other : StreamEvent) → Decides ((event_impl.ghosts).eq one other) (one ≡ other)
 event_eq-decides (Made one) (Made other) = eq-decides_through Made _ one other (λ e. cc) (state_eq-decides one other)
 event_eq-decides (Stored s1 b1 t1) (Stored s2 b2 t2) =
@@ -72,4 +88,4 @@ event_eq-decides (Stored s1 b1 t1) (Stored s2 b2 t2) =
     (Decides-and _ _ (state_eq-decides s1 s2) (Decides-and _ _ (bytes_eq-Decides b1 b2) (option_eq-decides (stamps_impl.ghosts).eq stamps_eq-decides t1 t2)))
 event_eq-decides (Ended s1 c1) (Ended s2 c2) =
     Decides-like _ (λ e. λ i. Ended (e.0 i) (e.1 i)) (λ e. (cc, cc)) (Decides-and _ _ (state_eq-decides s1 s2) (Decides-int_eq c1 c2))
-event_eq-decides one other = (λ e. absurd (cc), λ e. absurd (cc))
+event_eq-decides one other = eq-decides_apart event_number _ one other refl refl
