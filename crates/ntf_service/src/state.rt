@@ -67,12 +67,14 @@ fn subscription(
     ensures { IfOk result (λ kept.
         told kept ≡ sub_with (sub_of client key id filters.now) (empty_queue cap)) }
 {
+    let queue = SubQueue::new(alloc, cap)?;
+    let filters = filters.copy(alloc)?;
     Ok(Subscription {
         client,
         key,
         id,
-        filters: filters.copy(alloc)?,
-        queue: SubQueue::new(alloc, cap)?,
+        filters,
+        queue,
     })
 }
 
