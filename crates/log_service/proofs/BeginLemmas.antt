@@ -1,10 +1,13 @@
 -- The streams with which a state begins.
-use Rattle.std.proofs.Common.{◌≡◌, ℕ, ◌<◌, suc, false, ◌||◌, List, [], ◌∷◌, ◌++◌, length, get_or, drop, refl, ap, sym, ◌∙◌, subst, arith, length-append}
+use Rattle.std.proofs.Common.{◌≡◌, ℕ, ◌<◌, suc, false, ◌||◌, List, [], ◌∷◌, ◌++◌, length, get_or, drop, append_assoc, refl, ap, sym, ◌∙◌, subst, arith, length-append}
 use Rattle.std.specs.List.{list_any}
 use Rattle.std.proofs.Math.Seq.{drop-cons}
+use Rattle.stream_config.specs.declared.attrs.StreamAttrs.{StreamAttrs}
+use Rattle.stream_config.specs.declared.attrs.StreamName.TheVariants as name
 use Rattle.stream_config.specs.declared.state.StreamState.{StreamState}
 use Rattle.log_history.specs.Table.{OpenStream, has_nobody}
 use Rattle.log_service.specs.State.{joined_streams, IsSoundStream, AreSoundStreams}
+use Rattle.log_service.specs.Beginning.{unopened_stream, AreWells, second_stamp, third_stamp, well_streams}
 
 -- a stream among sound ones is sound
 pub sound-at : (front rest : List OpenStream) (stream : OpenStream) → AreSoundStreams (front ++ stream ∷ rest) → IsSoundStream stream
@@ -48,3 +51,15 @@ AreJoined-sound states openers came rest left made joined sound state others cli
     let stream : OpenStream = record { state = state; openers = clients } in
     sound-at made (joined_streams others (drop (suc (length came)) openers)) stream
     (subst (λ (streams : List OpenStream). AreSoundStreams streams) (sym (next-all states openers came rest left made joined state others clients is within read)) sound)
+
+-- the well-known streams, by the attributes and the stamps with which they are made
+pub wells-are : (start : ℕ) (wells : List StreamAttrs) (alarm notification system : StreamAttrs) (first second third : ℕ) → AreWells wells → alarm ≡ get_or wells 0 alarm → notification ≡ get_or wells 1 notification → system ≡ get_or wells 2 system → first ≡ start → second ≡ second_stamp start → third ≡ third_stamp start → unopened_stream name.Alarm alarm first ∷ unopened_stream name.Notification notification second ∷ unopened_stream name.System system third ∷ [] ≡ well_streams start wells
+wells-are start [] alarm notification system first second third passes a b c d e f = absurd passes
+wells-are start (x ∷ []) alarm notification system first second third passes a b c d e f = absurd passes
+wells-are start (x ∷ y ∷ []) alarm notification system first second third passes a b c d e f = absurd passes
+wells-are start (x ∷ y ∷ z ∷ []) alarm notification system first second third passes a b c d e f = cc
+wells-are start (x ∷ y ∷ z ∷ w ∷ more) alarm notification system first second third passes a b c d e f = absurd passes
+
+-- what is put behind a list in three steps stands behind it in a row
+pub three-behind : {A : Type 0} (front one two all : List A) (a b c : A) → one ≡ front ++ a ∷ [] → two ≡ one ++ b ∷ [] → all ≡ two ++ c ∷ [] → all ≡ front ++ a ∷ b ∷ c ∷ []
+three-behind front one two all a b c first second third = rw (third, second, first) (simp append_assoc)

@@ -1,10 +1,11 @@
 //! The streams with which a state begins.
-ghost use Rattle.std.specs.Prelude.{◌≡◌, ◌≤ℤ◌, ◌++◌, pos, length, unsigned_abs, [], ◌∷◌, IfOk, OnOk, OnErr};
+ghost use Rattle.std.specs.Prelude.{◌≡◌, ◌≤ℤ◌, ◌++◌, nat_lt, pos, length, map, unsigned_abs, [], ◌∷◌, IfOk, OnOk};
+ghost use Rattle.client_set.specs.Rising.{IsRising};
 ghost use Rattle.stream_config.specs.Attributes.{kind_of, PassesAttrs};
 ghost use Rattle.log_history.specs.Table.{new_state};
 ghost use Rattle.log_service.specs.Moments.{IsTimeOfCall, second_of};
 ghost use Rattle.log_service.specs.State.{made_event, joined_streams, AreSoundStreams};
-ghost use Rattle.log_service.specs.Beginning.{unopened_stream, HasWells, AreWells};
+ghost use Rattle.log_service.specs.Beginning.{unopened_stream, third_stamp, well_streams, HasWells, AreWells};
 
 use crate::live::LiveStream;
 use ais_values::{Duplicate, Seq};
@@ -21,6 +22,40 @@ fn second_of(time: i64) -> i64
     ensures { result ≡ pos (second_of time) }
 {
     time / NANOSECONDS
+}
+
+/// Adds what was done where a stream was made.
+fn add_made(
+    alloc: Global,
+    events: &mut Seq<StreamEvent>,
+    stream: &LiveStream,
+) -> Result<(), AllocError>
+    ensures { OnOk result (events.new ≡ events.old ++ made_event stream.now ∷ []) }
+{
+    let event = stream.made(alloc)?;
+    events.push(event)
+}
+
+/// Puts a stream that was made behind the others, and adds what was done.
+fn push_made(
+    alloc: Global,
+    streams: &mut Vec<LiveStream>,
+    events: &mut Seq<StreamEvent>,
+    stream: LiveStream,
+) -> Result<(), AllocError>
+    ensures streams { OnOk result (streams.new.items ≡ streams.old.items ++ stream ∷ []) }
+    ensures events { OnOk result (events.new ≡ events.old ++ made_event stream ∷ []) }
+{
+    match add_made(alloc, events, &stream) {
+        Ok(()) => {
+            streams.push(stream)?;
+            Ok(())
+        }
+        Err(error) => {
+            drop(stream);
+            Err(error)
+        }
+    }
 }
 
 /// Makes a well-known stream behind the others.
@@ -41,9 +76,33 @@ fn add_well(
 {
     let attrs = attrs.copy(alloc)?;
     let stream = LiveStream::make(alloc, name, attrs, created, ClientSet::new(alloc))?;
-    let state = stream.state().copy(alloc)?;
-    streams.push(stream)?;
-    events.push(StreamEvent::Made { state })
+    push_made(alloc, streams, events, stream)
+}
+
+/// Makes the well-known streams behind the others, as they are made at the start. The answer is the last stamp then.
+fn add_wells(
+    alloc: Global,
+    streams: &mut Vec<LiveStream>,
+    events: &mut Seq<StreamEvent>,
+    start: i64,
+    wells: &[StreamAttrs],
+) -> Result<i64, AllocError>
+    requires start { IsTimeOfCall start }
+    requires wells { AreWells wells.now }
+    ensures stamp { IfOk result (λ last. last ≡ pos (third_stamp (second_of start))) }
+    ensures streams { OnOk result (streams.new.items
+        ≡ streams.old.items ++ well_streams (second_of start) wells.now) }
+    ensures events { OnOk result (events.new
+        ≡ events.old ++ map made_event (well_streams (second_of start) wells.now)) }
+{
+    let first = second_of(start);
+    add_well(alloc, streams, events, StreamName::Alarm, &wells[0], first)?;
+    let second = stamp(first, start);
+    let name = StreamName::Notification;
+    add_well(alloc, streams, events, name, &wells[1], second)?;
+    let third = stamp(second, start);
+    add_well(alloc, streams, events, StreamName::System, &wells[2], third)?;
+    Ok(third)
 }
 
 /// The well-known streams as they are made at the start, with the last stamp then and the events.
@@ -59,34 +118,33 @@ pub(crate) fn wells(
 {
     let mut streams = Vec::new(alloc);
     let mut events = Seq::new(alloc);
-    let first = second_of(start);
-    add_well(
-        alloc,
-        &mut streams,
-        &mut events,
-        StreamName::Alarm,
-        &wells[0],
-        first,
-    )?;
-    let second = stamp(first, start);
-    add_well(
-        alloc,
-        &mut streams,
-        &mut events,
-        StreamName::Notification,
-        &wells[1],
-        second,
-    )?;
-    let third = stamp(second, start);
-    add_well(
-        alloc,
-        &mut streams,
-        &mut events,
-        StreamName::System,
-        &wells[2],
-        third,
-    )?;
-    Ok((third, streams, events))
+    let last = add_wells(alloc, &mut streams, &mut events, start, wells)?;
+    Ok((last, streams, events))
+}
+
+/// Puts the stream of a state and its openers behind the others. Where these are not copied the state is let go at one place.
+fn push_rebuilt(
+    alloc: Global,
+    streams: &mut Vec<LiveStream>,
+    state: StreamState,
+    openers: &[u16],
+) -> Result<(), AllocError>
+    requires passes { PassesAttrs (kind_of state.name) state.attrs }
+    requires rising { IsRising nat_lt openers.now }
+    ensures { OnOk result (streams.new.items
+        ≡ streams.old.items ++ record { state = state; openers = openers.now } ∷ []) }
+{
+    match openers.to_vec(alloc) {
+        Ok(clients) => {
+            let stream = LiveStream::rebuild(alloc, state, ClientSet::from_rising(clients))?;
+            streams.push(stream)?;
+            Ok(())
+        }
+        Err(error) => {
+            drop(state);
+            Err(error)
+        }
+    }
 }
 
 /// The streams of these states and openers.
@@ -101,9 +159,8 @@ pub(crate) fn rebuilt(
 {
     let mut streams = Vec::new(alloc);
     for state in states.into_vec() {
-        let clients = openers[streams.len()].as_slice().to_vec(alloc)?;
-        let stream = LiveStream::rebuild(alloc, state, ClientSet::from_rising(clients))?;
-        streams.push(stream)?;
+        let clients = openers[streams.len()].as_slice();
+        push_rebuilt(alloc, &mut streams, state, clients)?;
     }
     Ok(streams)
 }

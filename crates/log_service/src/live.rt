@@ -12,6 +12,7 @@ ghost use Rattle.log_history.specs.Table.{OpenStream, is_named, without_opener, 
 ghost use Rattle.log_history.specs.KeptAnswers.{is_of_application};
 ghost use Rattle.log_service.specs.Moments.{IsMoment, second_of};
 ghost use Rattle.log_service.specs.Changing.{IsFiling};
+ghost use Rattle.log_service.specs.State.{made_event};
 ghost use Rattle.log_service.specs.Planning.{with_openers, with_files};
 
 use crate::files::{due_stamps, files_changed, last_after};
@@ -91,12 +92,17 @@ impl LiveStream {
         requires { PassesAttrs (kind_of state.name) state.attrs }
         ensures { IfOk result (λ stream. stream ≡ record { state = state; openers = openers }) }
     {
-        let expr = expression(alloc, &state.name, &state.attrs)?;
-        Ok(LiveStream {
-            state,
-            openers,
-            expr,
-        })
+        match expression(alloc, &state.name, &state.attrs) {
+            Ok(expr) => Ok(LiveStream {
+                state,
+                openers,
+                expr,
+            }),
+            Err(error) => {
+                drop(state);
+                Err(error)
+            }
+        }
     }
 
     /// A new stream, made at this stamp.
@@ -208,6 +214,14 @@ impl LiveStream {
                 .as_slice()
                 .iter()
                 .all(|opener| *opener == client)
+    }
+
+    /// What was done where the stream was made.
+    pub(crate) fn made(&self, alloc: Global) -> Result<StreamEvent, AllocError>
+        ensures { IfOk result (λ event. event ≡ made_event self.now) }
+    {
+        let state = self.state.copy(alloc)?;
+        Ok(StreamEvent::Made { state })
     }
 
     /// What the storing of a record does.

@@ -4,7 +4,7 @@ ghost use Rattle.record_print.specs.Records.{can_write};
 ghost use Rattle.log_history.specs.Times.{filled_time, filled_header, record_at};
 ghost use Rattle.log_service.specs.State.{stream_of_kind};
 
-use ais_values::{Duplicate, StreamKind, Text, UNKNOWN_TIME};
+use ais_values::{Duplicate, Name, StreamKind, Text, UNKNOWN_TIME};
 use record_print::{Header, LogRecord, check_write};
 use std::alloc::{AllocError, Global};
 use stream_config::StreamName;
@@ -35,6 +35,16 @@ fn filled_time(time: i64, now: i64) -> i64
     if time == UNKNOWN_TIME { now } else { time }
 }
 
+/// Copies of both names.
+fn copied_names(alloc: Global, first: &Name, second: &Name) -> Result<(Name, Name), AllocError>
+    ensures first { IfOk result (λ names. names.0 ≡ first.now) }
+    ensures second { IfOk result (λ names. names.1 ≡ second.now) }
+{
+    let first = first.copy(alloc)?;
+    let second = second.copy(alloc)?;
+    Ok((first, second))
+}
+
 /// The header with its time filled in.
 fn filled_header(alloc: Global, header: &Header, now: i64) -> Result<Header, AllocError>
     ensures { IfOk result (λ filled. filled ≡ filled_header header.now now) }
@@ -47,14 +57,17 @@ fn filled_header(alloc: Global, header: &Header, now: i64) -> Result<Header, All
             notifier,
             class,
             event_time,
-        } => Ok(Header::Ntf {
-            id: *id,
-            event_type: *event_type,
-            object: object.copy(alloc)?,
-            notifier: notifier.copy(alloc)?,
-            class: *class,
-            event_time: filled_time(*event_time, now),
-        }),
+        } => {
+            let (object, notifier) = copied_names(alloc, object, notifier)?;
+            Ok(Header::Ntf {
+                id: *id,
+                event_type: *event_type,
+                object,
+                notifier,
+                class: *class,
+                event_time: filled_time(*event_time, now),
+            })
+        }
         Header::Generic {
             class,
             user,
@@ -77,9 +90,11 @@ pub(crate) fn record_at(
 ) -> Result<LogRecord, AllocError>
     ensures { IfOk result (λ rec. rec ≡ record_at time header.now body.now now) }
 {
+    let body = body.copy(alloc)?;
+    let header = filled_header(alloc, header, now)?;
     Ok(LogRecord {
         time: filled_time(time, now),
-        header: filled_header(alloc, header, now)?,
-        body: body.copy(alloc)?,
+        header,
+        body,
     })
 }

@@ -17,7 +17,7 @@ ghost use Rattle.log_service.specs.Planning.{step_of, planned, CanCommit, Plans}
 
 use crate::live::LiveStream;
 use crate::plan::{Doing, LogPlan, carry_out};
-use crate::records::{may_write, record_at, stream_of_kind};
+use crate::records::{may_write, stream_of_kind};
 use crate::step::Step;
 use crate::{begin, streams};
 use ais_values::{Duplicate, Seq, Status, StreamKind, Text};
@@ -179,9 +179,10 @@ impl LogState {
         ensures table { self.new.table ≡ self.old.table }
         ensures room { OnOk result (1 ≤ self.new.spare) }
     {
-        self.make_room()?;
-        let plan = self.init_plan(alloc, client)?;
-        Ok(plan)
+        match self.make_room() {
+            Ok(()) => self.init_plan(alloc, client),
+            Err(error) => Err(error),
+        }
     }
 
     /// Begins a client's use of the service (the library call for initialisation). `NoResources` exactly where it
@@ -239,9 +240,10 @@ impl LogState {
         ensures table { self.new.table ≡ self.old.table }
         ensures room { OnOk result (1 ≤ self.new.spare) }
     {
-        self.make_room()?;
-        let plan = self.close_all_plan(alloc, client, now)?;
-        Ok(plan)
+        match self.make_room() {
+            Ok(()) => self.close_all_plan(alloc, client, now),
+            Err(error) => Err(error),
+        }
     }
 
     /// Ends a client's use of the service, and with it all that it has open. `BadHandle` exactly where it does
@@ -319,9 +321,10 @@ impl LogState {
         ensures table { self.new.table ≡ self.old.table }
         ensures room { OnOk result (1 ≤ self.new.spare) }
     {
-        self.make_room()?;
-        let plan = self.close_plan(alloc, client, name, now)?;
-        Ok(plan)
+        match self.make_room() {
+            Ok(()) => self.close_plan(alloc, client, name, now),
+            Err(error) => Err(error),
+        }
     }
 
     /// Closes a stream for a client. `BadHandle` exactly where the client does not use the service or does not
@@ -435,9 +438,10 @@ impl LogState {
         ensures table { self.new.table ≡ self.old.table }
         ensures room { OnOk result (1 ≤ self.new.spare) }
     {
-        self.make_room()?;
-        let plan = self.open_stream_plan(alloc, client, name, create, now)?;
-        Ok(plan)
+        match self.make_room() {
+            Ok(()) => self.open_stream_plan(alloc, client, name, create, now),
+            Err(error) => Err(error),
+        }
     }
 
     /// Opens a stream for a client; with attributes it makes an application's stream that does not live yet.
@@ -530,9 +534,8 @@ impl LogState {
         if status != Status::Ok {
             return Ok(LogPlan::refused(alloc, self.last, status));
         }
-        let rec = record_at(alloc, time, header, body, now)?;
         let streams = self.streams.as_slice();
-        let plan = streams::storing_plan(alloc, streams, name, self.last, &rec, now)?;
+        let plan = streams::writing_plan(alloc, streams, name, self.last, time, header, body, now)?;
         Ok(plan)
     }
 
@@ -556,9 +559,10 @@ impl LogState {
         ensures table { self.new.table ≡ self.old.table }
         ensures room { OnOk result (1 ≤ self.new.spare) }
     {
-        self.make_room()?;
-        let plan = self.write_plan(alloc, client, name, flags, time, header, body, now)?;
-        Ok(plan)
+        match self.make_room() {
+            Ok(()) => self.write_plan(alloc, client, name, flags, time, header, body, now),
+            Err(error) => Err(error),
+        }
     }
 
     /// Writes a record to a stream. An unknown time stands for this moment. The answer is that of the first of
@@ -647,9 +651,10 @@ impl LogState {
         ensures table { self.new.table ≡ self.old.table }
         ensures room { OnOk result (1 ≤ self.new.spare) }
     {
-        self.make_room()?;
-        let plan = self.store_plan(alloc, kind, rec, now)?;
-        Ok(plan)
+        match self.make_room() {
+            Ok(()) => self.store_plan(alloc, kind, rec, now),
+            Err(error) => Err(error),
+        }
     }
 
     /// Stores the record of a notification in the stream of its kind. `NoSpace` exactly where that stream is full.

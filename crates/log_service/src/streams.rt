@@ -5,16 +5,19 @@ ghost use Rattle.std.specs.List.{find, position, list_any, count_by};
 ghost use Rattle.stream_config.specs.Attributes.{kind_of, PassesAttrs};
 ghost use Rattle.record_print.specs.Printing.{can_print};
 ghost use Rattle.log_history.specs.Table.{OpenStream, is_named, has_nobody, kept_streams, closed_streams, left_streams, opened_stream};
+ghost use Rattle.log_history.specs.Times.{record_at};
 ghost use Rattle.log_history.specs.KeptAnswers.{kept_stream, is_of_application, has_place, making_in};
 ghost use Rattle.log_service.specs.Moments.{IsTimeOfCall, IsMoment, second_of};
+ghost use Rattle.log_service.specs.State.{made_event};
 ghost use Rattle.log_service.specs.Changing.{AreEndsIn, last_of_end, end_of, last_of_endings, endings_of};
 ghost use Rattle.log_service.specs.PlanningParts.{PlansMaking, PlansJoining, PlansOpening, PlansStoring};
 
 use crate::live::LiveStream;
 use crate::plan::{Doing, LogPlan};
-use ais_values::{Duplicate, Seq};
+use crate::records::record_at;
+use ais_values::{Duplicate, Seq, Text};
 use client_set::ClientSet;
-use record_print::LogRecord;
+use record_print::{Header, LogRecord};
 use std::alloc::{AllocError, Global};
 use stream_config::{StreamAttrs, StreamEvent, StreamName, stamp};
 
@@ -92,6 +95,14 @@ fn alone(alloc: Global, event: StreamEvent) -> Result<Seq<StreamEvent>, AllocErr
     Ok(events)
 }
 
+/// What was done where a stream was made, and nothing else.
+fn made_alone(alloc: Global, stream: &LiveStream) -> Result<Seq<StreamEvent>, AllocError>
+    ensures { IfOk result (λ events. events ≡ made_event stream.now ∷ []) }
+{
+    let event = stream.made(alloc)?;
+    alone(alloc, event)
+}
+
 /// The plan by which a client makes a stream, at this stamp.
 fn making_plan(
     alloc: Global,
@@ -107,9 +118,13 @@ fn making_plan(
         (opened_stream client name.now attrs.now (unsigned_abs created))) }
 {
     let stream = new_stream(alloc, client, name, attrs, created)?;
-    let state = stream.state().copy(alloc)?;
-    let events = alone(alloc, StreamEvent::Made { state })?;
-    Ok(LogPlan::accepted(events, created, Doing::Make { stream }))
+    match made_alone(alloc, &stream) {
+        Ok(events) => Ok(LogPlan::accepted(events, created, Doing::Make { stream })),
+        Err(error) => {
+            drop(stream);
+            Err(error)
+        }
+    }
 }
 
 /// The plan by which a client opens the stream of this name; where there is none, nothing changes.
@@ -190,6 +205,30 @@ pub(crate) fn storing_plan(
             files,
         },
     ))
+}
+
+/// The plan by which a record with these parts is stored in the stream of this name; where there is none, nothing changes.
+pub(crate) fn writing_plan(
+    alloc: Global,
+    streams: &[LiveStream],
+    name: &StreamName,
+    last: i64,
+    time: i64,
+    header: &Header,
+    body: &Text,
+    now: i64,
+) -> Result<LogPlan, AllocError>
+    requires moment { IsMoment last now }
+    requires printable { IsTrue (can_print (record_at time header.now body.now now)) }
+    requires numbers { ForSome (kept_stream streams.now name.now)
+        (λ stream. stream.state.taken < 4294967294) }
+    ensures { IfOk result (PlansStoring last now name.now
+        (record_at time header.now body.now now) streams.now) }
+{
+    let rec = record_at(alloc, time, header, body, now)?;
+    let plan = storing_plan(alloc, streams, name, last, &rec, now);
+    drop(rec);
+    plan
 }
 
 /// Where the stream ends when this client closes it, adds that to the events. The answer is the last stamp then.

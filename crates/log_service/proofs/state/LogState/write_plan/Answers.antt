@@ -1,8 +1,7 @@
-use Rattle.std.proofs.Common.{◌≡◌, List, sym, subst, ap, ◌∙◌, rules}
+use Rattle.std.proofs.Common.{◌≡◌, List, refl, sym, subst, ap, ◌∙◌, rules}
 use Rattle.std.proofs.lemmas.Int.{to_z-of_z}
 use Rattle.ais_values.specs.declared.status.Status.TheVariants as status
 use Rattle.stream_config.specs.Attributes.{kind_of}
-use Rattle.record_print.specs.Printing.{can_print}
 use Rattle.log_history.specs.Times.{record_at}
 use Rattle.log_history.specs.Table.{OpenStream, LogTable}
 use Rattle.log_history.specs.KeptAnswers.{write_status}
@@ -12,13 +11,13 @@ use Rattle.log_service.proofs.WriteLemmas.{write-rows, printable}
 use Rattle.log_service.proofs.StatePlans.{stored-as}
 use Rattle.log_service.proofs.state.LogState.write_plan.Goals as goal
 
-pub storing_plan-requires-clause-printable : goal.storing_plan-requires-clause-printable
-storing_plan-requires-clause-printable c =
+pub writing_plan-requires-clause-printable : goal.writing_plan-requires-clause-printable
+writing_plan-requires-clause-printable c =
     let time_fits = c.ranges.time in
     let now_fits = c.ranges.now in
     let ok : c.write_status-status.result ≡ status.Ok = search rules in
     let may = write-rows _ _ _ (kind_of c.args.name.now) c.args.flags c.args.time c.args.header.now (sym (simp to_z-of_z at c.write_status-status.ensures) ∙ ok) in
-    ap can_print (simp to_z-of_z at c.in_ok-rec.ensures) ∙ printable (kind_of c.args.name.now) c.args.time c.args.header.now c.args.body.now c.args.now c.requires.moment.from may
+    simp to_z-of_z (printable (kind_of c.args.name.now) c.args.time c.args.header.now c.args.body.now c.args.now c.requires.moment.from may)
 
 pub returns : goal.returns
 returns c =
@@ -30,7 +29,7 @@ returns c =
     let items = c.self.inside.streams.items in
     let ok : c.write_status-status.result ≡ status.Ok = search rules in
     let answered = simp to_z-of_z at c.write_status-status.ensures in
-    let rec_is = simp to_z-of_z at c.in_ok-rec.ensures in
+    let rec = record_at c.args.time c.args.header.now c.args.body.now c.args.now in
     let told = simp to_z-of_z at c.in_ok-plan.ensures in
-    let plans = subst (λ (list : List OpenStream). PlansStoring last c.args.now c.args.name.now c.in_ok-rec.rec list c.in_ok-plan.plan) c.as_slice-streams.ensures.value told in
-    stored-as last c.self.inside.users items c.args.self.now.table (same_table c.self.view_is) c.self.invariant.few c.self.invariant.busy c.args.now (write_status c.args.self.now.table c.args.client c.args.name.now c.args.flags c.args.time c.args.header.now) c.args.name.now c.in_ok-rec.rec (record_at c.args.time c.args.header.now c.args.body.now c.args.now) c.in_ok-plan.plan (sym ok ∙ answered) rec_is plans
+    let plans = subst (λ (list : List OpenStream). PlansStoring last c.args.now c.args.name.now rec list c.in_ok-plan.plan) c.as_slice-streams.ensures.value told in
+    stored-as last c.self.inside.users items c.args.self.now.table (same_table c.self.view_is) c.self.invariant.few c.self.invariant.busy c.args.now (write_status c.args.self.now.table c.args.client c.args.name.now c.args.flags c.args.time c.args.header.now) c.args.name.now rec rec c.in_ok-plan.plan (sym ok ∙ answered) refl plans
