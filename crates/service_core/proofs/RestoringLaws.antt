@@ -1,18 +1,21 @@
 -- What is made again of a value that is fit.
-use Rattle.std.proofs.Common.{◌≡◌, ℕ, List, [], ◌∷◌, ◌++◌, map, refl, ap, sym, subst, ◌∙◌, append-nil, append_assoc, arith}
+use Rattle.std.proofs.Common.{◌≡◌, ℕ, List, [], ◌∷◌, ◌++◌, map, Ok, refl, ap, sym, subst, ◌∙◌, append-nil, append_assoc, arith}
 use Rattle.std.proofs.lemmas.List.{map-append}
-use Rattle.std.specs.Prelude.{unsigned_abs}
+use Rattle.std.specs.Prelude.{unsigned_abs, Result, IfOk}
 use Rattle.stream_config.specs.declared.state.StreamState.{StreamState}
 use Rattle.alarm_view.specs.declared.alarm.KeptAlarm.{KeptAlarm}
 use Rattle.alarm_view.specs.Alarms.{AreInOrder}
 use Rattle.alarm_view.proofs.Keeping.{AreInOrder-added}
 use Rattle.calls.specs.declared.saved.Saved.{Saved}
 use Rattle.calls.specs.declared.saved.SavedAlarm.{SavedAlarm}
+use Rattle.calls.specs.declared.saved.SavedReader.{SavedReader}
+use Rattle.log_history.specs.Table.{LogTable}
 use Rattle.log_service.specs.State.{IsSoundTable as IsSoundLog, joined_streams, table_with as log_with}
 use Rattle.ntf_history.specs.Kept.{Subscription}
-use Rattle.ntf_history.specs.Tables.{IsSoundTable as IsSoundNtf, table_with as ntf_with}
+use Rattle.ntf_history.specs.Tables.{NtfTable, IsSoundTable as IsSoundNtf, table_with as ntf_with}
 use Rattle.plain_service.specs.Fitness.{IsFit}
-use Rattle.service_table.specs.Tables.{ServiceTable, kept_alarm_of, kept_sub_of, table_of_saved, saved_table}
+use Rattle.service_table.specs.Tables.{ServiceTable, kept_alarm_of, kept_sub_of, kept_window, table_of_saved, saved_table}
+use Rattle.service_table.specs.declared.caller.ClientWindow.{ClientWindow}
 use Rattle.service_fit.proofs.RestoredParts.{ntf-fit, value-back}
 use Rattle.service_core.specs.declared.kept.Kept.{Kept}
 use Rattle.service_core.specs.Inside.{kept_table, IsKeptAs}
@@ -72,3 +75,13 @@ restored-kept saved kept fit is = record {
 
 pub restored-value : (saved : Saved) (kept : Kept) → IsFit saved → kept_table kept ≡ table_of_saved saved → saved_table (kept_table kept) ≡ saved
 restored-value saved kept fit is = ap saved_table is ∙ value-back saved fit
+
+-- the whole
+
+-- a result that is there has what is said of it where it is there
+pub made-as : {A E : Type 0} (result : Result A E) (made : A) (P : A → Type 0) → result ≡ Ok made → IfOk result P → P made
+made-as result made P is holds = subst (λ r. IfOk r P) is holds
+
+-- parts that are those of a value are, beside its number, all of it
+pub parts-are : (saved : Saved) (log : LogTable) (ntf : NtfTable) (alarms : List KeptAlarm) (readers : List SavedReader) (windows : List ClientWindow) → log ≡ (table_of_saved saved).log → ntf ≡ (table_of_saved saved).ntf → alarms ≡ map kept_alarm_of saved.alarms → readers ≡ saved.readers → windows ≡ map kept_window saved.windows → (let table : ServiceTable = record { number = saved.number; log = log; ntf = ntf; alarms = alarms; readers = readers; windows = windows } in table ≡ table_of_saved saved)
+parts-are saved log ntf alarms readers windows log_is ntf_is alarms_are readers_are windows_are = rw (log_is, ntf_is, alarms_are, readers_are, windows_are)

@@ -28,10 +28,9 @@ pub(crate) fn act(
     ensures err { OnErr result (table_of parts.new ≡ table_of parts.old) }
 {
     match call {
-        Call::LogInit => Ok(log_init(parts, alloc, client, now)?),
+        Call::LogInit => log_init(parts, alloc, client, now),
         Call::LogOpen { stream, create } => {
-            let acted = log_open(parts, alloc, client, now, stream, create.as_ref())?;
-            Ok(acted)
+            log_open(parts, alloc, client, now, stream, create.as_ref())
         }
         Call::LogWrite {
             stream,
@@ -40,33 +39,23 @@ pub(crate) fn act(
             time,
             header,
             body,
-        } => {
-            let acted = log_write(
-                parts, alloc, client, now, stream, *flags, *time, header, body,
-            )?;
-            Ok(acted)
-        }
-        Call::LogClose { stream } => Ok(log_close(parts, alloc, client, now, stream)?),
-        Call::LogFini => Ok(log_fini(parts, alloc, client, now)?),
-        Call::NtfInit => Ok(ntf_init(parts, alloc, client)?),
-        Call::NtfSend { notification } => {
-            let acted = ntf_send(parts, alloc, client, now, notification.get())?;
-            Ok(acted)
-        }
+        } => log_write(
+            parts, alloc, client, now, stream, *flags, *time, header, body,
+        ),
+        Call::LogClose { stream } => log_close(parts, alloc, client, now, stream),
+        Call::LogFini => log_fini(parts, alloc, client, now),
+        Call::NtfInit => ntf_init(parts, alloc, client),
+        Call::NtfSend { notification } => ntf_send(parts, alloc, client, now, notification.get()),
         Call::NtfSubscribe { id, filters } => {
-            let acted = ntf_subscribe(parts, alloc, client, seq, *id, filters.get())?;
-            Ok(acted)
+            ntf_subscribe(parts, alloc, client, seq, *id, filters.get())
         }
         Call::NtfUnsubscribe { id } => Ok(ntf_unsubscribe(parts, alloc, client, *id)),
         Call::ReaderStart {
             mode,
             value,
             filters,
-        } => {
-            let acted = reader_start(parts, alloc, client, *mode, *value, filters.get())?;
-            Ok(acted)
-        }
-        Call::ReaderRead { direction } => Ok(reader_read(parts, alloc, client, *direction)?),
+        } => reader_start(parts, alloc, client, *mode, *value, filters.get()),
+        Call::ReaderRead { direction } => reader_read(parts, alloc, client, *direction),
         Call::ReaderEnd => Ok(reader_end(parts, alloc, client)),
         Call::NtfFini => Ok(ntf_fini(parts, alloc, client)),
     }

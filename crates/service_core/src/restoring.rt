@@ -1,5 +1,5 @@
 //! What a service keeps, made again of its value.
-ghost use Rattle.std.specs.Prelude.{◌≡◌, ◌++◌, ◌∷◌, ℕ, List, map, IfOk};
+ghost use Rattle.std.specs.Prelude.{◌≡◌, ◌++◌, ◌∷◌, ℕ, List, map, Ok, IfOk};
 ghost use Rattle.std.specs.List.{AllByRecursion};
 ghost use Rattle.calls.specs.declared.saved.SavedAlarm.{SavedAlarm};
 ghost use Rattle.plain_service.specs.Fitness.{IsFit, IsFitWindow};
@@ -64,11 +64,12 @@ fn restored_sub(alloc: Global, cap: u32, sub: &SavedSub) -> Result<Subscription,
     let held = sub.held.copy(alloc)?;
     let lost = sub.lost.copy(alloc)?;
     let queue = SubQueue::rebuild(alloc, cap, sub.first, held, lost)?;
+    let filters = sub.filters.copy(alloc)?;
     Ok(Subscription {
         client: sub.client,
         key: sub.key,
         id: sub.id,
-        filters: sub.filters.copy(alloc)?,
+        filters,
         queue,
     })
 }
@@ -140,21 +141,41 @@ fn restored_windows(alloc: Global, windows: &[SavedWindow]) -> Result<Vec<Client
     Ok(callers)
 }
 
+/// The two values, where both are there.
+///
+/// What a service keeps is wide: a part that is alive where another may not be made would be let go there field by field.
+fn both<A: Drop, B: Drop>(
+    first: Result<A, AllocError>,
+    second: Result<B, AllocError>,
+) -> Result<(A, B), AllocError>
+    ensures first { IfOk result (λ pair. first ≡ Ok pair.0) }
+    ensures second { IfOk result (λ pair. second ≡ Ok pair.1) }
+{
+    match first {
+        Ok(first) => match second {
+            Ok(second) => Ok((first, second)),
+            Err(error) => Err(error),
+        },
+        Err(error) => Err(error),
+    }
+}
+
 /// All that the service keeps whose value this is.
 pub(crate) fn restored(alloc: Global, saved: &Saved) -> Result<Kept, AllocError>
     requires { IsFit saved.now }
     ensures { IfOk result (λ kept. kept_table kept ≡ table_of_saved saved.now) }
 {
-    let log = restored_log(alloc, saved)?;
-    let ntf = restored_ntf(alloc, saved)?;
-    let alarms = restored_alarms(alloc, saved.alarms.as_slice())?;
-    let readers = copied(alloc, saved.readers.as_slice())?.into_vec();
-    let callers = restored_windows(alloc, saved.windows.as_slice())?;
+    let services = both(restored_log(alloc, saved), restored_ntf(alloc, saved));
+    let alarms = restored_alarms(alloc, saved.alarms.as_slice());
+    let readers = copied(alloc, saved.readers.as_slice());
+    let callers = restored_windows(alloc, saved.windows.as_slice());
+    let others = both(both(alarms, readers), callers);
+    let ((log, ntf), ((alarms, readers), callers)) = both(services, others)?;
     let parts = Parts {
         log,
         ntf,
         alarms,
-        readers,
+        readers: readers.into_vec(),
     };
     Ok(Kept {
         number: saved.number,

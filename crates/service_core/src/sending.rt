@@ -208,7 +208,9 @@ fn send_accepted(
     ensures err { OnErr result (table_of parts.new ≡ table_of parts.old) }
 {
     let rec = record_for(alloc, now, sent)?;
-    let plan = parts.log.plan_store(alloc, kind_for(sent), &rec, now)?;
+    let planned = parts.log.plan_store(alloc, kind_for(sent), &rec, now);
+    drop(rec);
+    let plan = planned?;
     let status = plan.step().status;
     if status != Status::Ok {
         drop(plan);
@@ -239,6 +241,8 @@ pub(crate) fn ntf_send(
         return Ok(act_of(Status::InvalidParam, Seq::new(alloc)));
     }
     let sent = accepted(alloc, parts.ntf.last_id() + 1, now, notification)?;
-    let acted = send_accepted(parts, alloc, now, &sent)?;
+    let tried = send_accepted(parts, alloc, now, &sent);
+    drop(sent);
+    let acted = tried?;
     Ok(acted)
 }

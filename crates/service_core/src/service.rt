@@ -81,13 +81,20 @@ fn apply_call(
     ensures err { OnErr result (kept_table kept.new ≡ kept_table kept.old) }
 {
     let fresh = room_for(alloc, &mut kept.callers, client)?;
-    let acted = act(&mut kept.parts, alloc, client, seq, now, call)?;
-    answer_call(&mut kept.callers, client, fresh, acted.told.kept);
-    kept.number += 1;
-    Ok(Effect {
-        reply: Some(acted.told.reply),
-        deeds: acted.deeds,
-    })
+    match act(&mut kept.parts, alloc, client, seq, now, call) {
+        Ok(acted) => {
+            answer_call(&mut kept.callers, client, fresh, acted.told.kept);
+            kept.number += 1;
+            Ok(Effect {
+                reply: Some(acted.told.reply),
+                deeds: acted.deeds,
+            })
+        }
+        Err(error) => {
+            drop(fresh);
+            Err(error)
+        }
+    }
 }
 
 /// Applies a new receipt. It takes no memory.

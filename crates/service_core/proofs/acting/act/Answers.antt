@@ -1,74 +1,73 @@
 use Rattle.std.proofs.Common.{◌≡◌, rules, sym, subst, to_z, of_z, w64}
+use Rattle.std.specs.Prelude.{IfOk}
 use Rattle.std.proofs.lemmas.Int.{to_z-of_z}
+use Rattle.std.proofs.lemmas.Result.{IfOk-weaker}
 use Rattle.calls.specs.declared.call.Call.TheVariants.{LogOpen, NtfSend, NtfSubscribe, ReaderStart}
+use Rattle.calls.specs.declared.call.Call.TheVariants as calls
 use Rattle.service_core.specs.Acting.{table_of, HasActed}
 use Rattle.service_core.proofs.acting.act.Goals as goal
 
-pub returns-in_ok-log_init-in-LogInit-clause-ok : goal.returns-in_ok-log_init-in-LogInit-clause-ok
-returns-in_ok-log_init-in-LogInit-clause-ok c =
+pub returns-in-LogInit-clause-ok : goal.returns-in-LogInit-clause-ok
+returns-in-LogInit-clause-ok c =
     let fits = c.ranges.now in
-    let done = (simp to_z-of_z at c.in_ok-log_init-in-LogInit.ensures.ok) c.args.seq in
-    subst (λ call. HasActed (table_of c.args.parts.now) c.args.client c.args.seq c.args.now call (table_of c.log_init.new.parts) c.in_ok-log_init-in-LogInit.field-0) (sym c.in-LogInit.is) done
+    let done : IfOk c.log_init.result (HasActed (table_of c.args.parts.now) c.args.client c.args.seq c.args.now calls.LogInit (table_of c.log_init.new.parts)) = IfOk-weaker c.log_init.result _ _ (λ acted done. done c.args.seq) (simp to_z-of_z at c.log_init.ensures.ok) in
+    subst (λ call. IfOk c.log_init.result (HasActed (table_of c.args.parts.now) c.args.client c.args.seq c.args.now call (table_of c.log_init.new.parts))) (sym c.in-LogInit.is) done
 
-pub returns-in_ok-acted-in-LogOpen-clause-ok : goal.returns-in_ok-acted-in-LogOpen-clause-ok
-returns-in_ok-acted-in-LogOpen-clause-ok c =
+pub returns-in-LogOpen-clause-ok : goal.returns-in-LogOpen-clause-ok
+returns-in-LogOpen-clause-ok c =
     let fits = c.ranges.now in
-    let opened = (simp to_z-of_z at c.in_ok-acted-in-LogOpen.ensures.ok) c.args.seq in
-    let done = subst (λ create. HasActed (table_of c.args.parts.now) c.args.client c.args.seq c.args.now (LogOpen c.in-LogOpen.stream create) (table_of c.log_open.new.parts) c.in_ok-acted-in-LogOpen.acted) c.as_ref.ensures.value opened in
-    subst (λ call. HasActed (table_of c.args.parts.now) c.args.client c.args.seq c.args.now call (table_of c.log_open.new.parts) c.in_ok-acted-in-LogOpen.acted) (sym c.in-LogOpen.is) done
+    let done = subst (λ create. IfOk c.log_open.result (HasActed (table_of c.args.parts.now) c.args.client c.args.seq c.args.now (LogOpen c.in-LogOpen.stream create) (table_of c.log_open.new.parts))) c.as_ref.ensures.value (IfOk-weaker c.log_open.result _ _ (λ acted done. done c.args.seq) (simp to_z-of_z at c.log_open.ensures.ok)) in
+    subst (λ call. IfOk c.log_open.result (HasActed (table_of c.args.parts.now) c.args.client c.args.seq c.args.now call (table_of c.log_open.new.parts))) (sym c.in-LogOpen.is) done
 
-pub returns-in_ok-log_close-in-LogClose-clause-ok : goal.returns-in_ok-log_close-in-LogClose-clause-ok
-returns-in_ok-log_close-in-LogClose-clause-ok c =
+pub returns-in-LogClose-clause-ok : goal.returns-in-LogClose-clause-ok
+returns-in-LogClose-clause-ok c =
     let fits = c.ranges.now in
-    let done = (simp to_z-of_z at c.in_ok-log_close-in-LogClose.ensures.ok) c.args.seq in
-    subst (λ call. HasActed (table_of c.args.parts.now) c.args.client c.args.seq c.args.now call (table_of c.log_close.new.parts) c.in_ok-log_close-in-LogClose.field-0) (sym c.in-LogClose.is) done
+    let done : IfOk c.log_close.result (HasActed (table_of c.args.parts.now) c.args.client c.args.seq c.args.now (calls.LogClose c.in-LogClose.stream) (table_of c.log_close.new.parts)) = IfOk-weaker c.log_close.result _ _ (λ acted done. done c.args.seq) (simp to_z-of_z at c.log_close.ensures.ok) in
+    subst (λ call. IfOk c.log_close.result (HasActed (table_of c.args.parts.now) c.args.client c.args.seq c.args.now call (table_of c.log_close.new.parts))) (sym c.in-LogClose.is) done
 
-pub returns-in_ok-log_fini-in-LogFini-clause-ok : goal.returns-in_ok-log_fini-in-LogFini-clause-ok
-returns-in_ok-log_fini-in-LogFini-clause-ok c =
+pub returns-in-LogFini-clause-ok : goal.returns-in-LogFini-clause-ok
+returns-in-LogFini-clause-ok c =
     let fits = c.ranges.now in
-    let done = (simp to_z-of_z at c.in_ok-log_fini-in-LogFini.ensures.ok) c.args.seq in
-    subst (λ call. HasActed (table_of c.args.parts.now) c.args.client c.args.seq c.args.now call (table_of c.log_fini.new.parts) c.in_ok-log_fini-in-LogFini.field-0) (sym c.in-LogFini.is) done
+    let done : IfOk c.log_fini.result (HasActed (table_of c.args.parts.now) c.args.client c.args.seq c.args.now calls.LogFini (table_of c.log_fini.new.parts)) = IfOk-weaker c.log_fini.result _ _ (λ acted done. done c.args.seq) (simp to_z-of_z at c.log_fini.ensures.ok) in
+    subst (λ call. IfOk c.log_fini.result (HasActed (table_of c.args.parts.now) c.args.client c.args.seq c.args.now call (table_of c.log_fini.new.parts))) (sym c.in-LogFini.is) done
 
-pub returns-in_ok-acted-in-NtfSend-clause-ok : goal.returns-in_ok-acted-in-NtfSend-clause-ok
-returns-in_ok-acted-in-NtfSend-clause-ok c =
+pub returns-in-NtfSend-clause-ok : goal.returns-in-NtfSend-clause-ok
+returns-in-NtfSend-clause-ok c =
     let fits = c.ranges.now in
-    let sent = (simp to_z-of_z at c.in_ok-acted-in-NtfSend.ensures.ok) c.args.seq in
-    let done = subst (λ notification. HasActed (table_of c.args.parts.now) c.args.client c.args.seq c.args.now (NtfSend notification) (table_of c.ntf_send.new.parts) c.in_ok-acted-in-NtfSend.acted) c.get.ensures sent in
-    subst (λ call. HasActed (table_of c.args.parts.now) c.args.client c.args.seq c.args.now call (table_of c.ntf_send.new.parts) c.in_ok-acted-in-NtfSend.acted) (sym c.in-NtfSend.is) done
+    let done = subst (λ notification. IfOk c.ntf_send.result (HasActed (table_of c.args.parts.now) c.args.client c.args.seq c.args.now (NtfSend notification) (table_of c.ntf_send.new.parts))) c.get.ensures (IfOk-weaker c.ntf_send.result _ _ (λ acted done. done c.args.seq) (simp to_z-of_z at c.ntf_send.ensures.ok)) in
+    subst (λ call. IfOk c.ntf_send.result (HasActed (table_of c.args.parts.now) c.args.client c.args.seq c.args.now call (table_of c.ntf_send.new.parts))) (sym c.in-NtfSend.is) done
 
-pub returns-in_ok-acted-in-LogWrite-clause-ok : goal.returns-in_ok-acted-in-LogWrite-clause-ok
-returns-in_ok-acted-in-LogWrite-clause-ok c =
+pub returns-in-LogWrite-clause-ok : goal.returns-in-LogWrite-clause-ok
+returns-in-LogWrite-clause-ok c =
     let fits = c.ranges.now in
     let times : to_z w64 (of_z w64 c.in-LogWrite.time) ≡ c.in-LogWrite.time = search rules in
-    let done = (simp (to_z-of_z, times) at c.in_ok-acted-in-LogWrite.ensures.ok) c.args.seq c.in-LogWrite.invocation in
-    subst (λ call. HasActed (table_of c.args.parts.now) c.args.client c.args.seq c.args.now call (table_of c.log_write.new.parts) c.in_ok-acted-in-LogWrite.acted) (sym c.in-LogWrite.is) done
+    let done : IfOk c.log_write.result (HasActed (table_of c.args.parts.now) c.args.client c.args.seq c.args.now (calls.LogWrite c.in-LogWrite.stream c.in-LogWrite.invocation c.in-LogWrite.flags c.in-LogWrite.time c.in-LogWrite.header c.in-LogWrite.body) (table_of c.log_write.new.parts)) = IfOk-weaker c.log_write.result _ _ (λ acted done. done c.args.seq c.in-LogWrite.invocation) (simp (to_z-of_z, times) at c.log_write.ensures.ok) in
+    subst (λ call. IfOk c.log_write.result (HasActed (table_of c.args.parts.now) c.args.client c.args.seq c.args.now call (table_of c.log_write.new.parts))) (sym c.in-LogWrite.is) done
 
-pub returns-in_ok-ntf_init-in-NtfInit-clause-ok : goal.returns-in_ok-ntf_init-in-NtfInit-clause-ok
-returns-in_ok-ntf_init-in-NtfInit-clause-ok c =
+pub returns-in-NtfInit-clause-ok : goal.returns-in-NtfInit-clause-ok
+returns-in-NtfInit-clause-ok c =
     let fits = c.ranges.now in
-    let done = c.in_ok-ntf_init-in-NtfInit.ensures.ok c.args.seq c.args.now in
-    subst (λ call. HasActed (table_of c.args.parts.now) c.args.client c.args.seq c.args.now call (table_of c.ntf_init.new.parts) c.in_ok-ntf_init-in-NtfInit.field-0) (sym c.in-NtfInit.is) done
+    let done : IfOk c.ntf_init.result (HasActed (table_of c.args.parts.now) c.args.client c.args.seq c.args.now calls.NtfInit (table_of c.ntf_init.new.parts)) = IfOk-weaker c.ntf_init.result _ _ (λ acted done. done c.args.seq c.args.now) (c.ntf_init.ensures.ok) in
+    subst (λ call. IfOk c.ntf_init.result (HasActed (table_of c.args.parts.now) c.args.client c.args.seq c.args.now call (table_of c.ntf_init.new.parts))) (sym c.in-NtfInit.is) done
 
-pub returns-in_ok-acted-in-ReaderStart-clause-ok : goal.returns-in_ok-acted-in-ReaderStart-clause-ok
-returns-in_ok-acted-in-ReaderStart-clause-ok c =
+pub returns-in-ReaderStart-clause-ok : goal.returns-in-ReaderStart-clause-ok
+returns-in-ReaderStart-clause-ok c =
     let fits = c.ranges.now in
     let values : to_z w64 (of_z w64 c.in-ReaderStart.value) ≡ c.in-ReaderStart.value = search rules in
-    let started = (simp (to_z-of_z, values) at c.in_ok-acted-in-ReaderStart.ensures.ok) c.args.seq c.args.now in
-    let done = subst (λ filters. HasActed (table_of c.args.parts.now) c.args.client c.args.seq c.args.now (ReaderStart c.in-ReaderStart.mode c.in-ReaderStart.value filters) (table_of c.reader_start.new.parts) c.in_ok-acted-in-ReaderStart.acted) c.get-in-ReaderStart.ensures started in
-    subst (λ call. HasActed (table_of c.args.parts.now) c.args.client c.args.seq c.args.now call (table_of c.reader_start.new.parts) c.in_ok-acted-in-ReaderStart.acted) (sym c.in-ReaderStart.is) done
+    let done = subst (λ filters. IfOk c.reader_start.result (HasActed (table_of c.args.parts.now) c.args.client c.args.seq c.args.now (ReaderStart c.in-ReaderStart.mode c.in-ReaderStart.value filters) (table_of c.reader_start.new.parts))) c.get-in-ReaderStart.ensures (IfOk-weaker c.reader_start.result _ _ (λ acted done. done c.args.seq c.args.now) (simp (to_z-of_z, values) at c.reader_start.ensures.ok)) in
+    subst (λ call. IfOk c.reader_start.result (HasActed (table_of c.args.parts.now) c.args.client c.args.seq c.args.now call (table_of c.reader_start.new.parts))) (sym c.in-ReaderStart.is) done
 
-pub returns-in_ok-reader_read-in-ReaderRead-clause-ok : goal.returns-in_ok-reader_read-in-ReaderRead-clause-ok
-returns-in_ok-reader_read-in-ReaderRead-clause-ok c =
+pub returns-in-ReaderRead-clause-ok : goal.returns-in-ReaderRead-clause-ok
+returns-in-ReaderRead-clause-ok c =
     let fits = c.ranges.now in
-    let done = c.in_ok-reader_read-in-ReaderRead.ensures.ok c.args.seq c.args.now in
-    subst (λ call. HasActed (table_of c.args.parts.now) c.args.client c.args.seq c.args.now call (table_of c.reader_read.new.parts) c.in_ok-reader_read-in-ReaderRead.field-0) (sym c.in-ReaderRead.is) done
+    let done : IfOk c.reader_read.result (HasActed (table_of c.args.parts.now) c.args.client c.args.seq c.args.now (calls.ReaderRead c.in-ReaderRead.direction) (table_of c.reader_read.new.parts)) = IfOk-weaker c.reader_read.result _ _ (λ acted done. done c.args.seq c.args.now) (c.reader_read.ensures.ok) in
+    subst (λ call. IfOk c.reader_read.result (HasActed (table_of c.args.parts.now) c.args.client c.args.seq c.args.now call (table_of c.reader_read.new.parts))) (sym c.in-ReaderRead.is) done
 
-pub returns-in_ok-acted-in-NtfSubscribe-clause-ok : goal.returns-in_ok-acted-in-NtfSubscribe-clause-ok
-returns-in_ok-acted-in-NtfSubscribe-clause-ok c =
+pub returns-in-NtfSubscribe-clause-ok : goal.returns-in-NtfSubscribe-clause-ok
+returns-in-NtfSubscribe-clause-ok c =
     let fits = c.ranges.now in
-    let begun = c.in_ok-acted-in-NtfSubscribe.ensures.ok c.args.now in
-    let done = subst (λ filters. HasActed (table_of c.args.parts.now) c.args.client c.args.seq c.args.now (NtfSubscribe c.in-NtfSubscribe.id filters) (table_of c.ntf_subscribe.new.parts) c.in_ok-acted-in-NtfSubscribe.acted) c.get-in-NtfSubscribe.ensures begun in
-    subst (λ call. HasActed (table_of c.args.parts.now) c.args.client c.args.seq c.args.now call (table_of c.ntf_subscribe.new.parts) c.in_ok-acted-in-NtfSubscribe.acted) (sym c.in-NtfSubscribe.is) done
+    let done = subst (λ filters. IfOk c.ntf_subscribe.result (HasActed (table_of c.args.parts.now) c.args.client c.args.seq c.args.now (NtfSubscribe c.in-NtfSubscribe.id filters) (table_of c.ntf_subscribe.new.parts))) c.get-in-NtfSubscribe.ensures (IfOk-weaker c.ntf_subscribe.result _ _ (λ acted done. done c.args.now) (c.ntf_subscribe.ensures.ok)) in
+    subst (λ call. IfOk c.ntf_subscribe.result (HasActed (table_of c.args.parts.now) c.args.client c.args.seq c.args.now call (table_of c.ntf_subscribe.new.parts))) (sym c.in-NtfSubscribe.is) done
 
 pub returns-in-NtfUnsubscribe-clause-ok : goal.returns-in-NtfUnsubscribe-clause-ok
 returns-in-NtfUnsubscribe-clause-ok c =

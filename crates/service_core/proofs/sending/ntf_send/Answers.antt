@@ -9,8 +9,8 @@ use Rattle.service_core.proofs.LogConditions.{first-now}
 use Rattle.service_core.proofs.SendActs.{filled-event, sent-acted}
 use Rattle.service_core.proofs.sending.ntf_send.Goals as goal
 
-pub send_accepted-requires-clause-time : goal.send_accepted-requires-clause-time
-send_accepted-requires-clause-time c =
+pub send_accepted-tried-requires-clause-time : goal.send_accepted-tried-requires-clause-time
+send_accepted-tried-requires-clause-time c =
     let fits = c.ranges.now in
     let is = simp to_z-of_z at c.in_ok-sent.ensures in
     ap (λ (n : Notification). is_negative n.event_time) is ∙ filled-event c.args.notification.now c.args.now c.requires.1.log.moment.from (sym c.is_right.ensures ∙ c.if-not-is_right.false)
@@ -21,6 +21,6 @@ returns-clause-ok c =
     let parts = c.args.parts.now in
     let is = simp to_z-of_z at c.in_ok-sent.ensures in
     let accepted = is ∙ ap (λ id. accepted_as (id + 1) c.args.now c.args.notification.now) c.last_id.ensures in
-    let done : HasSent (table_of parts) c.args.now c.in_ok-sent.sent (table_of c.send_accepted.new.parts) c.in_ok-acted.acted = simp to_z-of_z at c.in_ok-acted.ensures.ok in
-    let sent = subst (λ n. HasSent (table_of parts) c.args.now n (table_of c.send_accepted.new.parts) c.in_ok-acted.acted) accepted done in
-    λ seq. sent-acted (table_of parts) (table_of c.send_accepted.new.parts) c.args.client seq c.args.now c.args.notification.now c.in_ok-acted.acted (first-now parts.log.table c.args.now c.requires.1.log) (sym c.is_user.ensures ∙ c.if-not-is_user.false) (sym c.is_right.ensures ∙ c.if-not-is_right.false) sent
+    let done : HasSent (table_of parts) c.args.now c.in_ok-sent.sent (table_of c.send_accepted-tried.new.parts) c.in_ok-acted.acted = simp to_z-of_z at c.in_ok-acted.ensures.ok in
+    let sent = subst (λ n. HasSent (table_of parts) c.args.now n (table_of c.send_accepted-tried.new.parts) c.in_ok-acted.acted) accepted done in
+    λ seq. sent-acted (table_of parts) (table_of c.send_accepted-tried.new.parts) c.args.client seq c.args.now c.args.notification.now c.in_ok-acted.acted (first-now parts.log.table c.args.now c.requires.1.log) (sym c.is_user.ensures ∙ c.if-not-is_user.false) (sym c.is_right.ensures ∙ c.if-not-is_right.false) sent

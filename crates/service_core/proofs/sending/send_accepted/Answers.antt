@@ -21,8 +21,8 @@ use Rattle.service_core.proofs.SendActs.{room-left, refused-sent, done-sent}
 use Rattle.service_core.proofs.sending.send_accepted.Goals as goal
 use Rattle.plain_service.proofs.HistoryEvents.{second-bound}
 
-pub plan_store-requires-clause-numbers : goal.plan_store-requires-clause-numbers
-plan_store-requires-clause-numbers c = number-left c.args.parts.now.log.table c.args.now _ c.requires.log
+pub plan_store-planned-requires-clause-numbers : goal.plan_store-planned-requires-clause-numbers
+plan_store-planned-requires-clause-numbers c = number-left c.args.parts.now.log.table c.args.now _ c.requires.log
 
 pub returns-then-ne-clause-ok : goal.returns-then-ne-clause-ok
 returns-then-ne-clause-ok c =

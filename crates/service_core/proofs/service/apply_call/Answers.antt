@@ -40,12 +40,12 @@ answer_call-requires-clause-next c =
     let next = next-few c.args.client kept.number kept.callers.items (table-of (kept_table kept) c.requires.queues c.requires.fit).windows.each in
     subst (λ callers. (window_for c.args.client callers).next < 4294967295) (sym c.room_for.ensures.callers) (omega (arith, few, next))
 
-pub returns-clause-ok : goal.returns-clause-ok
-returns-clause-ok c =
+pub returns-in-Ok-clause-ok : goal.returns-in-Ok-clause-ok
+returns-in-Ok-clause-ok c =
     let kept = c.args.kept.now in
-    let acted = c.in_ok-acted.acted in
+    let acted = c.in-Ok.acted in
     let has : HasActed (table_of kept.parts) c.args.client c.args.seq c.args.now c.args.call.now (table_of c.act.new.parts) acted =
-    subst (λ moment. HasActed (table_of kept.parts) c.args.client c.args.seq moment c.args.call.now (table_of c.act.new.parts) acted) (to_z-of_z w64 c.args.now c.ranges.now) c.in_ok-acted.ensures.ok in
+    subst (λ moment. HasActed (table_of kept.parts) c.args.client c.args.seq moment c.args.call.now (table_of c.act.new.parts) acted) (to_z-of_z w64 c.args.now c.ranges.now) c.in-Ok.ensures.ok in
     let given = c.answer_call.ensures ∙ ap (answered c.args.client acted.told.kept) c.room_for.ensures.callers in
     record {
       now = acted-now kept.number kept.parts c.act.new.parts kept.callers.items _ c.args.client c.args.seq c.args.now c.args.call.now acted has given;
@@ -53,17 +53,17 @@ returns-clause-ok c =
       deeds = has.deeds ∙ ap deeds_of_all (sym (same-events kept.number kept.callers.items (table_of kept.parts) c.args.client c.args.now c.args.call.now));
     }
 
-pub returns-clause-capacity : goal.returns-clause-capacity
-returns-clause-capacity c =
+pub returns-in-Ok-clause-capacity : goal.returns-in-Ok-clause-capacity
+returns-in-Ok-clause-capacity c =
     let parts = c.args.kept.now.parts in
-    changed-capacity (table_of parts) (table_of c.act.new.parts) c.args.client c.args.seq _ c.args.call.now c.in_ok-acted.ensures.ok.now
+    changed-capacity (table_of parts) (table_of c.act.new.parts) c.args.client c.args.seq _ c.args.call.now c.in-Ok.ensures.ok.now
 
-pub returns-clause-fit : goal.returns-clause-fit
-returns-clause-fit c =
+pub returns-in-Ok-clause-fit : goal.returns-in-Ok-clause-fit
+returns-in-Ok-clause-fit c =
     let kept = c.args.kept.now in
-    let acted = c.in_ok-acted.acted in
+    let acted = c.in-Ok.acted in
     let has : HasActed (table_of kept.parts) c.args.client c.args.seq c.args.now c.args.call.now (table_of c.act.new.parts) acted =
-    subst (λ moment. HasActed (table_of kept.parts) c.args.client c.args.seq moment c.args.call.now (table_of c.act.new.parts) acted) (to_z-of_z w64 c.args.now c.ranges.now) c.in_ok-acted.ensures.ok in
+    subst (λ moment. HasActed (table_of kept.parts) c.args.client c.args.seq moment c.args.call.now (table_of c.act.new.parts) acted) (to_z-of_z w64 c.args.now c.ranges.now) c.in-Ok.ensures.ok in
     let given = c.answer_call.ensures ∙ ap (answered c.args.client acted.told.kept) c.room_for.ensures.callers in
     let now = acted-now kept.number kept.parts c.act.new.parts kept.callers.items c.answer_call.new.callers.items c.args.client c.args.seq c.args.now c.args.call.now acted has given in
     subst (λ table. IsFit (saved_table table)) (sym now)
