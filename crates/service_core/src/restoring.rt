@@ -1,5 +1,5 @@
 //! What a service keeps, made again of its value.
-ghost use Rattle.std.specs.Prelude.{◌≡◌, ◌++◌, ◌∷◌, ℕ, List, map, Ok, IfOk};
+ghost use Rattle.std.specs.Prelude.{◌≡◌, ◌++◌, ◌∷◌, ℕ, List, map, IfOk};
 ghost use Rattle.std.specs.List.{AllByRecursion};
 ghost use Rattle.calls.specs.declared.saved.SavedAlarm.{SavedAlarm};
 ghost use Rattle.plain_service.specs.Fitness.{IsFit, IsFitWindow};
@@ -10,7 +10,7 @@ ghost use Rattle.service_core.specs.Restoring.{states_in, openers_in, HasSoundQu
 
 use crate::kept::Kept;
 use crate::parts::Parts;
-use crate::saving::copied;
+use crate::saving::{both, copied};
 use ais_values::{Duplicate, Seq};
 use alarm_view::{AlarmView, KeptAlarm};
 use calls::{Saved, SavedAlarm, SavedStream, SavedSub, SavedWindow};
@@ -139,25 +139,6 @@ fn restored_windows(alloc: Global, windows: &[SavedWindow]) -> Result<Vec<Client
         })?;
     }
     Ok(callers)
-}
-
-/// The two values, where both are there.
-///
-/// What a service keeps is wide: a part that is alive where another may not be made would be let go there field by field.
-fn both<A: Drop, B: Drop>(
-    first: Result<A, AllocError>,
-    second: Result<B, AllocError>,
-) -> Result<(A, B), AllocError>
-    ensures first { IfOk result (λ pair. first ≡ Ok pair.0) }
-    ensures second { IfOk result (λ pair. second ≡ Ok pair.1) }
-{
-    match first {
-        Ok(first) => match second {
-            Ok(second) => Ok((first, second)),
-            Err(error) => Err(error),
-        },
-        Err(error) => Err(error),
-    }
 }
 
 /// All that the service keeps whose value this is.
