@@ -5,3 +5,4 @@ mod FirstLine
 mod Answering
 mod Turns
 mod LineFronts
+mod Parts

@@ -7,3 +7,4 @@ pub mod Answers
 pub mod Gives
 pub mod Judged
 pub mod LineFront
+pub mod Parts

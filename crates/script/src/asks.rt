@@ -1,6 +1,7 @@
 //! What clients ask of the services.
 ghost use Rattle.std.specs.Prelude.{◌≡◌, option_map, codes};
 ghost use Rattle.script.specs.Gives.{Gives};
+ghost use Rattle.script.specs.Parts.{marks_at};
 ghost use Rattle.script_grammar.specs.Reading.{maybe};
 ghost use Rattle.script_language.specs.StreamReading.{attrs_at};
 ghost use Rattle.script_language.specs.AskReading.{init_at, open_at, write_at, close_at, send_at, subscribe_at, unsubscribe_at, reader_at, read_at};
@@ -8,8 +9,8 @@ ghost use Rattle.script_language.specs.LineReading.{log_ask_at, ntf_ask_at};
 
 use crate::filters::filters;
 use crate::notes::note;
-use crate::numbers::{number32, number64, signed64, skip, time_unless};
-use crate::quoted::quoted;
+use crate::numbers::{number32, number32_behind, number64_behind, signed64, skip, time_unless};
+use crate::quoted::quoted_behind;
 use crate::streams::{attrs, header, stream};
 use crate::trouble::Trouble;
 use crate::values::version;
@@ -52,25 +53,43 @@ fn open(alloc: Global, bytes: &[u8]) -> Result<(Ask, &[u8]), Trouble>
     Ok((Ask::Plain { call }, rest))
 }
 
+/// What a write has beside what is written.
+#[derive(Clone, Copy)]
+struct Marks {
+    invocation: u64,
+    flags: u32,
+    time: i64,
+}
+
+/// `inv=N flags=N [time=NS]`, with a blank before each
+#[tactic(auto, unfolding(crate::specs::Parts::marks_at))]
+fn read_marks(bytes: &[u8]) -> Option<(Marks, &[u8])>
+    ensures { marks_at bytes.now ≡ option_map (λ found. (found.0, found.1.now)) result }
+{
+    let (invocation, rest) = number64_behind(bytes, b" inv=")?;
+    let (flags, rest) = number32_behind(rest, b" flags=")?;
+    let (time, rest) = time_unless(rest, b" time=")?;
+    let marks = Marks {
+        invocation,
+        flags,
+        time,
+    };
+    Some((marks, rest))
+}
+
 /// `write STREAM inv=N flags=N [time=NS] HEADER body="B"`
-#[tactic(auto, unfolding(script_language::specs::AskReading::write_at))]
 fn write(alloc: Global, bytes: &[u8]) -> Result<(Ask, &[u8]), Trouble>
     ensures { Gives (λ found. (found.0, found.1.now)) result (write_at bytes.now) }
 {
     let (stream, rest) = stream(alloc, bytes)?;
-    let rest = skip(rest, b" inv=").ok_or(Trouble::Bad)?;
-    let (invocation, rest) = number64(rest).ok_or(Trouble::Bad)?;
-    let rest = skip(rest, b" flags=").ok_or(Trouble::Bad)?;
-    let (flags, rest) = number32(rest).ok_or(Trouble::Bad)?;
-    let (time, rest) = time_unless(rest, b" time=").ok_or(Trouble::Bad)?;
+    let (marks, rest) = read_marks(rest).ok_or(Trouble::Bad)?;
     let (header, rest) = header(alloc, rest)?;
-    let rest = skip(rest, b" body=").ok_or(Trouble::Bad)?;
-    let (body, rest) = quoted(alloc, rest)?;
+    let (body, rest) = quoted_behind(alloc, rest, b" body=")?;
     let call = Call::LogWrite {
         stream,
-        invocation,
-        flags,
-        time,
+        invocation: marks.invocation,
+        flags: marks.flags,
+        time: marks.time,
         header,
         body,
     };

@@ -1,14 +1,15 @@
 //! Notifications.
 ghost use Rattle.std.specs.Prelude.{◌≡◌, option_map};
 ghost use Rattle.script.specs.Gives.{Gives};
+ghost use Rattle.script.specs.Parts.{cause_at};
 ghost use Rattle.script_language.specs.NoteReading.{note_kind_at, heading_at, objects_at, attributes_at, states_at, alarm_at, security_at, body_of_at, note_at};
 
 use crate::elements::{Changes, Numbers64, Pairs, StateChanges};
 use crate::lists::maybe_list;
-use crate::numbers::{number16, skip, time_unless};
-use crate::quoted::{hex_word, quoted, quoted_name};
+use crate::numbers::{number16, number16_behind, skip};
+use crate::quoted::quoted_behind;
 use crate::trouble::Trouble;
-use crate::values::{class, value};
+use crate::values::{read_origin, value_behind};
 use ntf_types::{Body, Notification};
 use script_lines::{Heading, NoteKind};
 use std::alloc::Global;
@@ -34,29 +35,19 @@ fn note_kind(bytes: &[u8]) -> Option<(NoteKind, &[u8])>
 }
 
 /// `type=TYPE obj="O" by="O" class=V.M.N [time=NS] [corr=IDS] text="X" [info=PAIRS]`, with a blank before each
-#[tactic(auto, unfolding(script_language::specs::NoteReading::heading_at))]
 fn heading(alloc: Global, bytes: &[u8]) -> Result<(Heading, &[u8]), Trouble>
     ensures { Gives (λ found. (found.0, found.1.now)) result (heading_at bytes.now) }
 {
-    let rest = skip(bytes, b" type=").ok_or(Trouble::Bad)?;
-    let (event_type, rest) = hex_word(rest).ok_or(Trouble::Bad)?;
-    let rest = skip(rest, b" obj=").ok_or(Trouble::Bad)?;
-    let (object, rest) = quoted_name(alloc, rest)?;
-    let rest = skip(rest, b" by=").ok_or(Trouble::Bad)?;
-    let (notifier, rest) = quoted_name(alloc, rest)?;
-    let rest = skip(rest, b" class=").ok_or(Trouble::Bad)?;
-    let (class, rest) = class(rest).ok_or(Trouble::Bad)?;
-    let (event_time, rest) = time_unless(rest, b" time=").ok_or(Trouble::Bad)?;
+    let (origin, rest) = read_origin(alloc, bytes, b" time=")?;
     let (correlated, rest) = maybe_list::<Numbers64>(alloc, rest, b" corr=")?;
-    let rest = skip(rest, b" text=").ok_or(Trouble::Bad)?;
-    let (text, rest) = quoted(alloc, rest)?;
+    let (text, rest) = quoted_behind(alloc, rest, b" text=")?;
     let (info, rest) = maybe_list::<Pairs>(alloc, rest, b" info=")?;
     let heading = Heading {
-        event_type,
-        object,
-        notifier,
-        class,
-        event_time,
+        event_type: origin.event_type,
+        object: origin.object,
+        notifier: origin.notifier,
+        class: origin.class,
+        event_time: origin.event_time,
         correlated,
         text,
         info,
@@ -97,31 +88,33 @@ fn states(alloc: Global, bytes: &[u8]) -> Result<(Body, &[u8]), Trouble>
     Ok((Body::States { source, changes }, rest))
 }
 
+/// `cause=N sev=N`, with a blank before each
+#[tactic(auto, unfolding(crate::specs::Parts::cause_at))]
+fn cause(bytes: &[u8]) -> Option<((u16, u16), &[u8])>
+    ensures { cause_at bytes.now ≡ option_map (λ found. (found.0, found.1.now)) result }
+{
+    let (cause, rest) = number16_behind(bytes, b" cause=")?;
+    let (severity, rest) = number16_behind(rest, b" sev=")?;
+    Some(((cause, severity), rest))
+}
+
 /// `cause=N sev=N`
-#[tactic(auto, unfolding(script_language::specs::NoteReading::alarm_at))]
+#[tactic(auto, using(crate::proofs::Parts::alarm_by))]
 fn alarm(bytes: &[u8]) -> Option<(Body, &[u8])>
     ensures { alarm_at bytes.now ≡ option_map (λ found. (found.0, found.1.now)) result }
 {
-    let (cause, rest) = number16(skip(bytes, b" cause=")?)?;
-    let (severity, rest) = number16(skip(rest, b" sev=")?)?;
+    let ((cause, severity), rest) = cause(bytes)?;
     Some((Body::Alarm { cause, severity }, rest))
 }
 
 /// `cause=N sev=N detector=VALUE user=VALUE provider=VALUE`
-#[tactic(auto, unfolding(script_language::specs::NoteReading::security_at))]
 fn security(alloc: Global, bytes: &[u8]) -> Result<(Body, &[u8]), Trouble>
     ensures { Gives (λ found. (found.0, found.1.now)) result (security_at bytes.now) }
 {
-    let rest = skip(bytes, b" cause=").ok_or(Trouble::Bad)?;
-    let (cause, rest) = number16(rest).ok_or(Trouble::Bad)?;
-    let rest = skip(rest, b" sev=").ok_or(Trouble::Bad)?;
-    let (severity, rest) = number16(rest).ok_or(Trouble::Bad)?;
-    let rest = skip(rest, b" detector=").ok_or(Trouble::Bad)?;
-    let (detector, rest) = value(alloc, rest)?;
-    let rest = skip(rest, b" user=").ok_or(Trouble::Bad)?;
-    let (user, rest) = value(alloc, rest)?;
-    let rest = skip(rest, b" provider=").ok_or(Trouble::Bad)?;
-    let (provider, rest) = value(alloc, rest)?;
+    let ((cause, severity), rest) = cause(bytes).ok_or(Trouble::Bad)?;
+    let (detector, rest) = value_behind(alloc, rest, b" detector=")?;
+    let (user, rest) = value_behind(alloc, rest, b" user=")?;
+    let (provider, rest) = value_behind(alloc, rest, b" provider=")?;
     let body = Body::Security {
         cause,
         severity,

@@ -7,7 +7,7 @@ ghost use Rattle.std.specs.Str.{all_ascii_digits};
 ghost use Rattle.std.specs.Str.Parse.{digits_value};
 ghost use Rattle.ais_values.specs.Times.{unknown_time};
 ghost use Rattle.script_grammar.specs.Values.{IsNumber};
-ghost use Rattle.script_grammar.specs.Reading.{skipped, maybe, unless};
+ghost use Rattle.script_grammar.specs.Reading.{skipped, word, maybe, unless};
 ghost use Rattle.script_grammar.specs.ValueReading.{is_plain, magnitude_at, number_at, in_signed_range, signed_at};
 ghost use Rattle.script_language.specs.ValueReading.{number8_at, number16_at, number32_at, number64_at, signed64_at, script_time_at, client_at, queue_length_at, count_at};
 
@@ -246,5 +246,49 @@ pub(crate) fn maybe_number16<'a>(bytes: &'a [u8], word: &[u8]) -> Option<(Option
             Some((Some(value), rest))
         }
         None => Some((None, bytes)),
+    }
+}
+
+/// A number that fits 8 bits, behind the word.
+pub(crate) fn number8_behind<'a>(bytes: &'a [u8], label: &[u8]) -> Option<(u8, &'a [u8])>
+    ensures { word label.now number8_at bytes.now
+        ≡ option_map (λ found. (found.0, found.1.now)) result }
+{
+    match skip(bytes, label) {
+        Some(rest) => number8(rest),
+        None => None,
+    }
+}
+
+/// A number that fits 16 bits, behind the word.
+pub(crate) fn number16_behind<'a>(bytes: &'a [u8], label: &[u8]) -> Option<(u16, &'a [u8])>
+    ensures { word label.now number16_at bytes.now
+        ≡ option_map (λ found. (found.0, found.1.now)) result }
+{
+    match skip(bytes, label) {
+        Some(rest) => number16(rest),
+        None => None,
+    }
+}
+
+/// A number that fits 32 bits, behind the word.
+pub(crate) fn number32_behind<'a>(bytes: &'a [u8], label: &[u8]) -> Option<(u32, &'a [u8])>
+    ensures { word label.now number32_at bytes.now
+        ≡ option_map (λ found. (found.0, found.1.now)) result }
+{
+    match skip(bytes, label) {
+        Some(rest) => number32(rest),
+        None => None,
+    }
+}
+
+/// A number that fits 64 bits, behind the word.
+pub(crate) fn number64_behind<'a>(bytes: &'a [u8], label: &[u8]) -> Option<(u64, &'a [u8])>
+    ensures { word label.now number64_at bytes.now
+        ≡ option_map (λ found. (found.0, found.1.now)) result }
+{
+    match skip(bytes, label) {
+        Some(rest) => number64(rest),
+        None => None,
     }
 }

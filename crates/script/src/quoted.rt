@@ -1,5 +1,6 @@
 //! Hexadecimal digits, and texts and names between quotation marks.
 ghost use Rattle.std.specs.Prelude.{◌≡◌, ◌<◌, IsTrue, option_map, length, if◌then◌else◌, Some, None};
+ghost use Rattle.script_grammar.specs.Reading.{word};
 ghost use Rattle.script_grammar.specs.ValueReading.{is_hex, hex_value, hex_at, hex_word_at, escape_at, part_at, quoted_at, inner_at};
 ghost use Rattle.script_language.specs.ValueReading.{is_name, quoted_name_at};
 ghost use Rattle.script.specs.Gives.{Gives};
@@ -125,6 +126,20 @@ pub(crate) fn quoted(alloc: Global, bytes: &[u8]) -> Result<(Text, &[u8]), Troub
     }
 }
 
+/// A text between quotation marks behind a word.
+pub(crate) fn quoted_behind<'a>(
+    alloc: Global,
+    bytes: &'a [u8],
+    label: &[u8],
+) -> Result<(Text, &'a [u8]), Trouble>
+    ensures { Gives (λ found. (found.0, found.1.now)) result (word label.now quoted_at bytes.now) }
+{
+    match skip(bytes, label) {
+        Some(rest) => quoted(alloc, rest),
+        None => Err(Trouble::Bad),
+    }
+}
+
 /// The name of these bytes.
 fn name_of(alloc: Global, bytes: &[u8]) -> Result<Name, Trouble>
     ensures { Gives (λ name. name) result (if is_name bytes.now then Some bytes.now else None) }
@@ -144,4 +159,30 @@ pub(crate) fn quoted_name(alloc: Global, bytes: &[u8]) -> Result<(Name, &[u8]), 
     let (text, rest) = quoted(alloc, bytes)?;
     let name = name_of(alloc, text.as_slice())?;
     Ok((name, rest))
+}
+
+/// A name between quotation marks behind a word.
+pub(crate) fn name_behind<'a>(
+    alloc: Global,
+    bytes: &'a [u8],
+    label: &[u8],
+) -> Result<(Name, &'a [u8]), Trouble>
+    ensures { Gives (λ found. (found.0, found.1.now)) result
+        (word label.now quoted_name_at bytes.now) }
+{
+    match skip(bytes, label) {
+        Some(rest) => quoted_name(alloc, rest),
+        None => Err(Trouble::Bad),
+    }
+}
+
+/// A number of two bytes in hexadecimal digits, behind the word.
+pub(crate) fn hex_word_behind<'a>(bytes: &'a [u8], label: &[u8]) -> Option<(u16, &'a [u8])>
+    ensures { word label.now hex_word_at bytes.now
+        ≡ option_map (λ found. (found.0, found.1.now)) result }
+{
+    match skip(bytes, label) {
+        Some(rest) => hex_word(rest),
+        None => None,
+    }
 }

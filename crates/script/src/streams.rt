@@ -3,14 +3,15 @@ ghost use Rattle.std.specs.Prelude.{◌≡◌, option_map, codes};
 ghost use Rattle.ais_values.specs.declared.kind.StreamKind.TheVariants as kinds;
 ghost use Rattle.stream_config.specs.WellKnown.{default_format};
 ghost use Rattle.script.specs.Gives.{Gives};
-ghost use Rattle.script_grammar.specs.Reading.{unless};
+ghost use Rattle.script.specs.Parts.{sizes_at};
+ghost use Rattle.script_grammar.specs.Reading.{unless, word};
 ghost use Rattle.script_grammar.specs.ValueReading.{quoted_at};
 ghost use Rattle.script_language.specs.StreamReading.{full_action_at, stream_at, attrs_at, generic_at, notified_at, header_at};
 
-use crate::numbers::{number8, number16, number32, number64, skip, time_unless};
-use crate::quoted::{hex_word, quoted, quoted_name};
+use crate::numbers::{number8_behind, number16, number32_behind, number64, number64_behind, skip};
+use crate::quoted::{quoted, quoted_behind, quoted_name};
 use crate::trouble::Trouble;
-use crate::values::class;
+use crate::values::{class, read_origin};
 use ais_values::{StreamKind, Text};
 use record_print::Header;
 use std::alloc::Global;
@@ -28,6 +29,17 @@ pub(crate) fn full_action(bytes: &[u8]) -> Option<(FullAction, &[u8])>
         return Some((FullAction::Halt, rest));
     }
     Some((FullAction::Rotate, skip(bytes, b"rotate")?))
+}
+
+/// What a stream does where its file is full, behind the word.
+fn full_action_behind<'a>(bytes: &'a [u8], label: &[u8]) -> Option<(FullAction, &'a [u8])>
+    ensures { word label.now full_action_at bytes.now
+        ≡ option_map (λ found. (found.0, found.1.now)) result }
+{
+    match skip(bytes, label) {
+        Some(rest) => full_action(rest),
+        None => None,
+    }
 }
 
 /// `alarm`, `notification`, `system` or `app:"NAME"`
@@ -63,33 +75,52 @@ fn format_unless(alloc: Global, bytes: &[u8]) -> Result<(Text, &[u8]), Trouble>
     }
 }
 
-/// `"D" path="P" max=N rec=N ha=N full=F rot=N [fmt="E"]`
-#[tactic(auto, unfolding(script_language::specs::StreamReading::attrs_at))]
-pub(crate) fn attrs(alloc: Global, bytes: &[u8]) -> Result<(StreamAttrs, &[u8]), Trouble>
-    ensures { Gives (λ found. (found.0, found.1.now)) result (attrs_at bytes.now) }
+/// How large a stream's files grow, and what it does where one is full.
+#[derive(Clone, Copy)]
+struct Sizes {
+    max_file: u64,
+    record_size: u32,
+    ha: u8,
+    action: FullAction,
+    rotated: u32,
+}
+
+/// `max=N rec=N ha=N full=F rot=N`, with a blank before each
+#[tactic(auto, unfolding(crate::specs::Parts::sizes_at))]
+fn read_sizes(bytes: &[u8]) -> Option<(Sizes, &[u8])>
+    ensures { sizes_at bytes.now ≡ option_map (λ found. (found.0, found.1.now)) result }
 {
-    let (file, rest) = quoted(alloc, bytes)?;
-    let rest = skip(rest, b" path=").ok_or(Trouble::Bad)?;
-    let (path, rest) = quoted(alloc, rest)?;
-    let rest = skip(rest, b" max=").ok_or(Trouble::Bad)?;
-    let (max_file, rest) = number64(rest).ok_or(Trouble::Bad)?;
-    let rest = skip(rest, b" rec=").ok_or(Trouble::Bad)?;
-    let (record_size, rest) = number32(rest).ok_or(Trouble::Bad)?;
-    let rest = skip(rest, b" ha=").ok_or(Trouble::Bad)?;
-    let (ha, rest) = number8(rest).ok_or(Trouble::Bad)?;
-    let rest = skip(rest, b" full=").ok_or(Trouble::Bad)?;
-    let (action, rest) = full_action(rest).ok_or(Trouble::Bad)?;
-    let rest = skip(rest, b" rot=").ok_or(Trouble::Bad)?;
-    let (rotated, rest) = number32(rest).ok_or(Trouble::Bad)?;
-    let (expr, rest) = format_unless(alloc, rest)?;
-    let attrs = StreamAttrs {
-        file,
-        path,
+    let (max_file, rest) = number64_behind(bytes, b" max=")?;
+    let (record_size, rest) = number32_behind(rest, b" rec=")?;
+    let (ha, rest) = number8_behind(rest, b" ha=")?;
+    let (action, rest) = full_action_behind(rest, b" full=")?;
+    let (rotated, rest) = number32_behind(rest, b" rot=")?;
+    let sizes = Sizes {
         max_file,
         record_size,
         ha,
         action,
         rotated,
+    };
+    Some((sizes, rest))
+}
+
+/// `"D" path="P" max=N rec=N ha=N full=F rot=N [fmt="E"]`
+pub(crate) fn attrs(alloc: Global, bytes: &[u8]) -> Result<(StreamAttrs, &[u8]), Trouble>
+    ensures { Gives (λ found. (found.0, found.1.now)) result (attrs_at bytes.now) }
+{
+    let (file, rest) = quoted(alloc, bytes)?;
+    let (path, rest) = quoted_behind(alloc, rest, b" path=")?;
+    let (sizes, rest) = read_sizes(rest).ok_or(Trouble::Bad)?;
+    let (expr, rest) = format_unless(alloc, rest)?;
+    let attrs = StreamAttrs {
+        file,
+        path,
+        max_file: sizes.max_file,
+        record_size: sizes.record_size,
+        ha: sizes.ha,
+        action: sizes.action,
+        rotated: sizes.rotated,
         expr,
     };
     Ok((attrs, rest))
@@ -114,27 +145,18 @@ fn generic(alloc: Global, bytes: &[u8]) -> Result<(Header, &[u8]), Trouble>
 }
 
 /// `id=N type=TYPE obj="O" by="O" class=V.M.N [evtime=NS]`, without its first word
-#[tactic(auto, unfolding(script_language::specs::StreamReading::notified_at))]
 fn notified(alloc: Global, bytes: &[u8]) -> Result<(Header, &[u8]), Trouble>
     ensures { Gives (λ found. (found.0, found.1.now)) result (notified_at bytes.now) }
 {
     let (id, rest) = number64(bytes).ok_or(Trouble::Bad)?;
-    let rest = skip(rest, b" type=").ok_or(Trouble::Bad)?;
-    let (event_type, rest) = hex_word(rest).ok_or(Trouble::Bad)?;
-    let rest = skip(rest, b" obj=").ok_or(Trouble::Bad)?;
-    let (object, rest) = quoted_name(alloc, rest)?;
-    let rest = skip(rest, b" by=").ok_or(Trouble::Bad)?;
-    let (notifier, rest) = quoted_name(alloc, rest)?;
-    let rest = skip(rest, b" class=").ok_or(Trouble::Bad)?;
-    let (class, rest) = class(rest).ok_or(Trouble::Bad)?;
-    let (event_time, rest) = time_unless(rest, b" evtime=").ok_or(Trouble::Bad)?;
+    let (origin, rest) = read_origin(alloc, rest, b" evtime=")?;
     let header = Header::Ntf {
         id,
-        event_type,
-        object,
-        notifier,
-        class,
-        event_time,
+        event_type: origin.event_type,
+        object: origin.object,
+        notifier: origin.notifier,
+        class: origin.class,
+        event_time: origin.event_time,
     };
     Ok((header, rest))
 }

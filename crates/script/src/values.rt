@@ -2,12 +2,13 @@
 ghost use Rattle.std.specs.Prelude.{◌≡◌, option_map};
 ghost use Rattle.script.specs.Gives.{Gives};
 ghost use Rattle.script_language.specs.ValueReading.{server_at, release_at, version_at, class_at, value_at, pair_at, change_at, state_change_at};
-ghost use Rattle.script_grammar.specs.Reading.{maybe};
+ghost use Rattle.script_grammar.specs.Reading.{maybe, word};
+ghost use Rattle.script.specs.Parts.{class_time_at, origin_at};
 
-use crate::numbers::{maybe_number16, number8, number16, number32, signed64, skip};
-use crate::quoted::{quoted, quoted_name};
+use crate::numbers::{maybe_number16, number8, number16, number32, signed64, skip, time_unless};
+use crate::quoted::{hex_word_behind, name_behind, quoted, quoted_name};
 use crate::trouble::Trouble;
-use ais_values::{ClassId, Version};
+use ais_values::{ClassId, Name, Version};
 use ntf_types::{Change, Pair, StateChange, Value};
 use script_lines::Server;
 use std::alloc::Global;
@@ -92,6 +93,20 @@ pub(crate) fn value(alloc: Global, bytes: &[u8]) -> Result<(Value, &[u8]), Troub
     Ok((Value::Binary { bytes }, rest))
 }
 
+/// The value behind the word.
+pub(crate) fn value_behind<'a>(
+    alloc: Global,
+    bytes: &'a [u8],
+    label: &[u8],
+) -> Result<(Value, &'a [u8]), Trouble>
+    ensures { Gives (λ found. (found.0, found.1.now)) result (word label.now value_at bytes.now) }
+{
+    match skip(bytes, label) {
+        Some(rest) => value(alloc, rest),
+        None => Err(Trouble::Bad),
+    }
+}
+
 /// The value behind the word, where the word stands.
 fn maybe_value<'a>(
     alloc: Global,
@@ -141,4 +156,48 @@ pub(crate) fn state_change(bytes: &[u8]) -> Option<(StateChange, &[u8])>
     let (after, rest) = number16(skip(rest, b":")?)?;
     let (before, rest) = maybe_number16(rest, b"<")?;
     Some((StateChange { id, after, before }, rest))
+}
+
+/// What notifications and the headers of their records have in common.
+#[derive(Drop)]
+pub(crate) struct Origin {
+    pub(crate) event_type: u16,
+    pub(crate) object: Name,
+    pub(crate) notifier: Name,
+    pub(crate) class: ClassId,
+    pub(crate) event_time: i64,
+}
+
+/// `class=V.M.N`, with a blank before it, and the time behind its word, where it stands
+#[tactic(auto, unfolding(crate::specs::Parts::class_time_at))]
+fn class_time<'a>(bytes: &'a [u8], time_word: &[u8]) -> Option<((ClassId, i64), &'a [u8])>
+    ensures { class_time_at time_word.now bytes.now
+        ≡ option_map (λ found. (found.0, found.1.now)) result }
+{
+    let (class, rest) = class(skip(bytes, b" class=")?)?;
+    let (time, rest) = time_unless(rest, time_word)?;
+    Some(((class, time), rest))
+}
+
+/// `type=TYPE obj="O" by="O" class=V.M.N`, with a blank before each, and the time behind its word, where it stands
+#[tactic(auto, unfolding(crate::specs::Parts::origin_at))]
+pub(crate) fn read_origin<'a>(
+    alloc: Global,
+    bytes: &'a [u8],
+    time_word: &[u8],
+) -> Result<(Origin, &'a [u8]), Trouble>
+    ensures { Gives (λ found. (found.0, found.1.now)) result (origin_at time_word.now bytes.now) }
+{
+    let (event_type, rest) = hex_word_behind(bytes, b" type=").ok_or(Trouble::Bad)?;
+    let (object, rest) = name_behind(alloc, rest, b" obj=")?;
+    let (notifier, rest) = name_behind(alloc, rest, b" by=")?;
+    let ((class, event_time), rest) = class_time(rest, time_word).ok_or(Trouble::Bad)?;
+    let origin = Origin {
+        event_type,
+        object,
+        notifier,
+        class,
+        event_time,
+    };
+    Ok((origin, rest))
 }
