@@ -1,9 +1,10 @@
 //! Writing of lines and scripts.
-ghost use Rattle.std.specs.Prelude.{◌≡◌, ◌++◌, ◌∷◌, [], ℕ, List, IfOk, OnOk};
+ghost use Rattle.std.specs.Prelude.{◌≡◌, ◌++◌, ◌∷◌, [], ℕ, List, IfOk, OnOk, codes};
+ghost use Rattle.std.specs.Fmt.{decimal};
 ghost use Rattle.script_grammar.specs.Writing.{joined};
 ghost use Rattle.script_lines.specs.declared.line.Line.TheVariants as lines;
 ghost use Rattle.script_language.specs.Lines.{Spells};
-ghost use Rattle.script_language.specs.Printing.{server_text, line_text, script_text};
+ghost use Rattle.script_language.specs.Printing.{server_text, ask_text, line_text, script_text};
 ghost use Rattle.script_language.specs.Scripts.{IsScriptOf};
 
 use crate::asks::put_ask;
@@ -53,24 +54,19 @@ fn put_cluster(
     Ok(())
 }
 
-/// Adds the line of what a client asks of the Log Service.
-#[tactic(auto, unfolding(script_language::specs::Printing::line_text), using(crate::proofs::Chain::chained, crate::proofs::Chain::chained_last))]
-fn put_log(alloc: Global, out: &mut Vec<u8>, client: u16, ask: &Ask) -> Result<(), AllocError>
-    ensures { OnOk result (out.new.items ≡ out.old.items ++ line_text (lines.Log client ask.now)) }
+/// Adds a service's word, a client and what it asks.
+#[tactic(auto, using(crate::proofs::Chain::chained, crate::proofs::Chain::chained_last))]
+fn put_asked(
+    alloc: Global,
+    out: &mut Vec<u8>,
+    word: &[u8],
+    client: u16,
+    ask: &Ask,
+) -> Result<(), AllocError>
+    ensures { OnOk result (out.new.items ≡ out.old.items
+        ++ joined (word.now ∷ decimal client ∷ codes " " ∷ ask_text ask.now ∷ [])) }
 {
-    put(out, b"log ")?;
-    put_number(alloc, out, u64::from(client))?;
-    put(out, b" ")?;
-    put_ask(alloc, out, ask)?;
-    Ok(())
-}
-
-/// Adds the line of what a client asks of the Notification Service.
-#[tactic(auto, unfolding(script_language::specs::Printing::line_text), using(crate::proofs::Chain::chained, crate::proofs::Chain::chained_last))]
-fn put_ntf(alloc: Global, out: &mut Vec<u8>, client: u16, ask: &Ask) -> Result<(), AllocError>
-    ensures { OnOk result (out.new.items ≡ out.old.items ++ line_text (lines.Ntf client ask.now)) }
-{
-    put(out, b"ntf ")?;
+    put(out, word)?;
     put_number(alloc, out, u64::from(client))?;
     put(out, b" ")?;
     put_ask(alloc, out, ask)?;
@@ -117,8 +113,8 @@ fn put_line(alloc: Global, out: &mut Vec<u8>, line: &Line) -> Result<(), AllocEr
         Line::Time { now } => {
             put_pieces(alloc, out, &[Piece::Word(b"time "), Piece::Signed(*now)])
         }
-        Line::Log { client, ask } => put_log(alloc, out, *client, ask),
-        Line::Ntf { client, ask } => put_ntf(alloc, out, *client, ask),
+        Line::Log { client, ask } => put_asked(alloc, out, b"log ", *client, ask),
+        Line::Ntf { client, ask } => put_asked(alloc, out, b"ntf ", *client, ask),
         Line::Deliver { place } => {
             put_pieces(
                 alloc,

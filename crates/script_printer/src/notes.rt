@@ -1,12 +1,14 @@
 //! Writing of notifications.
-ghost use Rattle.std.specs.Prelude.{◌≡◌, ◌++◌, OnOk, IfOk, if◌then◌else◌, codes};
+ghost use Rattle.std.specs.Prelude.{◌≡◌, ◌++◌, ◌∷◌, [], OnOk, IfOk, if◌then◌else◌, codes};
+ghost use Rattle.std.specs.Fmt.{decimal};
+ghost use Rattle.script_grammar.specs.Writing.{joined, listed_text};
 ghost use Rattle.script_language.specs.Printing.{note_kind_of, note_kind_text, heading_text_by, heading_part, given_time_text, known_time_text, body_text, note_text, shown_note_text};
 
 use crate::elements::{Changes, Numbers64, Pairs, StateChanges};
-use crate::lists::put_list;
+use crate::lists::{Writable, put_list};
 use crate::pieces::{Piece, put, put_labelled, put_number, put_pieces};
 use crate::values::{put_known_time, put_value, put_word_signed};
-use ntf_types::{Body, Change, Notification, Pair, StateChange, Value};
+use ntf_types::{Body, Notification, Value};
 use std::alloc::{AllocError, Global};
 
 /// The word of the type that a notification's body is of.
@@ -94,54 +96,22 @@ fn put_security(
     Ok(())
 }
 
-/// Adds what a notification on objects tells.
-#[tactic(auto, unfolding(script_language::specs::Printing::body_text), using(crate::proofs::Chain::chained, crate::proofs::Chain::chained_last))]
-fn put_objects(
+/// Adds a source and a list behind its word.
+#[tactic(auto, using(crate::proofs::Chain::chained, crate::proofs::Chain::chained_last))]
+fn put_source<E: Writable>(
     alloc: Global,
     out: &mut Vec<u8>,
     source: u16,
-    attrs: &[Pair],
+    word: &[u8],
+    values: &[E::Value],
 ) -> Result<(), AllocError>
     ensures { OnOk result (out.new.items ≡ out.old.items
-        ++ body_text (Body.Objects source attrs.now)) }
+        ++ joined (codes " source=" ∷ decimal source ∷ listed_text word.now E.text values.now
+        ∷ [])) }
 {
     put(out, b" source=")?;
     put_number(alloc, out, u64::from(source))?;
-    put_list::<Pairs>(alloc, out, b" attrs=", attrs)?;
-    Ok(())
-}
-
-/// Adds what a notification on attributes tells.
-#[tactic(auto, unfolding(script_language::specs::Printing::body_text), using(crate::proofs::Chain::chained, crate::proofs::Chain::chained_last))]
-fn put_attributes(
-    alloc: Global,
-    out: &mut Vec<u8>,
-    source: u16,
-    changes: &[Change],
-) -> Result<(), AllocError>
-    ensures { OnOk result (out.new.items ≡ out.old.items
-        ++ body_text (Body.Attributes source changes.now)) }
-{
-    put(out, b" source=")?;
-    put_number(alloc, out, u64::from(source))?;
-    put_list::<Changes>(alloc, out, b" changes=", changes)?;
-    Ok(())
-}
-
-/// Adds what a notification on states tells.
-#[tactic(auto, unfolding(script_language::specs::Printing::body_text), using(crate::proofs::Chain::chained, crate::proofs::Chain::chained_last))]
-fn put_states(
-    alloc: Global,
-    out: &mut Vec<u8>,
-    source: u16,
-    changes: &[StateChange],
-) -> Result<(), AllocError>
-    ensures { OnOk result (out.new.items ≡ out.old.items
-        ++ body_text (Body.States source changes.now)) }
-{
-    put(out, b" source=")?;
-    put_number(alloc, out, u64::from(source))?;
-    put_list::<StateChanges>(alloc, out, b" changes=", changes)?;
+    put_list::<E>(alloc, out, word, values)?;
     Ok(())
 }
 
@@ -151,11 +121,15 @@ fn put_body(alloc: Global, out: &mut Vec<u8>, body: &Body) -> Result<(), AllocEr
     ensures { OnOk result (out.new.items ≡ out.old.items ++ body_text body.now) }
 {
     match body {
-        Body::Objects { source, attrs } => put_objects(alloc, out, *source, attrs.as_slice()),
-        Body::Attributes { source, changes } => {
-            put_attributes(alloc, out, *source, changes.as_slice())
+        Body::Objects { source, attrs } => {
+            put_source::<Pairs>(alloc, out, *source, b" attrs=", attrs.as_slice())
         }
-        Body::States { source, changes } => put_states(alloc, out, *source, changes.as_slice()),
+        Body::Attributes { source, changes } => {
+            put_source::<Changes>(alloc, out, *source, b" changes=", changes.as_slice())
+        }
+        Body::States { source, changes } => {
+            put_source::<StateChanges>(alloc, out, *source, b" changes=", changes.as_slice())
+        }
         Body::Alarm { cause, severity } => put_pieces(
             alloc,
             out,
