@@ -1,13 +1,15 @@
 -- Readers that read some of their parts by readers of these alone.
 use Rattle.std.proofs.Common.{◌≡◌, ◌∙◌, ℕ, List, Option, Some, None, refl}
-use Rattle.std.specs.Prelude.{ℤ, option_and_then, codes}
+use Rattle.std.specs.Prelude.{option_and_then, codes}
 use Rattle.ais_values.specs.Times.{unknown_time}
 use Rattle.ais_values.specs.declared.kind.ClassId.{ClassId}
+use Rattle.ais_values.specs.declared.kind.Version.{Version}
 use Rattle.ais_values.specs.declared.kind.StreamKind.TheVariants as kinds
 use Rattle.calls.specs.declared.call.Ask.{Ask}
 use Rattle.calls.specs.declared.call.Ask.TheVariants.{Plain}
 use Rattle.calls.specs.declared.call.Call.TheVariants.{LogWrite}
 use Rattle.ntf_filters.specs.declared.filter.Filter.{Filter}
+use Rattle.ntf_types.specs.declared.value.StateChange.{StateChange}
 use Rattle.ntf_types.specs.declared.notification.Body.{Body}
 use Rattle.ntf_types.specs.declared.notification.Body.TheVariants as body
 use Rattle.record_print.specs.declared.record.Header.{Header}
@@ -16,10 +18,11 @@ use Rattle.stream_config.specs.WellKnown.{default_format}
 use Rattle.stream_config.specs.declared.attrs.StreamAttrs.{StreamAttrs}
 use Rattle.stream_config.specs.declared.attrs.StreamName.{StreamName}
 use Rattle.script_lines.specs.declared.note.Heading.{Heading}
-use Rattle.script_grammar.specs.Reading.{known, word, part, unless, maybe_list, skipped}
+use Rattle.script_grammar.specs.Reading.{known, word, part, maybe, unless, maybe_list, skipped}
 use Rattle.script_grammar.specs.ValueReading.{hex_word_at, quoted_at}
-use Rattle.script_language.specs.ValueReading.{number8_at, number16_at, number32_at, number64_at, signed64_at, quoted_name_at, class_at, value_at, pair_at}
+use Rattle.script_language.specs.ValueReading.{number8_at, number16_at, number32_at, number64_at, signed64_at, quoted_name_at, release_at, version_at, class_at, value_at, pair_at, state_change_at}
 use Rattle.script_language.specs.StreamReading.{full_action_at, stream_at, header_at, attrs_at, notified_at}
+use Rattle.script_language.specs.Values.{version_of, class_of, state_change_of}
 use Rattle.script_language.specs.Streams.{attrs_of}
 use Rattle.script_language.specs.Notes.{heading_of}
 use Rattle.script_language.specs.Filters.{filter_of}
@@ -31,7 +34,7 @@ use Rattle.script.specs.declared.asks.Marks.{Marks}
 use Rattle.script.specs.declared.values.Origin.{Origin}
 use Rattle.script.specs.declared.filters.Subjects.{Subjects}
 use Rattle.script.specs.declared.filters.Reasons.{Reasons}
-use Rattle.script.specs.Parts.{sizes_at, marks_at, sizes_of, marks_of, class_time_at, origin_of, origin_at, cause_at, subjects_of, subjects_at, reasons_at}
+use Rattle.script.specs.Parts.{sizes_at, marks_at, class_time_at, origin_of, origin_at, cause_at, subjects_of, subjects_at, reasons_at}
 
 -- Reading is what one reader reads, and then what another reads by that.
 record Splits {B X : Type 0} (whole : List ℕ → Option (X × List ℕ)) (first : List ℕ → Option (B × List ℕ)) (next : B → List ℕ → Option (X × List ℕ)) : Type 0 where
@@ -236,3 +239,36 @@ filter_alike =
 
 pub filter_by : (bytes : List ℕ) → filter_at bytes ≡ filter_parts bytes
 filter_by = filter_alike.same
+
+abbrev pub version_parts : List ℕ → Option (Version × List ℕ)
+version_parts =
+    part release_at (λ release. part (word (codes ".") number8_at) (λ major. part (word (codes ".") number8_at) (λ minor. known (version_of release major minor))))
+
+version_alike : Alike version_at version_parts
+unfolding version_at
+version_alike = part_alike release_at (λ release. word_alike (codes ".") number8_at (λ major. word_alike (codes ".") number8_at (λ minor. plain)))
+
+pub version_by : (bytes : List ℕ) → version_at bytes ≡ version_parts bytes
+version_by = version_alike.same
+
+abbrev pub class_parts : List ℕ → Option (ClassId × List ℕ)
+class_parts =
+    part number32_at (λ vendor. part (word (codes ".") number16_at) (λ major. part (word (codes ".") number16_at) (λ minor. known (class_of vendor major minor))))
+
+class_alike : Alike class_at class_parts
+unfolding class_at
+class_alike = part_alike number32_at (λ vendor. word_alike (codes ".") number16_at (λ major. word_alike (codes ".") number16_at (λ minor. plain)))
+
+pub class_by : (bytes : List ℕ) → class_at bytes ≡ class_parts bytes
+class_by = class_alike.same
+
+abbrev pub state_change_parts : List ℕ → Option (StateChange × List ℕ)
+state_change_parts =
+    part number16_at (λ id. part (word (codes ":") number16_at) (λ after. part (maybe (codes "<") number16_at) (λ before. known (state_change_of id after before))))
+
+state_change_alike : Alike state_change_at state_change_parts
+unfolding state_change_at
+state_change_alike = part_alike number16_at (λ id. word_alike (codes ":") number16_at (λ after. plain))
+
+pub state_change_by : (bytes : List ℕ) → state_change_at bytes ≡ state_change_parts bytes
+state_change_by = state_change_alike.same

@@ -151,7 +151,6 @@ pub fn well_attrs(
 }
 
 /// Whether the well-known stream of a kind may have what the options say.
-#[tactic(auto, using(stream_config::proofs::AttributeLaws::decides_attrs))]
 pub(crate) fn is_sound(
     alloc: Global,
     kind: StreamKind,

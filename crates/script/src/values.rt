@@ -5,7 +5,10 @@ ghost use Rattle.script_language.specs.ValueReading.{server_at, release_at, vers
 ghost use Rattle.script_grammar.specs.Reading.{maybe, word};
 ghost use Rattle.script.specs.Parts.{class_time_at, origin_at};
 
-use crate::numbers::{maybe_number16, number8, number16, number32, signed64, skip, time_unless};
+use crate::numbers::{
+    maybe_number16, number8_behind, number16, number16_behind, number32, signed64, skip,
+    time_unless,
+};
 use crate::quoted::{hex_word_behind, name_behind, quoted, quoted_name};
 use crate::trouble::Trouble;
 use ais_values::{ClassId, Name, Version};
@@ -40,13 +43,13 @@ fn release(bytes: &[u8]) -> Option<(u8, &[u8])>
 }
 
 /// `R.M.N`
-#[tactic(auto, unfolding(script_language::specs::ValueReading::version_at))]
+#[tactic(auto, using(crate::proofs::Parts::version_by))]
 pub(crate) fn version(bytes: &[u8]) -> Option<(Version, &[u8])>
     ensures { version_at bytes.now ≡ option_map (λ found. (found.0, found.1.now)) result }
 {
     let (release, rest) = release(bytes)?;
-    let (major, rest) = number8(skip(rest, b".")?)?;
-    let (minor, rest) = number8(skip(rest, b".")?)?;
+    let (major, rest) = number8_behind(rest, b".")?;
+    let (minor, rest) = number8_behind(rest, b".")?;
     let version = Version {
         release,
         major,
@@ -56,13 +59,13 @@ pub(crate) fn version(bytes: &[u8]) -> Option<(Version, &[u8])>
 }
 
 /// `V.M.N`
-#[tactic(auto, unfolding(script_language::specs::ValueReading::class_at))]
+#[tactic(auto, using(crate::proofs::Parts::class_by))]
 pub(crate) fn class(bytes: &[u8]) -> Option<(ClassId, &[u8])>
     ensures { class_at bytes.now ≡ option_map (λ found. (found.0, found.1.now)) result }
 {
     let (vendor, rest) = number32(bytes)?;
-    let (major, rest) = number16(skip(rest, b".")?)?;
-    let (minor, rest) = number16(skip(rest, b".")?)?;
+    let (major, rest) = number16_behind(rest, b".")?;
+    let (minor, rest) = number16_behind(rest, b".")?;
     let class = ClassId {
         vendor,
         major,
@@ -148,12 +151,12 @@ pub(crate) fn change(alloc: Global, bytes: &[u8]) -> Result<(Change, &[u8]), Tro
 }
 
 /// `ID:N` or `ID:N<N`
-#[tactic(auto, unfolding(script_language::specs::ValueReading::state_change_at))]
+#[tactic(auto, using(crate::proofs::Parts::state_change_by))]
 pub(crate) fn state_change(bytes: &[u8]) -> Option<(StateChange, &[u8])>
     ensures { state_change_at bytes.now ≡ option_map (λ found. (found.0, found.1.now)) result }
 {
     let (id, rest) = number16(bytes)?;
-    let (after, rest) = number16(skip(rest, b":")?)?;
+    let (after, rest) = number16_behind(rest, b":")?;
     let (before, rest) = maybe_number16(rest, b"<")?;
     Some((StateChange { id, after, before }, rest))
 }
