@@ -9,14 +9,14 @@ ghost use Rattle.client_agent.specs.Inside.{calls_kept, agent_of, lack};
 
 use crate::callbacks::{callback_of_item, callback_of_reply};
 use crate::kept::{
-    Kept, add_requests, call_of, find_call, forget_call, is_shut, log_after, ntf_after, service_of,
+    Kept, add_requests, calls_of, find_call, forget_call, is_shut, log_after, ntf_after, service_of,
 };
 use crate::living::{
     Subscription, add_receipts, find_subscription, note_call, note_item, note_reply,
 };
 use crate::waiting::WaitingCallbacks;
 use crate::{Dispatched, How, MissedWhy, Sent, Taken};
-use ais_values::{Duplicate, Seq, Status, Version, Which, negotiate};
+use ais_values::{Seq, Status, Version, Which, negotiate};
 use callback_dispatch::Gate;
 use calls::{Ask, Call, Callback, Reply};
 use std::alloc::{AllocError, Global};
@@ -121,20 +121,20 @@ impl Agent {
         if let Some(status) = self.refusal(ask) {
             return Ok(Sent::Refused { status });
         }
-        let call = call_of(alloc, ask)?;
-        let message = Message::Request {
-            client: self.client,
-            seq: self.next,
-            call: call.copy(alloc)?,
-        };
         self.kept.reserve(1)?;
         self.living.reserve(1)?;
+        let (call, sent) = calls_of(alloc, ask)?;
         note_call(&mut self.living, self.next, &call);
         self.log_handle = log_after(&call, self.log_handle);
         self.ntf_handle = ntf_after(&call, self.ntf_handle);
         let number = self.next;
         self.kept.push_front_reserved(Kept { number, call });
         self.next = number + 1;
+        let message = Message::Request {
+            client: self.client,
+            seq: number,
+            call: sent,
+        };
         Ok(Sent::Posted { message })
     }
 
@@ -276,11 +276,11 @@ impl Agent {
             }),
             Some(callback) => {
                 if self.callbacks.lacks_place(&callback) {
+                    drop(callback);
                     let why = MissedWhy::Left;
                     return Ok(Taken::Missed { why });
                 }
-                let copy = reply.copy(alloc)?;
-                self.callbacks.put_some(rt, alloc, callback)?;
+                let copy = self.callbacks.put_with_copy(rt, alloc, callback, reply)?;
                 forget_call(&mut self.kept, number);
                 note_reply(&mut self.living, number, reply);
                 Ok(Taken::Answered {

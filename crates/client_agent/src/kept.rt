@@ -37,7 +37,7 @@ pub fn service_of(call: &Call) -> Which
 }
 
 /// The call that is sent for what is asked.
-pub fn call_of(alloc: Global, ask: &Ask) -> Result<Call, AllocError>
+fn call_of(alloc: Global, ask: &Ask) -> Result<Call, AllocError>
     ensures { IfOk result (λ call. call ≡ call_of ask.now) }
 {
     match ask {
@@ -51,6 +51,23 @@ pub fn call_of(alloc: Global, ask: &Ask) -> Result<Call, AllocError>
         } => Ok(Call::NtfInit),
         Ask::Plain { call } => call.copy(alloc),
     }
+}
+
+/// A value and a copy of it. Where none is made the value is let go here, as one of any type: it may be wide.
+fn with_copy<T: Duplicate + Drop>(alloc: Global, value: T) -> Result<(T, T), AllocError>
+    ensures { IfOk result (λ pair. (pair.0 ≡ value) × (pair.1 ≡ value)) }
+{
+    let copy = value.copy(alloc)?;
+    Ok((value, copy))
+}
+
+/// The call that is sent for what is asked, to be kept and to be posted.
+pub fn calls_of(alloc: Global, ask: &Ask) -> Result<(Call, Call), AllocError>
+    ensures { IfOk result (λ calls.
+        (calls.0 ≡ call_of ask.now) × (calls.1 ≡ call_of ask.now)) }
+{
+    let call = call_of(alloc, ask)?;
+    with_copy(alloc, call)
 }
 
 /// Whether the client has a handle of the Log Service after this call.

@@ -6,7 +6,7 @@ ghost use Rattle.client_agent.specs.Steps.{HasWorkers, numbered, handed_out};
 ghost use Rattle.client_agent.specs.Waiting.{none_waits, after_one, after_all, after_handing};
 
 use crate::How;
-use ais_values::Seq;
+use ais_values::{Duplicate, Seq};
 use callback_dispatch::{CallbackQueue, Feeder, Gate, Numbered, Taker};
 use calls::Callback;
 use std::alloc::{AllocError, Global};
@@ -64,10 +64,15 @@ fn put_at_end<R: Wait>(
         × (feeder.new.list ≡ feeder.old.list ++ callback ∷ [])) }
     ensures err { OnErr result (feeder.new.list ≡ feeder.old.list) }
 {
-    queue.meet(rt, alloc, feeder, taker)?;
-    match queue.feed(rt, feeder, callback) {
-        Ok(number) => Ok(number),
-        Err(_) => unreachable!(),
+    match queue.meet(rt, alloc, feeder, taker) {
+        Ok(()) => match queue.feed(rt, feeder, callback) {
+            Ok(number) => Ok(number),
+            Err(_) => unreachable!(),
+        },
+        Err(error) => {
+            drop(callback);
+            Err(error)
+        }
     }
 }
 
@@ -146,6 +151,7 @@ impl WaitingCallbacks {
         ensures err { OnErr result (self.new ≡ self.old) }
     {
         if self.fed >= MOST {
+            drop(callback);
             return Err(AllocError);
         }
         let Some(taker) = &mut self.taker else {
@@ -173,6 +179,32 @@ impl WaitingCallbacks {
         }
     }
 
+    /// Puts a callback, if there is one, as `put` does, and gives a copy of a value; where memory runs out, neither.
+    pub fn put_with_copy<R: Wait, T: Duplicate + Drop>(
+        &mut self,
+        rt: &R,
+        alloc: Global,
+        callback: Option<Callback>,
+        value: &T,
+    ) -> Result<T, AllocError>
+        requires room { ForSome callback (λ _. length self.old.queue < self.old.places) }
+        ensures copy { IfOk result (λ copy. copy ≡ value.now) }
+        ensures ok { OnOk result (self.new ≡
+            record self.old { queue = option_to_list callback ++ self.old.queue }) }
+        ensures err { OnErr result (self.new ≡ self.old) }
+    {
+        match value.copy(alloc) {
+            Ok(copy) => {
+                self.put_some(rt, alloc, callback)?;
+                Ok(copy)
+            }
+            Err(error) => {
+                drop(callback);
+                Err(error)
+            }
+        }
+    }
+
     /// Hands out the oldest callback, if one waits.
     fn hand_out_one<R: Wait>(&mut self, rt: &R, alloc: Global) -> Result<Seq<Numbered>, AllocError>
         ensures taken { IfOk result (λ it.
@@ -187,10 +219,17 @@ impl WaitingCallbacks {
         let Some(taker) = &mut self.taker else {
             unreachable!()
         };
-        let element = take_oldest(rt, alloc, &self.queue, &mut self.feeder, taker)?;
-        self.given += 1;
-        taken.push_reserved(element);
-        Ok(Seq::from_vec(taken))
+        match take_oldest(rt, alloc, &self.queue, &mut self.feeder, taker) {
+            Ok(element) => {
+                self.given += 1;
+                taken.push_reserved(element);
+                Ok(Seq::from_vec(taken))
+            }
+            Err(error) => {
+                drop(taken);
+                Err(error)
+            }
+        }
     }
 
     /// Hands out all callbacks, by so many workers.

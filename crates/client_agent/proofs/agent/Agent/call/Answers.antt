@@ -3,6 +3,8 @@ use Rattle.ais_values.proofs.Basics.{OnErr-from}
 use Rattle.cluster_facts.specs.Agents.{Living, living_after}
 use Rattle.client_agent.specs.declared.kept.Kept.{Kept}
 use Rattle.client_agent.specs.declared.living.Subscription.{Subscription}
+use Rattle.client_agent.specs.Seen.{Seen}
+use Rattle.client_agent.specs.declared.agent.Agent.TheInside.{Inside}
 use Rattle.client_agent.specs.Inside.{all_living, calls_kept, seen_inside, AreBelow}
 use Rattle.client_agent.proofs.Subscribed.{AreBelow-call}
 use Rattle.client_agent.proofs.agent.Agent.call.Goals as goal
@@ -16,12 +18,14 @@ invariant_of-self-2 c =
     subst Below (sym after) (AreBelow-call inside.next call (all_living inside.living.items) c.self.invariant)
 
 -- both lists that got room are as they were, so the agent is seen as it was
+stands : (inside : Inside) (seen : Seen) (kept : List Kept) (living : List Subscription) → seen_inside inside ≡ seen → kept ≡ inside.kept.items → living ≡ inside.living.items → record (seen_inside inside) { kept = calls_kept kept; living = all_living living } ≡ seen
+stands inside seen kept living is same_calls same_living =
+    (λ i. record (seen_inside inside) { kept = calls_kept (same_calls i); living = all_living (same_living i) }) ∙ is
+
 pub returns-in_err-reserve-2-clause-err : goal.returns-in_err-reserve-2-clause-err
 returns-in_err-reserve-2-clause-err c =
-    let inside = c.self.inside in
-    let Stands : List Kept → List Subscription → Type 0 =
-    λ kept living. record (seen_inside inside) { kept = calls_kept kept; living = all_living living } ≡ c.args.self.now in
-    let before : Stands inside.kept.items inside.living.items = c.self.view_is in
-    let one = subst (λ (kept : List Kept). Stands kept inside.living.items) (sym c.reserve.ensures.items) before in
-    let both = subst (λ (living : List Subscription). Stands c.reserve.new.self.items living) (sym c.reserve-2.ensures.items) one in
-    OnErr-from c.from_residual-in_err-reserve-2.result both
+    OnErr-from c.from_residual-in_err-reserve-2.result (stands c.self.inside c.args.self.now c.reserve.new.self.items c.reserve-2.new.self.items c.self.view_is c.reserve.ensures.items c.reserve-2.ensures.items)
+
+pub returns-in_err-call-clause-err : goal.returns-in_err-call-clause-err
+returns-in_err-call-clause-err c =
+    OnErr-from c.from_residual-in_err-call.result (stands c.self.inside c.args.self.now c.reserve.new.self.items c.reserve-2.new.self.items c.self.view_is c.reserve.ensures.items c.reserve-2.ensures.items)
