@@ -50,6 +50,12 @@ state_change_of p = record { id = p.0; after = p.1.0; before = p.1.1 }
 unfoldable pub state_change_at : At StateChange
 state_change_at bytes = made state_change_of (both (number_at 2) (both (number_at 2) (option_at (number_at 2)))) bytes
 
+-- what a notification of security tells, behind its tag
+abbrev pub security_at : At Body
+security_at =
+    made (λ (p : ℕ × (ℕ × (Value × (Value × Value)))). body.Security p.0 p.1.0 p.1.1.0 p.1.1.1.0 p.1.1.1.1)
+    (both (number_at 2) (both (number_at 2) (both value_at (both value_at value_at))))
+
 -- what a notification tells, by its type
 unfoldable pub body_at : At Body
 body_at bytes = tagged
@@ -57,8 +63,7 @@ body_at bytes = tagged
     (variant 2 (made (λ (p : ℕ × List Change). body.Attributes p.0 p.1) (both (number_at 2) (list_at change_at)))
     (variant 3 (made (λ (p : ℕ × List StateChange). body.States p.0 p.1) (both (number_at 2) (list_at state_change_at)))
     (variant 4 (made (λ (p : ℕ × ℕ). body.Alarm p.0 p.1) (both (number_at 2) (number_at 2)))
-    (variant 5 (made (λ (p : ℕ × (ℕ × (Value × (Value × Value)))). body.Security p.0 p.1.0 p.1.1.0 p.1.1.1.0 p.1.1.1.1)
-    (both (number_at 2) (both (number_at 2) (both value_at (both value_at value_at)))))
+    (variant 5 security_at
     no_variant))))) bytes
 
 -- a notification

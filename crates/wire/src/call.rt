@@ -4,6 +4,7 @@ ghost use Rattle.wire_code.specs.Reading.{Gives};
 ghost use Rattle.wire.specs.CallSpelling.{status_text};
 ghost use Rattle.wire.specs.CallReading.{ntf_call_at, reader_call_at};
 
+use crate::list::read_numbered;
 use crate::parts::{Parts, spell_tag, spell_tagged};
 use crate::wire::Wire;
 use ais_values::{Seq, Status, Text};
@@ -113,10 +114,7 @@ fn read_ntf_call(alloc: Global, tag: u8, bytes: &[u8]) -> Result<(Call, &[u8]), 
             let (id, rest) = u32::read_front(alloc, bytes)?;
             Ok((Call::NtfUnsubscribe { id }, rest))
         }
-        _ => {
-            let (call, rest) = read_reader_call(alloc, tag, bytes)?;
-            Ok((call, rest))
-        }
+        _ => read_reader_call(alloc, tag, bytes),
     }
 }
 
@@ -133,14 +131,8 @@ impl Wire for Call {
     #[tactic(auto, unfolding(crate::specs::CallSpelling::call_text))]
     fn spell(&self, out: &mut Vec<u8>) -> Result<(), AllocError> {
         match self {
-            Call::LogInit => {
-                spell_tag(1, out)?;
-                Ok(())
-            }
-            Call::LogOpen { stream, create } => {
-                spell_tagged(2, &(stream, create), out)?;
-                Ok(())
-            }
+            Call::LogInit => spell_tag(1, out),
+            Call::LogOpen { stream, create } => spell_tagged(2, &(stream, create), out),
             Call::LogWrite {
                 stream,
                 invocation,
@@ -148,58 +140,25 @@ impl Wire for Call {
                 time,
                 header,
                 body,
-            } => {
-                spell_tagged(
-                    3,
-                    &(stream, (invocation, (flags, (time, (header, body))))),
-                    out,
-                )?;
-                Ok(())
-            }
-            Call::LogClose { stream } => {
-                spell_tagged(4, &stream, out)?;
-                Ok(())
-            }
-            Call::LogFini => {
-                spell_tag(5, out)?;
-                Ok(())
-            }
-            Call::NtfInit => {
-                spell_tag(6, out)?;
-                Ok(())
-            }
-            Call::NtfSend { notification } => {
-                spell_tagged(7, &notification, out)?;
-                Ok(())
-            }
-            Call::NtfSubscribe { id, filters } => {
-                spell_tagged(8, &(id, filters), out)?;
-                Ok(())
-            }
-            Call::NtfUnsubscribe { id } => {
-                spell_tagged(9, &id, out)?;
-                Ok(())
-            }
+            } => spell_tagged(
+                3,
+                &(stream, (invocation, (flags, (time, (header, body))))),
+                out,
+            ),
+            Call::LogClose { stream } => spell_tagged(4, &stream, out),
+            Call::LogFini => spell_tag(5, out),
+            Call::NtfInit => spell_tag(6, out),
+            Call::NtfSend { notification } => spell_tagged(7, &notification, out),
+            Call::NtfSubscribe { id, filters } => spell_tagged(8, &(id, filters), out),
+            Call::NtfUnsubscribe { id } => spell_tagged(9, &id, out),
             Call::ReaderStart {
                 mode,
                 value,
                 filters,
-            } => {
-                spell_tagged(10, &(mode, (value, filters)), out)?;
-                Ok(())
-            }
-            Call::ReaderRead { direction } => {
-                spell_tagged(11, &direction, out)?;
-                Ok(())
-            }
-            Call::ReaderEnd => {
-                spell_tag(12, out)?;
-                Ok(())
-            }
-            Call::NtfFini => {
-                spell_tag(13, out)?;
-                Ok(())
-            }
+            } => spell_tagged(10, &(mode, (value, filters)), out),
+            Call::ReaderRead { direction } => spell_tagged(11, &direction, out),
+            Call::ReaderEnd => spell_tag(12, out),
+            Call::NtfFini => spell_tag(13, out),
         }
     }
 
@@ -232,10 +191,7 @@ impl Wire for Call {
                 Ok((Call::LogClose { stream }, rest))
             }
             5 => Ok((Call::LogFini, rest)),
-            _ => {
-                let (call, rest) = read_ntf_call(alloc, tag, rest)?;
-                Ok((call, rest))
-            }
+            _ => read_ntf_call(alloc, tag, rest),
         }
     }
 }
@@ -253,22 +209,10 @@ impl Wire for Reply {
     #[tactic(auto, unfolding(crate::specs::CallSpelling::reply_text))]
     fn spell(&self, out: &mut Vec<u8>) -> Result<(), AllocError> {
         match self {
-            Reply::Refused { status } => {
-                spell_tagged(1, &status, out)?;
-                Ok(())
-            }
-            Reply::Done => {
-                spell_tag(2, out)?;
-                Ok(())
-            }
-            Reply::Sent { id } => {
-                spell_tagged(3, &id, out)?;
-                Ok(())
-            }
-            Reply::Found { notification } => {
-                spell_tagged(4, &notification, out)?;
-                Ok(())
-            }
+            Reply::Refused { status } => spell_tagged(1, &status, out),
+            Reply::Done => spell_tag(2, out),
+            Reply::Sent { id } => spell_tagged(3, &id, out),
+            Reply::Found { notification } => spell_tagged(4, &notification, out),
         }
     }
 
@@ -306,8 +250,7 @@ impl Wire for Lost {
 
     #[tactic(auto, unfolding(crate::specs::CallSpelling::lost_text))]
     fn spell(&self, out: &mut Vec<u8>) -> Result<(), AllocError> {
-        (&self.kind, &self.id).spell_parts(out)?;
-        Ok(())
+        (&self.kind, &self.id).spell_parts(out)
     }
 
     #[tactic(auto, unfolding(crate::specs::CallReading::lost_at))]
@@ -330,14 +273,8 @@ impl Wire for Content {
     #[tactic(auto, unfolding(crate::specs::CallSpelling::content_text))]
     fn spell(&self, out: &mut Vec<u8>) -> Result<(), AllocError> {
         match self {
-            Content::Notified { notification } => {
-                spell_tagged(1, &notification, out)?;
-                Ok(())
-            }
-            Content::Discarded { lost } => {
-                spell_tagged(2, &lost, out)?;
-                Ok(())
-            }
+            Content::Notified { notification } => spell_tagged(1, &notification, out),
+            Content::Discarded { lost } => spell_tagged(2, &lost, out),
         }
     }
 
@@ -372,8 +309,7 @@ impl Wire for Item {
 
     #[tactic(auto, unfolding(crate::specs::CallSpelling::item_text))]
     fn spell(&self, out: &mut Vec<u8>) -> Result<(), AllocError> {
-        (&self.number, &self.content).spell_parts(out)?;
-        Ok(())
+        (&self.number, &self.content).spell_parts(out)
     }
 
     #[tactic(auto, unfolding(crate::specs::CallReading::item_at))]
@@ -404,19 +340,13 @@ impl Wire for Entry {
                 seq,
                 time,
                 call,
-            } => {
-                spell_tagged(1, &(client, (seq, (time, call))), out)?;
-                Ok(())
-            }
+            } => spell_tagged(1, &(client, (seq, (time, call))), out),
             Entry::Receipted {
                 client,
                 key,
                 through,
                 time,
-            } => {
-                spell_tagged(2, &(client, (key, (through, time))), out)?;
-                Ok(())
-            }
+            } => spell_tagged(2, &(client, (key, (through, time))), out),
         }
     }
 
@@ -425,9 +355,7 @@ impl Wire for Entry {
         let (tag, rest) = read_first(bytes)?;
         match tag {
             1 => {
-                let (client, rest) = read_client(rest)?;
-                let (seq, rest) = read_count(rest)?;
-                let ((time, call), rest) = Wire::read_front(alloc, rest)?;
+                let ((client, (seq, (time, call))), rest) = read_numbered(alloc, rest)?;
                 Ok((
                     Entry::Called {
                         client,

@@ -3,9 +3,10 @@ ghost use Rattle.wire_code.specs.Reading.{Gives};
 ghost use Rattle.wire.specs.MessageReading.{server_message_at};
 
 use crate::Message;
+use crate::list::read_numbered;
 use crate::parts::spell_tagged;
 use crate::wire::Wire;
-use calls::{Call, Entry, Reply, Saved};
+use calls::{Entry, Saved};
 use std::alloc::{AllocError, Global};
 use sub_queue::Item;
 use wire_code::{Fault, Trouble, read_client, read_count, read_first};
@@ -50,42 +51,18 @@ impl Wire for Message {
     #[tactic(auto, unfolding(crate::specs::MessageSpelling::message_text))]
     fn spell(&self, out: &mut Vec<u8>) -> Result<(), AllocError> {
         match self {
-            Message::Request { client, seq, call } => {
-                spell_tagged(1, &(client, (seq, call)), out)?;
-                Ok(())
-            }
-            Message::Reply { client, seq, reply } => {
-                spell_tagged(2, &(client, (seq, reply)), out)?;
-                Ok(())
-            }
-            Message::Item { client, key, item } => {
-                spell_tagged(3, &(client, (key, item)), out)?;
-                Ok(())
-            }
+            Message::Request { client, seq, call } => spell_tagged(1, &(client, (seq, call)), out),
+            Message::Reply { client, seq, reply } => spell_tagged(2, &(client, (seq, reply)), out),
+            Message::Item { client, key, item } => spell_tagged(3, &(client, (key, item)), out),
             Message::Receipt {
                 client,
                 key,
                 through,
-            } => {
-                spell_tagged(4, &(client, (key, through)), out)?;
-                Ok(())
-            }
-            Message::Mirror { number, entry } => {
-                spell_tagged(5, &(number, entry), out)?;
-                Ok(())
-            }
-            Message::MirrorAck { number } => {
-                spell_tagged(6, &number, out)?;
-                Ok(())
-            }
-            Message::Snapshot { saved } => {
-                spell_tagged(7, &saved, out)?;
-                Ok(())
-            }
-            Message::JoinAck { number } => {
-                spell_tagged(8, &number, out)?;
-                Ok(())
-            }
+            } => spell_tagged(4, &(client, (key, through)), out),
+            Message::Mirror { number, entry } => spell_tagged(5, &(number, entry), out),
+            Message::MirrorAck { number } => spell_tagged(6, &number, out),
+            Message::Snapshot { saved } => spell_tagged(7, &saved, out),
+            Message::JoinAck { number } => spell_tagged(8, &number, out),
         }
     }
 
@@ -94,21 +71,15 @@ impl Wire for Message {
         let (tag, rest) = read_first(bytes)?;
         match tag {
             1 => {
-                let (client, rest) = read_client(rest)?;
-                let (seq, rest) = read_count(rest)?;
-                let (call, rest) = Call::read_front(alloc, rest)?;
+                let ((client, (seq, call)), rest) = read_numbered(alloc, rest)?;
                 Ok((Message::Request { client, seq, call }, rest))
             }
             2 => {
-                let (client, rest) = read_client(rest)?;
-                let (seq, rest) = read_count(rest)?;
-                let (reply, rest) = Reply::read_front(alloc, rest)?;
+                let ((client, (seq, reply)), rest) = read_numbered(alloc, rest)?;
                 Ok((Message::Reply { client, seq, reply }, rest))
             }
             3 => {
-                let (client, rest) = read_client(rest)?;
-                let (key, rest) = read_count(rest)?;
-                let (item, rest) = Wire::read_front(alloc, rest)?;
+                let ((client, (key, item)), rest) = read_numbered(alloc, rest)?;
                 Ok((Message::Item { client, key, item }, rest))
             }
             4 => {
@@ -124,10 +95,7 @@ impl Wire for Message {
                     rest,
                 ))
             }
-            _ => {
-                let (message, rest) = read_server_message(alloc, tag, rest)?;
-                Ok((message, rest))
-            }
+            _ => read_server_message(alloc, tag, rest),
         }
     }
 }

@@ -1,17 +1,16 @@
 //! Pairs, options, lists and boxes of any values that can be spelled.
 ghost use Rattle.std.specs.Prelude.{◌≡◌, ◌++◌, All, OnOk};
 ghost use Rattle.wire_code.specs.Spelling.{texts};
-ghost use Rattle.wire_code.specs.Reading.{Gives, many_at};
+ghost use Rattle.wire_code.specs.Reading.{Gives, both, client_at, count_at, many_at};
 
 use crate::wire::Wire;
 use ais_values::Seq;
 use calls::Boxed;
 use std::alloc::{AllocError, Global};
-use wire_code::{Fault, Trouble, read_first};
+use wire_code::{Fault, Trouble, read_client, read_count, read_first};
 
 impl<A: Wire + Drop, B: Wire + Drop> Wire for (A, B) {
     ghost use Rattle.std.specs.Prelude.{◌++◌};
-    ghost use Rattle.wire_code.specs.Reading.{both};
 
     ghost text = { λ pair. A.text pair.0 ++ B.text pair.1 };
 
@@ -32,6 +31,20 @@ impl<A: Wire + Drop, B: Wire + Drop> Wire for (A, B) {
         let (second, rest) = B::read_front(alloc, rest)?;
         Ok(((first, second), rest))
     }
+}
+
+/// Reads a client, a number that begins at 1, and the value behind them.
+pub(crate) fn read_numbered<T: Wire + Drop>(
+    alloc: Global,
+    bytes: &[u8],
+) -> Result<((u16, (u32, T)), &[u8]), Trouble>
+    ensures { Gives (λ found. (found.0, found.1.now)) result
+        (both client_at (both count_at T.at) bytes.now) }
+{
+    let (client, rest) = read_client(bytes)?;
+    let (number, rest) = read_count(rest)?;
+    let (value, rest) = T::read_front(alloc, rest)?;
+    Ok(((client, (number, value)), rest))
 }
 
 impl<T: Wire + Drop> Wire for Option<T> {

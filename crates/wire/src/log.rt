@@ -20,18 +20,9 @@ impl Wire for FullAction {
     #[tactic(auto, unfolding(crate::specs::LogSpelling::action_text))]
     fn spell(&self, out: &mut Vec<u8>) -> Result<(), AllocError> {
         match self {
-            FullAction::Wrap => {
-                spell_tag(1, out)?;
-                Ok(())
-            }
-            FullAction::Halt => {
-                spell_tag(2, out)?;
-                Ok(())
-            }
-            FullAction::Rotate => {
-                spell_tag(3, out)?;
-                Ok(())
-            }
+            FullAction::Wrap => spell_tag(1, out),
+            FullAction::Halt => spell_tag(2, out),
+            FullAction::Rotate => spell_tag(3, out),
         }
     }
 
@@ -60,22 +51,10 @@ impl Wire for StreamName {
     #[tactic(auto, unfolding(crate::specs::LogSpelling::stream_name_text))]
     fn spell(&self, out: &mut Vec<u8>) -> Result<(), AllocError> {
         match self {
-            StreamName::Alarm => {
-                spell_tag(1, out)?;
-                Ok(())
-            }
-            StreamName::Notification => {
-                spell_tag(2, out)?;
-                Ok(())
-            }
-            StreamName::System => {
-                spell_tag(3, out)?;
-                Ok(())
-            }
-            StreamName::App { name } => {
-                spell_tagged(4, &name, out)?;
-                Ok(())
-            }
+            StreamName::Alarm => spell_tag(1, out),
+            StreamName::Notification => spell_tag(2, out),
+            StreamName::System => spell_tag(3, out),
+            StreamName::App { name } => spell_tagged(4, &name, out),
         }
     }
 
@@ -120,8 +99,7 @@ impl Wire for StreamAttrs {
                 ),
             ),
         )
-            .spell_parts(out)?;
-        Ok(())
+            .spell_parts(out)
     }
 
     #[tactic(auto, unfolding(crate::specs::LogReading::attrs_at))]
@@ -156,8 +134,7 @@ impl Wire for LogFile {
 
     #[tactic(auto, unfolding(crate::specs::LogSpelling::log_file_text))]
     fn spell(&self, out: &mut Vec<u8>) -> Result<(), AllocError> {
-        (&self.created, &self.closed).spell_parts(out)?;
-        Ok(())
+        (&self.created, &self.closed).spell_parts(out)
     }
 
     #[tactic(auto, unfolding(crate::specs::LogReading::log_file_at))]
@@ -179,8 +156,7 @@ impl Wire for StreamState {
 
     #[tactic(auto, unfolding(crate::specs::LogSpelling::stream_text))]
     fn spell(&self, out: &mut Vec<u8>) -> Result<(), AllocError> {
-        (&self.name, (&self.attrs, (&self.taken, &self.files))).spell_parts(out)?;
-        Ok(())
+        (&self.name, (&self.attrs, (&self.taken, &self.files))).spell_parts(out)
     }
 
     #[tactic(auto, unfolding(crate::specs::LogReading::stream_at))]
@@ -218,22 +194,16 @@ impl Wire for Header {
                 notifier,
                 class,
                 event_time,
-            } => {
-                spell_tagged(
-                    1,
-                    &(id, (event_type, (object, (notifier, (class, event_time))))),
-                    out,
-                )?;
-                Ok(())
-            }
+            } => spell_tagged(
+                1,
+                &(id, (event_type, (object, (notifier, (class, event_time))))),
+                out,
+            ),
             Header::Generic {
                 class,
                 user,
                 severity,
-            } => {
-                spell_tagged(2, &(class, (user, severity)), out)?;
-                Ok(())
-            }
+            } => spell_tagged(2, &(class, (user, severity)), out),
         }
     }
 

@@ -1,4 +1,7 @@
 //! Spelling and reading of notifications and filters.
+ghost use Rattle.wire_code.specs.Reading.{Gives};
+ghost use Rattle.wire.specs.NtfReading.{security_at};
+
 use crate::parts::{Parts, spell_tagged};
 use crate::wire::Wire;
 use ais_values::{ClassId, Name, Seq, Text};
@@ -19,8 +22,7 @@ impl Wire for ClassId {
 
     #[tactic(auto, unfolding(crate::specs::NtfSpelling::class_text))]
     fn spell(&self, out: &mut Vec<u8>) -> Result<(), AllocError> {
-        (&self.vendor, (&self.major, &self.minor)).spell_parts(out)?;
-        Ok(())
+        (&self.vendor, (&self.major, &self.minor)).spell_parts(out)
     }
 
     #[tactic(auto, unfolding(crate::specs::NtfReading::class_at))]
@@ -50,22 +52,10 @@ impl Wire for Value {
     #[tactic(auto, unfolding(crate::specs::NtfSpelling::value_text))]
     fn spell(&self, out: &mut Vec<u8>) -> Result<(), AllocError> {
         match self {
-            Value::Int { value } => {
-                spell_tagged(1, &value, out)?;
-                Ok(())
-            }
-            Value::NameOf { name } => {
-                spell_tagged(2, &name, out)?;
-                Ok(())
-            }
-            Value::TextOf { text } => {
-                spell_tagged(3, &text, out)?;
-                Ok(())
-            }
-            Value::Binary { bytes } => {
-                spell_tagged(4, &bytes, out)?;
-                Ok(())
-            }
+            Value::Int { value } => spell_tagged(1, &value, out),
+            Value::NameOf { name } => spell_tagged(2, &name, out),
+            Value::TextOf { text } => spell_tagged(3, &text, out),
+            Value::Binary { bytes } => spell_tagged(4, &bytes, out),
         }
     }
 
@@ -106,8 +96,7 @@ impl Wire for Pair {
 
     #[tactic(auto, unfolding(crate::specs::NtfSpelling::pair_text))]
     fn spell(&self, out: &mut Vec<u8>) -> Result<(), AllocError> {
-        (&self.id, &self.value).spell_parts(out)?;
-        Ok(())
+        (&self.id, &self.value).spell_parts(out)
     }
 
     #[tactic(auto, unfolding(crate::specs::NtfReading::pair_at))]
@@ -129,8 +118,7 @@ impl Wire for Change {
 
     #[tactic(auto, unfolding(crate::specs::NtfSpelling::change_text))]
     fn spell(&self, out: &mut Vec<u8>) -> Result<(), AllocError> {
-        (&self.id, (&self.after, &self.before)).spell_parts(out)?;
-        Ok(())
+        (&self.id, (&self.after, &self.before)).spell_parts(out)
     }
 
     #[tactic(auto, unfolding(crate::specs::NtfReading::change_at))]
@@ -152,8 +140,7 @@ impl Wire for StateChange {
 
     #[tactic(auto, unfolding(crate::specs::NtfSpelling::state_change_text))]
     fn spell(&self, out: &mut Vec<u8>) -> Result<(), AllocError> {
-        (&self.id, (&self.after, &self.before)).spell_parts(out)?;
-        Ok(())
+        (&self.id, (&self.after, &self.before)).spell_parts(out)
     }
 
     #[tactic(auto, unfolding(crate::specs::NtfReading::state_change_at))]
@@ -161,6 +148,23 @@ impl Wire for StateChange {
         let ((id, (after, before)), rest) = Wire::read_front(alloc, bytes)?;
         Ok((StateChange { id, after, before }, rest))
     }
+}
+
+/// Reads what a notification of security tells, behind its tag.
+fn read_security(alloc: Global, bytes: &[u8]) -> Result<(Body, &[u8]), Trouble>
+    ensures { Gives (λ found. (found.0, found.1.now)) result (security_at bytes.now) }
+{
+    let ((cause, (severity, (detector, (user, provider)))), rest) = Wire::read_front(alloc, bytes)?;
+    Ok((
+        Body::Security {
+            cause,
+            severity,
+            detector,
+            user,
+            provider,
+        },
+        rest,
+    ))
 }
 
 impl Wire for Body {
@@ -176,32 +180,17 @@ impl Wire for Body {
     #[tactic(auto, unfolding(crate::specs::NtfSpelling::body_text))]
     fn spell(&self, out: &mut Vec<u8>) -> Result<(), AllocError> {
         match self {
-            Body::Objects { source, attrs } => {
-                spell_tagged(1, &(source, attrs), out)?;
-                Ok(())
-            }
-            Body::Attributes { source, changes } => {
-                spell_tagged(2, &(source, changes), out)?;
-                Ok(())
-            }
-            Body::States { source, changes } => {
-                spell_tagged(3, &(source, changes), out)?;
-                Ok(())
-            }
-            Body::Alarm { cause, severity } => {
-                spell_tagged(4, &(cause, severity), out)?;
-                Ok(())
-            }
+            Body::Objects { source, attrs } => spell_tagged(1, &(source, attrs), out),
+            Body::Attributes { source, changes } => spell_tagged(2, &(source, changes), out),
+            Body::States { source, changes } => spell_tagged(3, &(source, changes), out),
+            Body::Alarm { cause, severity } => spell_tagged(4, &(cause, severity), out),
             Body::Security {
                 cause,
                 severity,
                 detector,
                 user,
                 provider,
-            } => {
-                spell_tagged(5, &(cause, (severity, (detector, (user, provider)))), out)?;
-                Ok(())
-            }
+            } => spell_tagged(5, &(cause, (severity, (detector, (user, provider)))), out),
         }
     }
 
@@ -225,21 +214,7 @@ impl Wire for Body {
                 let ((cause, severity), rest) = Wire::read_front(alloc, rest)?;
                 Ok((Body::Alarm { cause, severity }, rest))
             }
-            5 => {
-                let ((cause, (severity, (detector, (user, provider)))), rest) = Wire::read_front(
-                    alloc, rest,
-                )?;
-                Ok((
-                    Body::Security {
-                        cause,
-                        severity,
-                        detector,
-                        user,
-                        provider,
-                    },
-                    rest,
-                ))
-            }
+            5 => read_security(alloc, rest),
             _ => Err(Trouble::from(Fault::before(rest))),
         }
     }
@@ -276,8 +251,7 @@ impl Wire for Notification {
                 ),
             ),
         )
-            .spell_parts(out)?;
-        Ok(())
+            .spell_parts(out)
     }
 
     #[tactic(auto, unfolding(crate::specs::NtfReading::notification_at))]
@@ -335,8 +309,7 @@ impl Wire for Filter {
                 ),
             ),
         )
-            .spell_parts(out)?;
-        Ok(())
+            .spell_parts(out)
     }
 
     #[tactic(auto, unfolding(crate::specs::NtfReading::filter_at))]
@@ -377,8 +350,7 @@ impl Wire for FilterSet {
                 (&self.states, (&self.alarms, &self.security)),
             ),
         )
-            .spell_parts(out)?;
-        Ok(())
+            .spell_parts(out)
     }
 
     #[tactic(auto, unfolding(crate::specs::NtfReading::filter_set_at))]

@@ -23,8 +23,7 @@ impl Wire for SavedWindow {
 
     #[tactic(auto, unfolding(crate::specs::SavedSpelling::saved_window_text))]
     fn spell(&self, out: &mut Vec<u8>) -> Result<(), AllocError> {
-        (&self.client, (&self.next, &self.replies)).spell_parts(out)?;
-        Ok(())
+        (&self.client, (&self.next, &self.replies)).spell_parts(out)
     }
 
     #[tactic(auto, unfolding(crate::specs::SavedReading::saved_window_at))]
@@ -55,8 +54,7 @@ impl Wire for SavedStream {
 
     #[tactic(auto, unfolding(crate::specs::SavedSpelling::saved_stream_text))]
     fn spell(&self, out: &mut Vec<u8>) -> Result<(), AllocError> {
-        (&self.state, &self.openers).spell_parts(out)?;
-        Ok(())
+        (&self.state, &self.openers).spell_parts(out)
     }
 
     #[tactic(auto, unfolding(crate::specs::SavedReading::saved_stream_at))]
@@ -78,8 +76,7 @@ impl Wire for SavedAlarm {
 
     #[tactic(auto, unfolding(crate::specs::SavedSpelling::saved_alarm_text))]
     fn spell(&self, out: &mut Vec<u8>) -> Result<(), AllocError> {
-        (&self.k, &self.notification).spell_parts(out)?;
-        Ok(())
+        (&self.k, &self.notification).spell_parts(out)
     }
 
     #[tactic(auto, unfolding(crate::specs::SavedReading::saved_alarm_at))]
@@ -113,8 +110,7 @@ impl Wire for SavedSub {
                 ),
             ),
         )
-            .spell_parts(out)?;
-        Ok(())
+            .spell_parts(out)
     }
 
     #[tactic(auto, unfolding(crate::specs::SavedReading::saved_sub_at))]
@@ -155,8 +151,7 @@ impl Wire for SavedReader {
             &self.client,
             (&self.filters, (&self.time, (&self.id, &self.fresh))),
         )
-            .spell_parts(out)?;
-        Ok(())
+            .spell_parts(out)
     }
 
     #[tactic(auto, unfolding(crate::specs::SavedReading::saved_reader_at))]
@@ -212,8 +207,7 @@ impl Wire for Saved {
                 ),
             ),
         )
-            .spell_parts(out)?;
-        Ok(())
+            .spell_parts(out)
     }
 
     #[tactic(auto, unfolding(crate::specs::SavedReading::saved_at))]
