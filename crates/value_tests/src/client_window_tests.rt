@@ -3,7 +3,6 @@ use ais_values::Seq;
 use client_window::{Judged, Window};
 use std::alloc::Global;
 use std::process::Abort;
-use std::test::Fail;
 
 /// A judgement as a number: the reply, or 1 for a new call, 2 for an old one and 3 for one ahead.
 fn told(judged: Judged<'_, u32>) -> u32 {
@@ -16,18 +15,18 @@ fn told(judged: Judged<'_, u32>) -> u32 {
 }
 
 /// A window that took the replies 101, 102 and so on.
-fn answered(rt: &impl Abort, alloc: Global, count: u32) -> Result<Window<u32>, Fail> {
-    let mut window = Window::new(alloc)?;
+fn answered(rt: &impl Abort, alloc: Global, count: u32) -> Window<u32> {
+    let mut window = Window::new(alloc).expect(rt, "memory");
     for _ in 0..count {
         let next = window.next();
         assert!(rt; next < 1000);
         window.take(100 + next);
     }
-    Ok(window)
+    window
 }
 
 #[test]
-fn judges_by_number(rt: HostRuntime) -> Result<(), Fail> {
+fn judges_by_number(rt: HostRuntime) {
     let alloc = rt.alloc();
     for (count, seq, want) in [
         (0, 0, 2),
@@ -46,25 +45,32 @@ fn judges_by_number(rt: HostRuntime) -> Result<(), Fail> {
         (40, 42, 3),
         (40, u32::MAX, 3),
     ] {
-        let window = answered(&rt, alloc, count)?;
-        assert!(rt; told(window.judge(seq)) == want, "{count} {seq}");
+        let window = answered(&rt, alloc, count);
+        let judged = told(window.judge(seq));
+        drop(window);
+        assert!(rt; judged == want, "{count} {seq}");
     }
-    Ok(())
 }
 
-#[test]
-fn is_rebuilt_of_its_parts(rt: HostRuntime) -> Result<(), Fail> {
-    let alloc = rt.alloc();
-    let window = answered(&rt, alloc, 40)?;
+/// A window tells its last 32 replies, by their places.
+fn tells_replies(rt: &impl Abort, alloc: Global) {
+    let window = answered(rt, alloc, 40);
     assert!(rt; window.reply_at(0) == Some(&109));
     assert!(rt; window.reply_at(31) == Some(&140));
     assert!(rt; window.reply_at(32) == None);
+    drop(window);
+}
+
+#[test]
+fn is_rebuilt_of_its_parts(rt: HostRuntime) {
+    let alloc = rt.alloc();
+    tells_replies(&rt, alloc);
     let mut replies = Seq::new(alloc);
-    replies.push(7)?;
-    replies.push(8)?;
-    let rebuilt = Window::rebuild(alloc, 3, replies)?;
+    replies.push(7).expect(&rt, "memory");
+    replies.push(8).expect(&rt, "memory");
+    let rebuilt = Window::rebuild(alloc, 3, replies).expect(&rt, "memory");
     assert!(rt; rebuilt.next() == 3);
     assert!(rt; told(rebuilt.judge(1)) == 7);
     assert!(rt; told(rebuilt.judge(2)) == 8);
-    Ok(())
+    drop(rebuilt);
 }

@@ -1,5 +1,3 @@
-ghost use Rattle.ais_values.specs.Texts.{IsText};
-
 use ais_values::Text;
 use disk_model::*;
 use std::alloc::Global;
@@ -57,15 +55,72 @@ fn lists<D: SharedDisk>(
     Ok(())
 }
 
+/// A call of a disk that succeeds, or what a file of it holds then.
+#[derive(Clone, Copy)]
+enum Step<'a> {
+    Create(&'a str),
+    Write(&'a str, u64, &'a [u8]),
+    Cut(&'a str, u64),
+    Sync(&'a str),
+    Rename(&'a str, &'a str),
+    Remove(&'a str),
+    Holds(&'a str, &'a [u8]),
+    Lacks(&'a str),
+}
+
+fn plays_one<D: SharedDisk>(
+    rt: &impl Abort,
+    disk: &mut D,
+    alloc: Global,
+    step: Step<'_>,
+) -> Result<(), DiskAnswer> {
+    match step {
+        Step::Create(name) => {
+            assert!(rt; name.len() <= 16_384);
+            disk.create(name.as_bytes())
+        }
+        Step::Write(name, at, bytes) => disk.write_at(name.as_bytes(), at, bytes),
+        Step::Cut(name, len) => disk.cut(name.as_bytes(), len),
+        Step::Sync(name) => disk.sync(name.as_bytes()),
+        Step::Rename(from, to) => {
+            assert!(rt; to.len() <= 16_384);
+            disk.rename(from.as_bytes(), to.as_bytes())
+        }
+        Step::Remove(name) => disk.remove(name.as_bytes()),
+        Step::Holds(name, bytes) => holds(rt, disk, alloc, name, Some(bytes)),
+        Step::Lacks(name) => holds(rt, disk, alloc, name, None),
+    }
+}
+
+// Plays steps one behind the other.
+fn plays<D: SharedDisk>(
+    rt: &impl Abort,
+    disk: &mut D,
+    alloc: Global,
+    steps: &[Step<'_>],
+) -> Result<(), DiskAnswer> {
+    for step in steps {
+        plays_one(rt, disk, alloc, *step)?;
+    }
+    Ok(())
+}
+
 // A file is made, and written within, at its end and past it.
-fn writes_file<D: SharedDisk>(disk: &mut D, name: &[u8]) -> Result<(), DiskAnswer>
-    requires { IsText name.now }
-{
-    disk.create(name)?;
-    disk.write_at(name, 0, b"hello")?;
-    disk.write_at(name, 3, b"LOW")?;
-    disk.write_at(name, 7, b"far")?;
-    disk.sync(name)
+fn writes_file<D: SharedDisk>(
+    rt: &impl Abort,
+    disk: &mut D,
+    alloc: Global,
+    name: &str,
+) -> Result<(), DiskAnswer> {
+    let steps = [
+        Step::Create(name),
+        Step::Write(name, 0, b"hello"),
+        Step::Write(name, 3, b"LOW"),
+        Step::Write(name, 7, b"far"),
+        Step::Sync(name),
+        Step::Holds(name, b"helLOW"),
+    ];
+    plays(rt, disk, alloc, &steps)
 }
 
 // The last bytes of a file, and what is behind them.
@@ -84,13 +139,16 @@ fn renames_files<D: SharedDisk>(
     disk: &mut D,
     alloc: Global,
 ) -> Result<(), DiskAnswer> {
-    disk.rename(b"z", b"b/y")?;
-    disk.rename(b"b/y", b"b/y")?;
-    disk.rename(b"z", b"a/x.cfg")?;
-    holds(rt, disk, alloc, "z", None)?;
-    holds(rt, disk, alloc, "b/y", Some(b"helLOW"))?;
-    disk.create(b"a/x.cfg")?;
-    disk.rename(b"a/x.cfg", b"a0/x.cfg")
+    let steps = [
+        Step::Rename("z", "b/y"),
+        Step::Rename("b/y", "b/y"),
+        Step::Rename("z", "a/x.cfg"),
+        Step::Lacks("z"),
+        Step::Holds("b/y", b"helLOW"),
+        Step::Create("a/x.cfg"),
+        Step::Rename("a/x.cfg", "a0/x.cfg"),
+    ];
+    plays(rt, disk, alloc, &steps)
 }
 
 // Files of four names, which are listed in their order.
@@ -101,8 +159,7 @@ fn makes_files<D: SharedDisk>(
 ) -> Result<(), DiskAnswer> {
     lists(rt, disk, alloc, &[])?;
     for name in ["a0/x.cfg", "a/x.cfg", "a-b/x.cfg", "z"] {
-        writes_file(disk, name.as_bytes())?;
-        holds(rt, disk, alloc, name, Some(b"helLOW"))?;
+        writes_file(rt, disk, alloc, name)?;
     }
     lists(rt, disk, alloc, &["a-b/x.cfg", "a/x.cfg", "a0/x.cfg", "z"])
 }
@@ -113,9 +170,12 @@ fn removes_files<D: SharedDisk>(
     disk: &mut D,
     alloc: Global,
 ) -> Result<(), DiskAnswer> {
-    disk.remove(b"a-b/x.cfg")?;
-    disk.remove(b"a-b/x.cfg")?;
-    disk.sync(b"a-b/x.cfg")?;
+    let steps = [
+        Step::Remove("a-b/x.cfg"),
+        Step::Remove("a-b/x.cfg"),
+        Step::Sync("a-b/x.cfg"),
+    ];
+    plays(rt, disk, alloc, &steps)?;
     lists(rt, disk, alloc, &["a0/x.cfg", "b/y"])?;
     holds(rt, disk, alloc, "a0/x.cfg", Some(b""))
 }
@@ -132,14 +192,21 @@ fn changes_files<D: SharedDisk>(
     removes_files(rt, disk, alloc)
 }
 
+// A disk in memory does what every disk does, and has nothing of a file that is absent.
+fn changes_memory(rt: &impl Abort, disk: &mut MemDisk, alloc: Global) -> Result<(), DiskAnswer> {
+    changes_files(rt, disk, alloc)?;
+    assert!(rt; disk.read(b"absent", 0, &mut [0; 2])? == 0);
+    let steps = [Step::Write("absent", 0, b"x"), Step::Lacks("absent")];
+    plays(rt, disk, alloc, &steps)
+}
+
 #[test]
 fn a_disk_in_memory_changes_its_files(rt: HostRuntime) -> Result<(), Fail> {
     let alloc = rt.alloc();
     let mut disk = MemDisk::new(alloc, Vec::new(alloc), Vec::new(alloc), Vec::new(alloc));
-    changes_files(&rt, &mut disk, alloc)?;
-    assert!(rt; disk.read(b"absent", 0, &mut [0; 2])? == 0);
-    disk.write_at(b"absent", 0, b"x")?;
-    holds(&rt, &mut disk, alloc, "absent", None)?;
+    let done = changes_memory(&rt, &mut disk, alloc);
+    drop(disk);
+    done?;
     Ok(())
 }
 
@@ -153,9 +220,12 @@ fn stops_in_a_write<D: SharedDisk>(
     disk.arm(2);
     disk.write_at(b"stop/f", 0, b"abcdef")?;
     assert!(rt; disk.write_at(b"stop/f", 6, b"WXYZU") == Err(DiskAnswer::Stopped));
-    holds(rt, disk, alloc, "stop/f", Some(b"abcdefWX"))?;
-    disk.cut(b"stop/f", 7)?;
-    holds(rt, disk, alloc, "stop/f", Some(b"abcdefW"))?;
+    let steps = [
+        Step::Holds("stop/f", b"abcdefWX"),
+        Step::Cut("stop/f", 7),
+        Step::Holds("stop/f", b"abcdefW"),
+    ];
+    plays(rt, disk, alloc, &steps)?;
     disk.arm(1);
     disk.disarm();
     disk.crash();
@@ -169,24 +239,33 @@ fn stands(rt: &(impl Abort + Files + AllocGlobal), path: &str, want: &[u8]) -> R
     Ok(())
 }
 
-// Of more files than a disk on folders keeps open each is written rightly, under its name and under another's.
+// More files than a disk on folders keeps open are made, each with its name as its bytes.
+fn makes_nine<D: SharedDisk>(
+    rt: &impl Abort,
+    disk: &mut D,
+    alloc: Global,
+) -> Result<(), DiskAnswer> {
+    for name in [
+        "k/a", "k/b", "k/c", "k/d", "k/e", "k/f", "k/g", "k/h", "k/i",
+    ] {
+        let steps = [Step::Create(name), Step::Write(name, 0, name.as_bytes())];
+        plays(rt, disk, alloc, &steps)?;
+    }
+    let steps = [Step::Write("k/a", 3, b"+"), Step::Sync("k/a")];
+    plays(rt, disk, alloc, &steps)
+}
+
+// Of more files than are kept open each is written rightly, under its name and under another's.
 fn follows_names<D: SharedDisk>(
     rt: &(impl Abort + Files + AllocGlobal),
     disk: &mut D,
 ) -> Result<(), Fail> {
-    for name in [
-        "k/a", "k/b", "k/c", "k/d", "k/e", "k/f", "k/g", "k/h", "k/i",
-    ] {
-        disk.create(name.as_bytes())?;
-        disk.write_at(name.as_bytes(), 0, name.as_bytes())?;
-    }
-    disk.write_at(b"k/a", 3, b"+")?;
-    disk.sync(b"k/a")?;
+    makes_nine(rt, disk, rt.alloc())?;
     stands(rt, "ais_log_root/k/a", b"k/a+")?;
     disk.rename(b"k/a", b"k/b")?;
     assert!(rt; disk.write_at(b"k/a", 0, b"x") == Err(DiskAnswer::Failed));
-    disk.sync(b"k/a")?;
-    disk.write_at(b"k/b", 4, b"new")?;
+    let steps = [Step::Sync("k/a"), Step::Write("k/b", 4, b"new")];
+    plays(rt, disk, rt.alloc(), &steps)?;
     stands(rt, "ais_log_root/k/b", b"k/a+new")
 }
 
@@ -195,58 +274,136 @@ fn follows_lengths<D: SharedDisk>(
     rt: &(impl Abort + Files + AllocGlobal),
     disk: &mut D,
 ) -> Result<(), Fail> {
-    disk.write_at(b"k/b", 7, b"er")?;
-    disk.create(b"k/b")?;
-    disk.write_at(b"k/b", 1, b"past the end")?;
+    let steps = [
+        Step::Write("k/b", 7, b"er"),
+        Step::Create("k/b"),
+        Step::Write("k/b", 1, b"past the end"),
+    ];
+    plays(rt, disk, rt.alloc(), &steps)?;
     stands(rt, "ais_log_root/k/b", b"")?;
     disk.remove(b"k/b")?;
     assert!(rt; disk.write_at(b"k/b", 0, b"x") == Err(DiskAnswer::Failed));
-    disk.cut(b"k/b", 0)?;
-    disk.create(b"k/b")?;
-    disk.write_at(b"k/b", 0, b"anew")?;
-    disk.cut(b"k/b", 2)?;
-    disk.write_at(b"k/b", 3, b"past the end")?;
-    disk.write_at(b"k/b", 2, b"!")?;
+    let steps = [
+        Step::Cut("k/b", 0),
+        Step::Create("k/b"),
+        Step::Write("k/b", 0, b"anew"),
+        Step::Cut("k/b", 2),
+        Step::Write("k/b", 3, b"past the end"),
+        Step::Write("k/b", 2, b"!"),
+    ];
+    plays(rt, disk, rt.alloc(), &steps)?;
     disk.crash();
-    disk.write_at(b"k/b", 3, b"?")?;
-    disk.sync(b"k/b")?;
+    let steps = [Step::Write("k/b", 3, b"?"), Step::Sync("k/b")];
+    plays(rt, disk, rt.alloc(), &steps)?;
     stands(rt, "ais_log_root/k/b", b"an!?")
 }
 
-#[test]
-fn a_disk_on_folders_changes_its_files(rt: HostRuntime) -> Result<(), Fail> {
-    let alloc = rt.alloc();
-    assert!(rt;
-        !fs::exists(&rt, ROOT)?,
-        "the test makes this folder itself"
-    );
-    let mut disk = DirDisk::new(rt.clone()?);
-    changes_files(&rt, &mut disk, alloc)?;
-    follows_names(&rt, &mut disk)?;
-    follows_lengths(&rt, &mut disk)?;
+// Names that are none of a file, and a folder with a name that is not plain.
+fn refuses_names<D: SharedDisk>(
+    rt: &(impl Abort + Files + AllocGlobal),
+    disk: &mut D,
+) -> Result<(), Fail> {
     assert!(rt; disk.read(b"absent", 0, &mut [0; 2]) == Err(DiskFault::Failed));
     assert!(rt; disk.write_at(b"absent", 0, b"x") == Err(DiskAnswer::Failed));
     assert!(rt; disk.create(b"../x") == Err(DiskAnswer::Failed));
     assert!(rt; disk.len(b"../x")? == None, "no file has such a name");
     assert!(rt; disk.len(b"b")? == None, "a folder is no file");
-    fs::write(&rt, "ais_log_root/b/a\nb", "x")?;
-    assert!(rt; disk.names(alloc).is_err(), "a name that is not plain");
-    stops_in_a_write(&rt, &mut disk, alloc)?;
-    fs::remove_dir_all(&rt, ROOT)?;
-    fs::write(&rt, ROOT, "x")?;
+    fs::write(rt, "ais_log_root/b/a\nb", "x")?;
+    assert!(rt; disk.names(rt.alloc()).is_err(), "a name that is not plain");
+    Ok(())
+}
+
+// The root is removed, and a plain file stands in its place.
+fn lacks_its_root<D: SharedDisk>(
+    rt: &(impl Abort + Files + AllocGlobal),
+    disk: &mut D,
+) -> Result<(), Fail> {
+    fs::remove_dir_all(rt, ROOT)?;
+    fs::write(rt, ROOT, "x")?;
     assert!(rt;
-        disk.names(alloc).is_err(),
+        disk.names(rt.alloc()).is_err(),
         "a plain file in the root's place"
     );
     assert!(rt; disk.len(b"x") == Err(DiskFault::Failed));
     assert!(rt; disk.create(b"x") == Err(DiskAnswer::Failed));
-    fs::remove_file(&rt, ROOT)?;
+    fs::remove_file(rt, ROOT)?;
     Ok(())
 }
 
-#[test]
-fn listed_calls_fail_and_no_others(rt: HostRuntime) -> Result<(), Fail> {
+// What every disk does, and what a disk on folders does besides.
+fn changes_folders<D: SharedDisk>(
+    rt: &(impl Abort + Files + AllocGlobal),
+    disk: &mut D,
+) -> Result<(), Fail> {
     let alloc = rt.alloc();
+    changes_files(rt, disk, alloc)?;
+    follows_names(rt, disk)?;
+    follows_lengths(rt, disk)?;
+    refuses_names(rt, disk)?;
+    stops_in_a_write(rt, disk, alloc)?;
+    lacks_its_root(rt, disk)
+}
+
+#[test]
+fn a_disk_on_folders_changes_its_files(rt: HostRuntime) -> Result<(), Fail> {
+    assert!(rt;
+        !fs::exists(&rt, ROOT)?,
+        "the test makes this folder itself"
+    );
+    let mut disk = DirDisk::new(rt.clone()?);
+    let done = changes_folders(&rt, &mut disk);
+    drop(disk);
+    done
+}
+
+// A disk in memory with this file, of which nothing is loose.
+fn disk_of(
+    rt: &impl Abort,
+    alloc: Global,
+    failing: &[u64],
+    failing_reads: &[u64],
+    torn: &[u8],
+) -> MemDisk {
+    let failing = failing.to_vec(alloc).expect(rt, "memory");
+    let failing_reads = failing_reads.to_vec(alloc).expect(rt, "memory");
+    let torn = torn.to_vec(alloc).expect(rt, "memory");
+    let mut disk = MemDisk::new(alloc, failing, failing_reads, torn);
+    let bytes = b"abcdef".to_vec(alloc).expect(rt, "memory");
+    disk.hold(b"f", bytes).expect(rt, "memory");
+    disk
+}
+
+// A write that is listed as failing leaves this.
+fn fails_in_write(
+    rt: &impl Abort,
+    disk: &mut MemDisk,
+    alloc: Global,
+    at: u64,
+    bytes: &[u8],
+    left: &[u8],
+) -> Result<(), DiskAnswer> {
+    disk.sync(b"f")?;
+    assert!(rt; disk.write_at(b"f", at, bytes) == Err(DiskAnswer::Failed));
+    holds(rt, disk, alloc, "f", Some(left))
+}
+
+// The same on a disk of its own, whose second changing call fails.
+fn fails_on_a_disk(
+    rt: &impl Abort,
+    alloc: Global,
+    torn: &[u8],
+    at: u64,
+    bytes: &[u8],
+    left: &[u8],
+) -> Result<(), DiskAnswer> {
+    let mut disk = disk_of(rt, alloc, &[2], &[], torn);
+    let done = fails_in_write(rt, &mut disk, alloc, at, bytes, left);
+    drop(disk);
+    done
+}
+
+// Writes that are listed as failing, each on a disk of its own.
+fn fails_in_writes(rt: &impl Abort, alloc: Global) -> Result<(), DiskAnswer> {
     let torn: [(&[u8], u64, &[u8], &[u8]); 5] = [
         // within the file, growing it by 4 and by 3, at its end, and with no torn bytes
         (b"\x01\x02\x03", 1, b"XY", b"a\x01\x02def"),
@@ -256,66 +413,81 @@ fn listed_calls_fail_and_no_others(rt: HostRuntime) -> Result<(), Fail> {
         (b"", 2, b"XY", b"ab\0\0ef"),
     ];
     for (torn, at, bytes, left) in torn {
-        let failing = [2].to_vec(alloc)?;
-        let mut disk = MemDisk::new(alloc, failing, Vec::new(alloc), torn.to_vec(alloc)?);
-        disk.hold(b"f", b"abcdef".to_vec(alloc)?)?;
-        disk.sync(b"f")?;
-        assert!(rt; disk.write_at(b"f", at, bytes) == Err(DiskAnswer::Failed));
-        holds(&rt, &mut disk, alloc, "f", Some(left))?;
+        fails_on_a_disk(rt, alloc, torn, at, bytes, left)?;
     }
-    let failing = [1, 2, 3].to_vec(alloc)?;
-    let mut disk = MemDisk::new(alloc, failing, [2].to_vec(alloc)?, Vec::new(alloc));
-    disk.hold(b"f", b"abcdef".to_vec(alloc)?)?;
+    Ok(())
+}
+
+// Changing calls that fail leave a file as it is; of two reads of it the second is the one that fails.
+fn fails_in_calls(rt: &impl Abort, disk: &mut MemDisk, alloc: Global) -> Result<(), DiskAnswer> {
     assert!(rt; disk.create(b"g") == Err(DiskAnswer::Failed));
     assert!(rt; disk.rename(b"f", b"g") == Err(DiskAnswer::Failed));
     assert!(rt; disk.remove(b"f") == Err(DiskAnswer::Failed));
     assert!(rt; disk.len(b"g")? == None);
     assert!(rt; disk.len(b"f") == Err(DiskFault::Failed));
-    holds(&rt, &mut disk, alloc, "f", Some(b"abcdef"))?;
+    holds(rt, disk, alloc, "f", Some(b"abcdef"))
+}
+
+#[test]
+fn listed_calls_fail_and_no_others(rt: HostRuntime) -> Result<(), Fail> {
+    let alloc = rt.alloc();
+    fails_in_writes(&rt, alloc)?;
+    let mut disk = disk_of(&rt, alloc, &[1, 2, 3], &[2], &[]);
+    let done = fails_in_calls(&rt, &mut disk, alloc);
+    drop(disk);
+    done?;
     Ok(())
+}
+
+// A sync that fails tears what is loose, also under a new name.
+fn tears_under_a_new_name(
+    rt: &impl Abort,
+    disk: &mut MemDisk,
+    alloc: Global,
+) -> Result<(), DiskAnswer> {
+    let steps = [
+        Step::Write("f", 1, b"XY"),
+        Step::Write("f", 4, b"WXYZUV"),
+        Step::Rename("f", "g"),
+    ];
+    plays(rt, disk, alloc, &steps)?;
+    assert!(rt; disk.sync(b"g") == Err(DiskAnswer::Failed));
+    holds(rt, disk, alloc, "g", Some(b"a\x01\x02d\x01\x02\x03\x01"))
 }
 
 #[test]
 fn a_failed_sync_tears_what_is_loose_also_under_a_new_name(rt: HostRuntime) -> Result<(), Fail> {
     let alloc = rt.alloc();
-    let failing = [4].to_vec(alloc)?;
-    let mut disk = MemDisk::new(
-        alloc,
-        failing,
-        Vec::new(alloc),
-        b"\x01\x02\x03".to_vec(alloc)?,
-    );
-    disk.hold(b"f", b"abcdef".to_vec(alloc)?)?;
-    disk.write_at(b"f", 1, b"XY")?;
-    disk.write_at(b"f", 4, b"WXYZUV")?;
-    disk.rename(b"f", b"g")?;
-    assert!(rt; disk.sync(b"g") == Err(DiskAnswer::Failed));
-    holds(
-        &rt,
-        &mut disk,
-        alloc,
-        "g",
-        Some(b"a\x01\x02d\x01\x02\x03\x01"),
-    )?;
+    let mut disk = disk_of(&rt, alloc, &[4], &[], b"\x01\x02\x03");
+    let done = tears_under_a_new_name(&rt, &mut disk, alloc);
+    drop(disk);
+    done?;
     Ok(())
 }
 
-// A disk in memory with this file, of which nothing is loose, armed to stop at the changing call of this number.
-fn armed(
-    alloc: Global,
-    failing: Vec<u64>,
-    torn: &[u8],
-    bytes: &[u8],
-    left: u64,
-) -> Result<MemDisk, DiskAnswer> {
-    let mut disk = MemDisk::new(alloc, failing, Vec::new(alloc), torn.to_vec(alloc)?);
-    disk.hold(b"f", bytes.to_vec(alloc)?)?;
+// Such a disk, armed to stop at the changing call of this number.
+fn armed(rt: &impl Abort, alloc: Global, failing: &[u64], torn: &[u8], left: u64) -> MemDisk {
+    let mut disk = disk_of(rt, alloc, failing, &[], torn);
     disk.arm(left.max(1));
-    Ok(disk)
+    disk
 }
 
 // A write at which the disk stops, though it is listed as failing too, leaves this; the disk is not armed any more then.
 fn stops_in_write(
+    rt: &impl Abort,
+    disk: &mut MemDisk,
+    alloc: Global,
+    at: u64,
+    bytes: &[u8],
+    left: &[u8],
+) -> Result<(), DiskAnswer> {
+    disk.sync(b"f")?;
+    assert!(rt; disk.write_at(b"f", at, bytes) == Err(DiskAnswer::Stopped));
+    plays(rt, disk, alloc, &[Step::Holds("f", left), Step::Sync("f")])
+}
+
+// The same on a disk of its own, which stops at its second changing call.
+fn stops_on_a_disk(
     rt: &impl Abort,
     alloc: Global,
     torn: &[u8],
@@ -323,16 +495,14 @@ fn stops_in_write(
     bytes: &[u8],
     left: &[u8],
 ) -> Result<(), DiskAnswer> {
-    let mut disk = armed(alloc, [2].to_vec(alloc)?, torn, b"abcdef", 2)?;
-    disk.sync(b"f")?;
-    assert!(rt; disk.write_at(b"f", at, bytes) == Err(DiskAnswer::Stopped));
-    holds(rt, &mut disk, alloc, "f", Some(left))?;
-    disk.sync(b"f")
+    let mut disk = armed(rt, alloc, &[2], torn, 2);
+    let done = stops_in_write(rt, &mut disk, alloc, at, bytes, left);
+    drop(disk);
+    done
 }
 
 #[test]
 fn an_armed_disk_stops_once_and_tears_a_write_once(rt: HostRuntime) -> Result<(), Fail> {
-    let alloc = rt.alloc();
     let torn: [(&[u8], u64, &[u8], &[u8]); 4] = [
         // within the file, growing it by 4 and by 3, and with no torn bytes
         (b"\x01\x02\x03", 1, b"XY", b"a\x01\x02def"),
@@ -341,48 +511,69 @@ fn an_armed_disk_stops_once_and_tears_a_write_once(rt: HostRuntime) -> Result<()
         (b"", 2, b"XY", b"ab\0\0ef"),
     ];
     for (torn, at, bytes, left) in torn {
-        stops_in_write(&rt, alloc, torn, at, bytes, left)?;
+        stops_on_a_disk(&rt, rt.alloc(), torn, at, bytes, left)?;
     }
     Ok(())
 }
 
 // A call at which the disk stops tears what is loose in two files, and does nothing itself.
-fn stops_in_call(rt: &impl Abort, alloc: Global, call: u8) -> Result<(), DiskAnswer> {
-    let mut disk = armed(alloc, Vec::new(alloc), b"\x07", b"abcdef", 4)?;
-    disk.write_at(b"f", 1, b"XY")?;
-    disk.create(b"g")?;
-    disk.write_at(b"g", 0, b"WXYZ")?;
-    let answer = match call {
-        0 => disk.create(b"f"),
-        1 => disk.rename(b"f", b"g"),
-        2 => disk.remove(b"f"),
-        _ => disk.sync(b"f"),
-    };
-    assert!(rt; answer == Err(DiskAnswer::Stopped));
-    holds(rt, &mut disk, alloc, "f", Some(b"a\x07\x07def"))?;
-    holds(rt, &mut disk, alloc, "g", Some(b"\x07\x07"))
+fn stops_in_call(
+    rt: &impl Abort,
+    disk: &mut MemDisk,
+    alloc: Global,
+    call: Step<'_>,
+) -> Result<(), DiskAnswer> {
+    let steps = [
+        Step::Write("f", 1, b"XY"),
+        Step::Create("g"),
+        Step::Write("g", 0, b"WXYZ"),
+    ];
+    plays(rt, disk, alloc, &steps)?;
+    let stopped = plays_one(rt, disk, alloc, call);
+    assert!(rt; stopped == Err(DiskAnswer::Stopped));
+    let steps = [
+        Step::Holds("f", b"a\x07\x07def"),
+        Step::Holds("g", b"\x07\x07"),
+    ];
+    plays(rt, disk, alloc, &steps)
 }
 
 #[test]
 fn a_stop_tears_what_is_loose_in_any_file(rt: HostRuntime) -> Result<(), Fail> {
-    for call in 0..4_u8 {
-        stops_in_call(&rt, rt.alloc(), call)?;
+    let alloc = rt.alloc();
+    for call in [
+        Step::Create("f"),
+        Step::Rename("f", "g"),
+        Step::Remove("f"),
+        Step::Sync("f"),
+    ] {
+        let mut disk = armed(&rt, alloc, &[], b"\x07", 4);
+        let done = stops_in_call(&rt, &mut disk, alloc, call);
+        drop(disk);
+        done?;
     }
     Ok(())
 }
 
 // A cut that fails, one that changes nothing, and one at which the disk stops.
-fn cuts(rt: &impl Abort, alloc: Global) -> Result<(), DiskAnswer> {
-    let mut disk = armed(alloc, [1].to_vec(alloc)?, b"", b"abcdef", 3)?;
+fn cuts(rt: &impl Abort, disk: &mut MemDisk, alloc: Global) -> Result<(), DiskAnswer> {
     assert!(rt; disk.cut(b"f", 5) == Err(DiskAnswer::Failed));
-    disk.cut(b"f", 9)?;
-    holds(rt, &mut disk, alloc, "f", Some(b"abcde"))?;
+    plays(
+        rt,
+        disk,
+        alloc,
+        &[Step::Cut("f", 9), Step::Holds("f", b"abcde")],
+    )?;
     assert!(rt; disk.cut(b"f", 2) == Err(DiskAnswer::Stopped));
-    holds(rt, &mut disk, alloc, "f", Some(b"ab"))
+    holds(rt, disk, alloc, "f", Some(b"ab"))
 }
 
 #[test]
 fn what_was_cut_off_is_gone(rt: HostRuntime) -> Result<(), Fail> {
-    cuts(&rt, rt.alloc())?;
+    let alloc = rt.alloc();
+    let mut disk = armed(&rt, alloc, &[1], b"", 3);
+    let done = cuts(&rt, &mut disk, alloc);
+    drop(disk);
+    done?;
     Ok(())
 }

@@ -46,8 +46,17 @@ fn refused_texts(rt: HostRuntime) -> Result<(), Fail> {
     Ok(())
 }
 
+/// What a check answers of so many letters with this end.
+fn checked(rt: &impl Abort, alloc: Global, length: usize, end: &[u8]) -> Result<(), ExprFault> {
+    let mut text = vec![in alloc; b'a'; length].expect(rt, "memory");
+    text.extend_from_slice(end).expect(rt, "memory");
+    let answer = check_expr(StreamKind::Alarm, text.as_slice());
+    drop(text);
+    answer
+}
+
 #[test]
-fn long_texts(rt: HostRuntime) -> Result<(), Fail> {
+fn long_texts(rt: HostRuntime) {
     let table: [(usize, &[u8], Option<(u32, ExprWhy)>); 8] = [
         (1024, b"", None),
         (1025, b"", Some((1024, ExprWhy::TooLong))),
@@ -59,18 +68,13 @@ fn long_texts(rt: HostRuntime) -> Result<(), Fail> {
         (5000, b"\x00", Some((1024, ExprWhy::TooLong))),
     ];
     for (length, end, want) in table {
-        let mut text = vec![in rt.alloc(); b'a'; length]?;
-        text.extend_from_slice(end)?;
         let want = match want {
             None => Ok(()),
             Some((place, why)) => Err(ExprFault { place, why }),
         };
-        assert!(rt;
-            check_expr(StreamKind::Alarm, text.as_slice()) == want,
-            "{length} and {end:?}"
-        );
+        let answer = checked(&rt, rt.alloc(), length, end);
+        assert!(rt; answer == want, "{length} and {end:?}");
     }
-    Ok(())
 }
 
 #[test]

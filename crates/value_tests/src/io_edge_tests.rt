@@ -3,23 +3,50 @@ use io_edge::{
     IoFault, MemSink, MemSource, ReadAnswer, Reading, Sink, SinkAnswer, Source, StdSink, StdSource,
     Writing, read_all, write_all,
 };
-use std::alloc::{AllocError, Global};
+use std::alloc::Global;
 use std::io::{ErrorKind, Read, Write};
+use std::process::Abort;
 use std::test::Fail;
 use std::{fs, io};
 
 // So many bytes, of which no two pieces that are read together are alike.
-fn sample(alloc: Global, count: u16) -> Result<Vec<u8>, AllocError> {
+fn sample(rt: &impl Abort, alloc: Global, count: u16) -> Vec<u8> {
     let mut bytes = Vec::new(alloc);
     for place in 0..count {
-        bytes.push((place % 251) as u8)?;
+        bytes.push((place % 251) as u8).expect(rt, "memory");
     }
-    Ok(bytes)
+    bytes
+}
+
+// A source of these bytes, whose calls of these numbers fail.
+fn source_of(rt: &impl Abort, alloc: Global, bytes: &[u8], failing: &[u64]) -> MemSource {
+    let bytes = bytes.to_vec(alloc).expect(rt, "memory");
+    let failing = failing.to_vec(alloc).expect(rt, "memory");
+    MemSource::new(bytes, failing)
+}
+
+// Whether reading so many bytes up to a limit gives them, or this refusal, and how many it leaves.
+fn reads_to(
+    rt: &impl Abort,
+    alloc: Global,
+    count: u16,
+    limit: u16,
+    refusal: Option<ReadAnswer>,
+) -> (bool, usize) {
+    let bytes = sample(rt, alloc, count);
+    let mut source = source_of(rt, alloc, bytes.as_slice(), &[]);
+    let same = match read_all(alloc, &mut source, usize::from(limit)) {
+        Ok(read) => refusal == None && read.as_slice() == bytes.as_slice(),
+        Err(answer) => Some(answer) == refusal,
+    };
+    let left = source.unread().len();
+    drop(source);
+    drop(bytes);
+    (same, left)
 }
 
 #[test]
-fn reads_up_to_the_limit(rt: HostRuntime) -> Result<(), Fail> {
-    let alloc = rt.alloc();
+fn reads_up_to_the_limit(rt: HostRuntime) {
     // How many bytes there are, the limit, the answer where there is no text, and how many are left.
     let rows: [(u16, u16, Option<ReadAnswer>, usize); 10] = [
         (0, 0, None, 0),
@@ -34,38 +61,33 @@ fn reads_up_to_the_limit(rt: HostRuntime) -> Result<(), Fail> {
         (20_003, 20_000, Some(ReadAnswer::TooLong), 2),
     ];
     for (count, limit, refusal, left) in rows {
-        let bytes = sample(alloc, count)?;
-        let mut source = MemSource::new(bytes.clone()?, Vec::new(alloc));
-        match read_all(alloc, &mut source, usize::from(limit)) {
-            Ok(read) => {
-                assert!(rt; refusal == None, "{count} bytes of {limit}");
-                assert!(rt; read.as_slice() == bytes.as_slice());
-            }
-            Err(answer) => assert!(rt; Some(answer) == refusal, "{count} bytes of {limit}"),
-        }
-        assert!(rt; source.unread().len() == left, "{count} bytes of {limit}");
+        let read = reads_to(&rt, rt.alloc(), count, limit, refusal);
+        assert!(rt; read == (true, left), "{count} bytes of {limit}");
     }
-    Ok(())
+}
+
+// Whether the call of this number fails, and leaves all but so many bytes, which the next ones read.
+fn goes_on_behind(rt: &impl Abort, alloc: Global, failing: u64, before: usize) -> bool {
+    let bytes = sample(rt, alloc, 20_000);
+    let rest = bytes.as_slice().get(before..).unwrap_or(&[]);
+    let mut source = source_of(rt, alloc, bytes.as_slice(), &[failing]);
+    let first = read_all(alloc, &mut source, 20_000).err();
+    let left = source.unread() == rest;
+    let second = read_all(alloc, &mut source, 20_000).expect(rt, "memory");
+    let read = second.as_slice() == rest;
+    drop(source);
+    drop(second);
+    drop(bytes);
+    first == Some(ReadAnswer::ReadFault) && left && read
 }
 
 #[test]
-fn each_read_fails_in_turn(rt: HostRuntime) -> Result<(), Fail> {
-    let alloc = rt.alloc();
+fn each_read_fails_in_turn(rt: HostRuntime) {
     // The call that fails, and what was read before it: three pieces, and then the end.
     for (failing, before) in [(1, 0), (2, 8192), (3, 16_384), (4, 20_000)] {
-        let bytes = sample(alloc, 20_000)?;
-        let mut source = MemSource::new(bytes.clone()?, [failing].to_vec(alloc)?);
-        let first = read_all(alloc, &mut source, 20_000);
-        assert!(rt;
-            first.err() == Some(ReadAnswer::ReadFault),
-            "call {failing}"
-        );
-        let rest = bytes.as_slice().get(before..).unwrap_or(&[]);
-        assert!(rt; source.unread() == rest, "what call {failing} leaves");
-        let second = read_all(alloc, &mut source, 20_000)?;
-        assert!(rt; second.as_slice() == rest, "after call {failing}");
+        let goes_on = goes_on_behind(&rt, rt.alloc(), failing, before);
+        assert!(rt; goes_on, "call {failing}");
     }
-    Ok(())
 }
 
 /// A sink that takes at most four bytes of a piece.
@@ -86,9 +108,26 @@ impl Sink for Narrow {
     }
 }
 
+// Whether writing ten digits to a narrow sink whose call of this number fails answers so, and what was written then.
+fn writes_digits(
+    rt: &impl Abort,
+    alloc: Global,
+    failing: u64,
+    answer: Result<(), SinkAnswer>,
+    written: &[u8],
+) -> bool {
+    let failing = [failing].to_vec(alloc).expect(rt, "memory");
+    let mut sink = Narrow {
+        inner: MemSink::new(alloc, failing),
+    };
+    let answered = write_all(&mut sink, b"0123456789") == answer;
+    let same = sink.inner.written() == written;
+    drop(sink);
+    answered && same
+}
+
 #[test]
-fn each_write_fails_in_turn(rt: HostRuntime) -> Result<(), Fail> {
-    let alloc = rt.alloc();
+fn each_write_fails_in_turn(rt: HostRuntime) {
     // The call that fails, and what was written then.
     let rows: [(u64, Result<(), SinkAnswer>, &[u8]); 4] = [
         (1, Err(SinkAnswer::Failed), b""),
@@ -97,21 +136,14 @@ fn each_write_fails_in_turn(rt: HostRuntime) -> Result<(), Fail> {
         (4, Ok(()), b"0123456789"),
     ];
     for (failing, answer, written) in rows {
-        let inner = MemSink::new(alloc, [failing].to_vec(alloc)?);
-        let mut sink = Narrow { inner };
-        assert!(rt;
-            write_all(&mut sink, b"0123456789") == answer,
-            "call {failing}"
-        );
-        assert!(rt; sink.inner.written() == written, "call {failing}");
+        let same = writes_digits(&rt, rt.alloc(), failing, answer, written);
+        assert!(rt; same, "call {failing}");
     }
-    Ok(())
 }
 
 #[test]
-fn source_gives_and_fails_as_planned(rt: HostRuntime) -> Result<(), Fail> {
-    let alloc = rt.alloc();
-    let mut source = MemSource::new(b"abcde".to_vec(alloc)?, [2, 4].to_vec(alloc)?);
+fn source_gives_and_fails_as_planned(rt: HostRuntime) {
+    let mut source = source_of(&rt, rt.alloc(), b"abcde", &[2, 4]);
     let mut buf = [0; 3];
     let rows = [
         (Ok(3), b"abc"),
@@ -125,13 +157,13 @@ fn source_gives_and_fails_as_planned(rt: HostRuntime) -> Result<(), Fail> {
         assert!(rt; source.read(&mut buf) == answer);
         assert!(rt; &buf == given);
     }
-    Ok(())
+    drop(source);
 }
 
 #[test]
-fn sink_takes_and_fails_as_planned(rt: HostRuntime) -> Result<(), Fail> {
+fn sink_takes_and_fails_as_planned(rt: HostRuntime) {
     let alloc = rt.alloc();
-    let mut sink = MemSink::new(alloc, [2].to_vec(alloc)?);
+    let mut sink = MemSink::new(alloc, [2].to_vec(alloc).expect(&rt, "memory"));
     let rows: [(&[u8], Result<(), SinkAnswer>); 4] = [
         (b"ab", Ok(())),
         (b"cd", Err(SinkAnswer::Failed)),
@@ -142,7 +174,7 @@ fn sink_takes_and_fails_as_planned(rt: HostRuntime) -> Result<(), Fail> {
         assert!(rt; write_all(&mut sink, piece) == answer);
     }
     assert!(rt; sink.written() == b"abe".as_slice());
-    Ok(())
+    drop(sink);
 }
 
 /// A reader and writer whose first calls are interrupted, and the later ones give or take so many bytes.

@@ -1,7 +1,8 @@
 //! The script of a large run: whole texts, and the sink failing at each of its calls.
 use io_edge::{MemSink, SinkAnswer};
 use load_script::write_script;
-use std::test::Fail;
+use std::alloc::Global;
+use std::process::Abort;
 
 const TWO_TURNS: &str = "\
 cluster start=1704067200000000000 queue=2 callbacks=256
@@ -27,29 +28,33 @@ settle
 servers
 ";
 
-#[test]
-fn whole_scripts(rt: HostRuntime) -> Result<(), Fail> {
-    let alloc = rt.alloc();
+/// The script of so many turns.
+fn script(rt: &impl Abort, alloc: Global, turns: u32, seed: u64) -> MemSink {
     let mut out = MemSink::new(alloc, Vec::new(alloc));
-    write_script(alloc, 2, 1, &mut out)?;
-    assert!(rt; out.written() == TWO_TURNS.as_bytes());
-
-    let mut out = MemSink::new(alloc, Vec::new(alloc));
-    write_script(alloc, 2_000, u64::MAX, &mut out)?;
-    let text = out.written();
-    assert!(rt; text.len() == 161_353);
-    assert!(rt; text.ends_with(LAST_TURNS.as_bytes()));
-    Ok(())
+    write_script(alloc, turns, seed, &mut out).expect(rt, "memory");
+    out
 }
 
 #[test]
-fn each_write_fails_in_turn(rt: HostRuntime) -> Result<(), Fail> {
+fn whole_scripts(rt: HostRuntime) {
+    let two = script(&rt, rt.alloc(), 2, 1);
+    assert!(rt; two.written() == TWO_TURNS.as_bytes());
+    drop(two);
+    let many = script(&rt, rt.alloc(), 2_000, u64::MAX);
+    assert!(rt; many.written().len() == 161_353);
+    assert!(rt; many.written().ends_with(LAST_TURNS.as_bytes()));
+    drop(many);
+}
+
+#[test]
+fn each_write_fails_in_turn(rt: HostRuntime) {
     let alloc = rt.alloc();
     for failing in [1, 2, 3, 4] {
-        let mut out = MemSink::new(alloc, [failing].to_vec(alloc)?);
+        let failing = [failing].to_vec(alloc).expect(&rt, "memory");
+        let mut out = MemSink::new(alloc, failing);
         let written = write_script(alloc, 2, 1, &mut out);
         assert!(rt; written == Err(SinkAnswer::Failed));
         assert!(rt; TWO_TURNS.as_bytes().starts_with(out.written()));
+        drop(out);
     }
-    Ok(())
 }

@@ -1,5 +1,5 @@
-use ais_values::StreamKind;
-use format_expr::parse_expr;
+use ais_values::{Seq, StreamKind};
+use format_expr::{Expr, parse_expr};
 use record_scan::{find_records, record_length, separable};
 use std::alloc::Global;
 use std::process::Abort;
@@ -20,7 +20,14 @@ const LINES: &[u8] = b"IN<a>\nER<IN>\nIN(a)\nIN<a b>\nIN<a>";
 
 const SHORT_ROWS: &str = "1`IN`1,4,;2`IN`2,;2`a b`4,;2`a`1,;1`IN<`";
 
-/// The numbers found, with a comma behind each.
+fn parsed(rt: &impl Abort, alloc: Global, text: &[u8]) -> Expr {
+    match parse_expr(alloc, StreamKind::System, text) {
+        Ok(expr) => expr,
+        Err(answer) => panic!(rt; "{answer:?}"),
+    }
+}
+
+/// The numbers found.
 fn found(
     rt: &impl Abort,
     alloc: Global,
@@ -29,31 +36,36 @@ fn found(
     bytes: &[u8],
     token: u32,
     wanted: &[u8],
-) -> String {
-    let mut told = String::new(alloc);
-    let expr = match parse_expr(alloc, StreamKind::System, text) {
-        Ok(expr) => expr,
-        Err(answer) => panic!(rt; "{answer:?}"),
-    };
+) -> Seq<u32> {
+    let expr = parsed(rt, alloc, text);
     match separable(&expr, size) {
         Ok(()) => {}
         Err(refusal) => panic!(rt; "{refusal:?}"),
     }
     assert!(rt; bytes.len() <= 4_294_967_294);
     let numbers = find_records(alloc, &expr, size, bytes, token, wanted).expect(rt, "memory");
+    drop(expr);
+    numbers
+}
+
+/// Numbers in words, with a comma behind each.
+fn words_of(rt: &impl Abort, alloc: Global, numbers: Seq<u32>) -> String {
+    let mut told = String::new(alloc);
     for number in numbers.as_slice() {
         let part = format!(in alloc; "{number},").expect(rt, "memory");
         told.push_str(part.as_str()).expect(rt, "memory");
     }
+    drop(numbers);
     told
 }
 
 fn check_row(rt: &impl Abort, alloc: Global, text: &[u8], size: u32, bytes: &[u8], row: &str) {
     let (token, rest) = row.split_once('`').expect(rt, "a token");
-    let (wanted, numbers) = rest.split_once('`').expect(rt, "a text and numbers");
+    let (wanted, want) = rest.split_once('`').expect(rt, "a text and numbers");
     let token: u32 = token.parse().ok().expect(rt, "a number");
-    let told = found(rt, alloc, text, size, bytes, token, wanted.as_bytes());
-    assert!(rt; told.as_str() == numbers, "{row}: {told}");
+    let numbers = found(rt, alloc, text, size, bytes, token, wanted.as_bytes());
+    let told = words_of(rt, alloc, numbers);
+    assert!(rt; told.as_str() == want, "{row}: {told}");
 }
 
 #[test]

@@ -2,7 +2,7 @@ use ais_values::{ClassId, Name, Seq, StreamKind, Text};
 use format_expr::{Expr, parse_expr};
 use record_print::{Header, LogRecord, is_printable, print_record};
 use record_scan::{is_text, scan_record, separable};
-use std::alloc::{AllocError, Global};
+use std::alloc::Global;
 use std::process::Abort;
 
 /// The first second of 2024.
@@ -77,27 +77,27 @@ const PIECES: &str =
 const PIECES_OF_LINES: &str = "@Sl @Cb`3;@Sl10 @Cb`0;@Cb @Sv`0";
 
 /// A record of the kind, whose body ends in two blanks.
-fn record_of(alloc: Global, kind: StreamKind) -> Result<LogRecord, AllocError> {
+fn record_of(rt: &impl Abort, alloc: Global, kind: StreamKind) -> LogRecord {
     let header = match kind {
         StreamKind::Alarm | StreamKind::Notification => Header::Ntf {
             id: 0x2a,
             event_type: 0x4001,
-            object: Name::new(alloc, b"node1").map_err(|_| AllocError)?,
-            notifier: Name::new(alloc, b"hw").map_err(|_| AllocError)?,
+            object: Name::new(alloc, b"node1").expect(rt, "a name"),
+            notifier: Name::new(alloc, b"hw").expect(rt, "a name"),
             class: CLASS,
             event_time: T,
         },
         StreamKind::System | StreamKind::Application => Header::Generic {
             class: CLASS,
-            user: Name::new(alloc, b"safApp=web").map_err(|_| AllocError)?,
+            user: Name::new(alloc, b"safApp=web").expect(rt, "a name"),
             severity: 6,
         },
     };
-    Ok(LogRecord {
+    LogRecord {
         time: T,
         header,
-        body: Text::from_vec(b"a  ".to_vec(alloc)?),
-    })
+        body: Text::from_vec(b"a  ".to_vec(alloc).expect(rt, "memory")),
+    }
 }
 
 fn parsed(rt: &impl Abort, alloc: Global, kind: StreamKind, text: &[u8]) -> Expr {
@@ -108,7 +108,7 @@ fn parsed(rt: &impl Abort, alloc: Global, kind: StreamKind, text: &[u8]) -> Expr
 }
 
 fn printed(rt: &impl Abort, alloc: Global, kind: StreamKind, expr: &Expr, size: u32) -> Text {
-    let rec = record_of(alloc, kind).expect(rt, "memory");
+    let rec = record_of(rt, alloc, kind);
     assert!(rt; size >= 32 && size <= 16_384 && is_printable(&rec));
     let line = print_record(alloc, expr, 7, &rec, size).expect(rt, "memory");
     drop(rec);

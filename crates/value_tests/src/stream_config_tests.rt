@@ -1,7 +1,6 @@
 use ais_values::{Duplicate, Name, Seq, StreamKind, Text};
 use std::alloc::Global;
 use std::process::Abort;
-use std::test::Fail;
 use stream_config::{
     FullAction, LogFile, StreamAttrs, StreamEvent, StreamName, StreamState, cfg_text, check_attrs,
     have_one_place, per_file, stamp, well_known,
@@ -12,26 +11,27 @@ const LONGEST: &[u8] = b"aaaaaaaaaaaaaaaaaaaaaaaaaaaaaaaaaaaaaaaaaaaaaaaaaaaaaaa
 const TOO_LONG: &[u8] = b"aaaaaaaaaaaaaaaaaaaaaaaaaaaaaaaaaaaaaaaaaaaaaaaaaaaaaaaaaaaaaaaaa";
 
 /// The attributes of the cfg file that the format's document prints.
-fn attrs_of(alloc: Global, file: &[u8], path: &[u8]) -> Result<StreamAttrs, Fail> {
-    Ok(StreamAttrs {
-        file: Text::new(alloc, file)?,
-        path: Text::new(alloc, path)?,
+fn attrs_of(rt: &impl Abort, alloc: Global, file: &[u8], path: &[u8]) -> StreamAttrs {
+    StreamAttrs {
+        file: Text::new(alloc, file).expect(rt, "a text"),
+        path: Text::new(alloc, path).expect(rt, "a text"),
         max_file: 32,
         record_size: 32,
         ha: 0,
         action: FullAction::Rotate,
         rotated: 1,
-        expr: Text::new(alloc, b"@Cr @Cb")?,
-    })
+        expr: Text::new(alloc, b"@Cr @Cb").expect(rt, "a text"),
+    }
 }
 
-fn passes(attrs: &StreamAttrs) -> bool {
-    check_attrs(StreamKind::System, attrs).is_ok()
+fn passes(kind: StreamKind, attrs: StreamAttrs) -> bool {
+    let accepted = check_attrs(kind, &attrs).is_ok();
+    drop(attrs);
+    accepted
 }
 
 #[test]
-fn each_bound_of_names(rt: HostRuntime) -> Result<(), Fail> {
-    let alloc = rt.alloc();
+fn each_bound_of_names(rt: HostRuntime) {
     let cases: [(&[u8], &[u8], bool); 10] = [
         (b"saLogSystem", b".", true),
         (b"", b".", false),
@@ -45,14 +45,13 @@ fn each_bound_of_names(rt: HostRuntime) -> Result<(), Fail> {
         (b"a", b"..", false),
     ];
     for (file, path, accepted) in cases {
-        assert!(rt; passes(&attrs_of(alloc, file, path)?) == accepted);
+        let attrs = attrs_of(&rt, rt.alloc(), file, path);
+        assert!(rt; passes(StreamKind::System, attrs) == accepted);
     }
-    Ok(())
 }
 
 #[test]
-fn each_bound_of_numbers(rt: HostRuntime) -> Result<(), Fail> {
-    let alloc = rt.alloc();
+fn each_bound_of_numbers(rt: HostRuntime) {
     // record size, greatest file size, HA, rotated files, accepted
     let cases = [
         (32, 32, 0, 1, true),
@@ -66,18 +65,17 @@ fn each_bound_of_numbers(rt: HostRuntime) -> Result<(), Fail> {
         (32, 32, 0, 129, false),
     ];
     for (record_size, max_file, ha, rotated, accepted) in cases {
-        let mut attrs = attrs_of(alloc, b"f", b".")?;
+        let mut attrs = attrs_of(&rt, rt.alloc(), b"f", b".");
         attrs.record_size = record_size;
         attrs.max_file = max_file;
         attrs.ha = ha;
         attrs.rotated = rotated;
-        assert!(rt; passes(&attrs) == accepted);
+        assert!(rt; passes(StreamKind::System, attrs) == accepted);
     }
-    Ok(())
 }
 
 #[test]
-fn expressions_of_each_kind(rt: HostRuntime) -> Result<(), Fail> {
+fn expressions_of_each_kind(rt: HostRuntime) {
     let alloc = rt.alloc();
     let cases: [(StreamKind, &[u8], bool); 5] = [
         (StreamKind::Alarm, b"@Nt", true),
@@ -87,11 +85,10 @@ fn expressions_of_each_kind(rt: HostRuntime) -> Result<(), Fail> {
         (StreamKind::Application, b"", true),
     ];
     for (kind, expr, accepted) in cases {
-        let mut attrs = attrs_of(alloc, b"f", b".")?;
-        attrs.expr = Text::new(alloc, expr)?;
-        assert!(rt; check_attrs(kind, &attrs).is_ok() == accepted);
+        let mut attrs = attrs_of(&rt, alloc, b"f", b".");
+        attrs.expr = Text::new(alloc, expr).expect(&rt, "a text");
+        assert!(rt; passes(kind, attrs) == accepted);
     }
-    Ok(())
 }
 
 fn cfg_is(
@@ -100,27 +97,32 @@ fn cfg_is(
     name: &StreamName,
     attrs: &StreamAttrs,
     want: &[u8],
-) -> Result<(), Fail> {
+) -> bool {
     assert!(rt; attrs.expr.as_slice().len() <= 1024);
-    assert!(rt; cfg_text(alloc, name, attrs)?.as_slice() == want);
-    Ok(())
+    let text = cfg_text(alloc, name, attrs).expect(rt, "memory");
+    let same = text.as_slice() == want;
+    drop(text);
+    same
 }
 
 #[test]
-fn cfg_texts(rt: HostRuntime) -> Result<(), Fail> {
+fn cfg_texts(rt: HostRuntime) {
     let alloc = rt.alloc();
-    let mut attrs = attrs_of(alloc, b"saLogSystem", b".")?;
+    let mut attrs = attrs_of(&rt, alloc, b"saLogSystem", b".");
     let system =
         b"STREAM: system\nVERSION: A.02.01\nFORMAT: @Cr @Cb\nMAX_FILE_SIZE: 32\nRECORD_SIZE: 32\nFULL_ACTION: ROTATE\nROTATED_FILES: 1\nHA: 0\n";
     assert!(rt; system.len() == 125);
-    cfg_is(&rt, alloc, &StreamName::System, &attrs, system.as_slice())?;
+    assert!(rt; cfg_is(&rt, alloc, &StreamName::System, &attrs, system.as_slice()));
     attrs.action = FullAction::Halt;
     let name = StreamName::App {
-        name: Name::new(alloc, b"my app")?,
+        name: Name::new(alloc, b"my app").expect(&rt, "a name"),
     };
     let own =
         b"STREAM: app my app\nVERSION: A.02.01\nFORMAT: @Cr @Cb\nMAX_FILE_SIZE: 32\nRECORD_SIZE: 32\nFULL_ACTION: HALT\nROTATED_FILES: 1\nHA: 0\n";
-    cfg_is(&rt, alloc, &name, &attrs, own.as_slice())
+    let same = cfg_is(&rt, alloc, &name, &attrs, own.as_slice());
+    drop(name);
+    drop(attrs);
+    assert!(rt; same);
 }
 
 #[test]
@@ -145,21 +147,30 @@ fn stamps_rise(rt: HostRuntime) {
     assert!(rt; stamp(1_704_067_206, 1_704_067_203_000_000_000) == 1_704_067_207);
 }
 
-#[test]
-fn copies_are_equal(rt: HostRuntime) -> Result<(), Fail> {
-    let alloc = rt.alloc();
+/// The alarm stream, which has taken three records, all in its first file.
+fn alarm_stream(rt: &impl Abort, alloc: Global) -> StreamState {
     let mut files = Seq::new(alloc);
-    files.push(LogFile {
+    let first = LogFile {
         created: 7,
         closed: None,
-    })?;
-    let before = StreamState {
+    };
+    files.push(first).expect(rt, "memory");
+    StreamState {
         name: StreamName::Alarm,
-        attrs: attrs_of(alloc, b"f", b".")?,
+        attrs: attrs_of(rt, alloc, b"f", b"."),
         taken: 3,
         files,
-    };
+    }
+}
+
+#[test]
+fn copies_are_equal(rt: HostRuntime) {
+    let alloc = rt.alloc();
+    let before = alarm_stream(&rt, alloc);
     let event = StreamEvent::Ended { before, closed: 9 };
-    assert!(rt; event == event.copy(alloc)?);
-    Ok(())
+    let copy = event.copy(alloc).expect(&rt, "memory");
+    let equal = event == copy;
+    drop(event);
+    drop(copy);
+    assert!(rt; equal);
 }

@@ -113,8 +113,8 @@ fn stored(alloc: Global, taken: u32, stamps: Option<Stamps>) -> Result<StreamEve
     requires new { IfSome stamps (λ two. IsStamp two.closed × IsStamp two.created) }
     ensures { IfOk result IsFitEvent }
 {
-    let before = system_stream(alloc, taken)?;
     let bytes = Text::from_vec(vec![in alloc; 120; 256]?);
+    let before = system_stream(alloc, taken)?;
     Ok(StreamEvent::Stored {
         before,
         bytes,
