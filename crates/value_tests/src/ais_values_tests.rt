@@ -3,7 +3,6 @@ use ais_values::tables::*;
 use ais_values::*;
 use std::alloc::Global;
 use std::process::Abort;
-use std::test::Fail;
 
 #[test]
 fn codes_and_names(rt: HostRuntime) {
@@ -13,6 +12,11 @@ fn codes_and_names(rt: HostRuntime) {
     }
     assert!(rt; code_of(&MONTHS, "nothing") == None);
     assert!(rt; name_of(&MONTHS, 13) == None);
+    event_types_are_known(&rt);
+    times_are_known(&rt);
+}
+
+fn event_types_are_known(rt: &impl Abort) {
     for (code, found) in [
         (0x1000, false),
         (0x1001, true),
@@ -21,6 +25,9 @@ fn codes_and_names(rt: HostRuntime) {
     ] {
         assert!(rt; is_event_type(code) == found);
     }
+}
+
+fn times_are_known(rt: &impl Abort) {
     for (time, accepted) in [
         (i64::MIN, true),
         (i64::MIN + 1, false),
@@ -163,29 +170,34 @@ fn list_is_copied(rt: &impl Abort, alloc: Global) -> bool {
     equal
 }
 
+/// A copy of the value is made, which is equal to it.
+fn copied<T: Duplicate + PartialEq + Drop>(rt: &impl Abort, alloc: Global, value: T) {
+    let copy = value.copy(alloc).expect(rt, "memory");
+    assert!(rt; copy == value);
+}
+
 #[test]
-fn lists_and_copies(rt: HostRuntime) -> Result<(), Fail> {
+fn lists_and_copies(rt: HostRuntime) {
     let alloc = rt.alloc();
     assert!(rt; list_is_copied(&rt, alloc));
-    assert!(rt; Some(7u8).copy(alloc)? == Some(7));
-    assert!(rt; None::<u32>.copy(alloc)? == None);
-    assert!(rt; u64::MAX.copy(alloc)? == u64::MAX);
-    assert!(rt; i64::MIN.copy(alloc)? == i64::MIN);
-    assert!(rt; true.copy(alloc)?);
-    assert!(rt; MONTHS[3].copy(alloc)? == MONTHS[3]);
-    assert!(rt; Which::Ntf.copy(alloc)? == Which::Ntf);
-    assert!(rt; StreamKind::System.copy(alloc)? == StreamKind::System);
+    copied(&rt, alloc, Some(7u8));
+    copied(&rt, alloc, None::<u32>);
+    copied(&rt, alloc, u64::MAX);
+    copied(&rt, alloc, i64::MIN);
+    copied(&rt, alloc, true);
+    copied(&rt, alloc, MONTHS[3]);
+    copied(&rt, alloc, Which::Ntf);
+    copied(&rt, alloc, StreamKind::System);
     let version = Version {
         release: b'A',
         major: 2,
         minor: 1,
     };
-    assert!(rt; version.copy(alloc)? == version);
+    copied(&rt, alloc, version);
     let class = ClassId {
         vendor: 1,
         major: 2,
         minor: 3,
     };
-    assert!(rt; class.copy(alloc)? == class);
-    Ok(())
+    copied(&rt, alloc, class);
 }

@@ -195,7 +195,7 @@ fn changes_files<D: SharedDisk>(
 // A disk in memory does what every disk does, and has nothing of a file that is absent.
 fn changes_memory(rt: &impl Abort, disk: &mut MemDisk, alloc: Global) -> Result<(), DiskAnswer> {
     changes_files(rt, disk, alloc)?;
-    assert!(rt; disk.read(b"absent", 0, &mut [0; 2])? == 0);
+    assert!(rt; disk.read(b"absent", 0, &mut [0; 2]) == Ok(0));
     let steps = [Step::Write("absent", 0, b"x"), Step::Lacks("absent")];
     plays(rt, disk, alloc, &steps)
 }
@@ -269,18 +269,26 @@ fn follows_names<D: SharedDisk>(
     stands(rt, "ais_log_root/k/b", b"k/a+new")
 }
 
-// A file that stays open is made anew, cut and removed, and its length is known then; a crash closes it.
-fn follows_lengths<D: SharedDisk>(
-    rt: &(impl Abort + Files + AllocGlobal),
+// A file that stays open is made anew.
+fn makes_anew<D: SharedDisk>(
+    rt: &impl Abort,
     disk: &mut D,
-) -> Result<(), Fail> {
+    alloc: Global,
+) -> Result<(), DiskAnswer> {
     let steps = [
         Step::Write("k/b", 7, b"er"),
         Step::Create("k/b"),
         Step::Write("k/b", 1, b"past the end"),
     ];
-    plays(rt, disk, rt.alloc(), &steps)?;
-    stands(rt, "ais_log_root/k/b", b"")?;
+    plays(rt, disk, alloc, &steps)
+}
+
+// A file that stays open is removed, made, and cut; a crash closes it.
+fn cuts_open<D: SharedDisk>(
+    rt: &impl Abort,
+    disk: &mut D,
+    alloc: Global,
+) -> Result<(), DiskAnswer> {
     disk.remove(b"k/b")?;
     assert!(rt; disk.write_at(b"k/b", 0, b"x") == Err(DiskAnswer::Failed));
     let steps = [
@@ -291,10 +299,24 @@ fn follows_lengths<D: SharedDisk>(
         Step::Write("k/b", 3, b"past the end"),
         Step::Write("k/b", 2, b"!"),
     ];
-    plays(rt, disk, rt.alloc(), &steps)?;
+    plays(rt, disk, alloc, &steps)?;
     disk.crash();
-    let steps = [Step::Write("k/b", 3, b"?"), Step::Sync("k/b")];
-    plays(rt, disk, rt.alloc(), &steps)?;
+    plays(
+        rt,
+        disk,
+        alloc,
+        &[Step::Write("k/b", 3, b"?"), Step::Sync("k/b")],
+    )
+}
+
+// Of a file that stays open the length is known, whatever is done with it.
+fn follows_lengths<D: SharedDisk>(
+    rt: &(impl Abort + Files + AllocGlobal),
+    disk: &mut D,
+) -> Result<(), Fail> {
+    makes_anew(rt, disk, rt.alloc())?;
+    stands(rt, "ais_log_root/k/b", b"")?;
+    cuts_open(rt, disk, rt.alloc())?;
     stands(rt, "ais_log_root/k/b", b"an!?")
 }
 
@@ -306,8 +328,8 @@ fn refuses_names<D: SharedDisk>(
     assert!(rt; disk.read(b"absent", 0, &mut [0; 2]) == Err(DiskFault::Failed));
     assert!(rt; disk.write_at(b"absent", 0, b"x") == Err(DiskAnswer::Failed));
     assert!(rt; disk.create(b"../x") == Err(DiskAnswer::Failed));
-    assert!(rt; disk.len(b"../x")? == None, "no file has such a name");
-    assert!(rt; disk.len(b"b")? == None, "a folder is no file");
+    assert!(rt; disk.len(b"../x") == Ok(None), "no file has such a name");
+    assert!(rt; disk.len(b"b") == Ok(None), "a folder is no file");
     fs::write(rt, "ais_log_root/b/a\nb", "x")?;
     assert!(rt; disk.names(rt.alloc()).is_err(), "a name that is not plain");
     Ok(())
@@ -420,10 +442,10 @@ fn fails_in_writes(rt: &impl Abort, alloc: Global) -> Result<(), DiskAnswer> {
 
 // Changing calls that fail leave a file as it is; of two reads of it the second is the one that fails.
 fn fails_in_calls(rt: &impl Abort, disk: &mut MemDisk, alloc: Global) -> Result<(), DiskAnswer> {
-    assert!(rt; disk.create(b"g") == Err(DiskAnswer::Failed));
-    assert!(rt; disk.rename(b"f", b"g") == Err(DiskAnswer::Failed));
-    assert!(rt; disk.remove(b"f") == Err(DiskAnswer::Failed));
-    assert!(rt; disk.len(b"g")? == None);
+    for step in [Step::Create("g"), Step::Rename("f", "g"), Step::Remove("f")] {
+        assert!(rt; plays_one(rt, disk, alloc, step) == Err(DiskAnswer::Failed));
+    }
+    assert!(rt; disk.len(b"g") == Ok(None));
     assert!(rt; disk.len(b"f") == Err(DiskFault::Failed));
     holds(rt, disk, alloc, "f", Some(b"abcdef"))
 }

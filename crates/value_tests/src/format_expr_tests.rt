@@ -4,10 +4,17 @@ use format_expr::{
 };
 use std::alloc::Global;
 use std::process::Abort;
-use std::test::Fail;
+
+/// Whether a text is refused by the check and by the reader, at one place and for one reason.
+fn is_refused(alloc: Global, kind: StreamKind, text: &[u8], fault: ExprFault) -> bool {
+    let answer = parse_expr(alloc, kind, text);
+    let unread = matches!(&answer, Err(ExprAnswer::Bad { fault: found }) if *found == fault);
+    drop(answer);
+    unread && check_expr(kind, text) == Err(fault)
+}
 
 #[test]
-fn refused_texts(rt: HostRuntime) -> Result<(), Fail> {
+fn refused_texts(rt: HostRuntime) {
     let table: [(StreamKind, &[u8], u32, ExprWhy); 20] = [
         (StreamKind::System, b"ab@", 3, ExprWhy::LoneAt),
         (StreamKind::Alarm, b"@Nq", 2, ExprWhy::UnknownToken),
@@ -31,19 +38,13 @@ fn refused_texts(rt: HostRuntime) -> Result<(), Fail> {
         (StreamKind::System, b"a\xc3\xa9", 1, ExprWhy::ControlByte),
     ];
     for (kind, text, place, why) in table {
-        assert!(rt;
-            check_expr(kind, text) == Err(ExprFault { place, why }),
-            "{text:?}"
-        );
-        let answer = parse_expr(rt.alloc(), kind, text);
-        assert!(rt;
-            matches!(answer, Err(ExprAnswer::Bad { fault }) if fault == ExprFault { place, why }),
-            "{text:?}"
-        );
+        let refused = is_refused(rt.alloc(), kind, text, ExprFault { place, why });
+        assert!(rt; refused, "{text:?}");
     }
-    assert!(rt; format!(in rt.alloc(); "{}", ExprWhy::LoneAt)?.as_str() == "LoneAt");
-    assert!(rt; ExprWhy::TooLong.copy(rt.alloc())? == ExprWhy::TooLong);
-    Ok(())
+    let printed = format!(in rt.alloc(); "{}", ExprWhy::LoneAt).expect(&rt, "memory");
+    assert!(rt; printed.as_str() == "LoneAt");
+    let copy = ExprWhy::TooLong.copy(rt.alloc()).expect(&rt, "memory");
+    assert!(rt; copy == ExprWhy::TooLong);
 }
 
 /// What a check answers of so many letters with this end.

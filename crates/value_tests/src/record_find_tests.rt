@@ -88,10 +88,15 @@ fn some_records(rt: HostRuntime) {
 
 #[test]
 fn record_lengths(rt: HostRuntime) {
-    assert_eq!(rt; record_length(8, SHORT), Some(8));
-    assert_eq!(rt; record_length(8, b"IN<a> \n"), None);
-    assert_eq!(rt; record_length(0, LINES), Some(6));
-    assert_eq!(rt; record_length(0, b"\n"), Some(1));
-    assert_eq!(rt; record_length(0, b"IN<a>"), None);
-    assert_eq!(rt; record_length(1, b""), None);
+    let rows: [(u32, &[u8], Option<usize>); 6] = [
+        (8, SHORT, Some(8)),
+        (8, b"IN<a> \n", None),
+        (0, LINES, Some(6)),
+        (0, b"\n", Some(1)),
+        (0, b"IN<a>", None),
+        (1, b"", None),
+    ];
+    for (size, bytes, length) in rows {
+        assert!(rt; record_length(size, bytes) == length, "{bytes:?}");
+    }
 }

@@ -91,6 +91,13 @@ fn prints(
     line.as_slice().len() == size as usize && is_line(line.as_slice(), want)
 }
 
+/// Whether a copy of a record of this time is printed as this text.
+fn prints_generic(rt: &impl Abort, alloc: Global, time: i64, expr: &[u8], want: &[u8]) -> bool {
+    let rec = generic(rt, alloc, time, 6, b"a\x00\x1f\x7f\x80\xffb");
+    let copy = copied(rt, alloc, rec);
+    prints(rt, alloc, copy, 7, 256, StreamKind::System, expr, want)
+}
+
 #[test]
 fn generic_records(rt: HostRuntime) {
     let table: [(i64, &[u8], &[u8]); 16] = [
@@ -140,18 +147,7 @@ fn generic_records(rt: HostRuntime) {
         ),
     ];
     for (time, expr, want) in table {
-        let rec = generic(&rt, rt.alloc(), time, 6, b"a\x00\x1f\x7f\x80\xffb");
-        let copy = copied(&rt, rt.alloc(), rec);
-        let printed = prints(
-            &rt,
-            rt.alloc(),
-            copy,
-            7,
-            256,
-            StreamKind::System,
-            expr,
-            want,
-        );
+        let printed = prints_generic(&rt, rt.alloc(), time, expr, want);
         assert!(rt; printed, "{expr:?} at {time}");
     }
 }

@@ -16,67 +16,66 @@ use stream_config::{
 use stream_layout::{Deed, Spot, deeds, file_name, place};
 
 /// A stream whose files hold two records of 32 bytes.
-fn attrs_of(alloc: Global, path: &[u8], action: FullAction) -> Result<StreamAttrs, Fail> {
-    Ok(StreamAttrs {
-        file: Text::new(alloc, b"saLogSystem")?,
-        path: Text::new(alloc, path)?,
+fn attrs_of(rt: &impl Abort, alloc: Global, path: &[u8], action: FullAction) -> StreamAttrs {
+    StreamAttrs {
+        file: Text::new(alloc, b"saLogSystem").expect(rt, "a text"),
+        path: Text::new(alloc, path).expect(rt, "a text"),
         max_file: 64,
         record_size: 32,
         ha: 0,
         action,
         rotated: 1,
-        expr: Text::new(alloc, b"@Cb")?,
-    })
+        expr: Text::new(alloc, b"@Cb").expect(rt, "a text"),
+    }
 }
 
-fn is_at(rt: &impl Abort, attrs: &StreamAttrs, k: u32, file: u32, at: u64) {
-    assert!(rt; check_attrs(StreamKind::System, attrs).is_ok());
-    assert!(rt; place(attrs, k) == Spot { file, at });
+/// Where a record of such a stream stands.
+fn place_of(rt: &impl Abort, alloc: Global, action: FullAction, k: u32) -> Spot {
+    let attrs = attrs_of(rt, alloc, b".", action);
+    assert!(rt; check_attrs(StreamKind::System, &attrs).is_ok());
+    let spot = place(&attrs, k);
+    drop(attrs);
+    spot
 }
 
 #[test]
-fn places_of_records(rt: HostRuntime) -> Result<(), Fail> {
-    let alloc = rt.alloc();
-    let wrap = attrs_of(alloc, b".", FullAction::Wrap)?;
-    is_at(&rt, &wrap, 1, 0, 32);
-    is_at(&rt, &wrap, 4, 0, 0);
-    is_at(&rt, &attrs_of(alloc, b".", FullAction::Halt)?, 1, 0, 32);
-    is_at(&rt, &attrs_of(alloc, b".", FullAction::Rotate)?, 5, 2, 32);
+fn places_of_records(rt: HostRuntime) {
+    for (action, k, file, at) in [
+        (FullAction::Wrap, 1, 0, 32),
+        (FullAction::Wrap, 4, 0, 0),
+        (FullAction::Halt, 1, 0, 32),
+        (FullAction::Rotate, 5, 2, 32),
+    ] {
+        assert!(rt; place_of(&rt, rt.alloc(), action, k) == Spot { file, at });
+    }
     let spot = Spot { file: 2, at: 32 };
-    assert!(rt; spot.copy(alloc)? == spot);
-    Ok(())
+    assert!(rt; spot.copy(rt.alloc()).expect(&rt, "memory") == spot);
 }
 
-fn is_named(
-    rt: &impl Abort,
-    alloc: Global,
-    path: &[u8],
-    closed: Option<i64>,
-    want: &[u8],
-) -> Result<(), Fail> {
-    let attrs = attrs_of(alloc, path, FullAction::Wrap)?;
+fn is_named(rt: &impl Abort, alloc: Global, path: &[u8], closed: Option<i64>, want: &[u8]) -> bool {
+    let attrs = attrs_of(rt, alloc, path, FullAction::Wrap);
     assert!(rt; check_attrs(StreamKind::System, &attrs).is_ok());
-    match closed {
-        None => {
-            let name = file_name(alloc, &attrs, 1_704_067_202, None)?;
-            assert!(rt; name.as_slice() == want);
-        }
+    let name = match closed {
+        None => file_name(alloc, &attrs, 1_704_067_202, None),
         Some(closed) => {
             assert!(rt; closed >= 0 && closed <= 20_000_000_100);
-            let name = file_name(alloc, &attrs, 1_704_067_202, Some(closed))?;
-            assert!(rt; name.as_slice() == want);
+            file_name(alloc, &attrs, 1_704_067_202, Some(closed))
         }
-    }
-    Ok(())
+    };
+    drop(attrs);
+    let name = name.expect(rt, "memory");
+    let same = name.as_slice() == want;
+    drop(name);
+    same
 }
 
 #[test]
-fn names_of_files(rt: HostRuntime) -> Result<(), Fail> {
+fn names_of_files(rt: HostRuntime) {
     let alloc = rt.alloc();
     let open = b"saLogSystem_20240101_000002.log".as_slice();
-    is_named(&rt, alloc, b".", None, open)?;
+    assert!(rt; is_named(&rt, alloc, b".", None, open));
     let shut = b"apps/saLogSystem_20240101_000002_26031011_113500.log".as_slice();
-    is_named(&rt, alloc, b"apps", Some(20_000_000_100), shut)
+    assert!(rt; is_named(&rt, alloc, b"apps", Some(20_000_000_100), shut));
 }
 
 /// The system stream with its first file.
