@@ -10,7 +10,6 @@ use log_service::{LogPlan, LogState, Step};
 use record_print::{Header, LogRecord};
 use std::alloc::{AllocError, Global};
 use std::process::Abort;
-use std::test::Fail;
 use stream_config::{
     FullAction, LogFile, StreamAttrs, StreamEvent, StreamName, StreamState, well_known,
 };
@@ -216,16 +215,16 @@ fn closes_all(rt: &impl Abort, alloc: Global, state: &mut LogState, client: u16)
 }
 
 /// The record of an alarm.
-fn notified(alloc: Global) -> Result<LogRecord, Fail>
-    ensures { IfOk result (IsNotified Alarm) }
+fn notified(rt: &impl Abort, alloc: Global) -> LogRecord
+    ensures { IsNotified Alarm result }
 {
-    Ok(LogRecord {
+    LogRecord {
         time: START,
         header: Header::Ntf {
             id: 1,
             event_type: 16_385,
-            object: Name::new(alloc, b"node1")?,
-            notifier: Name::new(alloc, b"hw")?,
+            object: Name::new(alloc, b"node1").expect(rt, "a name"),
+            notifier: Name::new(alloc, b"hw").expect(rt, "a name"),
             class: ClassId {
                 vendor: 1,
                 major: 2,
@@ -233,8 +232,8 @@ fn notified(alloc: Global) -> Result<LogRecord, Fail>
             },
             event_time: START,
         },
-        body: Text::new(alloc, b"fan")?,
-    })
+        body: Text::new(alloc, b"fan").expect(rt, "a text"),
+    }
 }
 
 /// Stores the record of an alarm, as planned.
@@ -252,21 +251,22 @@ fn stores(rt: &impl Abort, alloc: Global, state: &mut LogState, rec: &LogRecord)
 }
 
 /// The alarm stream, made at the second 7.
-fn alarm_state(alloc: Global) -> Result<StreamState, Fail>
-    ensures name { IfOk result (λ state. state.name ≡ StreamName.Alarm) }
-    ensures passes { IfOk result (λ state. PassesAttrs Alarm state.attrs) }
+fn alarm_state(rt: &impl Abort, alloc: Global) -> StreamState
+    ensures name { result.name ≡ StreamName.Alarm }
+    ensures passes { PassesAttrs Alarm result.attrs }
 {
     let mut files = Seq::new(alloc);
-    files.push(LogFile {
+    let first = LogFile {
         created: 7,
         closed: None,
-    })?;
-    Ok(StreamState {
+    };
+    files.push(first).expect(rt, "memory");
+    StreamState {
         name: StreamName::Alarm,
-        attrs: well_known(alloc, StreamKind::Alarm)?,
+        attrs: well_known(alloc, StreamKind::Alarm).expect(rt, "memory"),
         taken: 0,
         files,
-    })
+    }
 }
 
 /// A stream takes so many records, and then answers so. Its last file has this stamp then.
@@ -416,37 +416,37 @@ fn holds_64_application_streams(rt: HostRuntime) {
 
 /// The record of a notification is stored in the stream of its kind.
 #[test]
-fn stores_for_notifications(rt: HostRuntime) -> Result<(), Fail> {
+fn stores_for_notifications(rt: HostRuntime) {
     let alloc = rt.alloc();
-    let rec = notified(alloc)?;
+    let rec = notified(&rt, alloc);
     let mut state = opened(&rt, alloc, 64, FullAction::Wrap);
     assert!(rt; stores(&rt, alloc, &mut state, &rec) == Status::Ok);
     assert!(rt; told(&state, 0) == (1, SECOND) && told(&state, 1) == (0, SECOND + 1));
     drop(state);
     drop(rec);
-    Ok(())
 }
 
 /// A state of this stream alone, which nobody has open, and of one user.
-fn again(alloc: Global, stream: StreamState) -> Result<LogState, Fail>
+fn again(rt: &impl Abort, alloc: Global, stream: StreamState) -> LogState
     requires name { stream.name ≡ StreamName.Alarm }
     requires passes { PassesAttrs Alarm stream.attrs }
 {
     let mut users = Seq::new(alloc);
-    users.push(1)?;
+    users.push(1).expect(rt, "memory");
     let mut streams = Seq::new(alloc);
-    streams.push(stream)?;
+    streams.push(stream).expect(rt, "memory");
     let mut openers = Seq::new(alloc);
-    openers.push(Seq::new(alloc))?;
-    Ok(LogState::rebuild(alloc, 7, users, streams, openers)?)
+    openers.push(Seq::new(alloc)).expect(rt, "memory");
+    LogState::rebuild(alloc, 7, users, streams, openers).expect(rt, "memory")
 }
 
 /// A state is made again of its parts.
 #[test]
-fn rebuilds(rt: HostRuntime) -> Result<(), Fail> {
+fn rebuilds(rt: HostRuntime) {
     let alloc = rt.alloc();
-    let state = again(alloc, alarm_state(alloc)?)?;
+    let stream = alarm_state(&rt, alloc);
+    let state = again(&rt, alloc, stream);
     assert!(rt; state.last_stamp() == 7 && state.users() == [1].as_slice());
     assert!(rt; told(&state, 0) == (0, 7) && state.count() == 1);
-    Ok(())
+    drop(state);
 }
