@@ -20,12 +20,13 @@ use Rattle.std.proofs.lemmas.Bool.{eqb-true}
 use Rattle.std.proofs.lemmas.List.{get_or_default}
 use Rattle.ais_values.specs.declared.status.Status.{Status}
 use Rattle.alarm_view.specs.Modes.{mode_of}
-use Rattle.client_set.specs.Rising.{IsRising}
+use Rattle.client_set.specs.Rising.{IsRising, put}
 use Rattle.calls.specs.declared.saved.SavedReader.{SavedReader}
 use Rattle.ntf_history.specs.Rows.{answer, start_rows_by, start_by}
-use Rattle.service_table.specs.Tables.{client_window, is_window_for, window_before, reader_for}
+use Rattle.service_table.specs.Tables.{client_window, is_window_for, window_before, reader_for, reader_before}
 use Rattle.service_table.specs.Answering.{start_answer}
-use Rattle.service_table.specs.Steps.{window_for, with_reply, answered}
+use Rattle.service_table.specs.Steps.{window_for, with_reply, answered, started_at}
+use Rattle.service_parts.specs.Telling.{reader_at}
 use Rattle.service_parts.proofs.ClientPlaces.{place_in, find-here, find-none, known-place, set-put, insert-put}
 
 pub start-value : (mode : SearchMode) (value : ℤ) (filters : FilterSet) (alarms : List KeptAlarm) (result : Option Cursor) → AreInOrder alarms → IfSome result (λ cursor. IsStartAt mode value filters (notifications alarms) cursor) → IfNone result (IsNone (CanStart mode value filters) (notifications alarms)) → result ≡ option_map cursor_before (starting mode value filters (reverse (notifications alarms)))
@@ -73,6 +74,11 @@ start-answered is_user client code value seen filters alarms readers slice missi
       mapped : (o : Option Notification) → is_none (option_map cursor_before o) ≡ is_none o
       mapped None = refl
       mapped (Some alarm) = refl
+
+-- the reader that starts at the alarm that was found
+pub starts-found : (client : ℕ) (filters : FilterSet) (readers : List SavedReader) (first : Option Notification) (cursor : Cursor) → option_map cursor_before first ≡ Some cursor → put reader_before (reader_at client filters cursor) readers ≡ option_map_or (λ alarm. put reader_before (started_at client filters alarm) readers) first readers
+starts-found client filters readers None cursor is = absurd cc
+starts-found client filters readers (Some alarm) cursor is = cc
 
 -- the window of a client that is answered
 
