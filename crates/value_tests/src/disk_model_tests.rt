@@ -55,7 +55,7 @@ fn lists<D: SharedDisk>(
     Ok(())
 }
 
-/// A call of a disk that succeeds, or what a file of it holds then.
+/// A changing call of a disk, or what it has under a name.
 #[derive(Clone, Copy)]
 enum Step<'a> {
     Create(&'a str),
@@ -378,7 +378,7 @@ fn a_disk_on_folders_changes_its_files(rt: HostRuntime) -> Result<(), Fail> {
     done
 }
 
-// A disk in memory with this file, of which nothing is loose.
+// A disk in memory with the file `f` of six bytes, of which nothing is loose.
 fn disk_of(
     rt: &impl Abort,
     alloc: Global,

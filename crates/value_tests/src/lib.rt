@@ -1,4 +1,5 @@
-//! Tests of the crates of values, records, streams, disks and messages in flight, a file a tested crate: what no clause says.
+//! Tests of the crates of values, records, streams, disks and messages in flight, a file or two a tested crate: what no
+//! clause says.
 #![tactic(auto)]
 
 #[cfg(test)]
