@@ -7,35 +7,35 @@ use Rattle.script_grammar.specs.Reading.{known, word, part, unless, maybe_list}
 use Rattle.script_grammar.specs.ValueReading.{hex_word_at}
 use Rattle.script_language.specs.ValueReading.{number8_at, number16_at, number32_at, number64_at, signed64_at, quoted_name_at, class_at}
 use Rattle.script_language.specs.StreamReading.{full_action_at}
-use Rattle.script.specs.declared.streams.Sizes.{Sizes}
-use Rattle.script.specs.declared.asks.Marks.{Marks}
+use Rattle.script.specs.declared.streams.Bounds.{Bounds}
+use Rattle.script.specs.declared.asks.WriteOptions.{WriteOptions}
 use Rattle.script.specs.declared.values.Origin.{Origin}
 use Rattle.script.specs.declared.filters.Subjects.{Subjects}
 use Rattle.script.specs.declared.filters.Reasons.{Reasons}
 
-abbrev pub sizes_of : ℕ → ℕ → ℕ → FullAction → ℕ → Sizes
-sizes_of max_file record_size ha action rotated = record { max_file = max_file; record_size = record_size; ha = ha; action = action; rotated = rotated }
+abbrev pub bounds_of : ℕ → ℕ → ℕ → FullAction → ℕ → Bounds
+bounds_of max_file record_size ha action rotated = record { max_file = max_file; record_size = record_size; ha = ha; action = action; rotated = rotated }
 
 -- max=N rec=N ha=N full=F rot=N, with a blank before each
-unfoldable pub sizes_at : List ℕ → Option (Sizes × List ℕ)
-sizes_at =
+unfoldable pub bounds_at : List ℕ → Option (Bounds × List ℕ)
+bounds_at =
     part (word (codes " max=") number64_at) (λ max_file.
     part (word (codes " rec=") number32_at) (λ record_size.
     part (word (codes " ha=") number8_at) (λ ha.
     part (word (codes " full=") full_action_at) (λ action.
     part (word (codes " rot=") number32_at) (λ rotated.
-    known (sizes_of max_file record_size ha action rotated))))))
+    known (bounds_of max_file record_size ha action rotated))))))
 
-abbrev pub marks_of : ℕ → ℕ → ℤ → Marks
-marks_of invocation flags time = record { invocation = invocation; flags = flags; time = time }
+abbrev pub write_options_of : ℕ → ℕ → ℤ → WriteOptions
+write_options_of invocation flags time = record { invocation = invocation; flags = flags; time = time }
 
 -- inv=N flags=N [time=NS], with a blank before each
-unfoldable pub marks_at : List ℕ → Option (Marks × List ℕ)
-marks_at =
+unfoldable pub write_options_at : List ℕ → Option (WriteOptions × List ℕ)
+write_options_at =
     part (word (codes " inv=") number64_at) (λ invocation.
     part (word (codes " flags=") number32_at) (λ flags.
     part (unless unknown_time (codes " time=") signed64_at) (λ time.
-    known (marks_of invocation flags time))))
+    known (write_options_of invocation flags time))))
 
 abbrev pub origin_of : ℕ → List ℕ → List ℕ → ClassId → ℤ → Origin
 origin_of event_type object notifier class event_time =
@@ -44,7 +44,7 @@ origin_of event_type object notifier class event_time =
 -- class=V.M.N, with a blank before it, and the time behind its word, where it stands
 unfoldable pub class_time_at : List ℕ → List ℕ → Option ((ClassId × ℤ) × List ℕ)
 class_time_at time_word =
-    word (codes " class=") (part class_at (λ class. part (unless unknown_time time_word signed64_at) (λ time. known (class, time))))
+    part (word (codes " class=") class_at) (λ class. part (unless unknown_time time_word signed64_at) (λ time. known (class, time)))
 
 -- type=TYPE obj="O" by="O" class=V.M.N, with a blank before each, and the time behind its word, where it stands
 unfoldable pub origin_at : List ℕ → List ℕ → Option (Origin × List ℕ)
@@ -52,12 +52,12 @@ origin_at time_word =
     part (word (codes " type=") hex_word_at) (λ event_type.
     part (word (codes " obj=") quoted_name_at) (λ object.
     part (word (codes " by=") quoted_name_at) (λ notifier.
-    part (class_time_at time_word) (λ known_by.
-    known (origin_of event_type object notifier known_by.0 known_by.1)))))
+    part (class_time_at time_word) (λ class_time.
+    known (origin_of event_type object notifier class_time.0 class_time.1)))))
 
 -- cause=N sev=N, with a blank before each
-unfoldable pub cause_at : List ℕ → Option ((ℕ × ℕ) × List ℕ)
-cause_at =
+unfoldable pub cause_and_severity_at : List ℕ → Option ((ℕ × ℕ) × List ℕ)
+cause_and_severity_at =
     part (word (codes " cause=") number16_at) (λ cause. part (word (codes " sev=") number16_at) (λ severity. known (cause, severity)))
 
 abbrev pub subjects_of : List ℕ → List (List ℕ) → List (List ℕ) → List ClassId → Subjects

@@ -1,7 +1,7 @@
 //! What clients ask of the services.
 ghost use Rattle.std.specs.Prelude.{◌≡◌, option_map, codes};
 ghost use Rattle.script.specs.Gives.{Gives};
-ghost use Rattle.script.specs.Parts.{marks_at};
+ghost use Rattle.script.specs.Parts.{write_options_at};
 ghost use Rattle.script_grammar.specs.Reading.{maybe};
 ghost use Rattle.script_language.specs.StreamReading.{attrs_at};
 ghost use Rattle.script_language.specs.AskReading.{init_at, open_at, write_at, close_at, send_at, subscribe_at, unsubscribe_at, reader_at, read_at};
@@ -55,26 +55,26 @@ fn open(alloc: Global, bytes: &[u8]) -> Result<(Ask, &[u8]), Trouble>
 
 /// What a write has beside what is written.
 #[derive(Clone, Copy)]
-struct Marks {
+struct WriteOptions {
     invocation: u64,
     flags: u32,
     time: i64,
 }
 
 /// `inv=N flags=N [time=NS]`, with a blank before each
-#[tactic(auto, unfolding(crate::specs::Parts::marks_at))]
-fn read_marks(bytes: &[u8]) -> Option<(Marks, &[u8])>
-    ensures { marks_at bytes.now ≡ option_map (λ found. (found.0, found.1.now)) result }
+#[tactic(auto, unfolding(crate::specs::Parts::write_options_at))]
+fn write_options(bytes: &[u8]) -> Option<(WriteOptions, &[u8])>
+    ensures { write_options_at bytes.now ≡ option_map (λ found. (found.0, found.1.now)) result }
 {
     let (invocation, rest) = number64_behind(bytes, b" inv=")?;
     let (flags, rest) = number32_behind(rest, b" flags=")?;
     let (time, rest) = time_unless(rest, b" time=")?;
-    let marks = Marks {
+    let options = WriteOptions {
         invocation,
         flags,
         time,
     };
-    Some((marks, rest))
+    Some((options, rest))
 }
 
 /// `write STREAM inv=N flags=N [time=NS] HEADER body="B"`
@@ -82,14 +82,14 @@ fn write(alloc: Global, bytes: &[u8]) -> Result<(Ask, &[u8]), Trouble>
     ensures { Gives (λ found. (found.0, found.1.now)) result (write_at bytes.now) }
 {
     let (stream, rest) = stream(alloc, bytes)?;
-    let (marks, rest) = read_marks(rest).ok_or(Trouble::Bad)?;
+    let (options, rest) = write_options(rest).ok_or(Trouble::Bad)?;
     let (header, rest) = header(alloc, rest)?;
     let (body, rest) = quoted_behind(alloc, rest, b" body=")?;
     let call = Call::LogWrite {
         stream,
-        invocation: marks.invocation,
-        flags: marks.flags,
-        time: marks.time,
+        invocation: options.invocation,
+        flags: options.flags,
+        time: options.time,
         header,
         body,
     };

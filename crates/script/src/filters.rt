@@ -24,7 +24,7 @@ struct Subjects {
 
 /// `[types=TYPES] [objs=NAMES] [bys=NAMES] [classes=CLASSES]`, with a blank before each
 #[tactic(auto, unfolding(crate::specs::Parts::subjects_at))]
-fn read_subjects(alloc: Global, bytes: &[u8]) -> Result<(Subjects, &[u8]), Trouble>
+fn filter_subjects(alloc: Global, bytes: &[u8]) -> Result<(Subjects, &[u8]), Trouble>
     ensures { Gives (λ found. (found.0, found.1.now)) result (subjects_at bytes.now) }
 {
     let (types, rest) = maybe_list::<HexWords>(alloc, bytes, b" types=")?;
@@ -50,7 +50,7 @@ struct Reasons {
 
 /// `[sources=NS] [causes=NS] [sevs=NS]`, with a blank before each
 #[tactic(auto, unfolding(crate::specs::Parts::reasons_at))]
-fn read_reasons(alloc: Global, bytes: &[u8]) -> Result<(Reasons, &[u8]), Trouble>
+fn filter_reasons(alloc: Global, bytes: &[u8]) -> Result<(Reasons, &[u8]), Trouble>
     ensures { Gives (λ found. (found.0, found.1.now)) result (reasons_at bytes.now) }
 {
     let (sources, rest) = maybe_list::<Numbers16>(alloc, bytes, b" sources=")?;
@@ -68,8 +68,8 @@ fn read_reasons(alloc: Global, bytes: &[u8]) -> Result<(Reasons, &[u8]), Trouble
 fn filter(alloc: Global, bytes: &[u8]) -> Result<(Filter, &[u8]), Trouble>
     ensures { Gives (λ found. (found.0, found.1.now)) result (filter_at bytes.now) }
 {
-    let (subjects, rest) = read_subjects(alloc, bytes)?;
-    let (reasons, rest) = read_reasons(alloc, rest)?;
+    let (subjects, rest) = filter_subjects(alloc, bytes)?;
+    let (reasons, rest) = filter_reasons(alloc, rest)?;
     let filter = Filter {
         types: subjects.types,
         objects: subjects.objects,

@@ -1,15 +1,15 @@
 //! Notifications.
 ghost use Rattle.std.specs.Prelude.{◌≡◌, option_map};
 ghost use Rattle.script.specs.Gives.{Gives};
-ghost use Rattle.script.specs.Parts.{cause_at};
+ghost use Rattle.script.specs.Parts.{cause_and_severity_at};
 ghost use Rattle.script_language.specs.NoteReading.{note_kind_at, heading_at, objects_at, attributes_at, states_at, alarm_at, security_at, body_of_at, note_at};
 
 use crate::elements::{Changes, Numbers64, Pairs, StateChanges};
 use crate::lists::maybe_list;
-use crate::numbers::{number16, number16_behind, skip};
+use crate::numbers::{number16_behind, skip};
 use crate::quoted::quoted_behind;
 use crate::trouble::Trouble;
-use crate::values::{read_origin, value_behind};
+use crate::values::{event_origin, value_behind};
 use ntf_types::{Body, Notification};
 use script_lines::{Heading, NoteKind};
 use std::alloc::Global;
@@ -38,7 +38,7 @@ fn note_kind(bytes: &[u8]) -> Option<(NoteKind, &[u8])>
 fn heading(alloc: Global, bytes: &[u8]) -> Result<(Heading, &[u8]), Trouble>
     ensures { Gives (λ found. (found.0, found.1.now)) result (heading_at bytes.now) }
 {
-    let (origin, rest) = read_origin(alloc, bytes, b" time=")?;
+    let (origin, rest) = event_origin(alloc, bytes, b" time=")?;
     let (correlated, rest) = maybe_list::<Numbers64>(alloc, rest, b" corr=")?;
     let (text, rest) = quoted_behind(alloc, rest, b" text=")?;
     let (info, rest) = maybe_list::<Pairs>(alloc, rest, b" info=")?;
@@ -56,42 +56,40 @@ fn heading(alloc: Global, bytes: &[u8]) -> Result<(Heading, &[u8]), Trouble>
 }
 
 /// `source=N [attrs=PAIRS]`
-#[tactic(auto, unfolding(script_language::specs::NoteReading::objects_at))]
+#[tactic(auto, using(crate::proofs::Parts::objects_by))]
 fn objects(alloc: Global, bytes: &[u8]) -> Result<(Body, &[u8]), Trouble>
     ensures { Gives (λ found. (found.0, found.1.now)) result (objects_at bytes.now) }
 {
-    let rest = skip(bytes, b" source=").ok_or(Trouble::Bad)?;
-    let (source, rest) = number16(rest).ok_or(Trouble::Bad)?;
+    let (source, rest) = number16_behind(bytes, b" source=").ok_or(Trouble::Bad)?;
     let (attrs, rest) = maybe_list::<Pairs>(alloc, rest, b" attrs=")?;
     Ok((Body::Objects { source, attrs }, rest))
 }
 
 /// `source=N [changes=CHANGES]`
-#[tactic(auto, unfolding(script_language::specs::NoteReading::attributes_at))]
+#[tactic(auto, using(crate::proofs::Parts::attributes_by))]
 fn attributes(alloc: Global, bytes: &[u8]) -> Result<(Body, &[u8]), Trouble>
     ensures { Gives (λ found. (found.0, found.1.now)) result (attributes_at bytes.now) }
 {
-    let rest = skip(bytes, b" source=").ok_or(Trouble::Bad)?;
-    let (source, rest) = number16(rest).ok_or(Trouble::Bad)?;
+    let (source, rest) = number16_behind(bytes, b" source=").ok_or(Trouble::Bad)?;
     let (changes, rest) = maybe_list::<Changes>(alloc, rest, b" changes=")?;
     Ok((Body::Attributes { source, changes }, rest))
 }
 
 /// `source=N [changes=STATECHANGES]`
-#[tactic(auto, unfolding(script_language::specs::NoteReading::states_at))]
+#[tactic(auto, using(crate::proofs::Parts::states_by))]
 fn states(alloc: Global, bytes: &[u8]) -> Result<(Body, &[u8]), Trouble>
     ensures { Gives (λ found. (found.0, found.1.now)) result (states_at bytes.now) }
 {
-    let rest = skip(bytes, b" source=").ok_or(Trouble::Bad)?;
-    let (source, rest) = number16(rest).ok_or(Trouble::Bad)?;
+    let (source, rest) = number16_behind(bytes, b" source=").ok_or(Trouble::Bad)?;
     let (changes, rest) = maybe_list::<StateChanges>(alloc, rest, b" changes=")?;
     Ok((Body::States { source, changes }, rest))
 }
 
 /// `cause=N sev=N`, with a blank before each
-#[tactic(auto, unfolding(crate::specs::Parts::cause_at))]
-fn cause(bytes: &[u8]) -> Option<((u16, u16), &[u8])>
-    ensures { cause_at bytes.now ≡ option_map (λ found. (found.0, found.1.now)) result }
+#[tactic(auto, unfolding(crate::specs::Parts::cause_and_severity_at))]
+fn cause_and_severity(bytes: &[u8]) -> Option<((u16, u16), &[u8])>
+    ensures { cause_and_severity_at bytes.now
+        ≡ option_map (λ found. (found.0, found.1.now)) result }
 {
     let (cause, rest) = number16_behind(bytes, b" cause=")?;
     let (severity, rest) = number16_behind(rest, b" sev=")?;
@@ -103,7 +101,7 @@ fn cause(bytes: &[u8]) -> Option<((u16, u16), &[u8])>
 fn alarm(bytes: &[u8]) -> Option<(Body, &[u8])>
     ensures { alarm_at bytes.now ≡ option_map (λ found. (found.0, found.1.now)) result }
 {
-    let ((cause, severity), rest) = cause(bytes)?;
+    let ((cause, severity), rest) = cause_and_severity(bytes)?;
     Some((Body::Alarm { cause, severity }, rest))
 }
 
@@ -111,7 +109,7 @@ fn alarm(bytes: &[u8]) -> Option<(Body, &[u8])>
 fn security(alloc: Global, bytes: &[u8]) -> Result<(Body, &[u8]), Trouble>
     ensures { Gives (λ found. (found.0, found.1.now)) result (security_at bytes.now) }
 {
-    let ((cause, severity), rest) = cause(bytes).ok_or(Trouble::Bad)?;
+    let ((cause, severity), rest) = cause_and_severity(bytes).ok_or(Trouble::Bad)?;
     let (detector, rest) = value_behind(alloc, rest, b" detector=")?;
     let (user, rest) = value_behind(alloc, rest, b" user=")?;
     let (provider, rest) = value_behind(alloc, rest, b" provider=")?;

@@ -3,15 +3,15 @@ ghost use Rattle.std.specs.Prelude.{◌≡◌, option_map, codes};
 ghost use Rattle.ais_values.specs.declared.kind.StreamKind.TheVariants as kinds;
 ghost use Rattle.stream_config.specs.WellKnown.{default_format};
 ghost use Rattle.script.specs.Gives.{Gives};
-ghost use Rattle.script.specs.Parts.{sizes_at};
+ghost use Rattle.script.specs.Parts.{bounds_at};
 ghost use Rattle.script_grammar.specs.Reading.{unless, word};
 ghost use Rattle.script_grammar.specs.ValueReading.{quoted_at};
 ghost use Rattle.script_language.specs.StreamReading.{full_action_at, stream_at, attrs_at, generic_at, notified_at, header_at};
 
 use crate::numbers::{number8_behind, number16, number32_behind, number64, number64_behind, skip};
-use crate::quoted::{quoted, quoted_behind, quoted_name};
+use crate::quoted::{name_behind, quoted, quoted_behind, quoted_name};
 use crate::trouble::Trouble;
-use crate::values::{class, read_origin};
+use crate::values::{class_behind, event_origin};
 use ais_values::{StreamKind, Text};
 use record_print::Header;
 use std::alloc::Global;
@@ -75,9 +75,9 @@ fn format_unless(alloc: Global, bytes: &[u8]) -> Result<(Text, &[u8]), Trouble>
     }
 }
 
-/// How large a stream's files grow, and what it does where one is full.
+/// The bounds of a stream's files and records, what it does where a file is full, and its high-availability property.
 #[derive(Clone, Copy)]
-struct Sizes {
+struct Bounds {
     max_file: u64,
     record_size: u32,
     ha: u8,
@@ -86,23 +86,23 @@ struct Sizes {
 }
 
 /// `max=N rec=N ha=N full=F rot=N`, with a blank before each
-#[tactic(auto, unfolding(crate::specs::Parts::sizes_at))]
-fn read_sizes(bytes: &[u8]) -> Option<(Sizes, &[u8])>
-    ensures { sizes_at bytes.now ≡ option_map (λ found. (found.0, found.1.now)) result }
+#[tactic(auto, unfolding(crate::specs::Parts::bounds_at))]
+fn stream_bounds(bytes: &[u8]) -> Option<(Bounds, &[u8])>
+    ensures { bounds_at bytes.now ≡ option_map (λ found. (found.0, found.1.now)) result }
 {
     let (max_file, rest) = number64_behind(bytes, b" max=")?;
     let (record_size, rest) = number32_behind(rest, b" rec=")?;
     let (ha, rest) = number8_behind(rest, b" ha=")?;
     let (action, rest) = full_action_behind(rest, b" full=")?;
     let (rotated, rest) = number32_behind(rest, b" rot=")?;
-    let sizes = Sizes {
+    let bounds = Bounds {
         max_file,
         record_size,
         ha,
         action,
         rotated,
     };
-    Some((sizes, rest))
+    Some((bounds, rest))
 }
 
 /// `"D" path="P" max=N rec=N ha=N full=F rot=N [fmt="E"]`
@@ -111,31 +111,29 @@ pub(crate) fn attrs(alloc: Global, bytes: &[u8]) -> Result<(StreamAttrs, &[u8]),
 {
     let (file, rest) = quoted(alloc, bytes)?;
     let (path, rest) = quoted_behind(alloc, rest, b" path=")?;
-    let (sizes, rest) = read_sizes(rest).ok_or(Trouble::Bad)?;
+    let (bounds, rest) = stream_bounds(rest).ok_or(Trouble::Bad)?;
     let (expr, rest) = format_unless(alloc, rest)?;
     let attrs = StreamAttrs {
         file,
         path,
-        max_file: sizes.max_file,
-        record_size: sizes.record_size,
-        ha: sizes.ha,
-        action: sizes.action,
-        rotated: sizes.rotated,
+        max_file: bounds.max_file,
+        record_size: bounds.record_size,
+        ha: bounds.ha,
+        action: bounds.action,
+        rotated: bounds.rotated,
         expr,
     };
     Ok((attrs, rest))
 }
 
 /// `sev=N class=V.M.N user="U"`, without its first word
-#[tactic(auto, unfolding(script_language::specs::StreamReading::generic_at))]
+#[tactic(auto, using(crate::proofs::Parts::generic_by))]
 fn generic(alloc: Global, bytes: &[u8]) -> Result<(Header, &[u8]), Trouble>
     ensures { Gives (λ found. (found.0, found.1.now)) result (generic_at bytes.now) }
 {
     let (severity, rest) = number16(bytes).ok_or(Trouble::Bad)?;
-    let rest = skip(rest, b" class=").ok_or(Trouble::Bad)?;
-    let (class, rest) = class(rest).ok_or(Trouble::Bad)?;
-    let rest = skip(rest, b" user=").ok_or(Trouble::Bad)?;
-    let (user, rest) = quoted_name(alloc, rest)?;
+    let (class, rest) = class_behind(rest, b" class=").ok_or(Trouble::Bad)?;
+    let (user, rest) = name_behind(alloc, rest, b" user=")?;
     let header = Header::Generic {
         class,
         user,
@@ -149,7 +147,7 @@ fn notified(alloc: Global, bytes: &[u8]) -> Result<(Header, &[u8]), Trouble>
     ensures { Gives (λ found. (found.0, found.1.now)) result (notified_at bytes.now) }
 {
     let (id, rest) = number64(bytes).ok_or(Trouble::Bad)?;
-    let (origin, rest) = read_origin(alloc, rest, b" evtime=")?;
+    let (origin, rest) = event_origin(alloc, rest, b" evtime=")?;
     let header = Header::Ntf {
         id,
         event_type: origin.event_type,

@@ -74,6 +74,17 @@ pub(crate) fn class(bytes: &[u8]) -> Option<(ClassId, &[u8])>
     Some((class, rest))
 }
 
+/// A class behind the word.
+pub(crate) fn class_behind<'a>(bytes: &'a [u8], label: &[u8]) -> Option<(ClassId, &'a [u8])>
+    ensures { word label.now class_at bytes.now
+        ≡ option_map (λ found. (found.0, found.1.now)) result }
+{
+    match skip(bytes, label) {
+        Some(rest) => class(rest),
+        None => None,
+    }
+}
+
 /// `int:N`, `name:"NAME"`, `text:"TEXT"` or `bin:"BYTES"`
 #[tactic(auto, unfolding(script_language::specs::ValueReading::value_at))]
 pub(crate) fn value(alloc: Global, bytes: &[u8]) -> Result<(Value, &[u8]), Trouble>
@@ -128,24 +139,22 @@ fn maybe_value<'a>(
 }
 
 /// `ID:VALUE`
-#[tactic(auto, unfolding(script_language::specs::ValueReading::pair_at))]
+#[tactic(auto, using(crate::proofs::Parts::pair_by))]
 pub(crate) fn pair(alloc: Global, bytes: &[u8]) -> Result<(Pair, &[u8]), Trouble>
     ensures { Gives (λ found. (found.0, found.1.now)) result (pair_at bytes.now) }
 {
     let (id, rest) = number16(bytes).ok_or(Trouble::Bad)?;
-    let rest = skip(rest, b":").ok_or(Trouble::Bad)?;
-    let (value, rest) = value(alloc, rest)?;
+    let (value, rest) = value_behind(alloc, rest, b":")?;
     Ok((Pair { id, value }, rest))
 }
 
 /// `ID:VALUE` or `ID:VALUE<VALUE`
-#[tactic(auto, unfolding(script_language::specs::ValueReading::change_at))]
+#[tactic(auto, using(crate::proofs::Parts::change_by))]
 pub(crate) fn change(alloc: Global, bytes: &[u8]) -> Result<(Change, &[u8]), Trouble>
     ensures { Gives (λ found. (found.0, found.1.now)) result (change_at bytes.now) }
 {
     let (id, rest) = number16(bytes).ok_or(Trouble::Bad)?;
-    let rest = skip(rest, b":").ok_or(Trouble::Bad)?;
-    let (after, rest) = value(alloc, rest)?;
+    let (after, rest) = value_behind(alloc, rest, b":")?;
     let (before, rest) = maybe_value(alloc, rest, b"<")?;
     Ok((Change { id, after, before }, rest))
 }
@@ -177,14 +186,14 @@ fn class_time<'a>(bytes: &'a [u8], time_word: &[u8]) -> Option<((ClassId, i64), 
     ensures { class_time_at time_word.now bytes.now
         ≡ option_map (λ found. (found.0, found.1.now)) result }
 {
-    let (class, rest) = class(skip(bytes, b" class=")?)?;
+    let (class, rest) = class_behind(bytes, b" class=")?;
     let (time, rest) = time_unless(rest, time_word)?;
     Some(((class, time), rest))
 }
 
 /// `type=TYPE obj="O" by="O" class=V.M.N`, with a blank before each, and the time behind its word, where it stands
 #[tactic(auto, unfolding(crate::specs::Parts::origin_at))]
-pub(crate) fn read_origin<'a>(
+pub(crate) fn event_origin<'a>(
     alloc: Global,
     bytes: &'a [u8],
     time_word: &[u8],

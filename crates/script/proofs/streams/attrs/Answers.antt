@@ -8,8 +8,8 @@ returns-in_err-file c = rw (attrs_by c.args.bytes.now) (search rules)
 pub returns-in_err-path : goal.returns-in_err-path
 returns-in_err-path c = rw (attrs_by c.args.bytes.now) (search rules)
 
-pub returns-in_err-sizes : goal.returns-in_err-sizes
-returns-in_err-sizes c = rw (attrs_by c.args.bytes.now) (search rules)
+pub returns-in_err-bounds : goal.returns-in_err-bounds
+returns-in_err-bounds c = rw (attrs_by c.args.bytes.now) (search rules)
 
 pub returns-in_err-expr : goal.returns-in_err-expr
 returns-in_err-expr c = rw (attrs_by c.args.bytes.now) (search rules)
