@@ -1,7 +1,7 @@
 -- What is made again of a value that is fit.
-use Rattle.std.proofs.Common.{◌≡◌, ℕ, List, [], ◌∷◌, ◌++◌, map, Ok, refl, ap, sym, subst, ◌∙◌, append-nil, append_assoc, arith}
+use Rattle.std.proofs.Common.{◌≡◌, ℕ, List, [], ◌∷◌, ◌++◌, map, refl, ap, sym, subst, ◌∙◌, append-nil, append_assoc, arith}
 use Rattle.std.proofs.lemmas.List.{map-append}
-use Rattle.std.specs.Prelude.{unsigned_abs, Result, IfOk}
+use Rattle.std.specs.Prelude.{unsigned_abs}
 use Rattle.stream_config.specs.declared.state.StreamState.{StreamState}
 use Rattle.alarm_view.specs.declared.alarm.KeptAlarm.{KeptAlarm}
 use Rattle.alarm_view.specs.Alarms.{AreInOrder}
@@ -77,10 +77,6 @@ pub restored-value : (saved : Saved) (kept : Kept) → IsFit saved → kept_tabl
 restored-value saved kept fit is = ap saved_table is ∙ value-back saved fit
 
 -- the whole
-
--- a result that is there has what is said of it where it is there
-pub made-as : {A E : Type 0} (result : Result A E) (made : A) (P : A → Type 0) → result ≡ Ok made → IfOk result P → P made
-made-as result made P is holds = subst (λ r. IfOk r P) is holds
 
 -- parts that are those of a value are, beside its number, all of it
 pub parts-are : (saved : Saved) (log : LogTable) (ntf : NtfTable) (alarms : List KeptAlarm) (readers : List SavedReader) (windows : List ClientWindow) → log ≡ (table_of_saved saved).log → ntf ≡ (table_of_saved saved).ntf → alarms ≡ map kept_alarm_of saved.alarms → readers ≡ saved.readers → windows ≡ map kept_window saved.windows → (let table : ServiceTable = record { number = saved.number; log = log; ntf = ntf; alarms = alarms; readers = readers; windows = windows } in table ≡ table_of_saved saved)

@@ -1,9 +1,10 @@
-use Rattle.std.proofs.Common.{◌≡◌, Ok, map, ap, sym, ◌∙◌, subst}
+use Rattle.std.proofs.Common.{map, ap, sym, ◌∙◌, subst}
+use Rattle.std.proofs.lemmas.Result.{IfOk-at_ok}
 use Rattle.std.specs.List.{AllByRecursion}
 use Rattle.plain_service.specs.Fitness.{IsFitWindow}
 use Rattle.service_fit.proofs.RestoredEach.{alarm-fit}
 use Rattle.service_table.specs.Tables.{kept_alarm_of, kept_window}
-use Rattle.service_core.proofs.RestoringLaws.{made-as, parts-are}
+use Rattle.service_core.proofs.RestoringLaws.{parts-are}
 use Rattle.service_core.proofs.restoring.restored.Goals as goal
 
 pub restored_alarms-alarms-requires : goal.restored_alarms-alarms-requires
@@ -24,11 +25,18 @@ returns c =
     let alarms = c.in_ok-log.alarms in
     let readers = c.in_ok-log.readers in
     let callers = c.in_ok-log.callers in
-    let others = made-as c.both-others.result ((alarms, readers), callers) (λ pair. c.both.result ≡ Ok pair.0) c.in_ok-log.ensures.second c.both-others.ensures.first in
-    let log_is = made-as c.restored_log.result log _ (made-as c.both-services.result (log, ntf) (λ pair. c.restored_log.result ≡ Ok pair.0) c.in_ok-log.ensures.first c.both-services.ensures.first) c.restored_log.ensures in
-    let ntf_is = made-as c.restored_ntf.result ntf _ (made-as c.both-services.result (log, ntf) (λ pair. c.restored_ntf.result ≡ Ok pair.1) c.in_ok-log.ensures.first c.both-services.ensures.second) c.restored_ntf.ensures in
-    let alarms_are = made-as c.restored_alarms-alarms.result alarms _ (made-as c.both.result (alarms, readers) (λ pair. c.restored_alarms-alarms.result ≡ Ok pair.0) others c.both.ensures.first) c.restored_alarms-alarms.ensures in
-    let readers_are = made-as c.copied-readers.result readers _ (made-as c.both.result (alarms, readers) (λ pair. c.copied-readers.result ≡ Ok pair.1) others c.both.ensures.second) c.copied-readers.ensures in
-    let callers_are = made-as c.restored_windows-callers.result callers _ (made-as c.both-others.result ((alarms, readers), callers) (λ pair. c.restored_windows-callers.result ≡ Ok pair.1) c.in_ok-log.ensures.second c.both-others.ensures.second) c.restored_windows-callers.ensures in
+    let services_made = c.in_ok-log.ensures.first in
+    let others_made = c.in_ok-log.ensures.second in
+    let log_made = IfOk-at_ok _ services_made c.both-services.ensures.first in
+    let ntf_made = IfOk-at_ok _ services_made c.both-services.ensures.second in
+    let others = IfOk-at_ok _ others_made c.both-others.ensures.first in
+    let callers_made = IfOk-at_ok _ others_made c.both-others.ensures.second in
+    let alarms_made = IfOk-at_ok _ others c.both.ensures.first in
+    let readers_made = IfOk-at_ok _ others c.both.ensures.second in
+    let log_is = IfOk-at_ok _ log_made c.restored_log.ensures in
+    let ntf_is = IfOk-at_ok _ ntf_made c.restored_ntf.ensures in
+    let alarms_are = IfOk-at_ok _ alarms_made c.restored_alarms-alarms.ensures in
+    let readers_are = IfOk-at_ok _ readers_made c.copied-readers.ensures in
+    let callers_are = IfOk-at_ok _ callers_made c.restored_windows-callers.ensures in
     parts-are saved log.table ntf.table alarms.kept c.into_vec.result.items callers.items log_is ntf_is
     (alarms_are ∙ ap (map kept_alarm_of) c.as_slice.ensures) (c.into_vec.ensures ∙ readers_are ∙ c.as_slice-2.ensures) (callers_are ∙ ap (map kept_window) c.as_slice-3.ensures)
