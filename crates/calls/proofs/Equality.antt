@@ -8,6 +8,7 @@ use Rattle.ntf_types.proofs.Equality.{notification_eq-decides}
 use Rattle.ntf_filters.proofs.Equality.{filter_set_eq-decides}
 use Rattle.record_print.proofs.Equality.{header_eq-decides}
 use Rattle.stream_config.proofs.Equality.{name_eq-decides, attrs_eq-decides}
+use Rattle.ais_values.specs.Statuses.{status_code}
 use Rattle.ais_values.specs.declared.status.Status.{Status}
 use Rattle.ais_values.specs.declared.status.Status.TheVariants as status
 use Rattle.ais_values.specs.contracts.status.StatusPartialEq.TheImpl as status_impl
@@ -21,18 +22,6 @@ use Rattle.calls.specs.declared.entry.Entry.{Entry}
 use Rattle.calls.specs.declared.entry.Entry.TheVariants as entry
 use Rattle.calls.specs.contracts.entry.EntryPartialEq.TheImpl as entry_impl
 
-abbrev status_number : Status → ℕ
-status_number status.Ok = 0
-status_number status.Version = 1
-status_number status.TryAgain = 2
-status_number status.InvalidParam = 3
-status_number status.BadHandle = 4
-status_number status.NotExist = 5
-status_number status.Exist = 6
-status_number status.NoSpace = 7
-status_number status.NoResources = 8
-status_number status.BadFlags = 9
-
 pub status_eq-decides : (one other : Status) → Decides ((status_impl.ghosts).eq one other) (one ≡ other)
 status_eq-decides status.Ok status.Ok = (λ _. refl, λ _. refl)
 status_eq-decides status.Version status.Version = (λ _. refl, λ _. refl)
@@ -44,7 +33,7 @@ status_eq-decides status.Exist status.Exist = (λ _. refl, λ _. refl)
 status_eq-decides status.NoSpace status.NoSpace = (λ _. refl, λ _. refl)
 status_eq-decides status.NoResources status.NoResources = (λ _. refl, λ _. refl)
 status_eq-decides status.BadFlags status.BadFlags = (λ _. refl, λ _. refl)
-status_eq-decides one other = eq-decides_apart status_number _ one other refl refl
+status_eq-decides one other = eq-decides_apart status_code _ one other refl refl
 
 abbrev call_number : Call → ℕ
 call_number call.LogInit = 0
