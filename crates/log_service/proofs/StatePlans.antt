@@ -92,13 +92,13 @@ module _ (last : ℤ) (users : List ℕ) (streams : List OpenStream) (kept : Log
       (made-opened last now client name making streams new users parts (plan.last, told) plan.last told refl plans.opens refl refl))
       (record { from = stays.from; can = plans.sound.can; few = stays.few; busy = stays.busy }))
 
-  pub stored-as : (now : ℤ) (expected : Status) (name : StreamName) (rec told : LogRecord) (plan : LogPlan) → status.Ok ≡ expected → rec ≡ told → PlansStoring last now name rec streams plan → Plans kept expected (Stored name told (second_of now)) plan
-  stored-as now expected name rec told plan same rec_is plans =
+  pub stored-as : (now : ℤ) (expected : Status) (name : StreamName) (rec : LogRecord) (plan : LogPlan) → status.Ok ≡ expected → PlansStoring last now name rec streams plan → Plans kept expected (Stored name rec (second_of now)) plan
+  stored-as now expected name rec plan same plans =
       let new = streams_after plan.doing streams in
       let events = plan.step.events in
-      accepted-as expected (Stored name told (second_of now)) plan same plans.sound.ok
-      (with-users (Stored name told (second_of now)) plan plans.sound
-      (made-stored last now name rec told streams new users parts (plan.last, events) plan.last events refl plans.stores rec_is refl refl))
+      accepted-as expected (Stored name rec (second_of now)) plan same plans.sound.ok
+      (with-users (Stored name rec (second_of now)) plan plans.sound
+      (made-stored last now name rec streams new users parts (plan.last, events) plan.last events refl plans.stores refl refl))
       (record {
         from = stored-from last now name rec streams new (plan.last, events) plans.stores;
         can = plans.sound.can;

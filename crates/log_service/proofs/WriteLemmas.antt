@@ -68,12 +68,11 @@ pub stored-from : (last now : ℤ) (name : StreamName) (rec : LogRecord) (old ne
 stored-from last now name rec old new stored stores = subst (λ (z : ℤ). pos 0 ≤ℤ z) (sym stores.stamp) (pos-from _)
 
 -- a stored record is the change that was made
-pub made-stored : (last now : ℤ) (name : StreamName) (rec rec' : LogRecord) (old new : List OpenStream) (users : List ℕ) (kept : LogTable) (stored : ℤ × List StreamEvent) (stamp : ℤ) (events : List StreamEvent) → (let before : LogTable = record { last = unsigned_abs last; users = users; streams = old } in before ≡ kept) → StoresIn last now name rec old new stored → rec ≡ rec' → stamp ≡ stored.0 → events ≡ stored.1 → (let after : LogTable = record { last = unsigned_abs stamp; users = users; streams = new } in Made (Stored name rec' (second_of now)) kept after events)
-made-stored last now name rec rec' old new users kept stored stamp events kept_is stores rec_is stamp_is events_is =
+pub made-stored : (last now : ℤ) (name : StreamName) (rec : LogRecord) (old new : List OpenStream) (users : List ℕ) (kept : LogTable) (stored : ℤ × List StreamEvent) (stamp : ℤ) (events : List StreamEvent) → (let before : LogTable = record { last = unsigned_abs last; users = users; streams = old } in before ≡ kept) → StoresIn last now name rec old new stored → stamp ≡ stored.0 → events ≡ stored.1 → (let after : LogTable = record { last = unsigned_abs stamp; users = users; streams = new } in Made (Stored name rec (second_of now)) kept after events)
+made-stored last now name rec old new users kept stored stamp events kept_is stores stamp_is events_is =
     let after : LogTable = record { last = unsigned_abs stamp; users = users; streams = new } in
-    subst (λ (r : LogRecord). Made (Stored name r (second_of now)) kept after events) rec_is
-    (subst (λ (k : LogTable). Made (Stored name rec (second_of now)) k after events) kept_is (record {
+    subst (λ (k : LogTable). Made (Stored name rec (second_of now)) k after events) kept_is (record {
       now = ap (λ (n : ℕ). let it : LogTable = record { last = n; users = users; streams = new } in it) (ap unsigned_abs (stamp_is ∙ stores.stamp))
           ∙ ap (λ (streams : List OpenStream). let it : LogTable = record { last = option_map_or (λ (stream : OpenStream). last_after_due (unsigned_abs last) (second_of now) stream.state) (find (is_named name) old) (unsigned_abs last); users = users; streams = streams } in it) stores.streams;
       done = events_is ∙ stores.events;
-    }))
+    })

@@ -1,4 +1,4 @@
-use Rattle.std.proofs.Common.{◌≡◌, List, refl, sym, subst, ap, ◌∙◌, rules}
+use Rattle.std.proofs.Common.{◌≡◌, List, sym, subst, ap, ◌∙◌, rules}
 use Rattle.std.proofs.lemmas.Int.{to_z-of_z}
 use Rattle.ais_values.specs.declared.status.Status.TheVariants as status
 use Rattle.stream_config.specs.Attributes.{kind_of}
@@ -32,4 +32,4 @@ returns c =
     let rec = record_at c.args.time c.args.header.now c.args.body.now c.args.now in
     let told = simp to_z-of_z at c.in_ok-plan.ensures in
     let plans = subst (λ (list : List OpenStream). PlansStoring last c.args.now c.args.name.now rec list c.in_ok-plan.plan) c.as_slice-streams.ensures.value told in
-    stored-as last c.self.inside.users items c.args.self.now.table (same_table c.self.view_is) c.self.invariant.few c.self.invariant.busy c.args.now (write_status c.args.self.now.table c.args.client c.args.name.now c.args.flags c.args.time c.args.header.now) c.args.name.now rec rec c.in_ok-plan.plan (sym ok ∙ answered) refl plans
+    stored-as last c.self.inside.users items c.args.self.now.table (same_table c.self.view_is) c.self.invariant.few c.self.invariant.busy c.args.now (write_status c.args.self.now.table c.args.client c.args.name.now c.args.flags c.args.time c.args.header.now) c.args.name.now rec c.in_ok-plan.plan (sym ok ∙ answered) plans
