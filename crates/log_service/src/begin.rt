@@ -122,7 +122,7 @@ pub(crate) fn wells(
     Ok((last, streams, events))
 }
 
-/// Puts the stream of a state and its openers behind the others. The state is let go at one place.
+/// Puts the stream of a state and its openers behind the others.
 fn push_rebuilt(
     alloc: Global,
     streams: &mut Vec<LiveStream>,

@@ -112,6 +112,7 @@ impl LogState {
     }
 
     /// Makes room for one stream more. What is kept stays as it is; an error is want of memory.
+    // Its callers match, and do not use `?`: a second way out would let go what the plan holds.
     fn make_room(&mut self) -> Result<(), AllocError>
         ensures table { self.new.table ≡ self.old.table }
         ensures ok { OnOk result (1 ≤ self.new.spare) }
