@@ -1,13 +1,13 @@
 //! Spelling and reading of the saved value of a service.
+use crate::list::read_numbered;
 use crate::parts::Parts;
 use crate::wire::Wire;
-use ais_values::Seq;
 use calls::{Saved, SavedAlarm, SavedReader, SavedStream, SavedSub, SavedWindow};
 use ntf_filters::FilterSet;
 use ntf_types::Notification;
 use std::alloc::{AllocError, Global};
 use stream_config::StreamState;
-use wire_code::{Trouble, read_client, read_count};
+use wire_code::{Trouble, read_client};
 
 impl Wire for SavedWindow {
     ghost use Rattle.wire.specs.SavedSpelling.{saved_window_text, SavedWindowFits, SavedWindowInRange};
@@ -28,9 +28,7 @@ impl Wire for SavedWindow {
 
     #[tactic(auto, unfolding(crate::specs::SavedReading::saved_window_at))]
     fn read_front(alloc: Global, bytes: &[u8]) -> Result<(SavedWindow, &[u8]), Trouble> {
-        let (client, rest) = read_client(bytes)?;
-        let (next, rest) = read_count(rest)?;
-        let (replies, rest) = Seq::read_front(alloc, rest)?;
+        let ((client, (next, replies)), rest) = read_numbered(alloc, bytes)?;
         Ok((
             SavedWindow {
                 client,
@@ -115,9 +113,9 @@ impl Wire for SavedSub {
 
     #[tactic(auto, unfolding(crate::specs::SavedReading::saved_sub_at))]
     fn read_front(alloc: Global, bytes: &[u8]) -> Result<(SavedSub, &[u8]), Trouble> {
-        let (client, rest) = read_client(bytes)?;
-        let (key, rest) = read_count(rest)?;
-        let ((id, (filters, (first, (held, lost)))), rest) = Wire::read_front(alloc, rest)?;
+        let ((client, (key, (id, (filters, (first, (held, lost)))))), rest) = read_numbered(
+            alloc, bytes,
+        )?;
         Ok((
             SavedSub {
                 client,
