@@ -123,7 +123,7 @@ impl Agent {
         }
         self.kept.reserve(1)?;
         self.living.reserve(1)?;
-        let (call, sent) = calls_of(alloc, ask)?;
+        let (call, posted) = calls_of(alloc, ask)?;
         note_call(&mut self.living, self.next, &call);
         self.log_handle = log_after(&call, self.log_handle);
         self.ntf_handle = ntf_after(&call, self.ntf_handle);
@@ -133,7 +133,7 @@ impl Agent {
         let message = Message::Request {
             client: self.client,
             seq: number,
-            call: sent,
+            call: posted,
         };
         Ok(Sent::Posted { message })
     }

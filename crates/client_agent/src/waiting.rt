@@ -162,7 +162,7 @@ impl WaitingCallbacks {
     }
 
     /// Puts a callback, if there is one, as `put` does.
-    pub fn put_some<R: Wait>(
+    fn put_some<R: Wait>(
         &mut self,
         rt: &R,
         alloc: Global,
