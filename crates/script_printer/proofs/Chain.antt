@@ -1,7 +1,6 @@
 -- One text added after another.
 use Rattle.std.proofs.Common.{◌≡◌, ℕ, List, [], ◌∷◌, ◌++◌, sym, ap, ◌∙◌, append_assoc}
-use Rattle.std.proofs.lemmas.List.{append-nil}
-use Rattle.std.proofs.lemmas.Grind.{flat_map-append}
+use Rattle.std.proofs.lemmas.List.{append-nil, flat_map_more}
 use Rattle.std.specs.List.{flat_map}
 
 pub chained : {X : Type 0} (before between after a b : List X) → between ≡ before ++ a → after ≡ between ++ b → after ≡ before ++ (a ++ b)
@@ -13,5 +12,4 @@ chained_last before after a e = e ∙ ap (λ x. before ++ x) (sym (append-nil a)
 -- one turn of a loop that adds a text for each element
 pub flat_step : {X : Type 0} (f : X → List ℕ) (xs more : List X) (x : X) (old before after : List ℕ) → more ≡ xs ++ x ∷ [] → before ≡ old ++ flat_map f xs → after ≡ before ++ f x → after ≡ old ++ flat_map f more
 flat_step f xs more x old before after grown e g =
-    g ∙ ap (λ t. t ++ f x) e ∙ append_assoc old (flat_map f xs) (f x)
-    ∙ ap (λ t. old ++ t) (ap (λ t. flat_map f xs ++ t) (sym (append-nil (f x))) ∙ sym (flat_map-append f xs (x ∷ [])) ∙ ap (flat_map f) (sym grown))
+    g ∙ ap (λ t. t ++ f x) e ∙ flat_map_more f old xs x ∙ ap (λ these. old ++ flat_map f these) (sym grown)
