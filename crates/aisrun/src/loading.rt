@@ -1,16 +1,17 @@
 //! The command `load`: the script of a large run is made turn by turn and played, and one line tells where it led.
-ghost use Rattle.std.specs.Prelude.{◌≡◌, ◌<◌, ◌∷◌, ◌++◌, ℕ, [], List, Option, None};
+ghost use Rattle.std.specs.Prelude.{◌≡◌, ◌<◌, ◌∷◌, ◌++◌, ℕ, [], List, Option, None, OnOk, OnErr};
 ghost use Rattle.ais_values.specs.Causes.{RoseExactlyOn};
 ghost use Rattle.disk_model.specs.Disk.{Files};
 ghost use Rattle.plain_service.specs.Setups.{Setup};
 ghost use Rattle.cluster_events.specs.Servers.{State};
+ghost use Rattle.cluster_clients.specs.Answers.{RisesAtFault};
 ghost use Rattle.cluster_rounds.specs.Came.{seen_by};
 ghost use Rattle.script_language.specs.Lines.{Spells};
 ghost use Rattle.script_language.specs.Scripts.{IsScriptOf};
 ghost use Rattle.load_script.specs.Texts.{load_text};
-ghost use Rattle.load_lines.specs.Lines.{closing_lines, first_lines, load_lines, turn_lines, turns_lines};
+ghost use Rattle.load_lines.specs.Lines.{closing_lines, first_lines, load_lines, opening_line, turn_lines, turns_lines};
 ghost use Rattle.pair_cluster.specs.Peers.{Peers};
-ghost use Rattle.cluster_core.specs.Beginning.{Begun, HoldsNone};
+ghost use Rattle.cluster_core.specs.Beginning.{Begins, Begun, HoldsNone, LeavesBroken};
 ghost use Rattle.cluster_core.specs.Playing.{IsEventLine};
 ghost use Rattle.cluster_core.specs.Worlds.{empty_world, HasState, Shows};
 ghost use Rattle.aisrun.specs.Edges.{edge, stage};
@@ -279,6 +280,29 @@ fn run_events<R: Threads + Wait + Sync, K: Sink, D: SharedDisk, G: Gate>(
     }
 }
 
+// Begins the cluster, and lets its line go at one place.
+fn begin_load<R, D: SharedDisk>(
+    rt: &R,
+    alloc: Global,
+    disk: &mut D,
+    world: &mut World,
+) -> Result<(), EventAnswer>
+    requires empty { world.old ≡ empty_world }
+    requires unarmed { (D.tally disk.old).armed ≡ None }
+    ensures ok { (setup : Setup) (places : ℕ) → Begins opening_line setup places →
+        HoldsNone (D.files disk.old) → OnOk result (Begun setup places (D.files disk.old)
+        (seen_by D.files D.tally D.faults disk.new) world.new) }
+    ensures same { OnErr result (world.new ≡ world.old) }
+    ensures broken { (setup : Setup) (places : ℕ) → Begins opening_line setup places →
+        LeavesBroken setup (D.files disk.old) (D.files disk.new) result }
+    ensures cause { RisesAtFault (D.faults disk.old) (D.faults disk.new) result }
+{
+    let line = opening_line();
+    let begun = world.begin(rt, alloc, &line, disk);
+    mem::drop(line);
+    begun
+}
+
 // Begins the cluster, and plays the lines behind its line.
 fn open_load<R: Threads + Wait + Sync, K: Sink, D: SharedDisk, G: Gate>(
     rt: &R,
@@ -297,7 +321,7 @@ fn open_load<R: Threads + Wait + Sync, K: Sink, D: SharedDisk, G: Gate>(
         (edge D.files D.faults disk.old disk.new) (D.tally disk.new).armed world.old world.new)
         result }
 {
-    match world.begin(rt, alloc, &opening_line(), disk) {
+    match begin_load(rt, alloc, disk, world) {
         Ok(()) => run_events(rt, alloc, count, seed, out, disk, gate, world),
         Err(EventAnswer::Memory) => Status8::Memory,
         Err(EventAnswer::DiskFault { printed }) => {
