@@ -14,7 +14,7 @@ mod text;
 mod times;
 
 pub use codes::{CodeRow, code_of, name_of};
-pub use duplicate::Duplicate;
+pub use duplicate::{Duplicate, both};
 pub use events::is_event_type;
 pub use kind::{ClassId, StreamKind, Version, Which};
 pub use law::{law_of_tables, law_of_unknown_time};

@@ -1,7 +1,5 @@
 //! Filters and sets of filters.
-ghost use Rattle.std.specs.Prelude.{◌≡◌, Ok, IfOk};
-
-use ais_values::{ClassId, Duplicate, Name, Seq};
+use ais_values::{ClassId, Duplicate, Name, Seq, both};
 use std::alloc::{AllocError, Global};
 
 /// A filter of notifications of one type. A list that is not empty asks for one of its values.
@@ -43,25 +41,6 @@ impl Duplicate for Filter {
             causes: self.causes.copy(alloc)?,
             severities: self.severities.copy(alloc)?,
         })
-    }
-}
-
-/// The two values, where both are there.
-///
-/// A set's filters are wide: one that is alive where a copy of the next may fail would be let go there field by field.
-fn both<A: Drop, B: Drop>(
-    first: Result<A, AllocError>,
-    second: Result<B, AllocError>,
-) -> Result<(A, B), AllocError>
-    ensures first { IfOk result (λ pair. first ≡ Ok pair.0) }
-    ensures second { IfOk result (λ pair. second ≡ Ok pair.1) }
-{
-    match first {
-        Ok(first) => match second {
-            Ok(second) => Ok((first, second)),
-            Err(error) => Err(error),
-        },
-        Err(error) => Err(error),
     }
 }
 

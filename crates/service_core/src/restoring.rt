@@ -10,8 +10,8 @@ ghost use Rattle.service_core.specs.Restoring.{states_in, openers_in, HasSoundQu
 
 use crate::kept::Kept;
 use crate::parts::Parts;
-use crate::saving::{both, copied};
-use ais_values::{Duplicate, Seq};
+use crate::saving::copied;
+use ais_values::{Duplicate, Seq, both};
 use alarm_view::{AlarmView, KeptAlarm};
 use calls::{Saved, SavedAlarm, SavedStream, SavedSub, SavedWindow};
 use client_window::Window;

@@ -1,5 +1,5 @@
 //! The value of a service, part by part.
-ghost use Rattle.std.specs.Prelude.{◌≡◌, ◌++◌, ◌∷◌, [], map, reverse, slice_get, Ok, IfOk, OnOk};
+ghost use Rattle.std.specs.Prelude.{◌≡◌, ◌++◌, ◌∷◌, [], map, reverse, slice_get, IfOk, OnOk};
 ghost use Rattle.std.specs.Option.{option_copied, option_map, option_to_list};
 ghost use Rattle.plain_service.specs.Values.{saved_stream, saved_alarm};
 ghost use Rattle.service_table.specs.Tables.{saved_window, saved_queue, saved_table};
@@ -8,7 +8,7 @@ ghost use Rattle.service_core.specs.Inside.{kept_table};
 ghost use Rattle.service_core.specs.Holding.{contents_in};
 
 use crate::kept::Kept;
-use ais_values::{Duplicate, Seq};
+use ais_values::{Duplicate, Seq, both};
 use alarm_view::AlarmView;
 use calls::{Reply, Saved, SavedAlarm, SavedStream, SavedSub, SavedWindow};
 use client_window::Window;
@@ -17,25 +17,6 @@ use ntf_service::{NtfState, Subscription};
 use service_table::ClientWindow;
 use std::alloc::{AllocError, Global};
 use sub_queue::{Content, Item};
-
-/// The two values, where both are there.
-///
-/// What a service keeps is wide: a part that is alive where another may not be made would be let go there field by field.
-pub(crate) fn both<A: Drop, B: Drop>(
-    first: Result<A, AllocError>,
-    second: Result<B, AllocError>,
-) -> Result<(A, B), AllocError>
-    ensures first { IfOk result (λ pair. first ≡ Ok pair.0) }
-    ensures second { IfOk result (λ pair. second ≡ Ok pair.1) }
-{
-    match first {
-        Ok(first) => match second {
-            Ok(second) => Ok((first, second)),
-            Err(error) => Err(error),
-        },
-        Err(error) => Err(error),
-    }
-}
 
 /// Copies of values, in order.
 pub(crate) fn copied<T: Duplicate + Drop>(alloc: Global, items: &[T]) -> Result<Seq<T>, AllocError>
