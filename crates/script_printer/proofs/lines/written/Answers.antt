@@ -1,4 +1,4 @@
-use Rattle.std.proofs.Common.{◌≡◌, ◌+◌, ◌++◌, ◌∙◌, [], ◌∷◌, take, sym, ap}
+use Rattle.std.proofs.Common.{◌+◌, ◌++◌, ◌∙◌, [], ◌∷◌, take, sym, ap}
 use Rattle.std.proofs.lemmas.List.{take_more}
 use Rattle.script_language.specs.Printing.{line_text}
 use Rattle.script_printer.proofs.Chain.{chained, flat_step}
