@@ -1,7 +1,8 @@
-//! Plays each script of its input, which end at lines of four equal signs, on a service alone. A line of a client is a call,
-//! `push` shows the items that subscriptions hold, `deliver K` is the receipt through the K-th of them, `files` and `cat` show
-//! the disk, and `time` is as ever. What each call is answered is printed. Before each entry the service is saved and made
-//! again, and both have to answer the entry alike.
+//! Plays each script of its input, which are parted by lines of four equal signs, on a service alone. A line of a client is a
+//! call, `push` shows the items that subscriptions hold, `deliver K` is the receipt through the K-th of them, `files` and `cat`
+//! show the disk, and `time` is as ever. There is no net and no client's agent, so `settle` has nothing to deliver and
+//! `dispatch` nothing to hand out. What each call is answered is printed. Before each entry the service is saved and made again,
+//! and both have to answer the entry alike.
 #![tactic(auto)]
 
 mod applying;
@@ -41,6 +42,9 @@ fn play_all<R: Input + AllocGlobal>(rt: &R) -> io::Result<Vec<u8>> {
     for line in rt.lines(rt.alloc()) {
         let line = line?;
         take_line(rt.alloc(), &mut script, line.as_str(), &mut out)?;
+    }
+    if !script.is_empty() {
+        play_script(rt.alloc(), script.as_slice(), &mut out)?;
     }
     Ok(out)
 }

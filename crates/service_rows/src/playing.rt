@@ -84,6 +84,7 @@ fn play(
         Line::Push => show_items(alloc, session, out),
         Line::Files => put_files(alloc, &mut session.disk, out),
         Line::Cat { name } => put_bytes(alloc, &mut session.disk, name, out),
+        Line::Settle | Line::DispatchOne { .. } | Line::DispatchAll { .. } => Ok(()),
         _ => put(out, b"no line of a service\n"),
     }
 }
