@@ -1,7 +1,7 @@
 //! What no clause says: that each call succeeds while there is memory.
 use ais_values::tables::*;
 use ais_values::*;
-use std::alloc::Global;
+use std::alloc::{AllocError, Global};
 use std::process::Abort;
 
 #[test]
@@ -14,6 +14,7 @@ fn codes_and_names(rt: HostRuntime) {
     assert!(rt; name_of(&MONTHS, 13) == None);
     event_types_are_known(&rt);
     times_are_known(&rt);
+    two_results_are_one(&rt);
 }
 
 fn event_types_are_known(rt: &impl Abort) {
@@ -36,6 +37,12 @@ fn times_are_known(rt: &impl Abort) {
     ] {
         assert!(rt; is_time(time) == accepted);
     }
+}
+
+fn two_results_are_one(rt: &impl Abort) {
+    assert!(rt; matches!(both::<u8, u8>(Ok(1), Ok(2)), Ok((1, 2))));
+    assert!(rt; both::<u8, u8>(Ok(1), Err(AllocError)).is_err());
+    assert!(rt; both::<u8, u8>(Err(AllocError), Ok(2)).is_err());
 }
 
 /// Whether a status has a row with its word, which is printed of it, and a copy of it is equal to it.
