@@ -1,15 +1,15 @@
 -- A record's text, piece after piece, and the mark in it.
-use Rattle.std.proofs.Common.{◌≡◌, ℕ, ◌+◌, ◌-◌, ◌<◌, ◌≤◌, List, [], ◌∷◌, ◌++◌, length, take, get_or, Bool, true, false, cond, ◌↔◌, nat_lt, Option, Some, None, refl, sym, ap, ◌∙◌, arith, length-append}
+use Rattle.std.proofs.Common.{◌≡◌, ℕ, ◌==◌, ◌+◌, ◌-◌, ◌<◌, ◌≤◌, min, inl, inr, List, [], ◌∷◌, ◌++◌, length, take, get_or, Bool, true, false, cond, ◌↔◌, nat_lt, Option, Some, None, refl, sym, ap, ◌∙◌, arith, length-append}
 use Rattle.std.specs.List.{list_any}
-use Rattle.std.proofs.lemmas.List.{take_more, flat_map_more, length-take, length-replicate}
-use Rattle.std.proofs.lemmas.Bool.{or_parts, cond-true, cond-false, lt-ltb, le-ltb, ltb-true, ltb-false}
+use Rattle.std.proofs.lemmas.List.{take_all, take_more, flat_map_more, length-take, length-replicate}
+use Rattle.std.proofs.lemmas.Bool.{cases_lt, ne_eqb, or_parts, cond-true, cond-false, lt-ltb, le-ltb, ltb-true, ltb-false}
 use Rattle.format_expr.specs.declared.token.Moment.{Moment}
 use Rattle.format_expr.specs.declared.token.Part.{Part}
 use Rattle.format_expr.specs.declared.token.Part.TheVariants.{Number, Time, ClassId, Cut, Body, BodyBytes, NotificationId, EventType, Object, Notifier, User, Severity}
 use Rattle.format_expr.specs.declared.piece.Piece.{Piece}
 use Rattle.format_expr.specs.declared.piece.Piece.TheVariants.{Plain, Field}
 use Rattle.record_print.specs.declared.record.LogRecord.{LogRecord}
-use Rattle.record_print.specs.Printing.{piece_text, part_text, in_places, is_number, is_mark, has_part, pieces_text, spaces, has_half, cut_mark, fitted, line_of, printed_record}
+use Rattle.record_print.specs.Printing.{piece_text, part_text, in_places, is_number, is_mark, has_part, pieces_text, spaces, has_half, places_of, cut_mark, line_of, printed_record}
 
 -- one more piece
 pub pieces_text-more : (half : Moment → Bool) (number mark : ℕ) (rec : LogRecord) (pieces : List Piece) (count : ℕ) (piece : Piece) → count < length pieces → piece ≡ get_or pieces count piece → pieces_text half number mark rec (take count pieces) ++ piece_text half number mark rec piece ≡ pieces_text half number mark rec (take (count + 1) pieces)
@@ -45,17 +45,17 @@ pieces_text-unmarked half number one other rec (piece ∷ pieces) e =
     piece_text-unmarked half number one other rec (Field token) e = ap (in_places (is_number token.part) token.width) (part_text-unmarked half number one other rec token.part e)
 
 -- the printed record of a text that is cut, of one that is not, and of one that does not tell
-pub printed_cut : (pieces : List Piece) (number : ℕ) (rec : LogRecord) (size : ℕ) → 0 < size → size ≤ length (pieces_text (has_half pieces) number 67 rec pieces) → line_of size (pieces_text (has_half pieces) number 84 rec pieces) ≡ printed_record pieces number rec size
+pub printed_cut : (pieces : List Piece) (number : ℕ) (rec : LogRecord) (size : ℕ) → places_of size < length (pieces_text (has_half pieces) number 67 rec pieces) → line_of size (pieces_text (has_half pieces) number 84 rec pieces) ≡ printed_record pieces number rec size
 unfolding printed_record
-printed_cut pieces number rec size some long =
+printed_cut pieces number rec size long =
     let text = λ (mark : ℕ). pieces_text (has_half pieces) number mark rec pieces in
-    sym (ap (λ mark. line_of size (text mark)) (cond-true (nat_lt (size - 1) (length (text 67))) 84 67 (lt-ltb (size - 1) (length (text 67)) (omega arith))))
+    sym (ap (λ mark. line_of size (text mark)) (cond-true (nat_lt (places_of size) (length (text 67))) 84 67 (lt-ltb (places_of size) (length (text 67)) long)))
 
-pub printed_whole : (pieces : List Piece) (number : ℕ) (rec : LogRecord) (size : ℕ) → length (pieces_text (has_half pieces) number 67 rec pieces) < size → line_of size (pieces_text (has_half pieces) number 67 rec pieces) ≡ printed_record pieces number rec size
+pub printed_whole : (pieces : List Piece) (number : ℕ) (rec : LogRecord) (size : ℕ) → length (pieces_text (has_half pieces) number 67 rec pieces) ≤ places_of size → line_of size (pieces_text (has_half pieces) number 67 rec pieces) ≡ printed_record pieces number rec size
 unfolding printed_record
 printed_whole pieces number rec size short =
     let text = λ (mark : ℕ). pieces_text (has_half pieces) number mark rec pieces in
-    sym (ap (λ mark. line_of size (text mark)) (cond-false (nat_lt (size - 1) (length (text 67))) 84 67 (le-ltb (size - 1) (length (text 67)) (omega arith))))
+    sym (ap (λ mark. line_of size (text mark)) (cond-false (nat_lt (places_of size) (length (text 67))) 84 67 (le-ltb (places_of size) (length (text 67)) short)))
 
 pub printed_unmarked : (pieces : List Piece) (number : ℕ) (rec : LogRecord) (size : ℕ) → list_any (has_part is_mark) pieces ≡ false → line_of size (pieces_text (has_half pieces) number 67 rec pieces) ≡ printed_record pieces number rec size
 unfolding printed_record
@@ -114,26 +114,30 @@ cut_mark_by false limit long is =
     let within : long ≤ limit = ltb-false limit long is in
     ((λ e. absurd (omega arith), λ h. absurd (omega arith)), (λ _. within, λ _. refl))
 
-pub cut_mark-cut : (half : Moment → Bool) (number : ℕ) (rec : LogRecord) (pieces : List Piece) (size : ℕ) → let mark = cut_mark (λ mark. pieces_text half number mark rec pieces) size in (mark ≡ 84) ↔ (size - 1 < length (pieces_text half number mark rec pieces))
+pub cut_mark-cut : (half : Moment → Bool) (number : ℕ) (rec : LogRecord) (pieces : List Piece) (size : ℕ) → let mark = cut_mark (λ mark. pieces_text half number mark rec pieces) size in (mark ≡ 84) ↔ (places_of size < length (pieces_text half number mark rec pieces))
 cut_mark-cut half number rec pieces size =
     let text = λ (mark : ℕ). pieces_text half number mark rec pieces in
     let same = length-pieces_text half number 67 (cut_mark text size) rec pieces in
-    let tells = cut_mark_by (nat_lt (size - 1) (length (text 67))) (size - 1) (length (text 67)) refl in
+    let tells = cut_mark_by (nat_lt (places_of size) (length (text 67))) (places_of size) (length (text 67)) refl in
     (λ e. let over = tells.0.0 e in omega arith, λ h. tells.0.1 (omega arith))
 
-pub cut_mark-whole : (half : Moment → Bool) (number : ℕ) (rec : LogRecord) (pieces : List Piece) (size : ℕ) → let mark = cut_mark (λ mark. pieces_text half number mark rec pieces) size in (mark ≡ 67) ↔ (length (pieces_text half number mark rec pieces) ≤ size - 1)
+pub cut_mark-whole : (half : Moment → Bool) (number : ℕ) (rec : LogRecord) (pieces : List Piece) (size : ℕ) → let mark = cut_mark (λ mark. pieces_text half number mark rec pieces) size in (mark ≡ 67) ↔ (length (pieces_text half number mark rec pieces) ≤ places_of size)
 cut_mark-whole half number rec pieces size =
     let text = λ (mark : ℕ). pieces_text half number mark rec pieces in
     let same = length-pieces_text half number 67 (cut_mark text size) rec pieces in
-    let tells = cut_mark_by (nat_lt (size - 1) (length (text 67))) (size - 1) (length (text 67)) refl in
+    let tells = cut_mark_by (nat_lt (places_of size) (length (text 67))) (places_of size) (length (text 67)) refl in
     (λ e. let within = tells.1.0 e in omega arith, λ h. tells.1.1 (omega arith))
 
--- a line has as many bytes as its size says
-pub length-line_of : (size : ℕ) (text : List ℕ) → 0 < size → length (line_of size text) ≡ size
+-- a line has as many bytes as its size says, or with size 0 as its text needs
+pub places_sized : (size : ℕ) → 0 < size → places_of size ≡ size - 1
+places_sized size some = cond-false (size == 0) 16383 (size - 1) (ne_eqb size 0 (omega arith))
+
+length-line_of : (size : ℕ) (text : List ℕ) → 0 < size → length (line_of size text) ≡ size
 length-line_of size text some =
-    let line = length-append (fitted (size - 1) text) (10 ∷ []) in
-    let front = length-append (take (size - 1) text) (spaces (size - 1 - length text)) in
-    let cut = length-take (size - 1) text in
+    let places = places_sized size some in
+    let line = length-append (take (places_of size) text ++ spaces (size - 1 - length text)) (10 ∷ []) in
+    let front = length-append (take (places_of size) text) (spaces (size - 1 - length text)) in
+    let cut = length-take (places_of size) text in
     let blank = length-replicate {A = ℕ} (size - 1 - length text) 32 in
     omega arith
 
@@ -142,3 +146,36 @@ pub length-printed_record : (pieces : List Piece) (number : ℕ) (rec : LogRecor
 unfolding printed_record
 length-printed_record pieces number rec size some =
     length-line_of size (pieces_text (has_half pieces) number (cut_mark (λ mark. pieces_text (has_half pieces) number mark rec pieces) size) rec pieces) some
+
+-- with size 0 it is the record of the size that its text needs
+cut-as : (limit most long : ℕ) → limit ≡ min long most → nat_lt most long ≡ nat_lt limit long
+cut-as limit most long is = by_test (nat_lt most long) refl where
+  by_test : (b : Bool) → nat_lt most long ≡ b → b ≡ nat_lt limit long
+  by_test true over = let past = ltb-true most long over in sym (lt-ltb limit long (omega arith))
+  by_test false under = let within = ltb-false most long under in sym (le-ltb limit long (omega arith))
+
+take-as : (text : List ℕ) (limit most : ℕ) → limit ≡ min (length text) most → take most text ≡ take limit text
+take-as text limit most is = elim (cases_lt most (length text)) [
+  | inl past ↦ ap (λ k. take k text) (omega arith)
+  | inr whole ↦ take_all most text whole ∙ sym (take_all limit text (omega arith))
+]
+
+pub printed_freely : (pieces : List Piece) (number : ℕ) (rec : LogRecord) (needed : ℕ) → needed ≡ min (length (pieces_text (has_half pieces) number 67 rec pieces)) 16383 + 1 → printed_record pieces number rec 0 ≡ printed_record pieces number rec needed
+unfolding printed_record
+printed_freely pieces number rec needed is =
+    let text = λ (mark : ℕ). pieces_text (has_half pieces) number mark rec pieces in
+    let mark = cut_mark text needed in
+    let places : places_of needed ≡ min (length (text 67)) 16383 = places_sized needed (omega arith) ∙ omega arith in
+    let same : cut_mark text 0 ≡ mark = ap (λ b. cond b 84 67) (cut-as (places_of needed) 16383 (length (text 67)) places) in
+    let long : length (text mark) ≡ length (text 67) = length-pieces_text (has_half pieces) number mark 67 rec pieces in
+    ap (λ m. line_of 0 (text m)) same
+    ∙ ap (λ line. line ++ spaces (0 - 1 - length (text mark)) ++ 10 ∷ []) (take-as (text mark) (places_of needed) 16383 (places ∙ ap (λ n. min n 16383) (sym long)))
+    ∙ ap (λ count. take (places_of needed) (text mark) ++ spaces count ++ 10 ∷ []) (omega arith)
+
+-- with size 0 it has a byte at least, and no more than a text may have
+pub length-printed_freely : (pieces : List Piece) (number : ℕ) (rec : LogRecord) → (1 ≤ length (printed_record pieces number rec 0)) × (length (printed_record pieces number rec 0) ≤ 16384)
+length-printed_freely pieces number rec =
+    let long = length (pieces_text (has_half pieces) number 67 rec pieces) in
+    let needed = min long 16383 + 1 in
+    let same = ap length (printed_freely pieces number rec needed refl) ∙ length-printed_record pieces number rec needed (omega arith) in
+    (omega arith, omega arith)

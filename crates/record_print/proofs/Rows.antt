@@ -50,3 +50,12 @@ alarm : printed_record (pieces_of (codes "@Cr @Ct @Nt @Ne6 @No7 @Ng3 \"@Cb\"")) 
     }) 80 ≡ codes "         1 0x17a6101701650000 0x17a6101701650000 0x4001 node1   hw  \"fan\"      " ++ 10 ∷ []
 unfolding records_on_literals
 alarm = refl
+
+-- with size 0 a record has the size of its text
+free : printed_record (pieces_of (codes "@Cx @Cb")) 1 (generic 0 (codes "abc")) 0 ≡ codes "C abc" ++ 10 ∷ []
+unfolding records_on_literals generic
+free = refl
+
+empty : printed_record (pieces_of (codes "@Cb")) 1 (generic 0 []) 0 ≡ 10 ∷ []
+unfolding records_on_literals generic
+empty = refl

@@ -5,6 +5,7 @@ use Rattle.std.proofs.lemmas.List.{length-replicate, length-map, get_or-take, ge
 use Rattle.record_print.specs.Printing.{spaces, fitted, line_of}
 use Rattle.record_print.specs.Sheets.{Shows, Has, Adds}
 use Rattle.record_print.specs.declared.sheet.Sheet.{Sheet}
+use Rattle.record_print.proofs.LineLaws.{places_sized}
 
 length-laid : (bytes more : List ℕ) (used visible : ℕ) → used + visible ≤ length bytes → visible ≤ length more → length (take used bytes ++ take visible more ++ drop (used + visible) bytes) ≡ length bytes
 length-laid bytes more used visible inside within =
@@ -155,21 +156,26 @@ widen_shows bytes used window size width text base shows size_is window_is =
     }
 
 -- a sheet whose limit is its size is the line of its text
-pub shows_line : (bytes : List ℕ) (used size : ℕ) (text : List ℕ) → Shows bytes used size text → size ≡ length bytes → 0 < size → bytes ≡ line_of size text
-shows_line bytes used size text shows size_is some =
+shows_sized : (bytes : List ℕ) (used size : ℕ) (text : List ℕ) → Shows bytes used size text → size ≡ length bytes → 0 < size → bytes ≡ fitted (size - 1) text ++ 10 ∷ []
+shows_sized bytes used size text shows size_is some =
     let wide = length-fitted (size - 1) text in
     let long = length-append (fitted (size - 1) text) (10 ∷ []) in
-    same_lists bytes (line_of size text) (omega arith)
+    same_lists bytes (fitted (size - 1) text ++ 10 ∷ []) (omega arith)
     (λ k d inside. get_or_default bytes k d 0 (omega arith) ∙ elim (cases_lt (k + 1) size) [
       | inl front ↦
           shows.shown k (omega arith) ∙ seen_below size text k (omega arith) ∙ sym (seen_below (size - 1) text k (omega arith)) ∙ sym (fitted_at (size - 1) text k)
-          ∙ sym (get_or_append_left (fitted (size - 1) text) (10 ∷ []) 32 k (omega arith)) ∙ get_or_default (line_of size text) k 32 d (omega arith)
+          ∙ sym (get_or_append_left (fitted (size - 1) text) (10 ∷ []) 32 k (omega arith)) ∙ get_or_default (fitted (size - 1) text ++ 10 ∷ []) k 32 d (omega arith)
       | inr last ↦
           let place : k ≡ length bytes - 1 = omega arith in
           let first : k - (size - 1) ≡ 0 = omega arith in
           ap (λ i. get_or bytes i 0) place ∙ shows.ended
           ∙ sym (get_or-append_right (fitted (size - 1) text) (10 ∷ []) (size - 1) k d wide (omega arith) ∙ ap (λ i. get_or (10 ∷ []) i d) first)
     ])
+
+pub shows_line : (bytes : List ℕ) (used size : ℕ) (text : List ℕ) → Shows bytes used size text → size ≡ length bytes → 0 < size → bytes ≡ line_of size text
+shows_line bytes used size text shows size_is some =
+    shows_sized bytes used size text shows size_is some
+    ∙ ap (λ places. take places text ++ spaces (size - 1 - length text) ++ 10 ∷ []) (sym (places_sized size some))
 
 -- the bytes that were laid last, each changed by a function
 pub change_shows : (f : ℕ → ℕ) (bytes new more : List ℕ) (start end used limit : ℕ) (text : List ℕ) → Shows bytes used limit (text ++ more) → start ≡ min (min (length text) limit) end → end ≡ min used (length bytes - 1) → limit ≤ length bytes → 0 < length bytes → new ≡ take start bytes ++ map f (take (end - start) (drop start bytes)) ++ drop end bytes → Shows new used limit (text ++ map f more)

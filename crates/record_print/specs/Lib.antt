@@ -3,3 +3,4 @@ pub mod Printing
 pub mod Records
 pub mod Sheets
 pub mod Laws
+pub mod Lengths

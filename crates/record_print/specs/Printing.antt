@@ -1,5 +1,5 @@
 -- Words of public clauses: the printed record.
-use Rattle.std.specs.Prelude.{ℕ, zero, suc, ◌-◌, ◌*◌, ◌/◌, ◌%◌, ◌^◌, ◌∷◌, [], ◌++◌, List, length, take, map, replicate, slice_index_or, Bool, true, false, not}
+use Rattle.std.specs.Prelude.{◌≡◌, ◌<◌, ◌≤◌, ℕ, zero, suc, ◌-◌, ◌*◌, ◌/◌, ◌%◌, ◌^◌, ◌∷◌, [], ◌++◌, List, length, take, map, replicate, slice_index_or, Bool, true, false, not}
 use Rattle.std.specs.Prelude.{◌&&◌, ◌||◌, ◌==◌, nat_lt, nat_le, if◌then◌else◌, codes, Option, Some, None, unsigned_abs}
 use Rattle.std.specs.Option.{option_map_or}
 use Rattle.std.specs.List.{list_any, flat_map}
@@ -194,13 +194,17 @@ has_half pieces moment = list_any (has_part (shows_half moment)) pieces
 abbrev pub pieces_text : (half : Moment → Bool) (number mark : ℕ) → LogRecord → List Piece → List ℕ
 pieces_text half number mark rec pieces = flat_map (piece_text half number mark rec) pieces
 
+-- how many bytes of a text there are before the line feed at most; records of size 0 have the sizes of their texts
+abbrev pub places_of : (size : ℕ) → ℕ
+places_of size = if size == 0 then 16383 else size - 1
+
 -- `T` stands for a text that is cut, `C` for a whole one; a text is as long with the one as with the other
 abbrev pub cut_mark : (mark_text : ℕ → List ℕ) (size : ℕ) → ℕ
-cut_mark mark_text size = if nat_lt (size - 1) (length (mark_text 67)) then 84 else 67
+cut_mark mark_text size = if nat_lt (places_of size) (length (mark_text 67)) then 84 else 67
 
--- a text in so many bytes, the last of which is a line feed
-abbrev pub line_of : ℕ → List ℕ → List ℕ
-line_of size text = fitted (size - 1) text ++ 10 ∷ []
+-- a text, cut to its places, and a line feed; in records of one size spaces stand between them, up to it, and with size 0 none
+abbrev pub line_of : (size : ℕ) → List ℕ → List ℕ
+line_of size text = take (places_of size) text ++ spaces (size - 1 - length text) ++ 10 ∷ []
 
 abbrev pub marked_line : (mark_text : ℕ → List ℕ) (size : ℕ) → List ℕ
 marked_line mark_text size = line_of size (mark_text (cut_mark mark_text size))
@@ -216,3 +220,9 @@ has_codes (Generic class user severity) = nat_le severity 6
 
 abbrev pub can_print : LogRecord → Bool
 can_print rec = not (is_negative rec.time) && has_codes rec.header
+
+-- how many bytes a printed record has: its size, or with size 0 what its text needs
+pub record HasSize (size long : ℕ) : Type 0 where
+  pub some : 1 ≤ long
+  pub most : long ≤ 16384
+  pub own : 0 < size → long ≡ size

@@ -1,15 +1,16 @@
 //! The printed record.
-ghost use Rattle.std.specs.Prelude.{◌≡◌, ◌≤◌, ◌<◌, List, ℕ, Bool, [], ◌∷◌, ◌++◌, length, IfOk, IsTrue, not, unsigned_abs, Some, None, MatchOption};
+ghost use Rattle.std.specs.Prelude.{◌≡◌, ◌≤◌, ◌<◌, ◌⊎◌, List, ℕ, Bool, [], ◌∷◌, ◌++◌, length, IfOk, IsTrue, not, unsigned_abs, Some, None, MatchOption};
 ghost use Rattle.std.specs.Int.{is_negative};
 ghost use Rattle.std.specs.List.{list_any};
 ghost use Rattle.format_expr.specs.declared.token.Moment.{Moment};
 ghost use Rattle.ais_values.specs.Texts.{most_text_bytes};
-ghost use Rattle.record_print.specs.Printing.{class_of, id_text, event_type_text, object_text, notifier_text, user_text, severity_text, has_codes, part_text, is_number, in_places, piece_text, pieces_text, shows_half, has_half, has_part, is_mark, event_time, can_print, printed_record};
+ghost use Rattle.record_print.specs.Printing.{class_of, id_text, event_type_text, object_text, notifier_text, user_text, severity_text, has_codes, part_text, is_number, in_places, piece_text, pieces_text, shows_half, has_half, has_part, is_mark, event_time, can_print, printed_record, HasSize};
 ghost use Rattle.record_print.specs.Figures.{IsClock, AreFigures};
 ghost use Rattle.record_print.specs.Sheets.{Has, IsOpen};
 
 use crate::clock::Clock;
 use crate::digits::severity_name;
+use crate::length::bytes_needed;
 use crate::sheet::Sheet;
 use crate::{Header, LogRecord};
 use ais_values::{ClassId, Text};
@@ -278,8 +279,8 @@ pub fn is_printable(rec: &LogRecord) -> bool
     rec.time >= 0 && fits
 }
 
-/// The printed record: the text of the expression's pieces, cut or padded with spaces to `size` minus 1 bytes,
-/// and a line feed: `size` bytes in all.
+/// The printed record: the text of the expression's pieces, and a line feed. With a size above 0 the text is cut
+/// or padded with spaces to `size` minus 1 bytes; with size 0 it is cut to 16,383 bytes, and not padded.
 ///
 /// The number and the record's fields stand where the tokens name them. A token that shows what the header of
 /// the other kind has prints nothing; an expression of the header's kind has none such.
@@ -290,18 +291,18 @@ pub fn print_record(
     rec: &LogRecord,
     size: u32,
 ) -> Result<Text, AllocError>
-    requires low { 32 ≤ size }
-    requires high { size ≤ most_text_bytes }
+    requires size { (size ≡ 0) ⊎ ((32 ≤ size) × (size ≤ most_text_bytes)) }
     requires printable { IsTrue (can_print rec.now) }
     ensures text { IfOk result (λ text. text ≡ printed_record expr.now.pieces number rec.now size) }
-    ensures bytes { IfOk result (λ text. length text ≡ size) }
+    ensures bytes { IfOk result (λ text. HasSize size (length text)) }
 {
     let pieces = expr.pieces.as_slice();
     let mut figures = Figures::new(number, rec, pieces);
-    let sheet = sheet_of(alloc, &figures, rec, pieces, size as usize)?;
+    let bytes = bytes_needed(rec, pieces, size);
+    let sheet = sheet_of(alloc, &figures, rec, pieces, bytes)?;
     if sheet.is_full() && tells_cut(pieces) {
         figures.mark = b'T';
-        let sheet = sheet_of(alloc, &figures, rec, pieces, size as usize)?;
+        let sheet = sheet_of(alloc, &figures, rec, pieces, bytes)?;
         return Ok(sheet.into_text());
     }
     Ok(sheet.into_text())
