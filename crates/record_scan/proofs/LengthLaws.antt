@@ -13,7 +13,8 @@ use Rattle.format_expr.specs.declared.piece.Piece.{Piece}
 use Rattle.format_expr.specs.declared.piece.Piece.TheVariants.{Plain, Field}
 use Rattle.format_expr.specs.Language.{are_pieces, is_width, spelling, is_empty, begins_plain, takes_digit, begins_with, is_digit, token_spelling, width_digits}
 use Rattle.format_expr.specs.Tokens.{letters}
-use Rattle.record_scan.specs.Fits.{length_at, time_length, fixed_length, is_variable, variables, AreTexts, filled}
+use Rattle.record_print.specs.Lengths.{time_length}
+use Rattle.record_scan.specs.Fits.{length_at, fixed_length, is_variable, variables, AreTexts, filled}
 use Rattle.record_scan.specs.Reading.{places_in, least_length, least_total, AreAt}
 
 pub variables-cons : (piece : Piece) (pieces : List Piece) → variables (piece ∷ pieces) ≡ cond (is_variable piece) 1 0 + variables pieces

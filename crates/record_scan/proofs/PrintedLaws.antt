@@ -1,21 +1,14 @@
 -- The texts with which a record's tokens are printed fit the printed record.
-use Rattle.std.proofs.Common.{◌≡◌, ℕ, zero, suc, ◌+◌, ◌-◌, ◌/◌, ◌^◌, ◌<◌, ◌≤◌, List, [], ◌∷◌, ◌++◌, length, map, get_or, Bool, true, false, not, ◌&&◌, nat_eq, nat_lt, codes, ◌↔◌, Option, Some, None, slice_get, slice_index_or, unsigned_abs, refl, sym, ap, ◌∙◌, arith, lit<, length-append, append-nil}
+use Rattle.std.proofs.Common.{◌≡◌, ℕ, suc, ◌+◌, ◌-◌, ◌^◌, ◌<◌, ◌≤◌, List, [], ◌∷◌, ◌++◌, length, map, get_or, Bool, true, false, not, ◌&&◌, codes, ◌↔◌, Option, Some, None, slice_get, unsigned_abs, refl, sym, ap, ◌∙◌, arith, length-append, append-nil}
 use Rattle.std.specs.Option.{option_map_or, MatchOption}
-use Rattle.std.specs.Fmt.{decimal}
 use Rattle.std.specs.Int.{is_negative}
-use Rattle.std.proofs.lemmas.Bool.{cond_both, and_parts, leb-true, agree_below_at, not-true, eqb-true}
-use Rattle.std.proofs.lemmas.Fmt.{length-decimal-le}
-use Rattle.std.proofs.lemmas.List.{length-replicate, get_or-append-add, take_all}
+use Rattle.std.proofs.lemmas.Bool.{and_parts, leb-true, not-true}
+use Rattle.std.proofs.lemmas.List.{get_or-append-add, take_all}
 use Rattle.ais_values.specs.declared.kind.StreamKind.{StreamKind}
 use Rattle.ais_values.specs.declared.kind.StreamKind.TheVariants.{Alarm, Notification, System, Application}
-use Rattle.ais_values.specs.declared.kind.ClassId.{ClassId}
-use Rattle.civil_time.specs.Fields.{civil_of}
-use Rattle.civil_time.specs.declared.civil.Civil.{Civil}
-use Rattle.civil_time.proofs.Counting.{civil_in_range}
 use Rattle.format_expr.specs.declared.token.Moment.{Moment}
 use Rattle.format_expr.specs.declared.token.Moment.TheVariants.{Record, Event}
 use Rattle.format_expr.specs.declared.token.TimePart.{TimePart}
-use Rattle.format_expr.specs.declared.token.TimePart.TheVariants.{Nanoseconds, Hour, Minute, Second, HalfDay, Month, MonthName, Day, DayName, ShortYear, Year}
 use Rattle.format_expr.specs.declared.token.Part.{Part}
 use Rattle.format_expr.specs.declared.token.Part.TheVariants.{Number, Time, ClassId as Class, Cut, Body, BodyBytes, NotificationId, EventType, Object, Notifier, User, Severity}
 use Rattle.format_expr.specs.declared.token.Token.{Token}
@@ -26,69 +19,16 @@ use Rattle.format_expr.specs.Language.{are_pieces, is_class_of, is_notified, is_
 use Rattle.record_print.specs.declared.record.Header.{Header}
 use Rattle.record_print.specs.declared.record.Header.TheVariants.{Ntf, Generic}
 use Rattle.record_print.specs.declared.record.LogRecord.{LogRecord}
-use Rattle.record_print.specs.Printing.{spaces, hex_digits, led_digits, month_names, day_names, severity_names, civil_text, time_text, class_text, class_of, id_text, event_type_text, severity_text, time_of, event_time, part_text, is_number, in_places, piece_text, pieces_text, has_half, has_codes, can_print}
+use Rattle.record_print.specs.Printing.{spaces, time_text, class_of, id_text, event_type_text, severity_text, time_of, event_time, part_text, places_of, is_number, in_places, piece_text, pieces_text, has_half, has_codes, can_print}
 use Rattle.record_print.proofs.LineLaws.{printed_whole, length-printed_record}
+use Rattle.record_print.proofs.LengthLaws.{length-led_digits, severity_name_long, time_long, class_long, number_long}
 use Rattle.record_print.proofs.SheetLaws.{length-fitted}
-use Rattle.record_scan.specs.Fits.{time_length, length_at, tokens_of, AreTexts, filled, ends_with, is_space, Fits}
+use Rattle.record_print.specs.Lengths.{time_length}
+use Rattle.record_scan.specs.Fits.{length_at, tokens_of, AreTexts, filled, ends_with, is_space, Fits}
 use Rattle.record_scan.specs.Separable.{closes, is_closed, IsSeparable}
 use Rattle.record_scan.specs.Printed.{is_of_kind, token_texts, IsPrintedWhole}
 use Rattle.record_scan.proofs.SeparableLaws.{is_end_closed}
 use Rattle.record_scan.proofs.ContentLaws.{last_byte}
-
--- digits
-length-hex_digits : (places number : ℕ) → length (hex_digits places number) ≡ places
-unfolding hex_digits
-length-hex_digits zero number = refl
-length-hex_digits (suc places) number = ap suc (length-hex_digits places number)
-
-length-led_digits : (lead : List ℕ) (places number : ℕ) → length (led_digits lead places number) ≡ length lead + places
-length-led_digits lead places number = length-append lead (hex_digits places number) ∙ ap (λ n. length lead + n) (length-hex_digits places number)
-
--- names of a table that all have one length
-abbrev has_length : ℕ → List (List ℕ) → ℕ → Bool
-has_length long names k = nat_eq (length (slice_index_or names k [])) long
-
-month_name_long : (k : ℕ) → k < 12 → length (slice_index_or month_names k []) ≡ 3
-month_name_long k inside = eqb-true (length (slice_index_or month_names k [])) 3 (agree_below_at (has_length 3 month_names) (λ _. true) 12 k refl inside)
-
-day_name_long : (k : ℕ) → k < 7 → length (slice_index_or day_names k []) ≡ 3
-day_name_long k inside = eqb-true (length (slice_index_or day_names k [])) 3 (agree_below_at (has_length 3 day_names) (λ _. true) 7 k refl inside)
-
-severity_name_long : (k : ℕ) → k < 7 → length (slice_index_or severity_names k []) ≡ 2
-severity_name_long k inside = eqb-true (length (slice_index_or severity_names k [])) 2 (agree_below_at (has_length 2 severity_names) (λ _. true) 7 k refl inside)
-
--- times
-civil_long : (half : Bool) (time : ℕ) (civil : Civil) → 1 ≤ civil.month → civil.month ≤ 12 → civil.weekday ≤ 6 → (part : TimePart) → length (civil_text half time civil part) ≡ time_length part
-civil_long half time civil from to days Nanoseconds = length-led_digits (codes "0x") 16 time
-civil_long half time civil from to days Hour = refl
-civil_long half time civil from to days Minute = refl
-civil_long half time civil from to days Second = refl
-civil_long half time civil from to days HalfDay = cond_both (nat_lt civil.hour 12) (codes "am") (codes "pm") (λ text. length text ≡ 2) (λ _. refl) (λ _. refl)
-civil_long half time civil from to days Month = refl
-civil_long half time civil from to days MonthName = month_name_long (civil.month - 1) (omega arith)
-civil_long half time civil from to days Day = refl
-civil_long half time civil from to days DayName = day_name_long civil.weekday (omega arith)
-civil_long half time civil from to days ShortYear = refl
-civil_long half time civil from to days Year = refl
-
-time_long : (half : Bool) (time : ℕ) → time < 2 ^ 63 → (part : TimePart) → length (time_text half time part) ≡ time_length part
-time_long half time low part =
-    let second : time / 1_000_000_000 ≤ 20_000_000_100 = omega arith in
-    let range = civil_in_range (time / 1_000_000_000) second in
-    civil_long half time (civil_of (time / 1_000_000_000)) range.month.0 range.month.1 range.weekday part
-
-class_long : (class : ClassId) → length (class_text class) ≡ 29
-class_long class =
-    let vendor = led_digits (codes "NCI[0x") 8 class.vendor in
-    let major = led_digits (codes ",0x") 4 class.major in
-    let minor = led_digits (codes ",0x") 4 class.minor in
-    let one = length-led_digits (codes "NCI[0x") 8 class.vendor in
-    let two = length-led_digits (codes ",0x") 4 class.major in
-    let three = length-led_digits (codes ",0x") 4 class.minor in
-    let first = length-append vendor major in
-    let second = length-append (vendor ++ major) minor in
-    let third = length-append (vendor ++ major ++ minor) (codes "]") in
-    omega arith
 
 -- what only a header of one kind has
 notified : (kind : StreamKind) → is_class_of kind 78 ≡ true → is_notified kind ≡ true
@@ -112,7 +52,7 @@ event_type_long kind (Ntf id event_type object notifier class time) is suits = l
 event_type_long kind (Generic class user severity) is suits = let other = not-true (is_notified kind) suits in let own = notified kind is in absurd cc
 
 event_time_long : (half : Bool) (kind : StreamKind) (header : Header) (part : TimePart) → is_class_of kind 78 ≡ true → is_of_kind kind header ≡ true → ((time : ℕ) → event_time header ≡ Some time → time < 2 ^ 63) → length (option_map_or (λ time. time_text half time part) (event_time header) []) ≡ time_length part
-event_time_long half kind (Ntf id event_type object notifier class time) part is suits low = time_long half (unsigned_abs time) (low (unsigned_abs time) refl) part
+event_time_long half kind (Ntf id event_type object notifier class time) part is suits low = time_long half (unsigned_abs time) (let below = low (unsigned_abs time) refl in omega arith) part
 event_time_long half kind (Generic class user severity) part is suits low = let other = not-true (is_notified kind) suits in let own = notified kind is in absurd cc
 
 severity_long : (kind : StreamKind) (header : Header) → is_class_of kind 83 ≡ true → is_of_kind kind header ≡ true → has_codes header ≡ true → length (severity_text header) ≡ 2
@@ -120,17 +60,10 @@ severity_long kind (Ntf id event_type object notifier class time) is suits codes
 severity_long kind (Generic class user severity) is suits codes_are = severity_name_long severity (let low = leb-true severity 6 codes_are in omega arith)
 
 -- a token's text
-number_long : (number : ℕ) → number < 2 ^ 32 → length (spaces (10 - length (decimal number)) ++ decimal number) ≡ 10
-number_long number low =
-    let small = length-decimal-le 10 number (lit< tt) (omega arith) (omega arith) in
-    let whole = length-append (spaces (10 - length (decimal number))) (decimal number) in
-    let blank = length-replicate {A = ℕ} (10 - length (decimal number)) 32 in
-    omega arith
-
 text_long : (half : Moment → Bool) (kind : StreamKind) (number : ℕ) (rec : LogRecord) → number < 2 ^ 32 → ((moment : Moment) (time : ℕ) → time_of moment rec ≡ Some time → time < 2 ^ 63) → can_print rec ≡ true → is_of_kind kind rec.header ≡ true → (width : Option ℕ) (part : Part) → is_class_of kind (get_or (letters part) 0 0) ≡ true → MatchOption (length_at width part) (Unit {0}) (λ places. length (in_places (is_number part) width (part_text half number 67 rec part)) ≡ places)
 text_long half kind number rec low timed printable suits (Some width) part is = length-fitted width (part_text half number 67 rec part)
 text_long half kind number rec low timed printable suits None Number is = number_long number low
-text_long half kind number rec low timed printable suits None (Time Record part) is = time_long (half Record) (unsigned_abs rec.time) (timed Record (unsigned_abs rec.time) refl) part
+text_long half kind number rec low timed printable suits None (Time Record part) is = time_long (half Record) (unsigned_abs rec.time) (let low = timed Record (unsigned_abs rec.time) refl in omega arith) part
 text_long half kind number rec low timed printable suits None (Time Event part) is = event_time_long (half Event) kind rec.header part is suits (timed Event)
 text_long half kind number rec low timed printable suits None Class is = class_long (class_of rec.header)
 text_long half kind number rec low timed printable suits None Cut is = refl
@@ -202,15 +135,15 @@ fits_printed : (kind : StreamKind) (pieces : List Piece) (size number : ℕ) (re
 fits_printed kind pieces size number rec bytes are separable whole =
     let half = has_half pieces in
     let text = pieces_text half number 67 rec pieces in
-    let short : length text < size = whole.short in
+    let short : length text ≤ places_of size = whole.short in
     let same = filled_shown half number rec pieces in
     let each = are_shown half kind number rec whole.counted whole.timed whole.printable whole.suited pieces are in
     record {
       each = each;
       blanks = size - 1 - length text;
       whole = whole.printed ∙ sym (printed_whole pieces number rec size short)
-          ∙ ap (λ line. line ++ spaces (size - 1 - length text) ++ 10 ∷ []) (take_all (size - 1) text (omega arith) ∙ sym same);
-      unpadded = λ lines. absurd (omega arith);
+          ∙ ap (λ line. line ++ spaces (size - 1 - length text) ++ 10 ∷ []) (take_all (places_of size) text short ∙ sym same);
+      unpadded = λ lines. omega arith;
       sized = λ padded. ap length whole.printed ∙ length-printed_record pieces number rec size padded;
       ended = λ padded some. other_end (filled pieces (shown_texts half number rec pieces)) (filled_ends pieces (shown_texts half number rec pieces) each (is_end_closed pieces size separable padded some));
     }

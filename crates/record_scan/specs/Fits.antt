@@ -2,8 +2,6 @@
 use Rattle.std.specs.Prelude.{◌≡◌, ℕ, ◌<◌, ◌-◌, ◌∷◌, [], ◌++◌, List, length, Bool, false, ◌==◌, Option, Some, None, is_none, slice_get, count_by}
 use Rattle.std.specs.Option.{MatchOption, option_map_or}
 use Rattle.std.specs.List.{AllZip}
-use Rattle.format_expr.specs.declared.token.TimePart.{TimePart}
-use Rattle.format_expr.specs.declared.token.TimePart.TheVariants.{Nanoseconds, Hour, Minute, Second, HalfDay, Month, MonthName, Day, DayName, ShortYear, Year}
 use Rattle.format_expr.specs.declared.token.Part.{Part}
 use Rattle.format_expr.specs.declared.token.Part.TheVariants.{Number, Time, ClassId, Cut, Body, BodyBytes, NotificationId, EventType, Object, Notifier, User}
 use Rattle.format_expr.specs.declared.token.Part.TheVariants.{Severity}
@@ -11,20 +9,7 @@ use Rattle.format_expr.specs.declared.token.Token.{Token}
 use Rattle.format_expr.specs.declared.piece.Piece.{Piece}
 use Rattle.format_expr.specs.declared.piece.Piece.TheVariants.{Plain, Field}
 use Rattle.record_print.specs.Printing.{spaces}
-
--- how many bytes are shown of a time
-abbrev pub time_length : TimePart → ℕ
-time_length Nanoseconds = 18
-time_length Hour = 2
-time_length Minute = 2
-time_length Second = 2
-time_length HalfDay = 2
-time_length Month = 2
-time_length MonthName = 3
-time_length Day = 2
-time_length DayName = 3
-time_length ShortYear = 2
-time_length Year = 4
+use Rattle.record_print.specs.Lengths.{time_length}
 
 -- the length of a token's texts with a width, or without one where they all have the same
 abbrev pub length_at : Option ℕ → Part → Option ℕ

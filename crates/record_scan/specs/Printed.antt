@@ -1,5 +1,5 @@
 -- Words of public clauses: the texts of tokens in a printed record that is not cut.
-use Rattle.std.specs.Prelude.{◌≡◌, ℕ, ◌<◌, ◌^◌, List, length, map, Bool, not, Some, IsTrue}
+use Rattle.std.specs.Prelude.{◌≡◌, ℕ, ◌<◌, ◌≤◌, ◌^◌, List, length, map, Bool, not, Some, IsTrue}
 use Rattle.ais_values.specs.declared.kind.StreamKind.{StreamKind}
 use Rattle.format_expr.specs.declared.token.Moment.{Moment}
 use Rattle.format_expr.specs.declared.token.Token.{Token}
@@ -9,7 +9,7 @@ use Rattle.format_expr.specs.Language.{is_notified}
 use Rattle.record_print.specs.declared.record.Header.{Header}
 use Rattle.record_print.specs.declared.record.Header.TheVariants.{Ntf, Generic}
 use Rattle.record_print.specs.declared.record.LogRecord.{LogRecord}
-use Rattle.record_print.specs.Printing.{piece_text, pieces_text, has_half, time_of, can_print, printed_record}
+use Rattle.record_print.specs.Printing.{piece_text, pieces_text, has_half, places_of, time_of, can_print, printed_record}
 use Rattle.record_scan.specs.Fits.{tokens_of}
 
 -- the header is that of the kind's records
@@ -27,5 +27,5 @@ pub record IsPrintedWhole (kind : StreamKind) (pieces : List Piece) (size number
   pub timed : (moment : Moment) (time : ℕ) → time_of moment rec ≡ Some time → time < 2 ^ 63
   pub printable : IsTrue (can_print rec)
   pub suited : IsTrue (is_of_kind kind rec.header)
-  pub short : length (pieces_text (has_half pieces) number 67 rec pieces) < size
+  pub short : length (pieces_text (has_half pieces) number 67 rec pieces) ≤ places_of size
   pub printed : bytes ≡ printed_record pieces number rec size

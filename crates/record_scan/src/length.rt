@@ -1,6 +1,7 @@
 //! How long the texts of tokens are.
 ghost use Rattle.std.specs.Prelude.{◌≡◌, ◌≤◌, nat_lt};
-ghost use Rattle.record_scan.specs.Fits.{time_length, length_at, fixed_length, is_variable, variables};
+ghost use Rattle.record_print.specs.Lengths.{time_length};
+ghost use Rattle.record_scan.specs.Fits.{length_at, fixed_length, is_variable, variables};
 ghost use Rattle.record_scan.specs.Reading.{places_in, least_length, least_total};
 
 use format_expr::{Part, Piece, TimePart, Token};
