@@ -1,8 +1,8 @@
 -- The tests of attributes say what the rules say.
-use Rattle.std.proofs.Common.{◌≡◌, ◌≢◌, ℕ, ◌≤◌, List, length, IsTrue, codes, refl}
+use Rattle.std.proofs.Common.{◌≡◌, ◌≢◌, ℕ, ◌≤◌, ◌⊎◌, not, List, length, IsTrue, codes, refl}
 use Rattle.std.specs.Bool.{Decides}
 use Rattle.std.specs.List.{list_all, All}
-use Rattle.std.proofs.lemmas.Bool.Decides.{Decides-like, Decides-and, Decides-or, Decides-by_and}
+use Rattle.std.proofs.lemmas.Bool.Decides.{Decides-like, Decides-and, Decides-or, Decides-by_and, Decides-eqb}
 use Rattle.std.proofs.lemmas.Slice.Eq.{bytes_eq-Decides}
 use Rattle.ais_values.specs.declared.kind.StreamKind.{StreamKind}
 use Rattle.ais_values.specs.declared.kind.StreamKind.TheVariants.{Alarm, Notification, System, Application}
@@ -11,9 +11,11 @@ use Rattle.format_expr.specs.Language.{IsExpression}
 use Rattle.format_expr.specs.Scan.{is_expression}
 use Rattle.format_expr.specs.Tokens.{part_with, shown_parts}
 use Rattle.format_expr.proofs.LanguageLaws.{decides_expression}
+use Rattle.stream_config.specs.declared.attrs.FullAction.{FullAction}
+use Rattle.stream_config.specs.declared.attrs.FullAction.TheVariants.{Wrap, Halt, Rotate}
 use Rattle.stream_config.specs.declared.attrs.StreamAttrs.{StreamAttrs}
-use Rattle.stream_config.specs.Attributes.{is_file_byte, IsFileName, IsPath, IsSized, IsFormat, PassesAttrs, HaveOnePlace}
-use Rattle.stream_config.specs.AttributeTests.{is_file_name, is_path, is_sized, is_format, passes_attrs, have_one_place}
+use Rattle.stream_config.specs.Attributes.{is_file_byte, IsFileName, IsPath, IsSizedAlike, IsSizedFreely, IsSized, IsFormat, PassesAttrs, HaveOnePlace}
+use Rattle.stream_config.specs.AttributeTests.{is_file_name, is_path, is_sized_alike, is_wrapping, is_sized_freely, is_sized, is_format, passes_attrs, have_one_place}
 use Rattle.stream_config.specs.WellKnown.{default_attrs}
 
 decides_file_name : (bytes : List ℕ) → Decides (is_file_name bytes) (IsFileName bytes)
@@ -28,14 +30,34 @@ decides_file_name bytes =
 decides_path : (bytes : List ℕ) → Decides (is_path bytes) (IsPath bytes)
 decides_path bytes = Decides-or _ _ (bytes_eq-Decides bytes (codes ".")) (decides_file_name bytes)
 
+decides_alike : (attrs : StreamAttrs) → Decides (is_sized_alike attrs) (IsSizedAlike attrs)
+decides_alike attrs =
+    Decides-like (is_sized_alike attrs)
+    (λ (p : ((32 ≤ attrs.record_size) × (attrs.record_size ≤ 16384)) × (attrs.record_size ≤ attrs.max_file)).
+    record { least_record = p.0.0; greatest_record = p.0.1; least_file = p.1 })
+    (λ (is : IsSizedAlike attrs). ((is.least_record, is.greatest_record), is.least_file))
+    (Decides-and _ _ (Decides-and _ _ (at_most 32 attrs.record_size) (at_most attrs.record_size 16384))
+    (at_most attrs.record_size attrs.max_file))
+
+decides_wrapping : (action : FullAction) → Decides (not (is_wrapping action)) (action ≢ Wrap)
+decides_wrapping Wrap = (λ e. cc, λ other. absurd (other refl))
+decides_wrapping Halt = (λ _. λ e. cc, λ _. refl)
+decides_wrapping Rotate = (λ _. λ e. cc, λ _. refl)
+
+decides_freely : (attrs : StreamAttrs) → Decides (is_sized_freely attrs) (IsSizedFreely attrs)
+decides_freely attrs =
+    Decides-like (is_sized_freely attrs)
+    (λ (p : ((attrs.record_size ≡ 0) × (16384 ≤ attrs.max_file)) × (attrs.action ≢ Wrap)).
+    record { free = p.0.0; least_file = p.0.1; unwrapped = p.1 })
+    (λ (is : IsSizedFreely attrs). ((is.free, is.least_file), is.unwrapped))
+    (Decides-and _ _ (Decides-and _ _ (Decides-eqb attrs.record_size 0) (at_most 16384 attrs.max_file)) (decides_wrapping attrs.action))
+
 decides_sized : (attrs : StreamAttrs) → Decides (is_sized attrs) (IsSized attrs)
 decides_sized attrs =
     Decides-like (is_sized attrs)
-    (λ (p : (((32 ≤ attrs.record_size) × (attrs.record_size ≤ 16384)) × (attrs.record_size ≤ attrs.max_file)) × (attrs.max_file ≤ 1073741824)).
-    record { least_record = p.0.0.0; greatest_record = p.0.0.1; least_file = p.0.1; greatest_file = p.1 })
-    (λ (is : IsSized attrs). (((is.least_record, is.greatest_record), is.least_file), is.greatest_file))
-    (Decides-and _ _ (Decides-and _ _ (Decides-and _ _ (at_most 32 attrs.record_size) (at_most attrs.record_size 16384))
-    (at_most attrs.record_size attrs.max_file)) (at_most attrs.max_file 1073741824))
+    (λ (p : (IsSizedAlike attrs ⊎ IsSizedFreely attrs) × (attrs.max_file ≤ 1073741824)). record { records = p.0; greatest_file = p.1 })
+    (λ (is : IsSized attrs). (is.records, is.greatest_file))
+    (Decides-and _ _ (Decides-or _ _ (decides_alike attrs) (decides_freely attrs)) (at_most attrs.max_file 1073741824))
 
 decides_format : (kind : StreamKind) (text : List ℕ) → Decides (is_format kind text) (IsFormat kind text)
 unfolding is_format

@@ -58,16 +58,16 @@ attrs_eq-decides one other =
 file_eq-decides : (one other : LogFile) → Decides ((file_impl.ghosts).eq one other) (one ≡ other)
 file_eq-decides one other =
     Decides-like _
-    (λ e. λ i. record { created = e.0 i; closed = (e.1) i })
-    (λ e. (ap (λ (f : LogFile). f.created) e, ap (λ (f : LogFile). f.closed) e))
-    (Decides-and _ _ (Decides-int_eq one.created other.created) (option_eq-decides int_eq Decides-int_eq one.closed other.closed))
+    (λ e. λ i. record { created = e.0 i; closed = (e.1).0 i; first = (e.1).1.0 i; bytes = (e.1).1.1 i })
+    (λ e. (ap (λ (f : LogFile). f.created) e, (ap (λ (f : LogFile). f.closed) e, (ap (λ (f : LogFile). f.first) e, ap (λ (f : LogFile). f.bytes) e))))
+    (Decides-and _ _ (Decides-int_eq one.created other.created) (Decides-and _ _ (option_eq-decides int_eq Decides-int_eq one.closed other.closed) (Decides-and _ _ (Decides-eqb one.first other.first) (Decides-eqb one.bytes other.bytes))))
 
 pub state_eq-decides : (one other : StreamState) → Decides ((state_impl.ghosts).eq one other) (one ≡ other)
 state_eq-decides one other =
     Decides-like _
-    (λ e. λ i. record { name = e.0 i; attrs = (e.1).0 i; taken = (e.1).1.0 i; files = (e.1).1.1 i })
-    (λ e. (ap (λ (s : StreamState). s.name) e, (ap (λ (s : StreamState). s.attrs) e, (ap (λ (s : StreamState). s.taken) e, ap (λ (s : StreamState). s.files) e))))
-    (Decides-and _ _ (name_eq-decides one.name other.name) (Decides-and _ _ (attrs_eq-decides one.attrs other.attrs) (Decides-and _ _ (Decides-eqb one.taken other.taken) (pointwise_decides file_eq-decides one.files other.files))))
+    (λ e. λ i. record { name = e.0 i; attrs = (e.1).0 i; taken = (e.1).1.0 i; opened = (e.1).1.1.0 i; files = (e.1).1.1.1 i })
+    (λ e. (ap (λ (s : StreamState). s.name) e, (ap (λ (s : StreamState). s.attrs) e, (ap (λ (s : StreamState). s.taken) e, (ap (λ (s : StreamState). s.opened) e, ap (λ (s : StreamState). s.files) e)))))
+    (Decides-and _ _ (name_eq-decides one.name other.name) (Decides-and _ _ (attrs_eq-decides one.attrs other.attrs) (Decides-and _ _ (Decides-eqb one.taken other.taken) (Decides-and _ _ (Decides-eqb one.opened other.opened) (pointwise_decides file_eq-decides one.files other.files)))))
 
 stamps_eq-decides : (one other : Stamps) → Decides ((stamps_impl.ghosts).eq one other) (one ≡ other)
 stamps_eq-decides one other =

@@ -1,3 +1,4 @@
 pub mod AttributeLaws
 pub mod Equalities
 pub mod Equality
+pub mod RoomLaws

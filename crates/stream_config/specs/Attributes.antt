@@ -1,8 +1,9 @@
 -- Words of public clauses: what attributes a stream may have.
-use Rattle.std.specs.Prelude.{◌≡◌, ℕ, ◌≤◌, ◌⊎◌, List, length, Bool, ◌&&◌, ◌||◌, ◌==◌, nat_le, IsTrue, All, codes}
+use Rattle.std.specs.Prelude.{◌≡◌, ◌≢◌, ℕ, ◌≤◌, ◌⊎◌, List, length, Bool, ◌&&◌, ◌||◌, ◌==◌, nat_le, IsTrue, All, codes}
 use Rattle.ais_values.specs.declared.kind.StreamKind.{StreamKind}
 use Rattle.ais_values.specs.declared.kind.StreamKind.TheVariants as kinds
 use Rattle.format_expr.specs.Language.{IsExpression}
+use Rattle.stream_config.specs.declared.attrs.FullAction.TheVariants.{Wrap}
 use Rattle.stream_config.specs.declared.attrs.StreamAttrs.{StreamAttrs}
 use Rattle.stream_config.specs.declared.attrs.StreamName.{StreamName}
 use Rattle.stream_config.specs.declared.attrs.StreamName.TheVariants.{Alarm, Notification, System, App}
@@ -30,11 +31,21 @@ pub record IsFileName (bytes : List ℕ) : Type 0 where
 abbrev pub IsPath : List ℕ → Type 0
 IsPath bytes = (bytes ≡ codes ".") ⊎ IsFileName bytes
 
--- the size of records and the greatest size of files lie within their bounds
-pub record IsSized (attrs : StreamAttrs) : Type 0 where
+-- records of one size, for one of which a file has room
+pub record IsSizedAlike (attrs : StreamAttrs) : Type 0 where
   pub least_record : 32 ≤ attrs.record_size
   pub greatest_record : attrs.record_size ≤ 16384
   pub least_file : attrs.record_size ≤ attrs.max_file
+
+-- records of the sizes of their texts: a file has room for the longest, and none takes an earlier one's place
+pub record IsSizedFreely (attrs : StreamAttrs) : Type 0 where
+  pub free : attrs.record_size ≡ 0
+  pub least_file : 16384 ≤ attrs.max_file
+  pub unwrapped : attrs.action ≢ Wrap
+
+-- the size of records and the greatest size of files lie within their bounds
+pub record IsSized (attrs : StreamAttrs) : Type 0 where
+  pub records : IsSizedAlike attrs ⊎ IsSizedFreely attrs
   pub greatest_file : attrs.max_file ≤ 1073741824
 
 -- a text is an expression of the kind, of at most 1,024 bytes

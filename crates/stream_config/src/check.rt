@@ -1,8 +1,8 @@
 //! What attributes a stream may have.
 ghost use Rattle.std.specs.Prelude.{◌≡◌, ◌↔◌, IsTrue, IsOk, IsErrOf, is_ok};
-ghost use Rattle.stream_config.specs.Attributes.{is_file_byte, IsFileName, IsPath, IsSized, IsFormat, PassesAttrs, HaveOnePlace};
+ghost use Rattle.stream_config.specs.Attributes.{is_file_byte, IsFileName, IsPath, IsSizedAlike, IsSizedFreely, IsSized, IsFormat, PassesAttrs, HaveOnePlace};
 
-use crate::StreamAttrs;
+use crate::{FullAction, StreamAttrs};
 use ais_values::{Status, StreamKind};
 use format_expr::check_expr;
 
@@ -44,14 +44,29 @@ fn is_path(bytes: &[u8]) -> bool
     bytes == b".".as_slice() || is_file_name(bytes)
 }
 
-/// Whether the sizes of records and files are within their bounds.
-fn is_sized(attrs: &StreamAttrs) -> bool
-    ensures { IsTrue result ↔ IsSized attrs.now }
+/// Whether records have one size within its bounds, and a file room for one.
+fn is_sized_alike(attrs: &StreamAttrs) -> bool
+    ensures { IsTrue result ↔ IsSizedAlike attrs.now }
 {
     attrs.record_size >= MIN_RECORD
         && attrs.record_size <= MAX_RECORD
         && attrs.max_file >= u64::from(attrs.record_size)
-        && attrs.max_file <= MAX_FILE_SIZE
+}
+
+/// Whether records have the sizes of their texts, a file room for the longest, and none takes an earlier one's place.
+fn is_sized_freely(attrs: &StreamAttrs) -> bool
+    ensures { IsTrue result ↔ IsSizedFreely attrs.now }
+{
+    attrs.record_size == 0
+        && attrs.max_file >= u64::from(MAX_RECORD)
+        && attrs.action != FullAction::Wrap
+}
+
+/// Whether the sizes of records and files are within their bounds.
+fn is_sized(attrs: &StreamAttrs) -> bool
+    ensures { IsTrue result ↔ IsSized attrs.now }
+{
+    (is_sized_alike(attrs) || is_sized_freely(attrs)) && attrs.max_file <= MAX_FILE_SIZE
 }
 
 /// Whether a text is an expression for streams of the kind.

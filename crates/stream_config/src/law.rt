@@ -1,5 +1,5 @@
 //! Laws of streams: `==` is equality, and the tests that compute hold of what they stand for.
-ghost use Rattle.std.specs.Prelude.{◌≡◌, ◌↔◌, IsTrue};
+ghost use Rattle.std.specs.Prelude.{◌≡◌, ◌↔◌, ◌*◌, ◌<◌, ℕ, nat_lt, IsTrue};
 ghost use Rattle.ais_values.specs.declared.kind.StreamKind.{StreamKind};
 ghost use Rattle.stream_config.specs.declared.attrs.StreamAttrs.{StreamAttrs as AttrsOf};
 ghost use Rattle.stream_config.specs.declared.attrs.StreamName.{StreamName as NameOf};
@@ -8,6 +8,7 @@ ghost use Rattle.stream_config.specs.declared.event.StreamEvent.{StreamEvent as 
 ghost use Rattle.stream_config.specs.Attributes.{PassesAttrs, HaveOnePlace};
 ghost use Rattle.stream_config.specs.AttributeTests.{passes_attrs, have_one_place};
 ghost use Rattle.stream_config.specs.Equality.{same_name, same_attrs};
+ghost use Rattle.stream_config.specs.Sizes.{records_per_file, has_room};
 
 use crate::{StreamAttrs, StreamEvent, StreamName, StreamState};
 
@@ -33,4 +34,12 @@ pub fn law_of_tests()
         ↔ HaveOnePlace one other }
     ensures names { (one other : NameOf) → IsTrue (same_name one other) ↔ (one ≡ other) }
     ensures attributes { (one other : AttrsOf) → IsTrue (same_attrs one other) ↔ (one ≡ other) }
+{}
+
+/// Where all records have one size, one more fits behind so many of them exactly where these are fewer than a
+/// file holds.
+pub fn law_of_sizes()
+    ensures { (attrs : AttrsOf) (count : ℕ) → 0 < attrs.record_size →
+        has_room attrs (count * attrs.record_size) attrs.record_size
+        ≡ nat_lt count (records_per_file attrs) }
 {}

@@ -7,6 +7,7 @@ mod check;
 mod defaults;
 mod event;
 mod law;
+mod room;
 mod sizes;
 mod state;
 
@@ -15,6 +16,7 @@ pub use cfg::cfg_text;
 pub use check::{check_attrs, have_one_place};
 pub use defaults::{default_format, well_known};
 pub use event::{Stamps, StreamEvent};
-pub use law::{law_of_equality, law_of_tests};
+pub use law::{law_of_equality, law_of_sizes, law_of_tests};
+pub use room::{changes_file, current_of, first_standing, has_room, next_offset};
 pub use sizes::{per_file, stamp};
 pub use state::{LogFile, StreamState};

@@ -1,5 +1,5 @@
 //! How many records a file holds, and the stamps of files.
-ghost use Rattle.std.specs.Prelude.{◌≡◌, ◌≤ℤ◌, pos, unsigned_abs, ◌≤◌};
+ghost use Rattle.std.specs.Prelude.{◌≡◌, ◌≤ℤ◌, pos, unsigned_abs, ◌≤◌, ◌<◌};
 ghost use Rattle.stream_config.specs.Attributes.{IsSized};
 ghost use Rattle.stream_config.specs.Sizes.{records_per_file};
 ghost use Rattle.stream_config.specs.Stamps.{next_stamp};
@@ -12,7 +12,8 @@ pub const NANOSECONDS: i64 = 1_000_000_000;
 /// How many records a file of a stream of these attributes holds, which is 1 at least: the greatest file size
 /// divided by the record size, rounded down. The sizes lie within the bounds of `check_attrs`.
 pub fn per_file(attrs: &StreamAttrs) -> u32
-    requires { IsSized attrs.now }
+    requires sized { IsSized attrs.now }
+    requires alike { 0 < attrs.now.record_size }
     ensures value { result ≡ records_per_file attrs.now }
     ensures some { 1 ≤ result }
 {

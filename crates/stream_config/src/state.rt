@@ -10,6 +10,10 @@ pub struct LogFile {
     pub created: i64,
     /// The stamp at which it was closed; none while it is the current file.
     pub closed: Option<i64>,
+    /// The number of its first record, counted from 0 over all that the stream has taken; 0 where it wraps.
+    pub first: u32,
+    /// How many bytes it has.
+    pub bytes: u64,
 }
 
 /// A stream as it stands.
@@ -19,6 +23,8 @@ pub struct StreamState {
     pub attrs: StreamAttrs,
     /// How many records it has taken since it was made.
     pub taken: u32,
+    /// How many files were ever made of it.
+    pub opened: u32,
     /// Its files that stand, from the oldest to the current one.
     pub files: Seq<LogFile>,
 }
@@ -35,6 +41,7 @@ impl Duplicate for StreamState {
             name: self.name.copy(alloc)?,
             attrs: self.attrs.copy(alloc)?,
             taken: self.taken,
+            opened: self.opened,
             files: self.files.copy(alloc)?,
         })
     }
