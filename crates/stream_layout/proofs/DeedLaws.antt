@@ -1,5 +1,5 @@
 -- Which files the deeds of an event name, and what deeds in a row call.
-use Rattle.std.proofs.Common.{◌≡◌, suc, ◌-◌, ◌<◌, ◌≤◌, ℤ, true, List, [], ◌∷◌, ◌++◌, length, get_or, Option, Some, None, refl, ap, subst, ◌∙◌, arith, sym, append_assoc}
+use Rattle.std.proofs.Common.{◌≡◌, ◌<◌, ◌≤◌, ℤ, true, List, [], ◌∷◌, ◌++◌, length, Option, Some, None, refl, ap, subst, ◌∙◌, arith, sym, append_assoc}
 use Rattle.std.specs.List.{All}
 use Rattle.std.specs.Option.{ForSome, option_to_list, IfSome}
 use Rattle.std.proofs.lemmas.List.{length_push}
@@ -17,16 +17,6 @@ use Rattle.stream_layout.specs.Inside.{HasStamps, oldest_closed}
 use Rattle.stream_layout.proofs.CurrentFile.{behind_front, length-last_closed}
 use Rattle.stream_layout.proofs.EventLaws.{removal_none, removal_oldest}
 use Rattle.stream_layout.specs.declared.deed.Deed.{Deed}
-
--- the current file is the last
-pub current_file_at : (files : List LogFile) (d : LogFile) → 0 < length files → get_or files (length files - 1) d ≡ current_file files
-current_file_at [] d some = absurd (omega arith)
-current_file_at (file ∷ []) d some = refl
-current_file_at (file ∷ next ∷ files) d some =
-    let last : suc (suc (length files)) - 1 ≡ suc (length files) = omega arith in
-    let behind : length files ≡ suc (length files) - 1 = omega arith in
-    ap (λ k. get_or (file ∷ next ∷ files) k d) last ∙ ap (λ k. get_or (next ∷ files) k d) behind
-    ∙ current_file_at (next ∷ files) d (omega arith)
 
 -- a stream has a file
 pub some_files : (files : List LogFile) → is_last_open files ≡ true → 0 < length files

@@ -4,8 +4,10 @@ pub mod CurrentFile
 pub mod DeedLaws
 pub mod EntryLaws
 pub mod EventLaws
+pub mod FitSteps
 pub mod FileLaws
 pub mod NameLaws
+pub mod RecordSteps
 pub mod RepeatLaws
 pub mod RepeatOn
 pub mod Rounds

@@ -8,7 +8,7 @@ use Rattle.civil_time.specs.Stamps.{stamp_of}
 use Rattle.civil_time.proofs.StampLaws.{stamp_tells}
 use Rattle.stream_config.specs.declared.attrs.StreamAttrs.{StreamAttrs}
 use Rattle.stream_config.specs.declared.state.LogFile.{LogFile}
-use Rattle.stream_layout.specs.Names.{folder_of, stamp_part, closing_part, log_name, cfg_name}
+use Rattle.stream_layout.specs.Names.{stamped_name, folder_of, stamp_part, closing_part, log_name, cfg_name}
 use Rattle.stream_layout.specs.Carrying.{IsStamp}
 
 pub length-stamp_of : (second : ℕ) → length (stamp_of second) ≡ 15
@@ -34,7 +34,7 @@ stamps_apart one other is is' same =
 -- what stands before the creating stamp, and what behind it
 log_name-split : (attrs : StreamAttrs) (file : LogFile)
     → log_name attrs file ≡ (folder_of attrs.path ++ attrs.file ++ codes "_") ++ (stamp_of (unsigned_abs file.created) ++ (closing_part file.closed ++ codes ".log"))
-unfolding log_name
+unfolding stamped_name
 log_name-split attrs file = simp append_assoc
 
 -- two files of one stream that were made at different seconds have different names
@@ -89,7 +89,7 @@ same_tails front front' tail tail' long same =
 
 -- a file of records and a cfg file have different names, whatever their streams
 pub cfg_apart : (attrs attrs' : StreamAttrs) (file : LogFile) → log_name attrs file ≢ cfg_name attrs'
-unfolding log_name cfg_name
+unfolding stamped_name cfg_name
 cfg_apart attrs attrs' file same =
     let ends = same_tails (folder_of attrs.path ++ attrs.file ++ stamp_part file.created ++ closing_part file.closed) (folder_of attrs'.path ++ attrs'.file) (codes ".log") (codes ".cfg") refl same in
     false≢true (ap (λ bytes. nat_lt (get_or bytes 1 0) 100) ends)
@@ -104,8 +104,8 @@ last_stamp file = last_stamp_of file.created file.closed
 
 -- a name ends in its last stamp and `.log`
 log_name-ends : (attrs : StreamAttrs) (created : ℤ) (closed : Option ℤ)
-    → (front : List ℕ) × (log_name attrs (record { created = created; closed = closed }) ≡ front ++ (stamp_of (unsigned_abs (last_stamp_of created closed)) ++ codes ".log"))
-unfolding log_name
+    → (front : List ℕ) × (stamped_name attrs created closed ≡ front ++ (stamp_of (unsigned_abs (last_stamp_of created closed)) ++ codes ".log"))
+unfolding stamped_name
 log_name-ends attrs created None = (folder_of attrs.path ++ attrs.file ++ codes "_", simp append_assoc)
 log_name-ends attrs created (Some closed) = (folder_of attrs.path ++ attrs.file ++ stamp_part created ++ codes "_", simp append_assoc)
 

@@ -1,5 +1,5 @@
 -- The deeds of an event, performed after attempts that broke off, leave what they would have left at once.
-use Rattle.std.proofs.Common.{◌≡◌, ◌≢◌, ℕ, ◌≤◌, ℤ, ◌<ℤ◌, true, List, [], ◌∷◌, ◌++◌, length, Some, None, is_some, refl, sym, ap, subst, ◌∙◌, inl, inr, arith}
+use Rattle.std.proofs.Common.{◌≡◌, ◌≢◌, ℕ, ◌≤◌, ℤ, ◌<ℤ◌, true, List, [], ◌∷◌, ◌++◌, length, Some, None, is_some, refl, sym, ap, subst, ◌∙◌, inl, inr}
 use Rattle.std.specs.List.{All}
 use Rattle.std.specs.FinMap.{get}
 use Rattle.std.proofs.lemmas.Bool.{cases_lt, and_parts}
@@ -12,23 +12,21 @@ use Rattle.stream_config.specs.declared.state.StreamState.{StreamState}
 use Rattle.stream_config.specs.declared.event.Stamps.{Stamps}
 use Rattle.stream_config.specs.declared.event.StreamEvent.{StreamEvent}
 use Rattle.stream_config.specs.declared.event.StreamEvent.TheVariants.{Made, Stored, Ended}
-use Rattle.stream_config.specs.Events.{open_file, file_closed, last_closed}
-use Rattle.stream_config.specs.Fit.{stamps_of, rises, is_last_open, changes_file}
-use Rattle.stream_config.specs.Sizes.{records_per_file}
+use Rattle.stream_config.specs.Events.{open_file, file_closed, last_closed, next_offset}
+use Rattle.stream_config.specs.Fit.{stamps_of, rises, is_last_open}
 use Rattle.stream_layout.specs.declared.deed.Deed.{Deed}
 use Rattle.stream_layout.specs.declared.deed.Deed.TheVariants.{Create, Write, Rename}
 use Rattle.stream_layout.specs.Names.{log_name, cfg_name}
-use Rattle.stream_layout.specs.Spots.{spot_of}
 use Rattle.stream_layout.specs.LogFiles.{log_entries}
-use Rattle.stream_layout.specs.Deeds.{calls_of_all, current_file, removal, change_of_file, deeds_of}
+use Rattle.stream_layout.specs.Deeds.{calls_of_all, current_file, change_of_file, deeds_of}
 use Rattle.stream_layout.specs.Carrying.{IsFitStored, IsFitEvent, AreRecordsOf, Stand}
 use Rattle.stream_layout.specs.Inside.{oldest_closed}
 use Rattle.stream_layout.specs.Repeating.{AllSettled, Attempted, RepeatSafely}
 use Rattle.stream_config.specs.Cfg.{cfg_of}
-use Rattle.stream_layout.proofs.CarryLaws.{begins_at_start}
+use Rattle.stream_layout.proofs.CarryLaws.{added}
 use Rattle.stream_layout.proofs.CurrentFile.{has_current, unlike, current_file-append, last_closed-append, last_made, behind_front}
 use Rattle.stream_layout.proofs.DeedLaws.{some_files, none_goes, oldest_goes, current_stamps}
-use Rattle.stream_layout.proofs.EventLaws.{IsLaidOut, laid_out, stored_stands}
+use Rattle.stream_layout.proofs.EventLaws.{offset_at, stored_stands}
 use Rattle.stream_layout.proofs.NameLaws.{created_apart, closed_apart}
 use Rattle.stream_layout.proofs.RepeatLaws.{made_again, ended_again, changed_again, rotated_again}
 use Rattle.stream_layout.proofs.WriteAgain.{written_once_more}
@@ -61,27 +59,24 @@ made_later files stamps is rising =
 -- a record goes to the current file
 stored_again : (state : StreamState) (bytes : List ℕ) (records : List (List ℕ)) (files left : Files) (attempts : ℕ) → IsFitStored state bytes None → AreRecordsOf state records
     → Stand (log_entries state.attrs records state.files) files → AllSettled files
-    → Attempted (CallWrite (log_name state.attrs (current_file state.files)) (spot_of state.attrs state.taken).at bytes ∷ CallSync (log_name state.attrs (current_file state.files)) ∷ []) attempts files left
-    → all_applied (CallWrite (log_name state.attrs (current_file state.files)) (spot_of state.attrs state.taken).at bytes ∷ CallSync (log_name state.attrs (current_file state.files)) ∷ []) left
-    ≡ all_applied (CallWrite (log_name state.attrs (current_file state.files)) (spot_of state.attrs state.taken).at bytes ∷ CallSync (log_name state.attrs (current_file state.files)) ∷ []) files
+    → Attempted (CallWrite (log_name state.attrs (current_file state.files)) (next_offset state) bytes ∷ CallSync (log_name state.attrs (current_file state.files)) ∷ []) attempts files left
+    → all_applied (CallWrite (log_name state.attrs (current_file state.files)) (next_offset state) bytes ∷ CallSync (log_name state.attrs (current_file state.files)) ∷ []) left
+    ≡ all_applied (CallWrite (log_name state.attrs (current_file state.files)) (next_offset state) bytes ∷ CallSync (log_name state.attrs (current_file state.files)) ∷ []) files
 stored_again state bytes records files left attempts fit are stand settled tried =
     let attrs = state.attrs in
-    let count = are.count in
     let found = has_current state.files fit.stream.standing.last_open in
-    let out = subst (IsLaidOut attrs found.front found.current) (sym count) (laid_out state fit.stream found) in
-    let stays = ap (changes_file attrs.action (records_per_file attrs)) count ∙ sym fit.changes in
+    let adds = added state bytes records fit.stream are fit.size found in
     let P : List LogFile → Type 0 = λ fs. Stand (log_entries attrs records fs) files
-    → (whole : List ℕ) × (get files (log_name attrs (current_file fs)) ≡ Some (settled_file whole)) × ((spot_of attrs (length records)).at ≤ length whole) in
-    let held = subst P (sym found.whole)
-    (λ stand. stored_stands attrs found.front found.current records bytes files out stays are.sizes fit.size (λ halts. let h = fit.room halts in omega arith) stand) stand in
-    let within = subst (λ k. (spot_of attrs k).at ≤ length held.0) count held.2 in
-    written_once_more (spot_of attrs state.taken).at bytes held.0 within (log_name attrs (current_file state.files)) attempts files left held.1 settled tried
+    → (whole : List ℕ) × (get files (log_name attrs (current_file fs)) ≡ Some (settled_file whole)) × (offset_at attrs (length records) (current_file fs).bytes ≤ length whole) in
+    let held = subst P (sym found.whole) (λ stand. stored_stands attrs found.front found.current records bytes state.opened files adds stand) stand in
+    let within : next_offset state ≤ length held.0 = subst (λ taken. offset_at attrs taken (current_file state.files).bytes ≤ length held.0) are.count held.2 in
+    written_once_more (next_offset state) bytes held.0 within (log_name attrs (current_file state.files)) attempts files left held.1 settled tried
 
 -- the calls of a change of file, by what is removed
-abbrev calls_for : StreamAttrs → LogFile → Stamps → ℕ → List ℕ → List Deed → List DeviceCall
-calls_for attrs current stamps at bytes gone =
+abbrev calls_for : StreamAttrs → LogFile → Stamps → List ℕ → List Deed → List DeviceCall
+calls_for attrs current stamps bytes gone =
     calls_of_all (Rename (log_name attrs current) (log_name attrs (file_closed stamps.closed current))
-    ∷ Create (log_name attrs (open_file stamps.created)) ∷ (gone ++ Write (log_name attrs (open_file stamps.created)) at bytes ∷ []))
+    ∷ Create (log_name attrs (open_file stamps.created)) ∷ (gone ++ Write (log_name attrs (open_file stamps.created)) 0 bytes ∷ []))
 
 abbrev DoneAgain : List DeviceCall → ℕ → Files → Files → Type 0
 DoneAgain calls attempts files left = AllSettled files → Attempted calls attempts files left → all_applied calls left ≡ all_applied calls files
@@ -89,7 +84,7 @@ DoneAgain calls attempts files left = AllSettled files → Attempted calls attem
 -- the file changes before a record
 stamped_again : (state : StreamState) (bytes : List ℕ) (stamps : Stamps) (files left : Files) (attempts : ℕ) → IsFitStored state bytes (Some stamps)
     → rises (stamps_of (last_closed stamps.closed state.files ++ open_file stamps.created ∷ [])) ≡ true
-    → DoneAgain (calls_of_all (change_of_file state.attrs state.files (Some stamps) ++ Write (log_name state.attrs (open_file stamps.created)) (spot_of state.attrs state.taken).at bytes ∷ [])) attempts files left
+    → DoneAgain (calls_of_all (change_of_file state.attrs state.files (Some stamps) ++ Write (log_name state.attrs (open_file stamps.created)) 0 bytes ∷ [])) attempts files left
 stamped_again state bytes stamps files left attempts fit rising =
     let attrs = state.attrs in
     let stands = fit.stream.standing in
@@ -101,21 +96,18 @@ stamped_again state bytes stamps files left attempts fit rising =
     let opened = current_open state.files stands.last_open in
     let closed = oldest_shut stamps.closed state.files stands.last_open in
     let stamp = (current_stamps state.files fit.stream.stamps some).created in
-    let start = begins_at_start state fit.stream (sym fit.changes) in
     let from_to : log_name attrs current ≢ log_name attrs shut = λ same. closed_apart attrs shut current refl opened (sym same) in
     let from_new : log_name attrs current ≢ log_name attrs fresh =
     created_apart attrs current fresh stamp fit.new_stamps.1 (unlike current.created stamps.created (made_later state.files stamps stands.last_open rising)) in
     let from_gone : log_name attrs current ≢ log_name attrs oldest = λ same. closed_apart attrs oldest current closed opened (sym same) in
     let new_gone : log_name attrs fresh ≢ log_name attrs oldest = λ same. closed_apart attrs oldest fresh closed refl (sym same) in
-    let P : ℕ → List Deed → Type 0 = λ at gone. DoneAgain (calls_for attrs current stamps at bytes gone) attempts files left in
-    let Q : ℕ → Type 0 = λ at. P at (removal attrs (last_closed stamps.closed state.files ++ fresh ∷ [])) in
-    subst Q (sym start)
-    (elim (cases_lt (length state.files) attrs.rotated) [
-      | inl few ↦ subst (P 0) (sym (none_goes attrs state.files stamps few))
+    let P : List Deed → Type 0 = λ gone. DoneAgain (calls_for attrs current stamps bytes gone) attempts files left in
+    elim (cases_lt (length state.files) attrs.rotated) [
+      | inl few ↦ subst P (sym (none_goes attrs state.files stamps few))
           (changed_again (log_name attrs current) (log_name attrs shut) (log_name attrs fresh) bytes attempts files left from_to from_new)
-      | inr full ↦ subst (P 0) (sym (oldest_goes attrs state.files stamps some full))
+      | inr full ↦ subst P (sym (oldest_goes attrs state.files stamps some full))
           (rotated_again (log_name attrs current) (log_name attrs shut) (log_name attrs fresh) (log_name attrs oldest) bytes attempts files left from_to from_new from_gone new_gone)
-    ])
+    ]
 
 pub repeat_on : (event : StreamEvent) → IsFitEvent event → RepeatSafely event (deeds_of event)
 unfolding deeds_of

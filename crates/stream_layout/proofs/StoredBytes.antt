@@ -1,59 +1,20 @@
 -- The bytes of the file that a record goes to.
-use Rattle.std.proofs.Common.{◌≡◌, ℕ, zero, suc, ◌+◌, ◌-◌, ◌*◌, ◌/◌, ◌%◌, ◌<◌, ◌≤◌, true, false, ◌==◌, nat_lt, List, [], ◌∷◌, ◌++◌, length, take, drop, refl, sym, ap, subst, ◌∙◌, inl, inr, arith, append-nil}
+use Rattle.std.proofs.Common.{◌≡◌, ℕ, ◌+◌, ◌-◌, ◌*◌, ◌/◌, ◌%◌, ◌<◌, ◌≤◌, List, [], ◌∷◌, ◌++◌, length, take, drop, refl, sym, ap, subst, ◌∙◌, arith, append-nil, length-drop}
 use Rattle.std.specs.List.{concat}
-use Rattle.std.proofs.lemmas.Bool.{and_parts, and_cases, ltb-true, ltb-false, eqb-true, eqb-false}
-use Rattle.std.proofs.lemmas.List.{take_all, drop_all}
-use Rattle.std.proofs.lemmas.List.Elements.{All-drop}
+use Rattle.std.proofs.lemmas.List.{take_all, drop_all, drop-append-le, length_push}
+use Rattle.std.proofs.lemmas.List.Folds.{concat-append}
 use Rattle.std.proofs.lemmas.Nat.{div-add-mod'}
 use Rattle.std.proofs.Math.Nat.{mul-le-mul_right}
 use Rattle.disk_model.specs.Disk.{overwritten}
 use Rattle.stream_config.specs.declared.attrs.FullAction.{FullAction}
 use Rattle.stream_config.specs.declared.attrs.FullAction.TheVariants.{Wrap, Halt, Rotate}
-use Rattle.stream_config.specs.Fit.{changes_file}
-use Rattle.stream_layout.specs.Spots.{spot_in}
-use Rattle.stream_layout.specs.LogFiles.{round_of, overlaid, records_in}
-use Rattle.stream_layout.proofs.Rounds.{quotient, AreOfSize, length-concat, overwritten-concat, round_last, length-running, round_more, overlaid_more, overlaid_reaches, overlaid_sizes}
+use Rattle.stream_config.specs.Events.{offset_in}
+use Rattle.stream_layout.specs.LogFiles.{overlaid, records_from, records_in}
+use Rattle.stream_layout.proofs.Rounds.{AreOfSize, length-concat, overwritten-concat, overlaid_more, overlaid_reaches, overlaid_sizes}
 
 -- a number by its quotient and rest
 divided : (n m : ℕ) → m ≡ m / n * n + m % n
 divided n m = sym (div-add-mod' m n)
-
--- the last record and the one that comes are of one round, where the file does not change between them
-pub same_round : (n m : ℕ) → 0 < n → changes_file Rotate n m ≡ false → (m - 1) / n ≡ m / n
-same_round n m some stays =
-    elim (and_cases (nat_lt 0 m) (m % n == 0) stays) [
-      | inl none ↦
-          let empty : m ≡ 0 = let low = ltb-false 0 m none in omega arith in
-          let same : m - 1 ≡ m = omega arith in
-          ap (λ v. v / n) same
-      | inr inside ↦
-          let further = eqb-false (m % n) 0 inside in
-          let parts = divided n m in
-          quotient n (m / n) (m % n - 1) (m - 1) (omega arith) (omega arith)
-    ]
-
--- a number that is a product of quotients, one less
-one_less : (n q m : ℕ) → 0 < n → 0 < m → m ≡ q * n → (m - 1) / n + 1 ≡ q
-one_less n zero m some positive is = absurd (let none : 0 * n ≡ 0 = omega arith in omega arith)
-one_less n (suc q) m some positive is =
-    let before : m - 1 ≡ q * n + (n - 1) = omega arith in
-    let same = quotient n q (n - 1) (m - 1) (omega arith) before in
-    omega arith
-
--- the file changes between two full rounds
-pub record BeginsRound (n m : ℕ) : Type 0 where
-  pub next : (m - 1) / n + 1 ≡ m / n
-  pub full : m ≡ m / n * n
-  pub rest : m % n ≡ 0
-
-pub begins_round : (n m : ℕ) → 0 < n → changes_file Rotate n m ≡ true → BeginsRound n m
-begins_round n m some changes =
-    let tests = and_parts (nat_lt 0 m) (m % n == 0) changes in
-    let positive = ltb-true 0 m tests.0 in
-    let whole = eqb-true (m % n) 0 tests.1 in
-    let parts = divided n m in
-    let full : m ≡ m / n * n = omega arith in
-    record { next = one_less n (m / n) m some positive full; full = full; rest = whole }
 
 -- a record is put at its place in the bytes of its file
 pub record IsPut (old : List (List ℕ)) (at : ℕ) (bytes : List ℕ) (new : List (List ℕ)) : Type 0 where
@@ -70,44 +31,60 @@ put_at size number records new bytes sizes whole within is =
       bytes_are = overwritten-concat size number records bytes sizes whole within ∙ ap concat (sym is);
     }
 
--- in the one file of WRAP and HALT
+-- in the one file of WRAP
 put_over : (n size round k : ℕ) (records : List (List ℕ)) (bytes : List ℕ) → AreOfSize size records → length bytes ≡ size → k < n → length records ≡ round * n + k
     → IsPut (overlaid n records) (k * size) bytes (overlaid n (records ++ bytes ∷ []))
 put_over n size round k records bytes sizes whole small is =
     put_at size k (overlaid n records) (overlaid n (records ++ bytes ∷ [])) bytes (overlaid_sizes size n records sizes) whole
     (overlaid_reaches n round k records small is) (overlaid_more n round k records bytes small is)
 
--- behind the records of the running round
-put_behind : (n size round k : ℕ) (records : List (List ℕ)) (bytes : List ℕ) → AreOfSize size records → length bytes ≡ size → k < n → length records ≡ round * n + k
-    → IsPut (round_of n round records) (k * size) bytes (round_of n round (records ++ bytes ∷ []))
-put_behind n size round k records bytes sizes whole small is =
-    let running = drop (round * n) records in
-    let long : length running ≡ k = length-running n round k records is in
-    let new : running ++ bytes ∷ [] ≡ take k running ++ bytes ∷ drop (k + 1) running =
-    ap (λ rs. rs ++ bytes ∷ []) (sym (take_all k running (omega arith))) ∙ ap (λ rs. take k running ++ bytes ∷ rs) (sym (drop_all (k + 1) running (omega arith))) in
-    subst (λ old. IsPut old (k * size) bytes (round_of n round (records ++ bytes ∷ []))) (sym (round_last n round k records small is))
-    (put_at size k running (round_of n round (records ++ bytes ∷ [])) bytes (All-drop (λ r. length r ≡ size) (round * n) records sizes) whole (omega arith)
-    (round_more n round k records bytes small is ∙ new))
+-- the records of the last file, and those with one more
+pub records_from-last : (first : ℕ) (records : List (List ℕ)) → first ≤ length records → records_from first (length records) records ≡ drop first records
+records_from-last first records within =
+    take_all (length records - first) (drop first records) (let long = length-drop first records in omega (arith, long, within))
+
+pub records_from-more : (first : ℕ) (records : List (List ℕ)) (bytes : List ℕ) → first ≤ length records
+    → records_from first (length (records ++ bytes ∷ [])) (records ++ bytes ∷ []) ≡ records_from first (length records) records ++ bytes ∷ []
+records_from-more first records bytes within =
+    let all = records ++ bytes ∷ [] in
+    let pushed : length all ≡ length records + 1 = length_push records bytes in
+    records_from-last first all (omega (arith, pushed, within))
+    ∙ drop-append-le first records (bytes ∷ []) within
+    ∙ ap (λ rs. rs ++ bytes ∷ []) (sym (records_from-last first records within))
+
+-- bytes put behind all others
+put_end : (old bytes : List ℕ) → overwritten old (length old) bytes ≡ old ++ bytes
+put_end old bytes =
+    ap (λ front. front ++ bytes ++ drop (length old + length bytes) old) (take_all (length old) old (omega arith))
+    ∙ ap (λ behind. old ++ bytes ++ behind) (drop_all (length old + length bytes) old (omega arith))
+    ∙ append-nil (old ++ bytes)
+
+put_last : (first at : ℕ) (records : List (List ℕ)) (bytes : List ℕ) → first ≤ length records → at ≡ length (concat (records_from first (length records) records))
+    → IsPut (records_from first (length records) records) at bytes (records_from first (length (records ++ bytes ∷ [])) (records ++ bytes ∷ []))
+put_last first at records bytes within is =
+    let old = records_from first (length records) records in
+    let more : concat (old ++ bytes ∷ []) ≡ concat old ++ bytes = concat-append old (bytes ∷ []) ∙ ap (λ behind. concat old ++ behind) (append-nil bytes) in
+    record {
+      within = omega (arith, is);
+      bytes_are = ap (λ place. overwritten (concat old) place bytes) is ∙ put_end (concat old) bytes ∙ sym more ∙ ap concat (sym (records_from-more first records bytes within));
+    }
 
 -- the record that comes, where the file stays
-pub put_record : (action : FullAction) (n size number : ℕ) (records : List (List ℕ)) (bytes : List ℕ)
-    → 0 < n → AreOfSize size records → length bytes ≡ size → changes_file action n (length records) ≡ false
-    → (action ≡ Halt → length records < n) → (action ≡ Rotate → number ≡ (length records - 1) / n)
-    → IsPut (records_in action n number records) (spot_in action n size (length records)).at bytes (records_in action n number (records ++ bytes ∷ []))
-put_record Wrap n size number records bytes some sizes whole stays room last =
-    put_over n size (length records / n) (length records % n) records bytes sizes whole (omega arith) (divided n (length records))
-put_record Halt n size number records bytes some sizes whole stays room last =
-    put_over n size 0 (length records) records bytes sizes whole (room refl) (omega arith)
-put_record Rotate n size number records bytes some sizes whole stays room last =
-    let round : number ≡ length records / n = last refl ∙ same_round n (length records) some stays in
-    subst (λ r. IsPut (round_of n r records) (length records % n * size) bytes (round_of n r (records ++ bytes ∷ []))) (sym round)
-    (put_behind n size (length records / n) (length records % n) records bytes sizes whole (omega arith) (divided n (length records)))
+pub put_record : (action : FullAction) (n size first bytes_before : ℕ) (records : List (List ℕ)) (bytes : List ℕ)
+    → (action ≡ Wrap → (0 < n) × AreOfSize size records × (length bytes ≡ size)) → first ≤ length records
+    → bytes_before ≡ length (concat (records_in action n first (length records) records))
+    → IsPut (records_in action n first (length records) records) (offset_in action n size (length records) bytes_before) bytes
+    (records_in action n first (length (records ++ bytes ∷ [])) (records ++ bytes ∷ []))
+put_record Wrap n size first before records bytes alike within is =
+    let sizes = alike refl in
+    let some = sizes.0 in
+    put_over n size (length records / n) (length records % n) records bytes sizes.1 sizes.2 (omega (arith, some)) (divided n (length records))
+put_record Halt n size first before records bytes alike within is = put_last first before records bytes within is
+put_record Rotate n size first before records bytes alike within is = put_last first before records bytes within is
 
 -- the record with which a new file begins
-pub round_begun : (n : ℕ) (records : List (List ℕ)) (bytes : List ℕ) → 0 < n → BeginsRound n (length records)
-    → concat (round_of n (length records / n) (records ++ bytes ∷ [])) ≡ bytes
-round_begun n records bytes some begins =
-    let full = begins.full in
-    ap concat (round_more n (length records / n) 0 records bytes some (omega arith)
-    ∙ ap (λ rs. rs ++ bytes ∷ []) (drop_all (length records / n * n) records (omega arith)))
+pub file_begun_with : (records : List (List ℕ)) (bytes : List ℕ) → concat (records_from (length records) (length (records ++ bytes ∷ [])) (records ++ bytes ∷ [])) ≡ bytes
+file_begun_with records bytes =
+    let none : records_from (length records) (length records) records ≡ [] = records_from-last (length records) records (omega arith) ∙ drop_all (length records) records (omega arith) in
+    ap concat (records_from-more (length records) records bytes (omega arith) ∙ ap (λ rs. rs ++ bytes ∷ []) none)
     ∙ append-nil bytes

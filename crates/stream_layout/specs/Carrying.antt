@@ -1,22 +1,24 @@
 -- Words of public clauses: the files of a stream before and after an event, and that deeds lead from the ones to the others.
-use Rattle.std.specs.Prelude.{◌≡◌, ℕ, ◌<◌, ℤ, pos, ◌≤ℤ◌, ⊤, IfSome, List, [], ◌∷◌, ◌++◌, length, All, Option, Some, None, is_some, if◌then◌else◌}
+use Rattle.std.specs.Prelude.{◌≡◌, ℕ, ℤ, pos, true, ◌≤ℤ◌, ⊤, IfSome, List, [], ◌∷◌, ◌++◌, length, All, Option, Some, None, is_some, if◌then◌else◌}
 use Rattle.std.specs.Option.{option_map_or}
 use Rattle.std.specs.Str.{bytes_eq}
 use Rattle.std.specs.FinMap.{get}
 use Rattle.disk_model.specs.Disk.{File, Files, settled_file}
 use Rattle.disk_model.specs.DeviceCalls.{all_applied}
 use Rattle.stream_config.specs.declared.attrs.FullAction.TheVariants.{Halt}
+use Rattle.stream_config.specs.declared.attrs.StreamAttrs.{StreamAttrs}
+use Rattle.stream_config.specs.declared.state.LogFile.{LogFile}
 use Rattle.stream_config.specs.declared.state.StreamState.{StreamState}
 use Rattle.stream_config.specs.declared.event.Stamps.{Stamps}
 use Rattle.stream_config.specs.declared.event.StreamEvent.{StreamEvent}
 use Rattle.stream_config.specs.declared.event.StreamEvent.TheVariants.{Made, Stored, Ended}
 use Rattle.stream_config.specs.Attributes.{kind_of, PassesAttrs}
 use Rattle.stream_config.specs.Events.{file_closed, state_after}
-use Rattle.stream_config.specs.Fit.{stamps_of, changes_file, HasFitFiles}
-use Rattle.stream_config.specs.Sizes.{records_per_file}
+use Rattle.stream_config.specs.Fit.{stamps_of, changes_file, next_first, HasFitFiles}
+use Rattle.stream_config.specs.Sizes.{IsLength, has_room}
 use Rattle.stream_layout.specs.declared.deed.Deed.{Deed}
 use Rattle.stream_layout.specs.Names.{log_name}
-use Rattle.stream_layout.specs.LogFiles.{Entries, log_entries, cfg_entry}
+use Rattle.stream_layout.specs.LogFiles.{Entries, bytes_in, log_entries, cfg_entry}
 use Rattle.stream_layout.specs.Deeds.{calls_of_all, current_file}
 
 -- a stamp that names can show: a second from 1970 to 2603
@@ -37,9 +39,9 @@ pub record IsFitMade (state : StreamState) : Type 0 where
 -- a record that the stream takes: a HALT stream is not full, the file changes exactly where there are stamps
 pub record IsFitStored (before : StreamState) (bytes : List ℕ) (stamps : Option Stamps) : Type 0 where
   pub stream : IsFitStream before
-  pub size : length bytes ≡ before.attrs.record_size
-  pub room : before.attrs.action ≡ Halt → before.taken < records_per_file before.attrs
-  pub changes : is_some stamps ≡ changes_file before.attrs.action (records_per_file before.attrs) before.taken
+  pub size : IsLength before.attrs (length bytes)
+  pub room : before.attrs.action ≡ Halt → has_room before.attrs (current_file before.files).bytes (length bytes) ≡ true
+  pub changes : is_some stamps ≡ changes_file before.attrs (current_file before.files).bytes (length bytes)
   pub new_stamps : IfSome stamps (λ two. IsStamp two.closed × IsStamp two.created)
 
 pub record IsFitEnded (before : StreamState) (closed : ℤ) : Type 0 where
@@ -58,10 +60,17 @@ state_before (Made state) = state
 state_before (Stored before bytes stamps) = before
 state_before (Ended before closed) = before
 
+-- each file has as many bytes as its records
+abbrev pub HaveBytes : StreamAttrs → List (List ℕ) → (until : ℕ) → List LogFile → Type 0
+HaveBytes attrs records until [] = ⊤
+HaveBytes attrs records until (file ∷ files) =
+    (file.bytes ≡ length (bytes_in attrs file.first (next_first files until) records)) × HaveBytes attrs records until files
+
 -- these are the bytes of the records that a stream has taken
 pub record AreRecordsOf (state : StreamState) (records : List (List ℕ)) : Type 0 where
   pub count : length records ≡ state.taken
-  pub sizes : All (λ record_bytes. length record_bytes ≡ state.attrs.record_size) records
+  pub sizes : All (λ record_bytes. IsLength state.attrs (length record_bytes)) records
+  pub bytes : HaveBytes state.attrs records (length records) state.files
 
 -- the records with the one that the event stores
 abbrev pub records_after : StreamEvent → List (List ℕ) → List (List ℕ)

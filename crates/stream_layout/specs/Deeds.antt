@@ -1,5 +1,5 @@
 -- Words of public clauses: the deeds of what happens to a stream, and the device calls of deeds.
-use Rattle.std.specs.Prelude.{ℤ, pos, nat_lt, if◌then◌else◌, List, [], ◌∷◌, ◌++◌, length, Option, Some, None}
+use Rattle.std.specs.Prelude.{ℕ, ℤ, nat_lt, if◌then◌else◌, List, [], ◌∷◌, ◌++◌, length, Option, Some, None}
 use Rattle.disk_model.specs.DeviceCalls.{DeviceCall, CallCreate, CallWrite, CallSync, CallRename, CallRemove}
 use Rattle.stream_config.specs.declared.attrs.StreamAttrs.{StreamAttrs}
 use Rattle.stream_config.specs.declared.state.LogFile.{LogFile}
@@ -7,11 +7,12 @@ use Rattle.stream_config.specs.declared.event.Stamps.{Stamps}
 use Rattle.stream_config.specs.declared.event.StreamEvent.{StreamEvent}
 use Rattle.stream_config.specs.declared.event.StreamEvent.TheVariants.{Made, Stored, Ended}
 use Rattle.stream_config.specs.Cfg.{cfg_of}
-use Rattle.stream_config.specs.Events.{open_file, file_closed, last_closed}
+pub use Rattle.stream_config.specs.Events.{current_file}
+use Rattle.stream_config.specs.Events.{open_file, file_closed, last_closed, next_offset}
+use Rattle.stream_config.specs.declared.state.StreamState.{StreamState}
 use Rattle.stream_layout.specs.declared.deed.Deed.{Deed}
 use Rattle.stream_layout.specs.declared.deed.Deed.TheVariants.{Put, Create, Write, Rename, Remove}
 use Rattle.stream_layout.specs.Names.{log_name, cfg_name}
-use Rattle.stream_layout.specs.Spots.{spot_of}
 
 -- the calls of one deed, in order
 abbrev pub calls_of : Deed → List DeviceCall
@@ -25,12 +26,6 @@ calls_of (Remove name) = CallRemove name ∷ []
 abbrev pub calls_of_all : List Deed → List DeviceCall
 calls_of_all [] = []
 calls_of_all (deed ∷ deeds) = calls_of deed ++ calls_of_all deeds
-
--- the current file, the last of those that stand; no stream is without one
-abbrev pub current_file : List LogFile → LogFile
-current_file [] = open_file (pos 0)
-current_file (file ∷ []) = file
-current_file (file ∷ next ∷ files) = current_file (next ∷ files)
 
 -- the current file gets its closing stamp
 abbrev pub closing : StreamAttrs → List LogFile → ℤ → Deed
@@ -56,6 +51,11 @@ abbrev pub file_written_to : List LogFile → Option Stamps → LogFile
 file_written_to files None = current_file files
 file_written_to files (Some stamps) = open_file stamps.created
 
+-- and where it stands there: a file that begins with it is empty
+abbrev pub offset_written : StreamState → Option Stamps → ℕ
+offset_written before None = next_offset before
+offset_written before (Some stamps) = 0
+
 unfoldable pub deeds_of : StreamEvent → List Deed
 deeds_of (Made state) =
     Put (cfg_name state.attrs) (cfg_of state.name state.attrs)
@@ -63,6 +63,6 @@ deeds_of (Made state) =
     ∷ []
 deeds_of (Stored before bytes stamps) =
     change_of_file before.attrs before.files stamps
-    ++ Write (log_name before.attrs (file_written_to before.files stamps)) (spot_of before.attrs before.taken).at bytes
+    ++ Write (log_name before.attrs (file_written_to before.files stamps)) (offset_written before stamps) bytes
     ∷ []
 deeds_of (Ended before closed) = closing before.attrs before.files closed ∷ []

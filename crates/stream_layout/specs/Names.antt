@@ -18,8 +18,11 @@ closing_part None = []
 closing_part (Some stamp) = stamp_part stamp
 
 -- a file of records: `<file>_<created>.log` while it is current, `<file>_<created>_<closed>.log` afterwards
-unfoldable pub log_name : StreamAttrs → LogFile → List ℕ
-log_name attrs file = folder_of attrs.path ++ attrs.file ++ stamp_part file.created ++ closing_part file.closed ++ codes ".log"
+unfoldable pub stamped_name : StreamAttrs → (created : ℤ) (closed : Option ℤ) → List ℕ
+stamped_name attrs created closed = folder_of attrs.path ++ attrs.file ++ stamp_part created ++ closing_part closed ++ codes ".log"
+
+abbrev pub log_name : StreamAttrs → LogFile → List ℕ
+log_name attrs file = stamped_name attrs file.created file.closed
 
 -- the cfg file: `<file>.cfg`
 unfoldable pub cfg_name : StreamAttrs → List ℕ

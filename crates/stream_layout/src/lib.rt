@@ -2,11 +2,13 @@
 #![tactic(auto)]
 
 mod deed;
+mod law;
 mod listing;
 mod names;
 mod spot;
 
 pub use deed::Deed;
+pub use law::law_of_states;
 pub use listing::deeds;
 pub use names::file_name;
-pub use spot::{Spot, place};
+pub use spot::{Spot, place, place_next};

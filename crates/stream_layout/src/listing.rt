@@ -6,25 +6,19 @@ ghost use Rattle.stream_config.specs.Events.{open_file, file_closed, last_closed
 ghost use Rattle.stream_config.specs.Fit.{stamps_of};
 ghost use Rattle.stream_layout.specs.declared.deed.Deed.TheVariants as deed;
 ghost use Rattle.stream_layout.specs.Names.{log_name};
-ghost use Rattle.stream_layout.specs.Deeds.{current_file, removal, change_of_file, file_written_to, deeds_of};
-ghost use Rattle.stream_layout.specs.Carrying.{IsStamp, IsFitMade, IsFitStored, IsFitEnded, IsFitEvent, CarryOn};
+ghost use Rattle.stream_layout.specs.Deeds.{current_file, removal, change_of_file, file_written_to, offset_written, deeds_of};
+ghost use Rattle.stream_layout.specs.Carrying.{IsStamp, IsFitStream, IsFitMade, IsFitStored, IsFitEnded, IsFitEvent, CarryOn};
 ghost use Rattle.stream_layout.specs.Repeating.{RepeatSafely};
 ghost use Rattle.stream_layout.specs.Inside.{HasStamps, oldest_closed};
 ghost use Rattle.stream_config.specs.declared.event.StreamEvent.TheVariants as event;
 
 use crate::names::cfg_name;
-use crate::{Deed, file_name, place};
+use crate::{Deed, file_name};
 use ais_values::{Duplicate, Seq, Text};
 use std::alloc::{AllocError, Global};
-use stream_config::{LogFile, Stamps, StreamAttrs, StreamEvent, StreamState, cfg_text};
-
-/// The current file, the last of those that stand.
-fn current_of(files: &[LogFile]) -> LogFile
-    requires { 0 < length files.now }
-    ensures { result ≡ current_file files.now }
-{
-    files[files.len() - 1]
-}
+use stream_config::{
+    LogFile, Stamps, StreamAttrs, StreamEvent, StreamState, cfg_text, current_of, next_offset,
+};
 
 /// The oldest file once the current one is closed.
 fn oldest_of(files: &[LogFile], stamps: Stamps) -> LogFile
@@ -33,8 +27,8 @@ fn oldest_of(files: &[LogFile], stamps: Stamps) -> LogFile
 {
     if files.len() == 1 {
         LogFile {
-            created: files[0].created,
             closed: Some(stamps.closed),
+            ..files[0]
         }
     } else {
         files[0]
@@ -170,7 +164,20 @@ fn written_to(files: &[LogFile], stamps: Option<Stamps>) -> LogFile
         Some(stamps) => LogFile {
             created: stamps.created,
             closed: None,
+            first: 0,
+            bytes: 0,
         },
+    }
+}
+
+/// Where a record stands in the file that it goes to.
+fn offset_written(before: &StreamState, stamps: Option<Stamps>) -> u64
+    requires { IsFitStream before.now }
+    ensures { result ≡ offset_written before.now stamps }
+{
+    match stamps {
+        None => next_offset(before),
+        Some(_) => 0,
     }
 }
 
@@ -189,7 +196,7 @@ fn stored(
     let mut list = change_if(alloc, &before.attrs, before.files.as_slice(), stamps)?;
     let name = name_of(alloc, &before.attrs, file)?;
     let bytes = bytes.copy(alloc)?;
-    let at = place(&before.attrs, before.taken).at;
+    let at = offset_written(before, stamps);
     list.push(Deed::Write { name, at, bytes })?;
     Ok(list)
 }

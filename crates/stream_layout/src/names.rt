@@ -2,7 +2,7 @@
 ghost use Rattle.std.specs.Prelude.{◌≡◌, ◌+◌, ◌≤◌, ◌++◌, length, IfOk, OnOk};
 ghost use Rattle.std.specs.Option.{ForSome};
 ghost use Rattle.stream_config.specs.Attributes.{IsFileName, IsPath};
-ghost use Rattle.stream_layout.specs.Names.{folder_of, stamp_part, log_name, cfg_name};
+ghost use Rattle.stream_layout.specs.Names.{folder_of, stamp_part, stamped_name, cfg_name};
 ghost use Rattle.stream_layout.specs.Carrying.{IsStamp};
 
 use ais_values::Text;
@@ -41,7 +41,7 @@ fn put_stamp(name: &mut Vec<u8>, stamp: i64) -> Result<(), AllocError>
 /// `<file>_<created>_<closed>.log` once it is closed, with `<path>/` before it unless the path is `.`.
 ///
 /// Stamps are seconds from 0 to 20,000,000,100, printed as `YYYYMMDD_HHMMSS` in UTC.
-#[tactic(auto, unfolding(crate::specs::Names::log_name))]
+#[tactic(auto, unfolding(crate::specs::Names::stamped_name))]
 pub fn file_name(
     alloc: Global,
     attrs: &StreamAttrs,
@@ -53,7 +53,7 @@ pub fn file_name(
     requires created { IsStamp created }
     requires closed { ForSome closed IsStamp }
     ensures { IfOk result (λ name.
-        name ≡ log_name attrs.now (record { created = created; closed = closed })) }
+        name ≡ stamped_name attrs.now created closed) }
 {
     let mut name = stem(alloc, attrs)?;
     put_stamp(&mut name, created)?;
