@@ -1,36 +1,44 @@
 -- The deeds of what happens to one stream carry the files of all streams on.
-use Rattle.std.proofs.Common.{◌≡◌, ℕ, suc, ◌+◌, ◌-◌, ◌<◌, ◌≤◌, Bool, true, false, cond, List, [], ◌∷◌, ◌++◌, length, drop, map, refl, ap, sym, ◌∙◌, subst, arith}
-use Rattle.std.specs.Prelude.{Option, Some, None, option_map, is_some, if◌then◌else◌, pos, All}
+use Rattle.std.proofs.Common.{zero, take, ◌*◌, ◌/◌, ◌≡◌, ℕ, suc, ◌+◌, ◌-◌, ◌≤◌, Bool, true, false, cond, List, [], ◌∷◌, ◌++◌, length, drop, refl, ap, sym, ◌∙◌, subst, arith}
+use Rattle.std.specs.Prelude.{Option, Some, None, option_map, is_some, if◌then◌else◌, pos}
 use Rattle.std.specs.Option.{option_map_or}
 use Rattle.std.specs.FinMap.{get}
 use Rattle.std.specs.Str.{bytes_eq}
-use Rattle.std.proofs.lemmas.List.Elements.{All-nil, All-cons}
+use Rattle.std.proofs.lemmas.List.Elements.{All-nil}
 use Rattle.disk_model.specs.Disk.{Files, settled_file}
 use Rattle.disk_model.specs.DeviceCalls.{all_applied}
 use Rattle.format_expr.specs.Reading.{pieces_of}
 use Rattle.record_print.specs.declared.record.LogRecord.{LogRecord}
 use Rattle.record_print.specs.Printing.{printed_record}
-use Rattle.record_print.proofs.LineLaws.{length-printed_record}
 use Rattle.stream_config.specs.Cfg.{cfg_of}
 use Rattle.stream_config.specs.declared.attrs.StreamAttrs.{StreamAttrs}
 use Rattle.stream_config.specs.declared.state.LogFile.{LogFile}
 use Rattle.stream_config.specs.declared.event.StreamEvent.{StreamEvent}
 use Rattle.stream_config.specs.declared.event.StreamEvent.TheVariants as event
-use Rattle.stream_config.specs.Events.{open_file, file_closed, last_closed, most_files, standing, state_after}
+use Rattle.stream_config.specs.Events.{file_closed, last_closed, most_files, standing, state_after}
 use Rattle.stream_config.specs.Stamps.{stamp_after}
 use Rattle.stream_layout.specs.Names.{log_name, cfg_name}
-use Rattle.stream_layout.specs.LogFiles.{log_entries, cfg_entry}
+use Rattle.stream_layout.specs.LogFiles.{round_of, records_in, bytes_in, log_entries, cfg_entry}
 use Rattle.stream_layout.specs.Deeds.{calls_of_all, current_file, deeds_of}
 use Rattle.stream_layout.specs.Carrying.{IsFitEvent, state_before, AreRecordsOf, entries_before, entries_after, entry_at, IsFree}
 use Rattle.stream_layout.proofs.CarryLaws.{carry_on}
-use Rattle.log_history.specs.Chronicle.{Stream, new_stream, is_due, with_record, last_with_record, with_end, closed_file}
+use Rattle.log_history.specs.Rounds.{last_of, front_of}
+use Rattle.log_history.specs.Chronicle.{Stream, new_stream, files_had, with_record, last_with_record, with_end, stamped_files, last_file}
 use Rattle.log_history.specs.Files.{printed_records, records_of, log_entries_of, entries_of}
 use Rattle.log_history.specs.Stamps.{stamps_of_all}
-use Rattle.log_history.specs.Table.{state_of, new_state, bytes_in, storing}
+use Rattle.log_history.specs.Table.{state_of, new_state, bytes_in as record_bytes_in, is_changing, storing}
+use Rattle.stream_config.specs.declared.state.StreamState.{StreamState}
+use Rattle.stream_config.specs.declared.attrs.FullAction.{FullAction}
+use Rattle.stream_config.specs.declared.attrs.FullAction.TheVariants.{Wrap, Halt, Rotate}
+use Rattle.stream_config.specs.Sizes.{IsLength, records_per_file}
+use Rattle.std.specs.List.{concat}
 use Rattle.log_history.specs.Deeds.{deeds_of_all}
-use Rattle.log_history.proofs.FileLists.{last_closed-push, standing-push, standing-one}
+use Rattle.stream_layout.proofs.CurrentFile.{last_closed-append}
+use Rattle.log_history.proofs.FileSteps.{standing-push}
+use Rattle.log_history.proofs.StreamLaws.{made-is}
+use Rattle.log_history.proofs.StepLaws.{HasFull, state-recorded}
 use Rattle.log_history.proofs.Reaching.{Passes}
-use Rattle.log_history.proofs.TableLaws.{state-recorded}
+use Rattle.log_history.proofs.TableLaws.{changing-is}
 use Rattle.log_history.proofs.OnceLaws.{AreStamps}
 use Rattle.log_history.proofs.NamedLaws.{IsNamedBy}
 use Rattle.log_history.proofs.FoundLaws.{either_of, found_in, whole, found-around, found-push, absent, IsAlone, Holds}
@@ -48,22 +56,6 @@ printed-push attrs number (first ∷ recs) rec =
     ap (λ rest. printed_record (pieces_of attrs.expr) number first attrs.record_size ∷ rest)
     (printed-push attrs (number + 1) recs rec
     ∙ ap (λ n. printed_records attrs (number + 1) recs ++ printed_record (pieces_of attrs.expr) n rec attrs.record_size ∷ []) same)
-
-pub length-printed : (attrs : StreamAttrs) (number : ℕ) (recs : List LogRecord) → length (printed_records attrs number recs) ≡ length recs
-length-printed attrs number [] = refl
-length-printed attrs number (rec ∷ recs) = ap suc (length-printed attrs (number + 1) recs)
-
-pub sizes-printed : (attrs : StreamAttrs) (number : ℕ) (recs : List LogRecord) → 0 < attrs.record_size → All (λ (bytes : List ℕ). length bytes ≡ attrs.record_size) (printed_records attrs number recs)
-sizes-printed attrs number [] some = All-nil (λ (bytes : List ℕ). length bytes ≡ attrs.record_size)
-sizes-printed attrs number (rec ∷ recs) some =
-    All-cons (λ (bytes : List ℕ). length bytes ≡ attrs.record_size) (printed_record (pieces_of attrs.expr) number rec attrs.record_size) (printed_records attrs (number + 1) recs)
-    (length-printed_record (pieces_of attrs.expr) number rec attrs.record_size some) (sizes-printed attrs (number + 1) recs some)
-
-pub are-records : (stream : Stream) → Passes stream → AreRecordsOf (state_of stream) (records_of stream)
-are-records stream passes = record {
-  count = length-printed stream.attrs 1 stream.records;
-  sizes = sizes-printed stream.attrs 1 stream.records (omega (arith, passes.sizes.least_record));
-}
 
 -- what happens to one stream among others
 
@@ -144,15 +136,37 @@ carry-amid front behind stream now happening files happens holds name =
           ∙ settled-whole (found_in behind other) (found_in front other) (entry_at (log_entries_of stream) other) (bytes_eq other (cfg_name stream.attrs)) (cfg_of stream.name stream.attrs) bytes is
           (only-of front behind stream other (happens.apart other bytes is)))
 
+-- a file without records has no bytes
+none-made : (attrs : StreamAttrs) → 0 ≡ length (bytes_in attrs 0 0 [])
+none-made attrs = by_action attrs.action where
+  drop-nothing : (k : ℕ) → (let none : List (List ℕ) = [] in drop k none) ≡ []
+  drop-nothing zero = refl
+  drop-nothing (suc k) = refl
+
+  take-nothing : (k : ℕ) → (let none : List (List ℕ) = [] in take k none) ≡ []
+  take-nothing zero = refl
+  take-nothing (suc k) = refl
+
+  round-nothing : (n round : ℕ) → round_of n round [] ≡ []
+  round-nothing n round = ap (take n) (drop-nothing (round * n)) ∙ take-nothing n
+
+  by_action : (action : FullAction) → 0 ≡ length (concat (records_in action (records_per_file attrs) 0 0 []))
+  by_action Wrap =
+      let n = records_per_file attrs in
+      sym (ap (λ rs. length (concat (rs ++ drop (length rs) (round_of n (0 / n - 1) [])))) (round-nothing n (0 / n))
+      ∙ ap (λ rs. length (concat rs)) (round-nothing n (0 / n - 1)))
+  by_action Halt = refl
+  by_action Rotate = refl
+
 -- **the deeds by which a stream is made**
 pub carry-made : (streams : List Stream) (stream : Stream) (files : Files) → IsFitEvent (event.Made (new_state stream.name stream.attrs stream.current)) → stream ≡ new_stream stream.name stream.attrs stream.current → 1 ≤ stream.attrs.rotated → Holds streams files → Holds (streams ++ stream ∷ []) (all_applied (calls_of_all (deeds_of (event.Made (new_state stream.name stream.attrs stream.current)))) files)
 carry-made streams stream files fit is some holds name =
     let state = new_state stream.name stream.attrs stream.current in
     let fresh = new_stream stream.name stream.attrs stream.current in
-    let are : AreRecordsOf state [] = record { count = refl; sizes = All-nil (λ (bytes : List ℕ). length bytes ≡ stream.attrs.record_size) } in
+    let are : AreRecordsOf state [] = record { count = refl; sizes = All-nil (λ (bytes : List ℕ). IsLength stream.attrs (length bytes)); bytes = (none-made stream.attrs, tt) } in
     let entries : entries_of stream ≡ entries_after (event.Made state) [] =
     ap entries_of is
-    ∙ ap (λ (those : List LogFile). cfg_entry stream.name stream.attrs ∷ log_entries stream.attrs [] those) (standing-one stream.attrs (open_file (pos stream.current)) some) in
+    ∙ ap (λ (those : StreamState). cfg_entry stream.name stream.attrs ∷ log_entries stream.attrs [] those.files) (made-is stream.name stream.attrs stream.current some) in
     carry_on (event.Made state) fit [] files are (λ other bytes found. cc) tt name
     ∙ ap (λ these. option_map_or (λ bytes. Some (settled_file bytes)) (entry_at these name) (get files name)) (sym entries)
     ∙ ap (λ found. option_map_or (λ bytes. Some (settled_file bytes)) (entry_at (entries_of stream) name) found) (holds name)
@@ -166,41 +180,43 @@ carry-made streams stream files fit is some holds name =
 
 pub entries-ended : (closed : ℕ) (stream : Stream) → stream.ended ≡ None → 1 ≤ stream.attrs.rotated → entries_after (event.Ended (state_of stream) (pos closed)) (records_of stream) ≡ log_entries_of (with_end closed stream)
 entries-ended closed stream living some =
-    let fs = map closed_file stream.full in
-    let current = open_file (pos stream.current) in
-    let shut : LogFile = record { created = pos stream.current; closed = Some (pos closed) } in
+    let round = last_of (files_had stream) in
+    let fs = stamped_files stream.full (front_of (files_had stream)) in
+    let current = last_file stream.current None round in
+    let shut = last_file stream.current (Some closed) round in
     let k : ℕ = length fs + 1 - most_files stream.attrs.action stream.attrs.rotated in
     ap (λ (files : List LogFile). log_entries stream.attrs (records_of stream) files)
-    (ap (λ (ended : Option ℕ). last_closed (pos closed) (standing stream.attrs (fs ++ record { created = pos stream.current; closed = option_map pos ended } ∷ []))) living
+    (ap (λ (ended : Option ℕ). last_closed (pos closed) (standing stream.attrs (fs ++ last_file stream.current ended round ∷ []))) living
     ∙ ap (last_closed (pos closed)) (standing-push stream.attrs fs current some)
-    ∙ last_closed-push (pos closed) (drop k fs) current
+    ∙ last_closed-append (pos closed) (drop k fs) current
     ∙ sym (standing-push stream.attrs fs shut some))
 
 -- a record that is stored
 
-pub records-pushed : (last second : ℕ) (rec : LogRecord) (stream : Stream) → records_of stream ++ bytes_in (state_of stream) rec ∷ [] ≡ records_of (with_record last second rec stream)
+pub records-pushed : (last second : ℕ) (rec : LogRecord) (stream : Stream) → records_of stream ++ record_bytes_in (state_of stream) rec ∷ [] ≡ records_of (with_record last second rec stream)
 records-pushed last second rec stream =
     let same : length stream.records + 1 ≡ 1 + length stream.records = omega arith in
     ap (λ n. records_of stream ++ printed_record (pieces_of stream.attrs.expr) n rec stream.attrs.record_size ∷ []) same
     ∙ sym (printed-push stream.attrs 1 stream.records rec)
 
-pub entries-stored : (last second : ℕ) (rec : LogRecord) (stream : Stream) → stream.ended ≡ None → 1 ≤ stream.attrs.rotated → entries_after (storing last second rec (state_of stream)) (records_of stream) ≡ log_entries_of (with_record last second rec stream)
-entries-stored last second rec stream living some =
+pub entries-stored : (last second : ℕ) (rec : LogRecord) (stream : Stream) → stream.ended ≡ None → Passes stream → HasFull stream → entries_after (storing last second rec (state_of stream)) (records_of stream) ≡ log_entries_of (with_record last second rec stream)
+entries-stored last second rec stream living passes full =
     ap (λ these. log_entries stream.attrs these (state_after (storing last second rec (state_of stream))).files) (records-pushed last second rec stream)
-    ∙ ap (λ (files : List LogFile). log_entries stream.attrs (records_of (with_record last second rec stream)) files) (sym (ap (λ state. state.files) (state-recorded last second rec stream some living)))
+    ∙ ap (λ (files : List LogFile). log_entries stream.attrs (records_of (with_record last second rec stream)) files) (sym (ap (λ state. state.files) (state-recorded last second rec stream passes.sizes passes.some_rotated living full)))
 
 -- the name that a change of file gives the file that it closes does not stand yet
-pub free-storing : (streams : List Stream) (last second : ℕ) (rec : LogRecord) (stream : Stream) (files : Files) → last ≤ 20000000100 → last_with_record last second stream ≤ 20000000100 → AreStamps last (stamps_of_all streams) → Holds streams files → IsFree (storing last second rec (state_of stream)) files
-free-storing streams last second rec stream files low room are holds = by_case (is_due stream) room where
-  by_case : (due : Bool) → cond due (stamp_after (stamp_after last second) second) last ≤ 20000000100 → IsFree (event.Stored (state_of stream) (bytes_in (state_of stream) rec) (cond due (Some (record { closed = pos (stamp_after last second); created = pos (stamp_after (stamp_after last second) second) })) None)) files
-  by_case false later = tt
-  by_case true later =
-      let shut = file_closed (pos (stamp_after last second)) (current_file (state_of stream).files) in
-      let name = log_name stream.attrs shut in
-      let named : IsNamedBy name (stamp_after last second) = record { attrs = stream.attrs; file = shut; last = refl; is = refl } in
-      holds name
-      ∙ ap (option_map settled_file) (absent streams last name (stamp_after last second) low are (omega (arith, later)) named
-      (λ there. let le = are.upto (stamp_after last second) there in absurd (omega (arith, le))))
+pub free-storing : (streams : List Stream) (last second : ℕ) (rec : LogRecord) (stream : Stream) (files : Files) → last ≤ 20000000100 → last_with_record last second rec stream ≤ 20000000100 → AreStamps last (stamps_of_all streams) → Holds streams files → Passes stream → IsFree (storing last second rec (state_of stream)) files
+free-storing streams last second rec stream files low room are holds passes =
+    by_case (is_changing (state_of stream) rec) (subst (λ b. cond b (stamp_after (stamp_after last second) second) last ≤ 20000000100) (sym (changing-is rec stream passes)) room) where
+      by_case : (due : Bool) → cond due (stamp_after (stamp_after last second) second) last ≤ 20000000100 → IsFree (event.Stored (state_of stream) (record_bytes_in (state_of stream) rec) (cond due (Some (record { closed = pos (stamp_after last second); created = pos (stamp_after (stamp_after last second) second) })) None)) files
+      by_case false later = tt
+      by_case true later =
+          let shut = file_closed (pos (stamp_after last second)) (current_file (state_of stream).files) in
+          let name = log_name stream.attrs shut in
+          let named : IsNamedBy name (stamp_after last second) = record { attrs = stream.attrs; file = shut; last = refl; is = refl } in
+          holds name
+          ∙ ap (option_map settled_file) (absent streams last name (stamp_after last second) low are (omega (arith, later)) named
+          (λ there. let le = are.upto (stamp_after last second) there in absurd (omega (arith, le))))
 
 -- deeds one after another
 

@@ -1,38 +1,34 @@
 -- Each event that an entry brings to a stream can happen to it, so that its deeds are defined.
 use Rattle.std.proofs.Common.{◌≡◌, ℕ, suc, ◌+◌, ◌<◌, ◌≤◌, Bool, true, false, cond, List, [], ◌∷◌, length, map, refl, ap, sym, subst, arith, leb→le}
-use Rattle.std.specs.Prelude.{Option, Some, None, option_map, is_some, filter, ℤ, pos, negsuc, IfSome, All}
+use Rattle.std.specs.Prelude.{Option, Some, None, option_map, filter, ℤ, pos, negsuc, IfSome, All}
 use Rattle.std.specs.Option.{option_map_or}
 use Rattle.std.specs.List.{AllByRecursion}
 use Rattle.std.proofs.lemmas.List.Elements.{All-nil, All-cons}
 use Rattle.std.proofs.lemmas.Bool.{and_parts}
 use Rattle.std.proofs.lemmas.List.{length-map}
-use Rattle.stream_config.specs.declared.attrs.FullAction.{FullAction}
-use Rattle.stream_config.specs.declared.attrs.FullAction.TheVariants.{Wrap, Halt, Rotate}
 use Rattle.stream_config.specs.declared.attrs.StreamAttrs.{StreamAttrs}
 use Rattle.stream_config.specs.declared.attrs.StreamName.{StreamName}
 use Rattle.stream_config.specs.declared.event.Stamps.{Stamps}
 use Rattle.stream_config.specs.declared.event.StreamEvent.TheVariants as event
 use Rattle.stream_config.specs.Attributes.{kind_of, PassesAttrs}
-use Rattle.stream_config.specs.Fit.{stamps_of, file_count, changes_file}
-use Rattle.stream_config.specs.Sizes.{records_per_file}
+use Rattle.stream_config.specs.Fit.{stamps_of}
 use Rattle.stream_config.specs.Stamps.{stamp_after}
 use Rattle.stream_layout.specs.Carrying.{IsStamp, IsFitStream, IsFitEvent}
 use Rattle.record_print.specs.declared.record.LogRecord.{LogRecord}
-use Rattle.record_print.proofs.LineLaws.{length-printed_record}
-use Rattle.format_expr.specs.Reading.{pieces_of}
 use Rattle.log_history.specs.Firsts.{change_first}
 use Rattle.log_history.specs.Changes.{LogChange, Began, Opened, Stored, Closed, Ended}
-use Rattle.log_history.specs.Chronicle.{LogSetup, Stream, lives, is_living, chronicle}
-use Rattle.log_history.specs.Answers.{living_stream, holds_all}
+use Rattle.log_history.specs.Chronicle.{LogSetup, Stream, lives, is_living, files_had, length_next, chronicle}
+use Rattle.log_history.specs.Answers.{living_stream, lacks_room}
+use Rattle.log_history.specs.Rounds.{last_of}
 use Rattle.log_history.specs.Legal.{IsLogHistory}
-use Rattle.log_history.specs.Table.{OpenStream, state_of, open_stream, table, is_named, without_opener, new_state, storing, has_nobody, ends_in, closed_streams, left_streams, events_of}
+use Rattle.log_history.specs.Table.{OpenStream, state_of, open_stream, table, is_named, without_opener, new_state, is_changing, storing, has_nobody, ends_in, closed_streams, left_streams, events_of}
 use Rattle.log_history.proofs.FirstLaws.{Each, Each-find, Each-filter, Each-change_first, Each-weaker}
 use Rattle.log_history.proofs.AnswerLaws.{makes-stream}
 use Rattle.log_history.proofs.Reaching.{Passes, reached}
 use Rattle.log_history.proofs.TableLaws.{find-living}
 use Rattle.log_history.specs.Stamps.{IsStampUpTo, second_in, CanStamp}
-use Rattle.log_history.proofs.StreamLaws.{IsSoundStream, fit-files, fit-stamps, stamp-is}
-use Rattle.log_history.proofs.SoundStreams.{Each-both, room-left, sound}
+use Rattle.log_history.proofs.StreamLaws.{IsSoundStream, fit-stamps, stamp-is, can-store-next, fit-made}
+use Rattle.log_history.proofs.SoundStreams.{Each-both, sound}
 use Rattle.ais_values.proofs.Basics.{none_from}
 
 -- stamps that names can show
@@ -50,7 +46,7 @@ stamps-are last le (stamp ∷ stamps) each =
 pub fit-state : (last : ℕ) (stream : Stream) → last ≤ 20000000100 → Passes stream → stream.ended ≡ None → IsSoundStream last stream → IsFitStream (state_of stream)
 fit-state last stream le passes living is = record {
   attributes = passes;
-  standing = fit-files last stream passes.some_rotated living is;
+  standing = is.fit living;
   stamps = stamps-are last le (stamps_of (state_of stream).files) (fit-stamps last stream passes.some_rotated living is);
 }
 
@@ -70,38 +66,28 @@ found setup past legal name stream is =
 
 -- a record that is stored
 
-pub due-is : (b : Bool) (stamps : Stamps) → is_some (cond b (Some stamps) None) ≡ b
-due-is true stamps = refl
-due-is false stamps = refl
-
 pub due-stamps : (b : Bool) (last second : ℕ) → last + 2 ≤ 20000000100 → second < 20000000100 → IfSome (cond b (Some (record { closed = pos (stamp_after last second); created = pos (stamp_after (stamp_after last second) second) })) None) (λ (two : Stamps). IsStamp two.closed × IsStamp two.created)
 due-stamps true last second le early = (stamp-is (stamp_after last second) (omega (arith, le, early)), stamp-is (stamp_after (stamp_after last second) second) (omega (arith, le, early)))
 due-stamps false last second le early = tt
 
-fit-storing : (last second : ℕ) (rec : LogRecord) (stream : Stream) → last + 2 ≤ 20000000100 → second < 20000000100 → IsFound last stream → holds_all stream.attrs (length stream.records) ≡ false → IsFitEvent (storing last second rec (state_of stream))
+fit-storing : (last second : ℕ) (rec : LogRecord) (stream : Stream) → last + 2 ≤ 20000000100 → second < 20000000100 → IsFound last stream → lacks_room stream.attrs (last_of (files_had stream)).bytes (length_next stream rec) ≡ false → IsFitEvent (storing last second rec (state_of stream))
 fit-storing last second rec stream le early is room =
-    let due = changes_file stream.attrs.action (records_per_file stream.attrs) (length stream.records) in
-    let size : 0 < stream.attrs.record_size = omega (arith, is.passes.sizes.least_record) in
+    let can = can-store-next last second rec stream is.passes is.living room (is.sound.fit is.living) in
     record {
       stream = fit-state last stream (omega (arith, le)) is.passes is.living is.sound;
-      size = length-printed_record (pieces_of stream.attrs.expr) (length stream.records + 1) rec stream.attrs.record_size size;
-      room = room-left stream.attrs (length stream.records) room;
-      changes = due-is due (record { closed = pos (stamp_after last second); created = pos (stamp_after (stamp_after last second) second) });
-      new_stamps = due-stamps due last second le early;
+      size = can.size;
+      room = can.room;
+      changes = can.changes;
+      new_stamps = due-stamps (is_changing (state_of stream) rec) last second le early;
     }
 
 -- a stream that is made
-
-one-file : (action : FullAction) (rotated n : ℕ) → 1 ≤ rotated → 1 ≡ file_count action rotated n 0
-one-file Wrap rotated n some = refl
-one-file Halt rotated n some = refl
-one-file Rotate rotated n some = omega arith
 
 pub fit-making : (name : StreamName) (attrs : StreamAttrs) (created : ℕ) → created ≤ 20000000100 → PassesAttrs (kind_of name) attrs → IsFitEvent (event.Made (new_state name attrs created))
 fit-making name attrs created le passes = record {
   stream = record {
     attributes = passes;
-    standing = record { rising = refl; last_open = refl; count = one-file attrs.action attrs.rotated (records_per_file attrs) passes.some_rotated; halted = λ halts. omega arith };
+    standing = fit-made name attrs created passes.some_rotated;
     stamps = All-cons IsStamp (pos created) [] (stamp-is created le) (All-nil IsStamp);
   };
   fresh = refl;
@@ -144,7 +130,7 @@ fit-kept setup past legal le =
     (λ stream is. fit-state last stream le is.0.0 (none_from stream.ended is.1) is.0.1) (filter lives streams)
     (Each-filter (λ s. Passes s × IsSoundStream last s) lives streams each))
 
-stored-fit : (setup : LogSetup) (past : List LogChange) → IsLogHistory setup past → (name : StreamName) (rec : LogRecord) (second : ℕ) → CanStamp setup past second → (living : Option Stream) → living_stream setup past name ≡ living → option_map_or (λ (s : Stream). holds_all s.attrs (length s.records)) living false ≡ false → AllByRecursion IsFitEvent (option_map_or (λ (stream : OpenStream). storing (chronicle setup past).last second rec stream.state ∷ []) (option_map (open_stream past) living) [])
+stored-fit : (setup : LogSetup) (past : List LogChange) → IsLogHistory setup past → (name : StreamName) (rec : LogRecord) (second : ℕ) → CanStamp setup past second → (living : Option Stream) → living_stream setup past name ≡ living → option_map_or (λ (s : Stream). lacks_room s.attrs (last_of (files_had s)).bytes (length_next s rec)) living false ≡ false → AllByRecursion IsFitEvent (option_map_or (λ (stream : OpenStream). storing (chronicle setup past).last second rec stream.state ∷ []) (option_map (open_stream past) living) [])
 stored-fit setup past legal name rec second can None is room = tt
 stored-fit setup past legal name rec second can (Some stream) is room =
     (fit-storing (chronicle setup past).last second rec stream (omega (arith, can.last)) (omega (arith, can.early)) (found setup past legal name stream is) room, tt)

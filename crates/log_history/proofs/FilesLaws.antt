@@ -29,7 +29,7 @@ use Rattle.log_history.specs.Files.{disk_files}
 use Rattle.log_history.specs.Stamps.{stamps_of_all, second_in, CanStamp}
 use Rattle.log_history.specs.Table.{OpenStream, state_of, open_stream, storing, ends_in}
 use Rattle.log_history.specs.Deeds.{deeds_of_all, deeds_by, made_stream, opening_deeds}
-use Rattle.log_history.proofs.FirstLaws.{Each}
+use Rattle.log_history.proofs.FirstLaws.{Each, Each-weaker}
 use Rattle.log_history.proofs.AnswerLaws.{makes-stream}
 use Rattle.log_history.proofs.Reaching.{Passes, reached}
 use Rattle.log_history.proofs.TableLaws.{living, find-living, closed-streams, left-streams}
@@ -37,7 +37,12 @@ use Rattle.log_history.proofs.EventLaws.{events-fit, fit-making}
 use Rattle.log_history.proofs.OnceLaws.{AreStamps, one-new}
 use Rattle.log_history.proofs.StampedLaws.{amid, none-amid, one-more, changed, stamps-recorded, new-by-record, stamps_by_record, stamps-ended, stamped}
 use Rattle.log_history.proofs.FoundLaws.{alone, Holds, disk-holds}
-use Rattle.log_history.proofs.CarryLaws.{Happens, are-records, carry-amid, carry-made, entries-ended, entries-stored, free-storing, applied-first}
+use Rattle.log_history.proofs.BytesLaws.{are-records}
+use Rattle.log_history.proofs.TableLaws.{KeepsFull}
+use Rattle.log_history.proofs.StepLaws.{HasFull}
+use Rattle.log_history.proofs.StreamLaws.{IsSoundStream}
+use Rattle.log_history.proofs.SoundStreams.{Each-both, sound}
+use Rattle.log_history.proofs.CarryLaws.{Happens, carry-amid, carry-made, entries-ended, entries-stored, free-storing, applied-first}
 use Rattle.ais_values.proofs.Basics.{none_from}
 
 -- what holds of one of some streams
@@ -45,13 +50,20 @@ pub Each-amid : {X : Type 0} (P : X → Type 0) (front behind : List X) (x : X) 
 Each-amid P [] behind x each = each.0
 Each-amid P (y ∷ front) behind x each = Each-amid P front behind x each.1
 
+-- the attributes of every stream pass, and as many of its files are full as its records ask for
+keeping : (setup : LogSetup) (past : List LogChange) → IsLogHistory setup past → Each KeepsFull (chronicle setup past).streams
+keeping setup past legal =
+    let streams = (chronicle setup past).streams in
+    Each-both Passes HasFull streams (reached setup past legal).passing
+    (Each-weaker (IsSoundStream (chronicle setup past).last) HasFull (λ stream is. is.count) streams (sound setup past legal))
+
 -- a stream that lives ends
-pub ending : (front behind : List Stream) (stream : Stream) (last later : ℕ) → stream.ended ≡ None → Passes stream → later ≤ 20000000100 → last ≤ 20000000100 → AreStamps last (stamps_of_all (front ++ stream ∷ behind)) → AreStamps later (stamps_of_all (front ++ with_end later stream ∷ behind)) → IsFitEvent (event.Ended (state_of stream) (pos later)) → Happens front behind stream (with_end later stream) (event.Ended (state_of stream) (pos later))
+pub ending : (front behind : List Stream) (stream : Stream) (last later : ℕ) → stream.ended ≡ None → KeepsFull stream → later ≤ 20000000100 → last ≤ 20000000100 → AreStamps last (stamps_of_all (front ++ stream ∷ behind)) → AreStamps later (stamps_of_all (front ++ with_end later stream ∷ behind)) → IsFitEvent (event.Ended (state_of stream) (pos later)) → Happens front behind stream (with_end later stream) (event.Ended (state_of stream) (pos later))
 ending front behind stream last later living passes low low' are now fit = record {
   fit = fit;
-  records = are-records stream passes;
+  records = are-records stream passes.0 passes.1;
   before = refl;
-  after = entries-ended later stream living passes.some_rotated;
+  after = entries-ended later stream living passes.0.some_rotated;
   place = refl;
   free = λ files holds. tt;
   apart = alone front behind stream last low' are;
@@ -59,18 +71,18 @@ ending front behind stream last later living passes low low' are now fit = recor
 }
 
 -- a record is stored in a stream that lives
-pub storing-in : (front behind : List Stream) (stream : Stream) (last second : ℕ) (rec : LogRecord) → stream.ended ≡ None → Passes stream → last_with_record last second stream ≤ 20000000100 → last ≤ 20000000100 → AreStamps last (stamps_of_all (front ++ stream ∷ behind)) → IsFitEvent (storing last second rec (state_of stream)) → Happens front behind stream (with_record last second rec stream) (storing last second rec (state_of stream))
+pub storing-in : (front behind : List Stream) (stream : Stream) (last second : ℕ) (rec : LogRecord) → stream.ended ≡ None → KeepsFull stream → last_with_record last second rec stream ≤ 20000000100 → last ≤ 20000000100 → AreStamps last (stamps_of_all (front ++ stream ∷ behind)) → IsFitEvent (storing last second rec (state_of stream)) → Happens front behind stream (with_record last second rec stream) (storing last second rec (state_of stream))
 storing-in front behind stream last second rec living passes low low' are fit =
     let now = with_record last second rec stream in
-    let later = last_with_record last second stream in
-    let after = changed last later front behind stream now (stamps_by_record (is_due stream) last second) (stamps-recorded last second rec stream living) (new-by-record (is_due stream) last second) are in
+    let later = last_with_record last second rec stream in
+    let after = changed last later front behind stream now (stamps_by_record (is_due stream rec) last second) (stamps-recorded last second rec stream living) (new-by-record (is_due stream rec) last second) are in
     record {
       fit = fit;
-      records = are-records stream passes;
+      records = are-records stream passes.0 passes.1;
       before = refl;
-      after = entries-stored last second rec stream living passes.some_rotated;
+      after = entries-stored last second rec stream living passes.0 passes.1;
       place = refl;
-      free = λ files holds. free-storing (front ++ stream ∷ behind) last second rec stream files low' low are holds;
+      free = λ files holds. free-storing (front ++ stream ∷ behind) last second rec stream files low' low are holds passes.0;
       apart = alone front behind stream last low' are;
       apart_now = alone front behind now later low after;
     }
@@ -82,10 +94,10 @@ Goal these next happenings files = Holds (these ++ next) (all_applied (calls_of_
 -- the same for all streams behind one
 abbrev Rest : (past : List LogChange) (second : ℕ) (streams : List Stream) → Type 0
 Rest past second streams =
-    (last : ℕ) (these : List Stream) (files : Files) → last ≤ 20000000100 → AreStamps last (stamps_of_all (these ++ streams)) → Each Passes streams → AllByRecursion IsFitEvent (ends_in last second (map (open_stream past) (living streams))) → Holds (these ++ streams) files → Goal these (all_ended (is_ending past) last second streams) (ends_in last second (map (open_stream past) (living streams))) files
+    (last : ℕ) (these : List Stream) (files : Files) → last ≤ 20000000100 → AreStamps last (stamps_of_all (these ++ streams)) → Each KeepsFull streams → AllByRecursion IsFitEvent (ends_in last second (map (open_stream past) (living streams))) → Holds (these ++ streams) files → Goal these (all_ended (is_ending past) last second streams) (ends_in last second (map (open_stream past) (living streams))) files
 
 -- the streams that nobody has open any more end, one after another
-ends-carry : (past : List LogChange) (second last : ℕ) (front streams : List Stream) (files : Files) → last ≤ 20000000100 → AreStamps last (stamps_of_all (front ++ streams)) → Each Passes streams → AllByRecursion IsFitEvent (ends_in last second (map (open_stream past) (living streams))) → Holds (front ++ streams) files → Holds (front ++ all_ended (is_ending past) last second streams) (all_applied (calls_of_all (deeds_of_all (ends_in last second (map (open_stream past) (living streams))))) files)
+ends-carry : (past : List LogChange) (second last : ℕ) (front streams : List Stream) (files : Files) → last ≤ 20000000100 → AreStamps last (stamps_of_all (front ++ streams)) → Each KeepsFull streams → AllByRecursion IsFitEvent (ends_in last second (map (open_stream past) (living streams))) → Holds (front ++ streams) files → Holds (front ++ all_ended (is_ending past) last second streams) (all_applied (calls_of_all (deeds_of_all (ends_in last second (map (open_stream past) (living streams))))) files)
 ends-carry past second last front [] files low are passing fit holds = holds
 ends-carry past second last front (stream ∷ streams) files low are passing fit holds =
     by_life (λ l these fs. ends-carry past second l these streams fs) (lives stream) refl fit where
@@ -125,14 +137,14 @@ ends-carry past second last front (stream ∷ streams) files low are passing fit
       by_life rest true is both = by_idle rest is (is_idle past stream) both
       by_life rest false is both = stays rest both
 
-stored-carry : (name : StreamName) (last second : ℕ) (rec : LogRecord) (past : List LogChange) (streams : List Stream) (found : Option Stream) (files : Files) → find (is_living name) streams ≡ found → option_map_or (last_with_record last second) found last ≤ 20000000100 → last ≤ 20000000100 → AreStamps last (stamps_of_all streams) → Each Passes streams → AllByRecursion IsFitEvent (option_map_or (λ (stream : OpenStream). storing last second rec stream.state ∷ []) (option_map (open_stream past) found) []) → Holds streams files → Holds (change_first (is_living name) (with_record last second rec) streams) (all_applied (calls_of_all (deeds_of_all (option_map_or (λ (stream : OpenStream). storing last second rec stream.state ∷ []) (option_map (open_stream past) found) []))) files)
+stored-carry : (name : StreamName) (last second : ℕ) (rec : LogRecord) (past : List LogChange) (streams : List Stream) (found : Option Stream) (files : Files) → find (is_living name) streams ≡ found → option_map_or (last_with_record last second rec) found last ≤ 20000000100 → last ≤ 20000000100 → AreStamps last (stamps_of_all streams) → Each KeepsFull streams → AllByRecursion IsFitEvent (option_map_or (λ (stream : OpenStream). storing last second rec stream.state ∷ []) (option_map (open_stream past) found) []) → Holds streams files → Holds (change_first (is_living name) (with_record last second rec) streams) (all_applied (calls_of_all (deeds_of_all (option_map_or (λ (stream : OpenStream). storing last second rec stream.state ∷ []) (option_map (open_stream past) found) []))) files)
 stored-carry name last second rec past streams None files none room low are passing fit holds =
     subst (λ these. Holds these files) (sym (none-amid (is_living name) (with_record last second rec) streams none)) holds
 stored-carry name last second rec past streams (Some stream) files found room low are passing fit holds =
     let there = amid (is_living name) streams stream found in
     let happening = storing last second rec (state_of stream) in
     let unended = none_from stream.ended (and_parts (lives stream) _ there.passes).0 in
-    let passes = Each-amid Passes there.front there.behind stream (subst (Each Passes) there.whole passing) in
+    let passes = Each-amid KeepsFull there.front there.behind stream (subst (Each KeepsFull) there.whole passing) in
     let now_are = subst (λ these. AreStamps last (stamps_of_all these)) there.whole are in
     subst (λ these. Holds these (all_applied (calls_of_all (deeds_of_all (happening ∷ []))) files)) (sym (there.changed (with_record last second rec)))
     (subst (Holds (there.front ++ with_record last second rec stream ∷ there.behind)) (sym (applied-first happening [] files))
@@ -143,9 +155,9 @@ stored-carry name last second rec past streams (Some stream) files found room lo
 made-carry : (streams : List Stream) (opened : StreamName) (attrs : StreamAttrs) (created : ℕ) (files : Files) → IsFitEvent (made_stream (new_stream opened attrs created)) → 1 ≤ attrs.rotated → Holds streams files → Holds (streams ++ new_stream opened attrs created ∷ []) (all_applied (calls_of_all (deeds_of (made_stream (new_stream opened attrs created)))) files)
 made-carry streams opened attrs created files fit some holds = carry-made streams (new_stream opened attrs created) files fit refl some holds
 
-room-stored : (found : Option Stream) (last second : ℕ) → last + 2 ≤ 20000000100 → second + 2 ≤ 20000000100 → option_map_or (last_with_record last second) found last ≤ 20000000100
-room-stored None last second low early = omega (arith, low)
-room-stored (Some stream) last second low early = by_case (is_due stream) where
+room-stored : (rec : LogRecord) (found : Option Stream) (last second : ℕ) → last + 2 ≤ 20000000100 → second + 2 ≤ 20000000100 → option_map_or (last_with_record last second rec) found last ≤ 20000000100
+room-stored rec None last second low early = omega (arith, low)
+room-stored rec (Some stream) last second low early = by_case (is_due stream rec) where
   by_case : (due : Bool) → cond due (stamp_after (stamp_after last second) second) last ≤ 20000000100
   by_case true = omega (arith, low, early)
   by_case false = omega (arith, low)
@@ -169,7 +181,7 @@ deeds-carry setup past (Stored stored rec second) files legal can holds =
     let P : Option OpenStream → Type 0 = λ kept. AllByRecursion IsFitEvent (option_map_or (λ (stream : OpenStream). storing now.last second rec stream.state ∷ []) kept []) in
     let Q : Option OpenStream → Type 0 = λ kept. Holds (chronicle setup (Stored stored rec second ∷ past)).streams (all_applied (calls_of_all (deeds_of_all (option_map_or (λ (stream : OpenStream). storing now.last second rec stream.state ∷ []) kept []))) files) in
     subst Q (sym found)
-    (stored-carry stored now.last second rec past now.streams one files refl (room-stored one now.last second (omega (arith, can.last)) (omega (arith, can.early))) (omega (arith, can.last)) (stamped setup past) (reached setup past legal.1).passing (subst P found fit) holds)
+    (stored-carry stored now.last second rec past now.streams one files refl (room-stored rec one now.last second (omega (arith, can.last)) (omega (arith, can.early))) (omega (arith, can.last)) (stamped setup past) (keeping setup past legal.1) (subst P found fit) holds)
 deeds-carry setup past (Closed client closed second) files legal can holds =
     let now = chronicle setup past in
     let fit = events-fit setup past (Closed client closed second) legal can in
@@ -178,7 +190,7 @@ deeds-carry setup past (Closed client closed second) files legal can holds =
     let P : List OpenStream → Type 0 = λ kept. AllByRecursion IsFitEvent (ends_in now.last second kept) in
     let Q : List OpenStream → Type 0 = λ kept. Holds (chronicle setup (Closed client closed second ∷ past)).streams (all_applied (calls_of_all (deeds_of_all (ends_in now.last second kept))) files) in
     subst Q same
-    (ends-carry (Closed client closed second ∷ past) second now.last [] now.streams files (omega (arith, can.last)) (stamped setup past) before.passing (subst P (sym same) fit) holds)
+    (ends-carry (Closed client closed second ∷ past) second now.last [] now.streams files (omega (arith, can.last)) (stamped setup past) (keeping setup past legal.1) (subst P (sym same) fit) holds)
 deeds-carry setup past (Ended client second) files legal can holds =
     let now = chronicle setup past in
     let fit = events-fit setup past (Ended client second) legal can in
@@ -187,7 +199,7 @@ deeds-carry setup past (Ended client second) files legal can holds =
     let P : List OpenStream → Type 0 = λ kept. AllByRecursion IsFitEvent (ends_in now.last second kept) in
     let Q : List OpenStream → Type 0 = λ kept. Holds (chronicle setup (Ended client second ∷ past)).streams (all_applied (calls_of_all (deeds_of_all (ends_in now.last second kept))) files) in
     subst Q same
-    (ends-carry (Ended client second ∷ past) second now.last [] now.streams files (omega (arith, can.last)) (stamped setup past) before.passing (subst P (sym same) fit) holds)
+    (ends-carry (Ended client second ∷ past) second now.last [] now.streams files (omega (arith, can.last)) (stamped setup past) (keeping setup past legal.1) (subst P (sym same) fit) holds)
 
 -- files of which the same is found are the same
 pub held-once : (streams : List Stream) (one other : Files) → Holds streams one → Holds streams other → one ≡ other

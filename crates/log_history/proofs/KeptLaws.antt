@@ -1,5 +1,5 @@
 -- The answers after changes are those read of what is kept of them.
-use Rattle.std.proofs.Common.{◌≡◌, ℕ, ◌==◌, nat_lt, nat_le, true, false, not, ◌&&◌, ◌||◌, cond, List, [], ◌∷◌, length, refl, ap, sym, ◌∙◌}
+use Rattle.std.proofs.Common.{◌≡◌, ℕ, ◌==◌, nat_lt, nat_le, true, false, not, ◌&&◌, ◌||◌, cond, List, [], ◌∷◌, refl, ap, sym, ◌∙◌}
 use Rattle.std.specs.Prelude.{Option, Some, None, option_map, ℤ}
 use Rattle.std.specs.Option.{option_map_or}
 use Rattle.std.proofs.lemmas.Bool.{and_parts}
@@ -15,11 +15,16 @@ use Rattle.record_print.specs.declared.record.Header.{Header}
 use Rattle.log_history.specs.Names.{is_application}
 use Rattle.log_history.specs.Changes.{LogChange, Began, Opened, Stored, Closed, Ended}
 use Rattle.log_history.specs.Handles.{is_using, is_open, users, openers}
-use Rattle.log_history.specs.Chronicle.{LogSetup, Stream, lives, is_living, chronicle}
-use Rattle.log_history.specs.Answers.{answer, begin_rows, open_rows, write_rows, close_rows, end_rows, store_rows, holds_all, living_stream, living_attrs, is_place_taken, is_crowded, is_full, begin_answer, open_answer, write_answer, close_answer, end_answer, store_answer, making_of}
+use Rattle.log_history.specs.Chronicle.{LogSetup, Stream, lives, is_living, chronicle, files_had, length_next}
+use Rattle.log_history.specs.Rounds.{last_of}
+use Rattle.log_history.specs.Times.{record_at}
+use Rattle.log_history.proofs.StepLaws.{bytes-standing}
+use Rattle.log_history.proofs.Reaching.{Passes}
+use Rattle.record_print.specs.declared.record.LogRecord.{LogRecord}
+use Rattle.log_history.specs.Answers.{answer, begin_rows, open_rows, write_rows, close_rows, end_rows, store_rows, lacks_room, living_stream, living_attrs, is_place_taken, is_crowded, is_full, begin_answer, open_answer, write_answer, close_answer, end_answer, store_answer, making_of}
 use Rattle.log_history.specs.Legal.{IsLogHistory}
 use Rattle.log_history.specs.Table.{OpenStream, open_stream, table}
-use Rattle.log_history.specs.KeptAnswers.{kept_attrs, has_place, is_of_application, is_crowd, has_opener, is_filled, begin_status, open_status, write_status, close_status, end_status, store_status, making_in}
+use Rattle.log_history.specs.KeptAnswers.{kept_attrs, has_place, is_of_application, is_crowd, has_opener, lacks_room_in, is_filled, begin_status, open_status, write_status, close_status, end_status, store_status, making_in}
 use Rattle.stream_config.proofs.Equalities.{decides_name}
 use Rattle.log_history.proofs.FirstLaws.{Each, Each-find, list_any-map, list_any-filter, count_by-map, count_by-filter}
 use Rattle.log_history.proofs.Reaching.{reached}
@@ -66,13 +71,15 @@ module _ (setup : LogSetup) (past : List LogChange) where
         | Some stream ↦ refl
       ]
 
-  pub is-filled : (name : StreamName) → is_filled (table setup past).streams name ≡ is_full setup past name
-  is-filled name =
-      ap (λ found. option_map_or (λ (stream : OpenStream). holds_all stream.state.attrs stream.state.taken) found false) (find-living name past (chronicle setup past).streams)
-      ∙ elim (living_stream setup past name) as (λ found. option_map_or (λ (stream : OpenStream). holds_all stream.state.attrs stream.state.taken) (option_map (open_stream past) found) false ≡ option_map_or (λ (stream : Stream). holds_all stream.attrs (length stream.records)) found false) [
-        | None ↦ refl
-        | Some stream ↦ refl
-      ]
+  pub is-filled : IsLogHistory setup past → (name : StreamName) (rec : LogRecord) → is_filled (table setup past).streams name rec ≡ is_full setup past name rec
+  is-filled legal name rec =
+      ap (λ found. option_map_or (λ (stream : OpenStream). lacks_room_in stream.state rec) found false) (find-living name past (chronicle setup past).streams)
+      ∙ by_found (living_stream setup past name) refl where
+        by_found : (found : Option Stream) → living_stream setup past name ≡ found → option_map_or (λ (stream : OpenStream). lacks_room_in stream.state rec) (option_map (open_stream past) found) false ≡ option_map_or (λ (stream : Stream). lacks_room stream.attrs (last_of (files_had stream)).bytes (length_next stream rec)) found false
+        by_found None is = refl
+        by_found (Some stream) is =
+            let here = Each-find Passes (is_living name) (chronicle setup past).streams stream (reached setup past legal).passing is in
+            ap (λ bytes. lacks_room stream.attrs bytes (length_next stream rec)) (bytes-standing stream here.0.some_rotated)
 
   pub making-in : (name : StreamName) (create : Option StreamAttrs) → making_in (table setup past).streams name create ≡ making_of setup past name create
   making-in name create =
@@ -112,19 +119,20 @@ module _ (setup : LogSetup) (past : List LogChange) where
   pub end-status : (client : ℕ) → end_status (table setup past) client ≡ end_answer setup past client
   end-status client = ap (λ using. answer (end_rows using)) (has-users past client)
 
-  pub store-status : (name : StreamName) → store_status (table setup past) name ≡ store_answer setup past name
-  store-status name = ap (λ full. answer (store_rows full)) (is-filled name)
+  pub store-status : IsLogHistory setup past → (name : StreamName) (rec : LogRecord) → store_status (table setup past) name rec ≡ store_answer setup past name rec
+  store-status legal name rec = ap (λ full. answer (store_rows full)) (is-filled legal name rec)
 
   pub close-status : IsLogHistory setup past → (client : ℕ) (name : StreamName) → close_status (table setup past) client name ≡ close_answer setup past client name
   close-status legal client name =
       ap (λ using. answer (close_rows using (has_opener (table setup past).streams name client))) (has-users past client)
       ∙ ap (λ opened. answer (close_rows (is_using past client) opened)) (has-opener legal name client)
 
-  pub write-status : IsLogHistory setup past → (client : ℕ) (name : StreamName) (flags : ℕ) (time : ℤ) (header : Header) → write_status (table setup past) client name flags time header ≡ write_answer setup past client name flags time header
-  write-status legal client name flags time header =
-      ap (λ using. answer (write_rows using (has_opener (table setup past).streams name client) (is_filled (table setup past).streams name) (kind_of name) flags time header)) (has-users past client)
-      ∙ ap (λ opened. answer (write_rows (is_using past client) opened (is_filled (table setup past).streams name) (kind_of name) flags time header)) (has-opener legal name client)
-      ∙ ap (λ full. answer (write_rows (is_using past client) (is_open past name client) full (kind_of name) flags time header)) (is-filled name)
+  pub write-status : IsLogHistory setup past → (client : ℕ) (name : StreamName) (flags : ℕ) (time : ℤ) (header : Header) (body : List ℕ) (now : ℤ) → write_status (table setup past) client name flags time header body now ≡ write_answer setup past client name flags time header body now
+  write-status legal client name flags time header body now =
+      let rec = record_at time header body now in
+      ap (λ using. answer (write_rows using (has_opener (table setup past).streams name client) (is_filled (table setup past).streams name rec) (kind_of name) flags time header)) (has-users past client)
+      ∙ ap (λ opened. answer (write_rows (is_using past client) opened (is_filled (table setup past).streams name rec) (kind_of name) flags time header)) (has-opener legal name client)
+      ∙ ap (λ full. answer (write_rows (is_using past client) (is_open past name client) full (kind_of name) flags time header)) (is-filled legal name rec)
 
   pub open-status : (client : ℕ) (name : StreamName) (create : Option StreamAttrs) → open_status (table setup past) client name create ≡ open_answer setup past client name create
   open-status client name create =

@@ -1,22 +1,22 @@
 -- All names that files of records ever had differ, since their last stamps do.
-use Rattle.std.proofs.Common.{◌≡◌, ◌≢◌, ◌⊎◌, inl, inr, ℕ, suc, zero, ◌+◌, ◌≤◌, Bool, true, false, cond, List, [], ◌∷◌, ◌++◌, drop, map, refl, ap, sym, ◌∙◌, subst, arith}
-use Rattle.std.specs.Prelude.{Option, Some, None, option_map, pos, ⊤}
+use Rattle.std.proofs.Common.{◌≡◌, ◌≢◌, ◌⊎◌, inl, inr, ℕ, suc, zero, ◌≤◌, Bool, true, false, cond, List, [], ◌∷◌, ◌++◌, drop, refl, ap, sym, ◌∙◌, subst, arith}
+use Rattle.std.specs.Prelude.{Option, Some, None, pos, ⊤}
 use Rattle.std.specs.Option.{option_to_list}
 use Rattle.std.proofs.lemmas.Bool.{cases_eq}
 use Rattle.std.specs.Str.{bytes_eq}
-use Rattle.std.specs.List.{concat}
-use Rattle.stream_config.specs.Sizes.{records_per_file}
 use Rattle.std.proofs.lemmas.Slice.Eq.{bytes_eq-Decides}
 use Rattle.client_set.specs.Members.{Stands}
 use Rattle.stream_config.specs.declared.attrs.StreamAttrs.{StreamAttrs}
 use Rattle.stream_config.specs.declared.state.LogFile.{LogFile}
-use Rattle.stream_config.specs.Events.{open_file, standing}
+use Rattle.stream_config.specs.Events.{open_file, standing, file_closed}
 use Rattle.stream_layout.specs.Names.{log_name}
-use Rattle.stream_layout.specs.LogFiles.{records_in, entries_from, log_entries}
+use Rattle.stream_layout.specs.LogFiles.{bytes_in, entries_to, log_entries}
+use Rattle.stream_config.specs.Fit.{next_first}
+use Rattle.log_history.specs.Rounds.{Round, last_of, front_of}
 use Rattle.stream_layout.specs.Carrying.{IsStamp, entry_at}
 use Rattle.stream_layout.proofs.NameLaws.{last_stamp, last_apart}
 use Rattle.log_history.specs.Changes.{LogChange}
-use Rattle.log_history.specs.Chronicle.{LogSetup, Stream, chronicle, closed_file, all_files}
+use Rattle.log_history.specs.Chronicle.{LogSetup, Stream, chronicle, files_had, stamped_files, last_file, all_files}
 use Rattle.log_history.specs.Stamps.{stamps_of_full, stamps_in, stamps_of_all}
 use Rattle.log_history.specs.AllNames.{NoneTwice, names_of_full, last_names, names_in, names_of_all, names_ever}
 use Rattle.log_history.specs.Files.{log_entries_of}
@@ -59,14 +59,14 @@ named-full : (attrs : StreamAttrs) (files : List (ℕ × ℕ)) → AreNamedBy (n
 named-full attrs [] = tt
 named-full attrs (file ∷ files) = (
   record { attrs = attrs; file = open_file (pos file.0); last = refl; is = refl },
-  (record { attrs = attrs; file = closed_file file; last = refl; is = refl }, named-full attrs files),
+  (record { attrs = attrs; file = file_closed (pos file.1) (open_file (pos file.0)); last = refl; is = refl }, named-full attrs files),
 )
 
 named-last : (attrs : StreamAttrs) (created : ℕ) (ended : Option ℕ) → AreNamedBy (log_name attrs (open_file (pos created)) ∷ last_names attrs created ended) (created ∷ option_to_list ended)
 named-last attrs created None = (record { attrs = attrs; file = open_file (pos created); last = refl; is = refl }, tt)
 named-last attrs created (Some closed) = (
   record { attrs = attrs; file = open_file (pos created); last = refl; is = refl },
-  (record { attrs = attrs; file = closed_file (created, closed); last = refl; is = refl }, tt),
+  (record { attrs = attrs; file = file_closed (pos closed) (open_file (pos created)); last = refl; is = refl }, tt),
 )
 
 pub named-in : (stream : Stream) → AreNamedBy (names_in stream) (stamps_in stream)
@@ -117,7 +117,7 @@ names-once setup past low =
 
 -- which name a file has that stands
 
-Stands-drop : {X : Type 0} (k : ℕ) (x : X) (xs : List X) → Stands x (drop k xs) → Stands x xs
+pub Stands-drop : {X : Type 0} (k : ℕ) (x : X) (xs : List X) → Stands x (drop k xs) → Stands x xs
 Stands-drop zero x xs there = there
 Stands-drop (suc k) x [] there = there
 Stands-drop (suc k) x (y ∷ xs) there = inr (Stands-drop k x xs there)
@@ -128,23 +128,29 @@ pub record IsOfFile (attrs : StreamAttrs) (files : List LogFile) (name : List �
   pub there : Stands file files
   pub is : name ≡ log_name attrs file
 
-pub of-file : (attrs : StreamAttrs) (records : List (List ℕ)) (number : ℕ) (files : List LogFile) (name bytes : List ℕ) → entry_at (entries_from attrs records number files) name ≡ Some bytes → IsOfFile attrs files name
-unfolding entries_from
-of-file attrs records number [] name bytes found = cc
-of-file attrs records number (file ∷ files) name bytes found =
-    by_case (concat (records_in attrs.action (records_per_file attrs) number records)) (bytes_eq name (log_name attrs file)) refl found (of-file attrs records (number + 1) files name bytes) where
-      by_case : (first : List ℕ) (b : Bool) → bytes_eq name (log_name attrs file) ≡ b → cond b (Some first) (entry_at (entries_from attrs records (number + 1) files) name) ≡ Some bytes → (entry_at (entries_from attrs records (number + 1) files) name ≡ Some bytes → IsOfFile attrs files name) → IsOfFile attrs (file ∷ files) name
+pub of-file : (attrs : StreamAttrs) (records : List (List ℕ)) (until : ℕ) (files : List LogFile) (name bytes : List ℕ) → entry_at (entries_to attrs records until files) name ≡ Some bytes → IsOfFile attrs files name
+unfolding entries_to
+of-file attrs records until [] name bytes found = cc
+of-file attrs records until (file ∷ files) name bytes found =
+    by_case (bytes_in attrs file.first (next_first files until) records) (bytes_eq name (log_name attrs file)) refl found (of-file attrs records until files name bytes) where
+      by_case : (first : List ℕ) (b : Bool) → bytes_eq name (log_name attrs file) ≡ b → cond b (Some first) (entry_at (entries_to attrs records until files) name) ≡ Some bytes → (entry_at (entries_to attrs records until files) name ≡ Some bytes → IsOfFile attrs files name) → IsOfFile attrs (file ∷ files) name
       by_case first true is some later =
           record { file = file; there = inl refl; is = (bytes_eq-Decides name (log_name attrs file)).0 is }
       by_case first false is some later =
           let rest = later some in record { file = rest.file; there = inr rest.there; is = rest.is }
 
-pub file-named : (attrs : StreamAttrs) (full : List (ℕ × ℕ)) (created : ℕ) (ended : Option ℕ) (file : LogFile) → Stands file (map closed_file full ++ record { created = pos created; closed = option_map pos ended } ∷ []) → Stands (log_name attrs file) (names_of_full attrs full ++ log_name attrs (open_file (pos created)) ∷ last_names attrs created ended)
-file-named attrs [] created None file (inl same) = inl (ap (log_name attrs) same)
-file-named attrs [] created (Some closed) file (inl same) = inr (inl (ap (log_name attrs) same))
-file-named attrs [] created ended file (inr there) = absurd there
-file-named attrs (one ∷ full) created ended file (inl same) = inr (inl (ap (log_name attrs) same))
-file-named attrs (one ∷ full) created ended file (inr there) = inr (inr (file-named attrs full created ended file there))
+pub none-stamped : (full : List (ℕ × ℕ)) → (let none : List LogFile = [] in none) ≡ stamped_files full []
+none-stamped [] = refl
+none-stamped (stamps ∷ full) = refl
+
+pub file-named : (attrs : StreamAttrs) (full : List (ℕ × ℕ)) (rounds : List Round) (created : ℕ) (ended : Option ℕ) (last : Round) (file : LogFile) → Stands file (stamped_files full rounds ++ last_file created ended last ∷ []) → Stands (log_name attrs file) (names_of_full attrs full ++ log_name attrs (open_file (pos created)) ∷ last_names attrs created ended)
+file-named attrs [] rounds created None last file (inl same) = inl (ap (log_name attrs) same)
+file-named attrs [] rounds created (Some closed) last file (inl same) = inr (inl (ap (log_name attrs) same))
+file-named attrs [] rounds created ended last file (inr there) = absurd there
+file-named attrs (one ∷ full) [] created ended last file there =
+    inr (inr (file-named attrs full [] created ended last file (subst (λ files. Stands file (files ++ last_file created ended last ∷ [])) (none-stamped full) there)))
+file-named attrs (one ∷ full) (round ∷ rounds) created ended last file (inl same) = inr (inl (ap (log_name attrs) same))
+file-named attrs (one ∷ full) (round ∷ rounds) created ended last file (inr there) = inr (inr (file-named attrs full rounds created ended last file there))
 
 -- **a file of records that stands has one of its stream's names**
 pub entry-named : (stream : Stream) (name bytes : List ℕ) → entry_at (log_entries_of stream) name ≡ Some bytes → Stands name (names_in stream)
@@ -152,4 +158,4 @@ unfolding log_entries
 entry-named stream name bytes found =
     let file = of-file stream.attrs _ _ (standing stream.attrs (all_files stream)) name bytes found in
     subst (λ n. Stands n (names_in stream)) (sym file.is)
-    (file-named stream.attrs stream.full stream.current stream.ended file.file (Stands-drop _ file.file (all_files stream) file.there))
+    (file-named stream.attrs stream.full (front_of (files_had stream)) stream.current stream.ended (last_of (files_had stream)) file.file (Stands-drop _ file.file (all_files stream) file.there))

@@ -1,16 +1,16 @@
 -- Records of a history: each stands at its place while it has one, keeps its number and its bytes, and no two stand at one place.
-use Rattle.std.proofs.Common.{◌≡◌, ℕ, zero, suc, ◌≤◌, Bool, true, false, cond, List, [], ◌∷◌, ◌++◌, length, take, drop, refl, ap, sym, ◌∙◌, subst, arith, ◌-◌, ◌*◌, ◌/◌, ◌%◌, nat_lt, nat_le, ◌⊎◌, inl, inr, ◌<◌, ◌+◌}
+use Rattle.std.proofs.Common.{get_or, ◌≡◌, ℕ, zero, suc, ◌≤◌, Bool, true, false, cond, List, [], ◌∷◌, ◌++◌, length, take, drop, refl, ap, sym, ◌∙◌, subst, arith, ◌-◌, ◌*◌, ◌/◌, ◌%◌, nat_lt, nat_le, ◌⊎◌, inl, inr, ◌<◌, ◌+◌}
 use Rattle.std.proofs.lemmas.Bool.{cases_lt, leb-true, ltb-true, and_parts}
 use Rattle.std.proofs.lemmas.Nat.{div-add-mod'}
 use Rattle.std.proofs.Math.Nat.{mul-le-mul_right}
 use Rattle.client_set.proofs.MemberLaws.{Stands-append_left, Stands-append_right}
 use Rattle.stream_config.specs.declared.attrs.FullAction.{FullAction}
 use Rattle.stream_config.specs.declared.attrs.FullAction.TheVariants.{Wrap, Halt, Rotate}
-use Rattle.stream_config.specs.Sizes.{records_per_file}
+use Rattle.stream_config.specs.Sizes.{records_per_file, IsLength}
 use Rattle.std.specs.Prelude.{Option, Some, None, option_map, slice_get}
 use Rattle.std.specs.Option.{option_map_or}
 use Rattle.std.specs.List.{find}
-use Rattle.std.proofs.lemmas.Option.{slice_get_within, get_or_from_slice_get, slice_get_past}
+use Rattle.std.proofs.lemmas.Option.{get_or_from_slice_get, slice_get_past}
 use Rattle.disk_model.specs.Disk.{settled_file}
 use Rattle.record_print.specs.declared.record.LogRecord.{LogRecord}
 use Rattle.stream_config.specs.declared.attrs.StreamAttrs.{StreamAttrs}
@@ -18,32 +18,40 @@ use Rattle.stream_config.specs.declared.attrs.StreamName.{StreamName}
 use Rattle.stream_config.specs.Stamps.{stamp_after}
 use Rattle.stream_config.specs.declared.state.LogFile.{LogFile}
 use Rattle.stream_layout.specs.Names.{log_name}
-use Rattle.stream_layout.specs.Spots.{spot_in, spot_of}
 use Rattle.client_set.specs.Members.{Stands}
 use Rattle.stream_layout.specs.Carrying.{entry_at}
 use Rattle.log_history.specs.Firsts.{change_first, before_first}
 use Rattle.log_history.specs.Changes.{LogChange, Began, Opened, Stored, Closed, Ended}
-use Rattle.log_history.specs.Chronicle.{LogSetup, Stream, is_living, with_record, with_end, all_ended, chronicle, all_files}
+use Rattle.log_history.specs.Chronicle.{LogSetup, Stream, is_living, with_record, with_end, all_ended, chronicle, files_had, all_files}
 use Rattle.log_history.specs.Answers.{living_stream}
 use Rattle.log_history.specs.Table.{state_of, bytes_in}
-use Rattle.log_history.specs.Files.{records_of, log_entries_of, disk_files}
+use Rattle.log_history.specs.Files.{printed_records, records_of, log_entries_of, disk_files}
 use Rattle.log_history.specs.Legal.{IsLogHistory}
 use Rattle.log_history.specs.Stamps.{stamps_in, stamps_of_all}
 use Rattle.log_history.specs.AllNames.{NoneTwice, names_in, names_of_all}
-use Rattle.log_history.specs.Places.{first_in, is_standing, place_of, place_in, record_in, stream_number, IsAt}
+use Rattle.log_history.specs.Rounds.{last_of, front_of}
+use Rattle.log_history.specs.Places.{first_in, files_now, first_of, is_standing, file_of, offset_of, spot_in_file, place_of, place_in, record_in, stream_number, IsAt}
+use Rattle.log_history.proofs.BytesLaws.{length-printed, sizes-printed}
+use Rattle.log_history.proofs.SliceLaws.{offsets-rise}
+use Rattle.std.specs.List.{concat, All}
+use Rattle.std.proofs.lemmas.List.Elements.{All-weaker}
+use Rattle.stream_config.specs.Attributes.{IsSized}
+use Rattle.stream_config.specs.Fit.{next_first}
+use Rattle.stream_config.specs.Events.{most_files}
+use Rattle.stream_layout.specs.LogFiles.{records_from}
 use Rattle.log_history.proofs.FirstLaws.{Each}
 use Rattle.log_history.proofs.Reaching.{Passes, reached}
 use Rattle.log_history.proofs.SoundStreams.{sound}
 use Rattle.log_history.proofs.StreamLaws.{IsSoundStream}
 use Rattle.log_history.proofs.OnceLaws.{AreStamps, middle-alone}
 use Rattle.log_history.proofs.StampedLaws.{stamps-around, stamped}
-use Rattle.log_history.proofs.NamedLaws.{named-in, once-named, names-once, file-named}
+use Rattle.log_history.proofs.NamedLaws.{named-in, once-named, names-once, file-named, Stands-drop}
 use Rattle.log_history.proofs.FoundLaws.{found_in, found-around, stamps-within, alone, disk-holds}
-use Rattle.log_history.proofs.CarryLaws.{printed-push, length-printed, sizes-printed, records-pushed, settled-whole, only-of}
+use Rattle.log_history.proofs.CarryLaws.{printed-push, records-pushed, settled-whole, only-of}
 use Rattle.log_history.proofs.FilesLaws.{Each-amid}
-use Rattle.log_history.proofs.PlaceLaws.{names_now, now-once, stands-at, place-stands}
+use Rattle.log_history.proofs.PlaceLaws.{names_now, files-once, named-now, walk, place-stands}
 use Rattle.ais_values.proofs.Basics.{slice_get-append}
-use Rattle.stream_layout.proofs.EventLaws.{some_records}
+use Rattle.stream_layout.proofs.EventLaws.{wrap_sized, some_records}
 
 -- an element of a list, between others
 pub record StandsAmid {X : Type 0} (xs : List X) (index : ℕ) (x : X) : Type 0 where
@@ -91,13 +99,6 @@ found-whole front behind stream last name bytes low are found =
     ∙ settled-whole (found_in behind name) (found_in front name) (entry_at (log_entries_of stream) name) _ _ bytes found
     (only-of front behind stream name (alone front behind stream last low are name bytes found))
 
-pub length-record : (stream : Stream) (number : ℕ) (bytes : List ℕ) → Passes stream → slice_get (records_of stream) number ≡ Some bytes → length bytes ≡ stream.attrs.record_size
-length-record stream number bytes passes is =
-    let records = records_of stream in
-    let sizes = sizes-printed stream.attrs 1 stream.records (omega (arith, passes.sizes.least_record)) in
-    let within = slice_get_within records number bytes is in
-    ap length (sym (get_or_from_slice_get records number bytes [] is)) ∙ sizes number [] within
-
 stands-of : (setup : LogSetup) (past : List LogChange) (stream number : ℕ) (bytes : List ℕ) (place : List ℕ × ℕ) (one : Option Stream) → IsLogHistory setup past → (chronicle setup past).last ≤ 20000000100 → slice_get (chronicle setup past).streams stream ≡ one → option_map_or (λ (s : Stream). slice_get (records_of s) number) one None ≡ Some bytes → option_map_or (λ (s : Stream). place_of s number) one None ≡ Some place → IsAt bytes place (disk_files setup past)
 stands-of setup past stream number bytes place None legal low there record_is place_is = cc
 stands-of setup past stream number bytes place (Some one) legal low there record_is place_is =
@@ -105,14 +106,14 @@ stands-of setup past stream number bytes place (Some one) legal low there record
     let last = (chronicle setup past).last in
     let amid = amid-at streams stream one there in
     let is = stream-of setup past amid.front amid.behind one legal low amid.whole in
-    let stands = place-stands last one number place is.passes is.sound is.once place_is in
+    let stands = place-stands one number place is.passes is.once place_is in
+    let own : get_or (records_of one) number [] ≡ bytes = get_or_from_slice_get (records_of one) number bytes [] record_is in
     let found : found_in streams place.0 ≡ Some stands.bytes =
     ap (λ these. found_in these place.0) amid.whole ∙ found-whole amid.front amid.behind one last place.0 stands.bytes low is.stamps stands.found in
     record {
       file = settled_file stands.bytes;
       found = disk-holds setup past place.0 ∙ ap (option_map settled_file) found;
-      bytes_are = ap (λ size. take size (drop place.1 stands.bytes)) (length-record one number bytes is.passes record_is)
-          ∙ stands.here ∙ get_or_from_slice_get (records_of one) number bytes [] record_is;
+      bytes_are = ap (λ these. take (length these) (drop place.1 stands.bytes)) (sym own) ∙ stands.here ∙ own;
     }
 
 -- **a record stands at its place among the files of a history, with its bytes**
@@ -195,28 +196,25 @@ record-stored setup past name rec second stream is =
 record HasPlace (stream : Stream) (number : ℕ) (place : List ℕ × ℕ) : Type 0 where
   file : LogFile
   stands : is_standing stream number ≡ true
-  at : slice_get (all_files stream) (spot_of stream.attrs number).file ≡ Some file
-  is : (log_name stream.attrs file, (spot_of stream.attrs number).at) ≡ place
+  at : file_of number (length stream.records) (files_now stream) ≡ Some file
+  is : spot_in_file stream number file ≡ place
 
 has-place : (stream : Stream) (number : ℕ) (place : List ℕ × ℕ) → place_of stream number ≡ Some place → HasPlace stream number place
-has-place stream number place is = by_case (is_standing stream number) refl (slice_get (all_files stream) (spot_of stream.attrs number).file) refl is where
-  by_case : (b : Bool) → is_standing stream number ≡ b → (found : Option LogFile) → slice_get (all_files stream) (spot_of stream.attrs number).file ≡ found → cond b (option_map (λ (file : LogFile). (log_name stream.attrs file, (spot_of stream.attrs number).at)) found) None ≡ Some place → HasPlace stream number place
+has-place stream number place is = by_case (is_standing stream number) refl (file_of number (length stream.records) (files_now stream)) refl is where
+  by_case : (b : Bool) → is_standing stream number ≡ b → (found : Option LogFile) → file_of number (length stream.records) (files_now stream) ≡ found → cond b (option_map (spot_in_file stream number) found) None ≡ Some place → HasPlace stream number place
   by_case false none found there same = cc
   by_case true stands None there same = cc
   by_case true stands (Some file) there same = record { file = file; stands = stands; at = there; is = cc }
 
--- the numbers of files whose names are the same
-same-index : (attrs : StreamAttrs) (files : List LogFile) (one other : ℕ) (file second : LogFile) → NoneTwice (names_now attrs files) → slice_get files one ≡ Some file → slice_get files other ≡ Some second → log_name attrs file ≡ log_name attrs second → one ≡ other
-same-index attrs [] one other file second once is is' same = cc
-same-index attrs (first ∷ files) zero zero file second once is is' same = refl
-same-index attrs (first ∷ files) zero (suc other) file second once is is' same =
-    let e : first ≡ file = cc in
-    absurd (once.0 (subst (λ name. Stands name (names_now attrs files)) (sym same ∙ ap (log_name attrs) (sym e)) (stands-at attrs files other second is')))
-same-index attrs (first ∷ files) (suc one) zero file second once is is' same =
-    let e : first ≡ second = cc in
-    absurd (once.0 (subst (λ name. Stands name (names_now attrs files)) (same ∙ ap (log_name attrs) (sym e)) (stands-at attrs files one file is)))
-same-index attrs (first ∷ files) (suc one) (suc other) file second once is is' same =
-    ap suc (same-index attrs files one other file second once.1 is is' same)
+-- files whose names are the same
+same-file : (attrs : StreamAttrs) (files : List LogFile) (file second : LogFile) → NoneTwice (names_now attrs files) → Stands file files → Stands second files → log_name attrs file ≡ log_name attrs second → file ≡ second
+same-file attrs [] file second once there there' same = absurd there
+same-file attrs (first ∷ files) file second once (inl is) (inl is') same = is ∙ sym is'
+same-file attrs (first ∷ files) file second once (inl is) (inr later) same =
+    absurd (once.0 (subst (λ name. Stands name (names_now attrs files)) (sym same ∙ ap (log_name attrs) is) (named-now attrs files second later)))
+same-file attrs (first ∷ files) file second once (inr later) (inl is') same =
+    absurd (once.0 (subst (λ name. Stands name (names_now attrs files)) (same ∙ ap (log_name attrs) is') (named-now attrs files file later)))
+same-file attrs (first ∷ files) file second once (inr later) (inr later') same = same-file attrs files file second once.1 later later' same
 
 -- numbers that differ have places that differ
 
@@ -252,12 +250,26 @@ wrapped-same n taken one other some low high low' high' rests =
     by-rest n one other
     (rounds-same n first (one / n) (other / n) (other % n) (omega (arith, one_is, low)) (omega (arith, whole', low')) (omega (arith, one_is, high)) (omega (arith, whole', high'))) rests
 
-numbers-same : (action : FullAction) (n size rotated taken one other : ℕ) → 0 < n → 0 < size → first_in action n rotated taken ≤ one → one < taken → first_in action n rotated taken ≤ other → other < taken → (spot_in action n size one).file ≡ (spot_in action n size other).file → (spot_in action n size one).at ≡ (spot_in action n size other).at → one ≡ other
-numbers-same Wrap n size rotated taken one other some whole low high low' high' files ats =
-    wrapped-same n taken one other some low high low' high' (times-same (one % n) (other % n) size whole ats)
-numbers-same Halt n size rotated taken one other some whole low high low' high' files ats = times-same one other size whole ats
-numbers-same Rotate n size rotated taken one other some whole low high low' high' files ats =
-    by-rest n one other files (times-same (one % n) (other % n) size whole ats)
+apart-offsets : (first one other : ℕ) (records : List (List ℕ)) → All (λ (bytes : List ℕ). 1 ≤ length bytes) records → first ≤ one → first ≤ other → one < length records → other < length records
+    → length (concat (records_from first one records)) ≡ length (concat (records_from first other records)) → one ≡ other
+apart-offsets first one other records some low low' high high' same = by_order (cases_lt one other) (cases_lt other one) where
+  by_order : (one < other) ⊎ (other ≤ one) → (other < one) ⊎ (one ≤ other) → one ≡ other
+  by_order (inl less) back = absurd (let rises = offsets-rise first one other records some low less high in omega (arith, rises, same))
+  by_order (inr above) (inl less) = absurd (let rises = offsets-rise first other one records some low' less high' in omega (arith, rises, same))
+  by_order (inr above) (inr below) = omega (arith, above, below)
+
+numbers-same : (action : FullAction) (attrs : StreamAttrs) (first stood one other taken : ℕ) (records : List (List ℕ)) → attrs.action ≡ action → IsSized attrs → length records ≡ taken → All (λ (bytes : List ℕ). 1 ≤ length bytes) records
+    → first ≤ one → first ≤ other → first_in action (records_per_file attrs) taken stood ≤ one → one < taken → first_in action (records_per_file attrs) taken stood ≤ other → other < taken
+    → offset_of action (records_per_file attrs) attrs.record_size first one records ≡ offset_of action (records_per_file attrs) attrs.record_size first other records → one ≡ other
+numbers-same Wrap attrs first stood one other taken records is sized count some low low' kept high kept' high' same =
+    let alike = wrap_sized attrs sized is in
+    let least = alike.least_record in
+    let n = records_per_file attrs in
+    wrapped-same n taken one other (some_records attrs alike) kept high kept' high' (times-same (one % n) (other % n) attrs.record_size (omega (arith, least)) same)
+numbers-same Halt attrs first stood one other taken records is sized count some low low' kept high kept' high' same =
+    apart-offsets first one other records some low low' (omega (arith, high, count)) (omega (arith, high', count)) same
+numbers-same Rotate attrs first stood one other taken records is sized count some low low' kept high kept' high' same =
+    apart-offsets first one other records some low low' (omega (arith, high, count)) (omega (arith, high', count)) same
 
 stands-in : {X : Type 0} (xs : List X) (index : ℕ) (x : X) → slice_get xs index ≡ Some x → Stands x xs
 stands-in [] index x is = cc
@@ -289,24 +301,35 @@ same-stream (first ∷ streams) (suc one) zero stream second name once is is' th
 same-stream (first ∷ streams) (suc one) (suc other) stream second name once is is' there there' =
     ap suc (same-stream streams one other stream second name (once-behind (names_in first) (names_of_all streams) once) is is' there there')
 
--- the same place in one stream
-one-number : (last : ℕ) (stream : Stream) (one other : ℕ) (place : List ℕ × ℕ) → Passes stream → NoneTwice (names_in stream) → HasPlace stream one place → HasPlace stream other place → one ≡ other
-one-number last stream one other place passes once is is' =
-    let attrs = stream.attrs in
-    let n = records_per_file attrs in
-    let first = first_in attrs.action n attrs.rotated (length stream.records) in
-    let parts = and_parts (nat_le first one) (nat_lt one (length stream.records)) is.stands in
-    let parts' = and_parts (nat_le first other) (nat_lt other (length stream.records)) is'.stands in
-    let same_name : log_name attrs is.file ≡ log_name attrs is'.file = ap (λ (p : List ℕ × ℕ). p.0) (is.is ∙ sym is'.is) in
-    let same_at : (spot_of attrs one).at ≡ (spot_of attrs other).at = ap (λ (p : List ℕ × ℕ). p.1) (is.is ∙ sym is'.is) in
-    let files = same-index attrs (all_files stream) (spot_of attrs one).file (spot_of attrs other).file is.file is'.file (now-once attrs stream.full stream.current stream.ended once) is.at is'.at same_name in
-    numbers-same attrs.action n attrs.record_size attrs.rotated (length stream.records) one other (some_records attrs passes.sizes) (omega (arith, passes.sizes.least_record))
-    (leb-true first one parts.0) (ltb-true one (length stream.records) parts.1) (leb-true first other parts'.0) (ltb-true other (length stream.records) parts'.1) files same_at
+some-printed : (attrs : StreamAttrs) (number : ℕ) (stream : Stream) → IsSized attrs → All (λ (bytes : List ℕ). 1 ≤ length bytes) (printed_records attrs number stream.records)
+some-printed attrs number stream sized =
+    All-weaker (λ (bytes : List ℕ). IsLength attrs (length bytes)) (λ (bytes : List ℕ). 1 ≤ length bytes) (λ bytes is. is.some) (printed_records attrs number stream.records) (sizes-printed attrs number stream.records sized)
 
-name-of-place : (stream : Stream) (number : ℕ) (place : List ℕ × ℕ) → HasPlace stream number place → Stands place.0 (names_in stream)
-name-of-place stream number place is =
+-- the same place in one stream
+one-number : (stream : Stream) (one other : ℕ) (place : List ℕ × ℕ) → Passes stream → NoneTwice (names_in stream) → HasPlace stream one place → HasPlace stream other place → one ≡ other
+one-number stream one other place passes once is is' =
+    let attrs = stream.attrs in
+    let taken = length stream.records in
+    let records = records_of stream in
+    let names = files-once stream once in
+    let walked = walk attrs records one taken (files_now stream) is.file names is.at in
+    let walked' = walk attrs records other taken (files_now stream) is'.file names is'.at in
+    let parts = and_parts (nat_le (first_of stream) one) (nat_lt one taken) is.stands in
+    let parts' = and_parts (nat_le (first_of stream) other) (nat_lt other taken) is'.stands in
+    let same_name : log_name attrs is.file ≡ log_name attrs is'.file = ap (λ (p : List ℕ × ℕ). p.0) (is.is ∙ sym is'.is) in
+    let file = same-file attrs (files_now stream) is.file is'.file names walked.there walked'.there same_name in
+    let at = λ (f : LogFile) (number : ℕ). offset_of attrs.action (records_per_file attrs) attrs.record_size f.first number records in
+    let same_at : at is.file one ≡ at is.file other = ap (λ (p : List ℕ × ℕ). p.1) (is.is ∙ sym is'.is) ∙ ap (λ f. at f other) (sym file) in
+    numbers-same attrs.action attrs is.file.first (next_first (files_now stream) taken) one other taken records refl passes.sizes (length-printed attrs 1 stream.records) (some-printed attrs 1 stream passes.sizes)
+    walked.low (subst (λ (f : LogFile). f.first ≤ other) (sym file) walked'.low)
+    (leb-true (first_of stream) one parts.0) (ltb-true one taken parts.1) (leb-true (first_of stream) other parts'.0) (ltb-true other taken parts'.1) same_at
+
+name-of-place : (stream : Stream) (number : ℕ) (place : List ℕ × ℕ) → NoneTwice (names_in stream) → HasPlace stream number place → Stands place.0 (names_in stream)
+name-of-place stream number place once is =
+    let walked = walk stream.attrs (records_of stream) number (length stream.records) (files_now stream) is.file (files-once stream once) is.at in
     subst (λ name. Stands name (names_in stream)) (ap (λ (p : List ℕ × ℕ). p.0) is.is)
-    (file-named stream.attrs stream.full stream.current stream.ended is.file (stands-in (all_files stream) (spot_of stream.attrs number).file is.file is.at))
+    (file-named stream.attrs stream.full (front_of (files_had stream)) stream.current stream.ended (last_of (files_had stream)) is.file
+    (Stands-drop (length (all_files stream) - most_files stream.attrs.action stream.attrs.rotated) is.file (all_files stream) walked.there))
 
 apart-of : (setup : LogSetup) (past : List LogChange) (one other number second : ℕ) (place : List ℕ × ℕ) (found found' : Option Stream) → IsLogHistory setup past → (chronicle setup past).last ≤ 20000000100 → slice_get (chronicle setup past).streams one ≡ found → slice_get (chronicle setup past).streams other ≡ found' → option_map_or (λ (s : Stream). place_of s number) found None ≡ Some place → option_map_or (λ (s : Stream). place_of s second) found' None ≡ Some place → (one ≡ other) × (number ≡ second)
 apart-of setup past one other number second place None found' legal low there there' is is' = cc
@@ -317,10 +340,12 @@ apart-of setup past one other number second place (Some stream) (Some later) leg
     let told = stream-of setup past amid.front amid.behind stream legal low amid.whole in
     let here = has-place stream number place is in
     let here' = has-place later second place is' in
-    let same = same-stream streams one other stream later place.0 (names-once setup past low) there there' (name-of-place stream number place here) (name-of-place later second place here') in
+    let amid' = amid-at streams other later there' in
+    let told' = stream-of setup past amid'.front amid'.behind later legal low amid'.whole in
+    let same = same-stream streams one other stream later place.0 (names-once setup past low) there there' (name-of-place stream number place told.once here) (name-of-place later second place told'.once here') in
     let both : Some stream ≡ Some later = sym there ∙ ap (slice_get streams) same ∙ there' in
     let one_stream : stream ≡ later = cc in
-    (same, one-number 0 stream number second place told.passes told.once here (subst (λ (s : Stream). HasPlace s second place) (sym one_stream) here'))
+    (same, one-number stream number second place told.passes told.once here (subst (λ (s : Stream). HasPlace s second place) (sym one_stream) here'))
 
 -- **no two records stand at one place**
 pub record-apart : (setup : LogSetup) (past : List LogChange) (one other number second : ℕ) (place : List ℕ × ℕ) → IsLogHistory setup past → (chronicle setup past).last ≤ 20000000100 → place_in setup past one number ≡ Some place → place_in setup past other second ≡ Some place → (one ≡ other) × (number ≡ second)

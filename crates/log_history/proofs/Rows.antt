@@ -17,8 +17,8 @@ use Rattle.format_expr.specs.Reading.{pieces_of, pieces_from}
 use Rattle.format_expr.specs.Tokens.{part_with, shown_parts}
 use Rattle.civil_time.specs.Stamps.{stamp_of}
 use Rattle.civil_time.specs.Fields.{civil_of, year_of, year_from, month_of, month_from}
-use Rattle.stream_layout.specs.Names.{log_name, cfg_name}
-use Rattle.stream_layout.specs.LogFiles.{entries_from, log_entries}
+use Rattle.stream_layout.specs.Names.{stamped_name, log_name, cfg_name}
+use Rattle.stream_layout.specs.LogFiles.{entries_to, log_entries}
 use Rattle.log_history.specs.Changes.{LogChange, Began, Opened, Stored, Closed, Ended}
 use Rattle.log_history.specs.Chronicle.{LogSetup}
 use Rattle.log_history.specs.Answers.{write_answer, living_stream}
@@ -62,10 +62,10 @@ written body past = Stored System (rec body) start ∷ past
 abbrev two : List LogChange
 two = written (codes "b") (written (codes "a") opened)
 
-halts : write_answer (setup (attrs 64 1 Halt)) two 1 System 0 (pos 5) (rec []).header ≡ status.NoSpace
+halts : write_answer (setup (attrs 64 1 Halt)) two 1 System 0 (pos 5) (rec []).header [] (pos 5) ≡ status.NoSpace
 halts = refl
 
-goes_on : write_answer (setup (attrs 64 1 Halt)) (written (codes "a") opened) 1 System 0 (pos 5) (rec []).header ≡ status.Ok
+goes_on : write_answer (setup (attrs 64 1 Halt)) (written (codes "a") opened) 1 System 0 (pos 5) (rec []).header [] (pos 5) ≡ status.Ok
 goes_on = refl
 
 -- WRAP: the file holds the fourth record behind the fifth
@@ -73,7 +73,7 @@ abbrev five : List LogChange
 five = written (codes "e") (written (codes "d") (written (codes "c") two))
 
 wraps : file_at (setup (attrs 64 1 Wrap)) five (codes "saLogSystem_20240101_000002.log") ≡ Some (codes "e                              \nd                              \n")
-unfolding file_at log_entries entries_from log_name cfg_name stamp_of civil_of year_of year_from month_of month_from printed_record pieces_of pieces_from part_with shown_parts
+unfolding file_at log_entries entries_to stamped_name cfg_name stamp_of civil_of year_of year_from month_of month_from printed_record pieces_of pieces_from part_with shown_parts
 wraps = refl
 
 -- ROTATE with one file kept, one record a file: the third record stands alone, in the file of the seventh stamp
@@ -81,16 +81,16 @@ abbrev three : List LogChange
 three = written (codes "c") two
 
 rotates : file_at (setup (attrs 32 1 Rotate)) three (codes "saLogSystem_20240101_000006.log") ≡ Some (codes "c                              \n")
-unfolding file_at log_entries entries_from log_name cfg_name stamp_of civil_of year_of year_from month_of month_from printed_record pieces_of pieces_from part_with shown_parts
+unfolding file_at log_entries entries_to stamped_name cfg_name stamp_of civil_of year_of year_from month_of month_from printed_record pieces_of pieces_from part_with shown_parts
 rotates = refl
 
 removes : file_at (setup (attrs 32 1 Rotate)) three (codes "saLogSystem_20240101_000004_20240101_000005.log") ≡ None
-unfolding file_at log_entries entries_from log_name cfg_name stamp_of civil_of year_of year_from month_of month_from printed_record pieces_of pieces_from part_with shown_parts
+unfolding file_at log_entries entries_to stamped_name cfg_name stamp_of civil_of year_of year_from month_of month_from printed_record pieces_of pieces_from part_with shown_parts
 removes = refl
 
 -- with two files kept the one before it stands too, closed
 keeps : file_at (setup (attrs 32 2 Rotate)) three (codes "saLogSystem_20240101_000004_20240101_000005.log") ≡ Some (codes "b                              \n")
-unfolding file_at log_entries entries_from log_name cfg_name stamp_of civil_of year_of year_from month_of month_from printed_record pieces_of pieces_from part_with shown_parts
+unfolding file_at log_entries entries_to stamped_name cfg_name stamp_of civil_of year_of year_from month_of month_from printed_record pieces_of pieces_from part_with shown_parts
 keeps = refl
 
 -- two application streams end in one finalisation, in order of creation
@@ -113,11 +113,11 @@ abbrev both_ended : List LogChange
 both_ended = Ended 1 start ∷ making (codes "w") (codes "b") (making (codes "v") (codes "a") opened)
 
 first_ends : file_at (setup (attrs 64 1 Wrap)) both_ended (codes "web/a_20240101_000003_20240101_000005.log") ≡ Some []
-unfolding file_at log_entries entries_from log_name cfg_name stamp_of civil_of year_of year_from month_of month_from
+unfolding file_at log_entries entries_to stamped_name cfg_name stamp_of civil_of year_of year_from month_of month_from
 first_ends = refl
 
 second_ends : file_at (setup (attrs 64 1 Wrap)) both_ended (codes "web/b_20240101_000004_20240101_000006.log") ≡ Some []
-unfolding file_at log_entries entries_from log_name cfg_name stamp_of civil_of year_of year_from month_of month_from
+unfolding file_at log_entries entries_to stamped_name cfg_name stamp_of civil_of year_of year_from month_of month_from
 second_ends = refl
 
 neither_lives : is_some (living_stream (setup (attrs 64 1 Wrap)) both_ended (App (codes "v"))) ≡ false
@@ -128,11 +128,11 @@ abbrev made_again : List LogChange
 made_again = making (codes "w") (codes "c") (Closed 1 (App (codes "w")) start ∷ making (codes "w") (codes "b") opened)
 
 old_cfg_stays : file_at (setup (attrs 64 1 Wrap)) made_again (codes "web/b.cfg") ≡ Some (cfg_of (App (codes "w")) (of_application (codes "b")))
-unfolding file_at log_entries entries_from log_name cfg_name stamp_of civil_of year_of year_from month_of month_from
+unfolding file_at log_entries entries_to stamped_name cfg_name stamp_of civil_of year_of year_from month_of month_from
 old_cfg_stays = refl
 
 new_cfg_stands : file_at (setup (attrs 64 1 Wrap)) made_again (codes "web/c.cfg") ≡ Some (cfg_of (App (codes "w")) (of_application (codes "c")))
-unfolding file_at log_entries entries_from log_name cfg_name stamp_of civil_of year_of year_from month_of month_from
+unfolding file_at log_entries entries_to stamped_name cfg_name stamp_of civil_of year_of year_from month_of month_from
 new_cfg_stands = refl
 
 -- another stream in the old place replaces the cfg, and the closed file stays
@@ -140,22 +140,22 @@ abbrev place_again : List LogChange
 place_again = making (codes "v") (codes "b") (Closed 1 (App (codes "w")) start ∷ making (codes "w") (codes "b") opened)
 
 cfg_replaced : file_at (setup (attrs 64 1 Wrap)) place_again (codes "web/b.cfg") ≡ Some (cfg_of (App (codes "v")) (of_application (codes "b")))
-unfolding file_at log_entries entries_from log_name cfg_name stamp_of civil_of year_of year_from month_of month_from
+unfolding file_at log_entries entries_to stamped_name cfg_name stamp_of civil_of year_of year_from month_of month_from
 cfg_replaced = refl
 
 closed_file_stays : file_at (setup (attrs 64 1 Wrap)) place_again (codes "web/b_20240101_000003_20240101_000004.log") ≡ Some []
-unfolding file_at log_entries entries_from log_name cfg_name stamp_of civil_of year_of year_from month_of month_from
+unfolding file_at log_entries entries_to stamped_name cfg_name stamp_of civil_of year_of year_from month_of month_from
 closed_file_stays = refl
 
 -- places of records: the system stream is the third that was made
 
 -- WRAP with two records a file: the fourth of five stands behind the fifth, and the third gave its slot away
 fifth_first : place_in (setup (attrs 64 1 Wrap)) five 2 4 ≡ Some (codes "saLogSystem_20240101_000002.log", 0)
-unfolding log_name stamp_of civil_of year_of year_from month_of month_from
+unfolding stamped_name stamp_of civil_of year_of year_from month_of month_from printed_record pieces_of pieces_from part_with shown_parts
 fifth_first = refl
 
 fourth_behind : place_in (setup (attrs 64 1 Wrap)) five 2 3 ≡ Some (codes "saLogSystem_20240101_000002.log", 32)
-unfolding log_name stamp_of civil_of year_of year_from month_of month_from
+unfolding stamped_name stamp_of civil_of year_of year_from month_of month_from printed_record pieces_of pieces_from part_with shown_parts
 fourth_behind = refl
 
 third_gone : place_in (setup (attrs 64 1 Wrap)) five 2 2 ≡ None
@@ -163,22 +163,63 @@ third_gone = refl
 
 -- ROTATE: the file of the second record is removed where one is kept, and closed where two are
 third_stands : place_in (setup (attrs 32 1 Rotate)) three 2 2 ≡ Some (codes "saLogSystem_20240101_000006.log", 0)
-unfolding log_name stamp_of civil_of year_of year_from month_of month_from
+unfolding stamped_name stamp_of civil_of year_of year_from month_of month_from printed_record pieces_of pieces_from part_with shown_parts
 third_stands = refl
 
 second_gone : place_in (setup (attrs 32 1 Rotate)) three 2 1 ≡ None
 second_gone = refl
 
 second_closed : place_in (setup (attrs 32 2 Rotate)) three 2 1 ≡ Some (codes "saLogSystem_20240101_000004_20240101_000005.log", 0)
-unfolding log_name stamp_of civil_of year_of year_from month_of month_from
+unfolding stamped_name stamp_of civil_of year_of year_from month_of month_from printed_record pieces_of pieces_from part_with shown_parts
 second_closed = refl
 
 -- HALT: the second of two records stands behind the first
 second_behind : place_in (setup (attrs 64 1 Halt)) two 2 1 ≡ Some (codes "saLogSystem_20240101_000002.log", 32)
-unfolding log_name stamp_of civil_of year_of year_from month_of month_from
+unfolding stamped_name stamp_of civil_of year_of year_from month_of month_from printed_record pieces_of pieces_from part_with shown_parts
 second_behind = refl
 
 -- every name that a file of three streams had, one of which changed its file twice
 names_of_three : names_ever (setup (attrs 32 1 Rotate)) three ≡ log_name (default_attrs kind.Alarm) (open_file (pos start)) ∷ log_name (default_attrs kind.Notification) (open_file (pos (start + 1))) ∷ map codes ("saLogSystem_20240101_000002.log" ∷ "saLogSystem_20240101_000002_20240101_000003.log" ∷ "saLogSystem_20240101_000004.log" ∷ "saLogSystem_20240101_000004_20240101_000005.log" ∷ "saLogSystem_20240101_000006.log" ∷ [])
-unfolding log_name stamp_of civil_of year_of year_from month_of month_from
+unfolding stamped_name stamp_of civil_of year_of year_from month_of month_from printed_record pieces_of pieces_from part_with shown_parts
 names_of_three = refl
+
+-- records of the sizes of their texts: HALT with six bytes takes four, refuses three, and takes two
+abbrev freely : (max rotated : ℕ) → FullAction → StreamAttrs
+freely max rotated action = record {
+  file = codes "saLogSystem";
+  path = codes ".";
+  max_file = max;
+  record_size = 0;
+  ha = 0;
+  action = action;
+  rotated = rotated;
+  expr = codes "@Cb";
+}
+
+free_halts : write_answer (setup (freely 6 1 Halt)) (written (codes "abc") opened) 1 System 0 (pos 5) (rec []).header (codes "de") (pos 5) ≡ status.NoSpace
+unfolding printed_record pieces_of pieces_from part_with shown_parts
+free_halts = refl
+
+free_fits : write_answer (setup (freely 6 1 Halt)) (written (codes "abc") opened) 1 System 0 (pos 5) (rec []).header (codes "d") (pos 5) ≡ status.Ok
+unfolding printed_record pieces_of pieces_from part_with shown_parts
+free_fits = refl
+
+free_file : file_at (setup (freely 6 1 Halt)) (written (codes "d") (written (codes "abc") opened)) (codes "saLogSystem_20240101_000002.log") ≡ Some (codes "abc\nd\n")
+unfolding file_at log_entries entries_to stamped_name cfg_name stamp_of civil_of year_of year_from month_of month_from printed_record pieces_of pieces_from part_with shown_parts
+free_file = refl
+
+-- ROTATE: a record that does not fit begins the next file, and a shorter one stands behind it
+abbrev free_three : List LogChange
+free_three = written (codes "f") (written (codes "de") (written (codes "abc") opened))
+
+free_rotates : file_at (setup (freely 6 2 Rotate)) free_three (codes "saLogSystem_20240101_000004.log") ≡ Some (codes "de\nf\n")
+unfolding file_at log_entries entries_to stamped_name cfg_name stamp_of civil_of year_of year_from month_of month_from printed_record pieces_of pieces_from part_with shown_parts
+free_rotates = refl
+
+free_closed : file_at (setup (freely 6 2 Rotate)) free_three (codes "saLogSystem_20240101_000002_20240101_000003.log") ≡ Some (codes "abc\n")
+unfolding file_at log_entries entries_to stamped_name cfg_name stamp_of civil_of year_of year_from month_of month_from printed_record pieces_of pieces_from part_with shown_parts
+free_closed = refl
+
+free_behind : place_in (setup (freely 6 2 Rotate)) free_three 2 2 ≡ Some (codes "saLogSystem_20240101_000004.log", 3)
+unfolding stamped_name stamp_of civil_of year_of year_from month_of month_from printed_record pieces_of pieces_from part_with shown_parts
+free_behind = refl

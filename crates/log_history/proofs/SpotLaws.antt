@@ -1,17 +1,13 @@
--- Where the record of a number stands among the records of its file.
-use Rattle.std.proofs.Common.{◌≡◌, ℕ, zero, suc, ◌+◌, ◌-◌, ◌*◌, ◌/◌, ◌%◌, ◌<◌, ◌≤◌, ◌⊎◌, inl, inr, List, [], ◌∷◌, ◌++◌, length, take, drop, get_or, refl, sym, ap, subst, ◌∙◌, arith, length-append, length-drop, length-take}
+-- Where the record of a number stands among the records of a file that wraps.
+use Rattle.std.proofs.Common.{◌≡◌, ℕ, zero, suc, ◌+◌, ◌-◌, ◌*◌, ◌/◌, ◌%◌, ◌<◌, ◌≤◌, ◌⊎◌, inl, inr, List, [], ◌∷◌, ◌++◌, length, take, drop, get_or, sym, ap, ◌∙◌, arith, length-append, length-drop, length-take}
 use Rattle.std.specs.List.{concat}
 use Rattle.std.proofs.lemmas.Bool.{cases_lt}
 use Rattle.std.proofs.lemmas.List.{get_or-take, get_or-drop, get_or_append_left, get_or-append_right, take_at, drop_at, drop-drop}
-use Rattle.std.proofs.lemmas.List.Elements.{All-head, All-tail, All-take, All-drop}
+use Rattle.std.proofs.lemmas.List.Elements.{All-head, All-tail}
 use Rattle.std.proofs.lemmas.Nat.{div-add-mod'}
 use Rattle.std.proofs.Math.Nat.{mul-le-mul_right}
-use Rattle.stream_config.specs.declared.attrs.FullAction.{FullAction}
-use Rattle.stream_config.specs.declared.attrs.FullAction.TheVariants.{Wrap, Halt, Rotate}
-use Rattle.stream_layout.specs.LogFiles.{round_of, overlaid, records_in}
-use Rattle.stream_layout.specs.Spots.{spot_in}
-use Rattle.stream_layout.proofs.Rounds.{remainder, AreOfSize, length-running, overlaid_is, overlaid_sizes}
-use Rattle.log_history.specs.Places.{first_in}
+use Rattle.stream_layout.specs.LogFiles.{round_of, overlaid}
+use Rattle.stream_layout.proofs.Rounds.{AreOfSize, length-running, overlaid_is}
 
 -- records of one size one after another
 pub concat-slice : (size : ℕ) (records : List (List ℕ)) (number : ℕ) → AreOfSize size records → number < length records → take size (drop (number * size) (concat records)) ≡ get_or records number []
@@ -101,38 +97,3 @@ wrapped n number records some within kept =
             let long : length records ≡ (own + 1) * n + rest = is ∙ ap (λ r. r * n + rest) next in
             let there = round-before n own rest index records small long (omega (arith, long, at, kept)) low in
             record { within = there.within; is = there.is ∙ ap (λ k. get_or records k []) (sym at) }
-
--- the index of a record in its file
-abbrev pub index_in : FullAction → (n number : ℕ) → ℕ
-index_in Wrap n number = number % n
-index_in Halt n number = number
-index_in Rotate n number = number % n
-
-pub at-index : (action : FullAction) (n size number : ℕ) → (spot_in action n size number).at ≡ index_in action n number * size
-at-index Wrap n size number = refl
-at-index Halt n size number = refl
-at-index Rotate n size number = refl
-
--- **a record that stands is at its index among those of its file**
-pub among-own : (action : FullAction) (n rotated number : ℕ) (records : List (List ℕ)) (file : ℕ) → 0 < n → (action ≡ Halt → length records ≤ n) → first_in action n rotated (length records) ≤ number → number < length records → (action ≡ Rotate → file ≡ number / n) → IsAmong (records_in action n file records) (index_in action n number) (get_or records number [])
-among-own Wrap n rotated number records file some halted first within own =
-    wrapped n number records some within (omega (arith, first))
-among-own Halt n rotated number records file some halted first within own =
-    let few = halted refl in
-    let there = wrapped n number records some within (omega (arith, few)) in
-    let same : number % n ≡ number = remainder n 0 number number (omega (arith, few, within)) (omega arith) in
-    subst (λ index. IsAmong (overlaid n records) index (get_or records number [])) same there
-among-own Rotate n rotated number records file some halted first within own =
-    let whole : number / n * n + number % n ≡ number = div-add-mod' number n in
-    let there = round-has n (number / n) (number % n) records (omega arith) (omega (arith, whole, within)) in
-    subst (λ f. IsAmong (round_of n f records) (number % n) (get_or records number [])) (sym (own refl))
-    (subst (λ k. IsAmong (round_of n (number / n) records) (number % n) (get_or records k [])) whole there)
-
-round-sizes : (size n round : ℕ) (records : List (List ℕ)) → AreOfSize size records → AreOfSize size (round_of n round records)
-round-sizes size n round records sizes =
-    All-take (λ (bytes : List ℕ). length bytes ≡ size) n (drop (round * n) records) (All-drop (λ (bytes : List ℕ). length bytes ≡ size) (round * n) records sizes)
-
-pub sizes-in : (action : FullAction) (size n file : ℕ) (records : List (List ℕ)) → AreOfSize size records → AreOfSize size (records_in action n file records)
-sizes-in Wrap size n file records sizes = overlaid_sizes size n records sizes
-sizes-in Halt size n file records sizes = overlaid_sizes size n records sizes
-sizes-in Rotate size n file records sizes = round-sizes size n file records sizes

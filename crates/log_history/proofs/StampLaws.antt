@@ -6,6 +6,7 @@ use Rattle.std.specs.Option.{option_map_or}
 use Rattle.std.specs.List.{find}
 use Rattle.std.proofs.lemmas.List.Elements.{filter-append}
 use Rattle.stream_config.specs.Stamps.{stamp_after}
+use Rattle.record_print.specs.declared.record.LogRecord.{LogRecord}
 use Rattle.log_history.specs.Firsts.{change_first}
 use Rattle.log_history.specs.Changes.{LogChange, Began, Opened, Stored, Closed, Ended}
 use Rattle.log_history.specs.Stamps.{second_in}
@@ -88,9 +89,9 @@ room-due : (due : Bool) (last second count living : ℕ) → second ≤ 90000000
 room-due true last second count living early room = omega (arith, early, room.bound, room.few)
 room-due false last second count living early room = omega (arith, room.bound)
 
-room-stored : (found : Option Stream) (last second count living : ℕ) → second ≤ 9000000000 → HasRoom count last living → option_map_or (last_with_record last second) found last + living ≤ 9000000010 + 2 * (count + 1)
-room-stored None last second count living early room = omega (arith, room.bound)
-room-stored (Some stream) last second count living early room = room-due (is_due stream) last second count living early room
+room-stored : (rec : LogRecord) (found : Option Stream) (last second count living : ℕ) → second ≤ 9000000000 → HasRoom count last living → option_map_or (last_with_record last second rec) found last + living ≤ 9000000010 + 2 * (count + 1)
+room-stored rec None last second count living early room = omega (arith, room.bound)
+room-stored rec (Some stream) last second count living early room = room-due (is_due stream rec) last second count living early room
 
 HasRoom-at : (count more last living : ℕ) → more ≡ count → HasRoom count last living → HasRoom more last living
 HasRoom-at count more last living e room = record { few = omega (arith, e, room.few); bound = omega (arith, e, room.bound) }
@@ -119,7 +120,7 @@ stamp-room setup (Stored stored rec second ∷ past) early timely =
     let streams = (chronicle setup past).streams in
     let counted : living_count (change_first (is_living stored) (with_record last second rec) streams) ≡ living_count streams =
     living-changed (is_living stored) (with_record last second rec) (λ stream. refl) streams in
-    let bound = room-stored (find (is_living stored) streams) last second (length past) (living_count streams) timely.0 room in
+    let bound = room-stored rec (find (is_living stored) streams) last second (length past) (living_count streams) timely.0 room in
     record { few = omega (arith, counted, room.few); bound = omega (arith, counted, bound) }
 stamp-room setup (Closed client closed second ∷ past) early timely =
     HasRoom-at (length past + 1) (suc (length past)) (chronicle setup (Closed client closed second ∷ past)).last (living_count (chronicle setup (Closed client closed second ∷ past)).streams) (omega arith)

@@ -60,11 +60,11 @@ recorded-by true full current closing created =
     ∙ append_assoc (stamps_of_full full) (current ∷ closing ∷ []) (created ∷ [])
     ∙ sym (append_assoc (stamps_of_full full) (current ∷ []) (closing ∷ created ∷ []))
 
-pub stamps-recorded : (last second : ℕ) (rec : LogRecord) (stream : Stream) → stream.ended ≡ None → stamps_in (with_record last second rec stream) ≡ stamps_in stream ++ stamps_by_record (is_due stream) last second
+pub stamps-recorded : (last second : ℕ) (rec : LogRecord) (stream : Stream) → stream.ended ≡ None → stamps_in (with_record last second rec stream) ≡ stamps_in stream ++ stamps_by_record (is_due stream rec) last second
 stamps-recorded last second rec stream living =
-    ap (λ (ended : Option ℕ). stamps_of_full (cond (is_due stream) (stream.full ++ (stream.current, stamp_after last second) ∷ []) stream.full) ++ cond (is_due stream) (stamp_after (stamp_after last second) second) stream.current ∷ option_to_list ended) living
-    ∙ recorded-by (is_due stream) stream.full stream.current (stamp_after last second) (stamp_after (stamp_after last second) second)
-    ∙ ap (λ (ended : Option ℕ). (stamps_of_full stream.full ++ stream.current ∷ option_to_list ended) ++ stamps_by_record (is_due stream) last second) (sym living)
+    ap (λ (ended : Option ℕ). stamps_of_full (cond (is_due stream rec) (stream.full ++ (stream.current, stamp_after last second) ∷ []) stream.full) ++ cond (is_due stream rec) (stamp_after (stamp_after last second) second) stream.current ∷ option_to_list ended) living
+    ∙ recorded-by (is_due stream rec) stream.full stream.current (stamp_after last second) (stamp_after (stamp_after last second) second)
+    ∙ ap (λ (ended : Option ℕ). (stamps_of_full stream.full ++ stream.current ∷ option_to_list ended) ++ stamps_by_record (is_due stream rec) last second) (sym living)
 
 pub new-by-record : (due : Bool) (last second : ℕ) → AreNew last (cond due (stamp_after (stamp_after last second) second) last) (stamps_by_record due last second)
 new-by-record false last second = none-new last
@@ -115,15 +115,15 @@ none-amid test change (y ∷ xs) none = by_case (test y) none (none-amid test ch
   by_case true found later = cc
   by_case false none_behind later = ap (λ rest. y ∷ rest) (later none_behind)
 
-stored-stamps : (name : StreamName) (last second : ℕ) (rec : LogRecord) (streams : List Stream) (found : Option Stream) → find (is_living name) streams ≡ found → AreStamps last (stamps_of_all streams) → AreStamps (option_map_or (last_with_record last second) found last) (stamps_of_all (change_first (is_living name) (with_record last second rec) streams))
+stored-stamps : (name : StreamName) (last second : ℕ) (rec : LogRecord) (streams : List Stream) (found : Option Stream) → find (is_living name) streams ≡ found → AreStamps last (stamps_of_all streams) → AreStamps (option_map_or (last_with_record last second rec) found last) (stamps_of_all (change_first (is_living name) (with_record last second rec) streams))
 stored-stamps name last second rec streams None none are =
     subst (λ these. AreStamps last (stamps_of_all these)) (sym (none-amid (is_living name) (with_record last second rec) streams none)) are
 stored-stamps name last second rec streams (Some stream) found are =
     let there = amid (is_living name) streams stream found in
     let living = none_from stream.ended (and_parts (lives stream) _ there.passes).0 in
-    subst (λ these. AreStamps (last_with_record last second stream) (stamps_of_all these)) (sym (there.changed (with_record last second rec)))
-    (changed last (last_with_record last second stream) there.front there.behind stream (with_record last second rec stream)
-    (stamps_by_record (is_due stream) last second) (stamps-recorded last second rec stream living) (new-by-record (is_due stream) last second)
+    subst (λ these. AreStamps (last_with_record last second rec stream) (stamps_of_all these)) (sym (there.changed (with_record last second rec)))
+    (changed last (last_with_record last second rec stream) there.front there.behind stream (with_record last second rec stream)
+    (stamps_by_record (is_due stream rec) last second) (stamps-recorded last second rec stream living) (new-by-record (is_due stream rec) last second)
     (subst (λ these. AreStamps last (stamps_of_all these)) there.whole are))
 
 -- streams in front of those that are looked at

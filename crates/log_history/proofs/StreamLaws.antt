@@ -1,27 +1,35 @@
--- What holds of every stream of a history: its stamps rise, and it has as many files as its records ask for.
-use Rattle.std.proofs.Common.{◌≡◌, ℕ, zero, suc, ◌+◌, ◌-◌, ◌/◌, ◌<◌, ◌≤◌, Bool, true, false, cond, List, [], ◌∷◌, ◌++◌, length, drop, map, refl, ap, sym, ◌∙◌, subst, arith, le→leb, length-append, leb→le}
-use Rattle.std.specs.Prelude.{Option, None, option_map, pos, int_lt, ⊤, ℤ, negsuc}
+-- What holds of every stream of a history: its stamps rise, it has as many files as its records ask for, and they are fit.
+use Rattle.std.proofs.Common.{◌≡◌, ℕ, zero, suc, ◌+◌, ◌-◌, ◌*◌, ◌/◌, ◌<◌, ◌≤◌, min, Bool, true, false, not, ◌&&◌, cond, List, [], ◌∷◌, ◌++◌, length, drop, map, refl, ap, sym, ◌∙◌, subst, arith, le→leb, leb→le}
+use Rattle.std.specs.Prelude.{Option, Some, None, option_map, is_some, pos, int_lt, ⊤, ℤ, negsuc}
 use Rattle.std.specs.List.{AllByRecursion}
+use Rattle.std.specs.Option.{option_to_list}
 use Rattle.std.proofs.lemmas.Bool.{lt-ltb, and_from}
-use Rattle.std.proofs.lemmas.List.{length-map, drop-append-le, drop-map, length-drop}
+use Rattle.std.proofs.lemmas.List.{length-drop}
 use Rattle.std.proofs.lemmas.Int.{ints}
 use Rattle.stream_config.specs.declared.attrs.FullAction.{FullAction}
 use Rattle.stream_config.specs.declared.attrs.FullAction.TheVariants.{Wrap, Halt, Rotate}
 use Rattle.stream_config.specs.declared.attrs.StreamAttrs.{StreamAttrs}
+use Rattle.stream_config.specs.declared.attrs.StreamName.{StreamName}
 use Rattle.stream_config.specs.declared.state.LogFile.{LogFile}
-use Rattle.stream_config.specs.Attributes.{IsSized}
-use Rattle.stream_config.specs.Events.{open_file, most_files, standing}
-use Rattle.stream_config.specs.Fit.{stamps_of, rises, is_last_open, file_count, changes_file, HasFitFiles}
-use Rattle.stream_config.specs.Sizes.{records_per_file}
+use Rattle.stream_config.specs.declared.state.StreamState.{StreamState}
+use Rattle.stream_config.specs.declared.event.Stamps.{Stamps}
+use Rattle.stream_config.specs.Attributes.{kind_of, PassesAttrs}
+use Rattle.stream_config.specs.Events.{open_file, file_closed, current_file, last_closed, most_files, standing, state_after}
+use Rattle.stream_config.specs.declared.event.StreamEvent.TheVariants as event
+use Rattle.stream_config.specs.Fit.{stamps_of, rises, is_last_open, count_standing, count_in, HasFitBytes, changes_file, HasFitFiles}
+use Rattle.stream_config.specs.Sizes.{records_per_file, IsLength, has_room}
 use Rattle.stream_config.specs.Stamps.{stamp_after}
-use Rattle.stream_layout.proofs.StoredBytes.{same_round, begins_round}
+use Rattle.stream_layout.proofs.CurrentFile.{last_closed-append}
+use Rattle.stream_layout.proofs.FitSteps.{CanStore, fit-none, fit-some}
 use Rattle.record_print.specs.declared.record.LogRecord.{LogRecord}
-use Rattle.log_history.specs.Chronicle.{Stream, is_due, with_record, last_with_record, with_end, last_of_ends, closed_file}
-use Rattle.log_history.specs.Table.{state_of}
+use Rattle.log_history.specs.Rounds.{Round, rounds_by, last_of, front_of}
+use Rattle.log_history.specs.Chronicle.{Stream, new_stream, length_next, files_had, is_due, with_record, last_with_record, with_end, last_of_ends, stamped_files, last_file}
+use Rattle.log_history.specs.Answers.{is_halting, lacks_room}
+use Rattle.log_history.specs.Table.{state_of, new_state, bytes_in, length_in, due_stamps}
 use Rattle.log_history.specs.Stamps.{IsStampUpTo}
 use Rattle.stream_layout.specs.Carrying.{IsStamp}
-use Rattle.log_history.proofs.FileLists.{some-most}
-use Rattle.stream_layout.proofs.EventLaws.{some_records}
+use Rattle.log_history.proofs.FileSteps.{standing-push, standing-one}
+use Rattle.log_history.proofs.StepLaws.{HasFull, record-long, length-is, bytes-standing, state-recorded, full-recorded}
 
 -- stamps of files that were closed, and of the one behind them
 
@@ -48,7 +56,11 @@ RisesTo-drop zero files current rises = rises
 RisesTo-drop (suc k) [] current rises = tt
 RisesTo-drop (suc k) (file ∷ files) current rises = RisesTo-drop k files current rises.2
 
--- the files, the last of which is open
+-- files by their stamps alone
+abbrev closed_file : ℕ × ℕ → LogFile
+closed_file stamps = record { created = pos stamps.0; closed = Some (pos stamps.1); first = 0; bytes = 0 }
+
+-- the last of which is open
 abbrev files_to : List (ℕ × ℕ) → ℕ → List LogFile
 files_to files current = map closed_file files ++ open_file (pos current) ∷ []
 
@@ -90,73 +102,178 @@ stamps-up-to last (file ∷ files) current up le =
     let later = created-below last files current up.2 le in
     (stamp-up-to last file.0 (omega (arith, up.0, up.1, later)), (stamp-up-to last file.1 (omega (arith, up.1, later)), stamps-up-to last files current up.2 le))
 
--- how many files of a stream are full, once so many records were taken
-abbrev pub full_count : FullAction → (n taken : ℕ) → ℕ
-full_count Wrap n taken = 0
-full_count Halt n taken = 0
-full_count Rotate n taken = (taken - 1) / n
+-- the stamps of a stream's files
 
-count-due : (action : FullAction) (n taken : ℕ) → 0 < n → changes_file action n taken ≡ true → full_count action n taken + 1 ≡ full_count action n (taken + 1)
-count-due Wrap n taken some due = cc
-count-due Halt n taken some due = cc
-count-due Rotate n taken some due =
-    let same : taken ≡ taken + 1 - 1 = omega arith in (begins_round n taken some due).next ∙ ap (λ m. m / n) same
+stamps-had : (full : List (ℕ × ℕ)) (rounds : List Round) (last : LogFile) (current : ℕ) → length rounds ≡ length full → last.created ≡ pos current → last.closed ≡ None
+    → stamps_of (stamped_files full rounds ++ last ∷ []) ≡ stamps_of (files_to full current)
+stamps-had [] [] last current alike made opened =
+    ap (λ (closed : Option ℤ). last.created ∷ option_to_list closed ++ []) opened ∙ ap (λ (created : ℤ). created ∷ []) made
+stamps-had [] (round ∷ rounds) last current alike made opened = absurd (omega (arith, alike))
+stamps-had (file ∷ full) [] last current alike made opened = absurd (omega (arith, alike))
+stamps-had (file ∷ full) (round ∷ rounds) last current alike made opened =
+    ap (λ stamps. pos file.0 ∷ pos file.1 ∷ stamps) (stamps-had full rounds last current (omega (arith, alike)) made opened)
 
-count-stays : (action : FullAction) (n taken : ℕ) → 0 < n → changes_file action n taken ≡ false → full_count action n taken ≡ full_count action n (taken + 1)
-count-stays Wrap n taken some stays = refl
-count-stays Halt n taken some stays = refl
-count-stays Rotate n taken some stays =
-    let same : taken ≡ taken + 1 - 1 = omega arith in same_round n taken some stays ∙ ap (λ m. m / n) same
+drop-had : (k : ℕ) (full : List (ℕ × ℕ)) (rounds : List Round) → drop k (stamped_files full rounds) ≡ stamped_files (drop k full) (drop k rounds)
+drop-had zero full rounds = refl
+drop-had (suc k) [] rounds = refl
+drop-had (suc k) (stamps ∷ full) [] = none (drop k full) where
+  none : (full : List (ℕ × ℕ)) → (let files : List LogFile = [] in files) ≡ stamped_files full []
+  none [] = refl
+  none (stamps ∷ full) = refl
+drop-had (suc k) (stamps ∷ full) (round ∷ rounds) = drop-had k full rounds
 
-pub count-none : (action : FullAction) (n : ℕ) → 0 ≡ full_count action n 0
-count-none Wrap n = refl
-count-none Halt n = refl
-count-none Rotate n = omega arith
+length-had : (full : List (ℕ × ℕ)) (rounds : List Round) → length rounds ≡ length full → length (stamped_files full rounds) ≡ length full
+length-had [] rounds alike = refl
+length-had (stamps ∷ full) [] alike = alike
+length-had (stamps ∷ full) (round ∷ rounds) alike = ap suc (length-had full rounds (omega (arith, alike)))
+
+alike-drop : {X Y : Type 0} (k : ℕ) (xs : List X) (ys : List Y) → length xs ≡ length ys → length (drop k xs) ≡ length (drop k ys)
+alike-drop k xs ys alike = let one = length-drop k xs in let other = length-drop k ys in omega (arith, one, other, alike)
 
 -- what holds of a stream of a history, by the last stamp
 pub record IsSoundStream (last : ℕ) (stream : Stream) : Type 0 where
   pub rising : RisesTo stream.full stream.current
   pub upto : stream.current ≤ last
-  pub count : length stream.full ≡ full_count stream.attrs.action (records_per_file stream.attrs) (length stream.records)
-  pub halted : stream.attrs.action ≡ Halt → length stream.records ≤ records_per_file stream.attrs
+  pub count : HasFull stream
+  pub fit : stream.ended ≡ None → HasFitFiles (state_of stream)
 
 pub sound-later : (last later : ℕ) (stream : Stream) → last ≤ later → IsSoundStream last stream → IsSoundStream later stream
 sound-later last later stream le is =
-    record { rising = is.rising; upto = omega (arith, is.upto); count = is.count; halted = is.halted }
+    record { rising = is.rising; upto = omega (arith, is.upto); count = is.count; fit = is.fit }
 
 pub sound-ended : (last closed : ℕ) (stream : Stream) → IsSoundStream last stream → IsSoundStream last (with_end closed stream)
 sound-ended last closed stream is =
-    record { rising = is.rising; upto = is.upto; count = is.count; halted = is.halted }
+    record { rising = is.rising; upto = is.upto; count = is.count; fit = λ living. cc }
+
+-- of a stream those files that stand
+standing-split : (stream : Stream) → 1 ≤ stream.attrs.rotated
+    → (k : ℕ) × ((state_of stream).files ≡ stamped_files (drop k stream.full) (drop k (front_of (files_had stream))) ++ last_file stream.current stream.ended (last_of (files_had stream)) ∷ [])
+standing-split stream some =
+    let front = stamped_files stream.full (front_of (files_had stream)) in
+    let last = last_file stream.current stream.ended (last_of (files_had stream)) in
+    let k = length front + 1 - most_files stream.attrs.action stream.attrs.rotated in
+    (k, standing-push stream.attrs front last some ∙ ap (λ files. files ++ last ∷ []) (drop-had k stream.full (front_of (files_had stream))))
+
+-- the stamps of those that stand
+standing-stamps : (last : ℕ) (stream : Stream) → 1 ≤ stream.attrs.rotated → stream.ended ≡ None → IsSoundStream last stream
+    → (k : ℕ) × (stamps_of (state_of stream).files ≡ stamps_of (files_to (drop k stream.full) stream.current))
+standing-stamps last stream some living is =
+    let split = standing-split stream some in
+    let k = split.0 in (
+      k,
+      ap stamps_of split.1
+          ∙ stamps-had (drop k stream.full) (drop k (front_of (files_had stream))) (last_file stream.current stream.ended (last_of (files_had stream))) stream.current
+          (alike-drop k (front_of (files_had stream)) stream.full is.count) refl (ap (option_map pos) living),
+    )
+
+pub fit-stamps : (last : ℕ) (stream : Stream) → 1 ≤ stream.attrs.rotated → stream.ended ≡ None → IsSoundStream last stream → AllByRecursion (IsStampUpTo (pos last)) (stamps_of (state_of stream).files)
+fit-stamps last stream some living is =
+    let stand = standing-stamps last stream some living is in
+    subst (AllByRecursion (IsStampUpTo (pos last))) (sym stand.1)
+    (stamps-up-to last (drop stand.0 stream.full) stream.current (RisesTo-drop stand.0 stream.full stream.current is.rising) is.upto)
+
+-- a change of file comes behind the files that stand
+later-stamps : (last closing created : ℕ) (stream : Stream) → 1 ≤ stream.attrs.rotated → stream.ended ≡ None → IsSoundStream last stream → last < closing → closing < created
+    → rises (stamps_of (last_closed (pos closing) (state_of stream).files ++ open_file (pos created) ∷ [])) ≡ true
+later-stamps last closing created stream some living is after behind =
+    let split = standing-split stream some in
+    let k = split.0 in
+    let full = drop k stream.full in
+    let rounds = drop k (front_of (files_had stream)) in
+    let current = last_file stream.current stream.ended (last_of (files_had stream)) in
+    let front = stamped_files full rounds in
+    let upto = is.upto in
+    let files : last_closed (pos closing) (state_of stream).files ++ open_file (pos created) ∷ [] ≡ (front ++ file_closed (pos closing) current ∷ []) ++ open_file (pos created) ∷ [] =
+    ap (λ files. last_closed (pos closing) files ++ open_file (pos created) ∷ []) split.1
+    ∙ ap (λ files. files ++ open_file (pos created) ∷ []) (last_closed-append (pos closing) front current) in
+    let stamps = two-behind full rounds current (open_file (pos created)) stream.current closing created (alike-drop k (front_of (files_had stream)) stream.full is.count) refl refl refl in
+    ap rises (ap stamps_of files ∙ stamps)
+    ∙ rises-files (full ++ (stream.current, closing) ∷ []) created
+    (RisesTo-push full stream.current closing created (RisesTo-drop k stream.full stream.current is.rising) (omega (arith, upto, after)) behind)
+  where
+    two-behind : (full : List (ℕ × ℕ)) (rounds : List Round) (old new : LogFile) (current closing created : ℕ) → length rounds ≡ length full → old.created ≡ pos current → new.created ≡ pos created → new.closed ≡ None
+        → stamps_of ((stamped_files full rounds ++ file_closed (pos closing) old ∷ []) ++ new ∷ []) ≡ stamps_of (files_to (full ++ (current, closing) ∷ []) created)
+    two-behind [] [] old new current closing created alike made made' opened =
+        ap (λ (closed : Option ℤ). old.created ∷ pos closing ∷ new.created ∷ option_to_list closed ++ []) opened
+        ∙ ap (λ (stamp : ℤ). stamp ∷ pos closing ∷ new.created ∷ []) made ∙ ap (λ (stamp : ℤ). pos current ∷ pos closing ∷ stamp ∷ []) made'
+    two-behind [] (round ∷ rounds) old new current closing created alike made made' opened = absurd (omega (arith, alike))
+    two-behind (file ∷ full) [] old new current closing created alike made made' opened = absurd (omega (arith, alike))
+    two-behind (file ∷ full) (round ∷ rounds) old new current closing created alike made made' opened =
+        ap (λ stamps. pos file.0 ∷ pos file.1 ∷ stamps) (two-behind full rounds old new current closing created (omega (arith, alike)) made made' opened)
+
+-- a HALT stream whose next record does not lack room has room for it
+pub room-left : (attrs : StreamAttrs) (bytes len : ℕ) → lacks_room attrs bytes len ≡ false → attrs.action ≡ Halt → has_room attrs bytes len ≡ true
+room-left attrs bytes len room halts = by_room (has_room attrs bytes len) (ap (λ action. is_halting action && not (has_room attrs bytes len)) (sym halts) ∙ room) where
+  by_room : (b : Bool) → not b ≡ false → b ≡ true
+  by_room true e = refl
+  by_room false e = cc
+
+pub due-is : (b : Bool) (stamps : Stamps) → is_some (cond b (Some stamps) None) ≡ b
+due-is true stamps = refl
+due-is false stamps = refl
+
+-- a record that a stream of a history takes
+pub can-store-next : (last second : ℕ) (rec : LogRecord) (stream : Stream) → PassesAttrs (kind_of stream.name) stream.attrs → stream.ended ≡ None → lacks_room stream.attrs (last_of (files_had stream)).bytes (length_next stream rec) ≡ false
+    → HasFitFiles (state_of stream) → CanStore (state_of stream) (bytes_in (state_of stream) rec) (due_stamps last second rec (state_of stream))
+can-store-next last second rec stream passes living room fit =
+    let attrs = stream.attrs in
+    let state = state_of stream in
+    let bytes = (current_file state.files).bytes in
+    let long = record-long attrs (length stream.records + 1) rec in
+    let now = bytes-standing stream passes.some_rotated in
+    let stamps : Stamps = record { closed = pos (stamp_after last second); created = pos (stamp_after (stamp_after last second) second) } in
+    record {
+      attributes = passes;
+      standing = fit;
+      size = subst (IsLength attrs) (sym long) (length-is attrs (length stream.records + 1) rec passes.sizes);
+      room = λ halts. ap (has_room attrs bytes) long ∙ ap (λ b. has_room attrs b (length_next stream rec)) now ∙ room-left attrs (last_of (files_had stream)).bytes (length_next stream rec) room halts;
+      changes = due-is (changes_file attrs bytes (length_in state rec)) stamps ∙ ap (changes_file attrs bytes) (sym long);
+    }
+
+stamps_by : (last second : ℕ) → Bool → Option Stamps
+stamps_by last second due = cond due (Some (record { closed = pos (stamp_after last second); created = pos (stamp_after (stamp_after last second) second) })) None
 
 -- the stamps and the count of files once a record is stored
-record IsRecorded (last second : ℕ) (full : List (ℕ × ℕ)) (current count : ℕ) (due : Bool) : Type 0 where
+record IsRecorded (last second : ℕ) (full : List (ℕ × ℕ)) (current : ℕ) (due : Bool) : Type 0 where
   rising : RisesTo (cond due (full ++ (current, stamp_after last second) ∷ []) full) (cond due (stamp_after (stamp_after last second) second) current)
   upto : cond due (stamp_after (stamp_after last second) second) current ≤ cond due (stamp_after (stamp_after last second) second) last
-  counted : length (cond due (full ++ (current, stamp_after last second) ∷ []) full) ≡ count
 
-recorded : (action : FullAction) (n taken last second : ℕ) (full : List (ℕ × ℕ)) (current : ℕ) (due : Bool) → 0 < n → changes_file action n taken ≡ due → RisesTo full current → current ≤ last → length full ≡ full_count action n taken → IsRecorded last second full current (full_count action n (taken + 1)) due
-recorded action n taken last second full current true some is rising upto count = record {
+recorded : (last second : ℕ) (full : List (ℕ × ℕ)) (current : ℕ) (due : Bool) → RisesTo full current → current ≤ last → IsRecorded last second full current due
+recorded last second full current true rising upto = record {
   rising = RisesTo-push full current (stamp_after last second) (stamp_after (stamp_after last second) second) rising (omega arith) (omega arith);
   upto = omega arith;
-  counted = length-append full ((current, stamp_after last second) ∷ []) ∙ ap (λ m. m + 1) count ∙ count-due action n taken some is;
 }
-recorded action n taken last second full current false some is rising upto count = record {
-  rising = rising;
-  upto = upto;
-  counted = count ∙ count-stays action n taken some is;
-}
+recorded last second full current false rising upto = record { rising = rising; upto = upto }
 
-pub sound-recorded : (last second : ℕ) (rec : LogRecord) (stream : Stream) → IsSized stream.attrs → (stream.attrs.action ≡ Halt → length stream.records < records_per_file stream.attrs) → IsSoundStream last stream → IsSoundStream (last_with_record last second stream) (with_record last second rec stream)
-sound-recorded last second rec stream sized room is =
-    let n = records_per_file stream.attrs in
-    let longer : length (stream.records ++ rec ∷ []) ≡ length stream.records + 1 = length-append stream.records (rec ∷ []) in
-    let now = recorded stream.attrs.action n (length stream.records) last second stream.full stream.current (is_due stream) (some_records stream.attrs sized) refl is.rising is.upto is.count in
+pub sound-recorded : (last second : ℕ) (rec : LogRecord) (stream : Stream) → PassesAttrs (kind_of stream.name) stream.attrs → stream.ended ≡ None → lacks_room stream.attrs (last_of (files_had stream)).bytes (length_next stream rec) ≡ false
+    → IsSoundStream last stream → IsSoundStream (last_with_record last second rec stream) (with_record last second rec stream)
+sound-recorded last second rec stream passes living room is =
+    let now = recorded last second stream.full stream.current (is_due stream rec) is.rising is.upto in
     record {
       rising = now.rising;
       upto = now.upto;
-      count = now.counted ∙ ap (full_count stream.attrs.action n) (sym longer);
-      halted = λ halts. omega (arith, longer, room halts);
+      count = full-recorded last second rec stream passes.sizes is.count;
+      fit = λ _. subst HasFitFiles (sym (state-recorded last second rec stream passes.sizes passes.some_rotated living is.count)) (by_due (changes_file stream.attrs (current_file (state_of stream).files).bytes (length_in (state_of stream) rec)) refl);
     }
+  where
+    by_due : (due : Bool) → changes_file stream.attrs (current_file (state_of stream).files).bytes (length_in (state_of stream) rec) ≡ due
+        → HasFitFiles (state_after (event.Stored (state_of stream) (bytes_in (state_of stream) rec) (due_stamps last second rec (state_of stream))))
+    by_due due due_is = by_stamps due (ap (λ b. cond b (Some two) None) due_is) where
+      two : Stamps
+      two = record { closed = pos (stamp_after last second); created = pos (stamp_after (stamp_after last second) second) }
+
+      can : CanStore (state_of stream) (bytes_in (state_of stream) rec) (due_stamps last second rec (state_of stream))
+      can = can-store-next last second rec stream passes living room (is.fit living)
+
+      by_stamps : (due : Bool) → due_stamps last second rec (state_of stream) ≡ cond due (Some two) None
+          → HasFitFiles (state_after (event.Stored (state_of stream) (bytes_in (state_of stream) rec) (due_stamps last second rec (state_of stream))))
+      by_stamps true stamps_are =
+          subst (λ stamps. HasFitFiles (state_after (event.Stored (state_of stream) (bytes_in (state_of stream) rec) stamps))) (sym stamps_are)
+          (fit-some (state_of stream) (bytes_in (state_of stream) rec) two (subst (CanStore (state_of stream) (bytes_in (state_of stream) rec)) stamps_are can)
+          (later-stamps last (stamp_after last second) (stamp_after (stamp_after last second) second) stream passes.some_rotated living is (omega arith) (omega arith)))
+      by_stamps false stamps_are =
+          subst (λ stamps. HasFitFiles (state_after (event.Stored (state_of stream) (bytes_in (state_of stream) rec) stamps))) (sym stamps_are)
+          (fit-none (state_of stream) (bytes_in (state_of stream) rec) (subst (CanStore (state_of stream) (bytes_in (state_of stream) rec)) stamps_are can))
 
 pub last-grows : (ends : Stream → Bool) (last second : ℕ) (streams : List Stream) → last ≤ last_of_ends ends last second streams
 last-grows ends last second [] = omega arith
@@ -166,52 +283,60 @@ last-grows ends last second (stream ∷ streams) =
       by_case true ended stays = omega (arith, ended)
       by_case false ended stays = stays
 
--- the files that stand of a stream that lives
+-- a stream that is new
 
-abbrev gone : StreamAttrs → List (ℕ × ℕ) → ℕ
-gone attrs full = length full + 1 - most_files attrs.action attrs.rotated
+made-round : (action : FullAction) (n size most : ℕ) → (last_of (rounds_by action n size most []) ≡ record { first = 0; bytes = 0 }) × (length (front_of (rounds_by action n size most [])) ≡ 0)
+made-round Wrap n size most = (let none : min 0 n ≡ 0 = omega arith in let nothing : 0 * size ≡ 0 = omega arith in ap round_of_bytes (ap (λ m. m * size) none ∙ nothing), refl) where
+  round_of_bytes : ℕ → Round
+  round_of_bytes bytes = record { first = 0; bytes = bytes }
+made-round Halt n size most = (refl, refl)
+made-round Rotate n size most = (refl, refl)
 
-standing-files : (attrs : StreamAttrs) (full : List (ℕ × ℕ)) (current : ℕ) → 1 ≤ attrs.rotated → standing attrs (files_to full current) ≡ files_to (drop (gone attrs full) full) current
-standing-files attrs full current some =
-    let most = some-most attrs.action attrs.rotated some in
-    let mapped : length (map closed_file full) ≡ length full = length-map full closed_file in
-    let all : length (files_to full current) ≡ length full + 1 =
-    length-append (map closed_file full) (open_file (pos current) ∷ []) ∙ ap (λ m. m + 1) mapped in
-    ap (λ m. drop (m - most_files attrs.action attrs.rotated) (files_to full current)) all
-    ∙ drop-append-le (gone attrs full) (map closed_file full) (open_file (pos current) ∷ []) (omega arith)
-    ∙ ap (λ files. files ++ open_file (pos current) ∷ []) (drop-map closed_file (gone attrs full) full)
+-- what stands of it
+pub made-is : (name : StreamName) (attrs : StreamAttrs) (created : ℕ) → 1 ≤ attrs.rotated → state_of (new_stream name attrs created) ≡ new_state name attrs created
+made-is name attrs created some =
+    let first = made-round attrs.action (records_per_file attrs) attrs.record_size attrs.max_file in
+    ap (λ round. state_with (standing attrs (last_file created None round ∷ []))) first.0
+    ∙ ap state_with (standing-one attrs (open_file (pos created)) some)
+  where
+    state_with : List LogFile → StreamState
+    state_with files = record { name = name; attrs = attrs; taken = 0; opened = 1; files = files }
 
-count-standing : (action : FullAction) (rotated n taken count : ℕ) → 1 ≤ rotated → count ≡ full_count action n taken → count - (count + 1 - most_files action rotated) + 1 ≡ file_count action rotated n taken
-count-standing Wrap rotated n taken count some is = omega arith
-count-standing Halt rotated n taken count some is = omega arith
-count-standing Rotate rotated n taken count some is = omega arith
+zero-count : (action : FullAction) (n : ℕ) → count_in action n (0 - 0) ≡ 0
+zero-count Wrap n = omega arith
+zero-count Halt n = omega arith
+zero-count Rotate n = omega arith
 
-standing-count : (attrs : StreamAttrs) (taken : ℕ) (full : List (ℕ × ℕ)) (current : ℕ) → 1 ≤ attrs.rotated → length full ≡ full_count attrs.action (records_per_file attrs) taken → length (files_to (drop (gone attrs full) full) current) ≡ file_count attrs.action attrs.rotated (records_per_file attrs) taken
-standing-count attrs taken full current some count =
-    let left = drop (gone attrs full) full in
-    length-append (map closed_file left) (open_file (pos current) ∷ [])
-    ∙ ap (λ m. m + 1) (length-map left closed_file ∙ length-drop (gone attrs full) full)
-    ∙ count-standing attrs.action attrs.rotated (records_per_file attrs) taken (length full) some count
+one-file : (action : FullAction) (rotated : ℕ) → 1 ≤ rotated → 1 ≡ count_standing action rotated 1
+one-file Wrap rotated some = refl
+one-file Halt rotated some = refl
+one-file Rotate rotated some = omega arith
 
--- the files of a stream that lives
-living-files : (stream : Stream) → 1 ≤ stream.attrs.rotated → stream.ended ≡ None → (state_of stream).files ≡ files_to (drop (gone stream.attrs stream.full) stream.full) stream.current
-living-files stream some living =
-    ap (λ (ended : Option ℕ). let last : LogFile = record { created = pos stream.current; closed = option_map pos ended } in standing stream.attrs (map closed_file stream.full ++ last ∷ [])) living
-    ∙ standing-files stream.attrs stream.full stream.current some
-
-pub fit-files : (last : ℕ) (stream : Stream) → 1 ≤ stream.attrs.rotated → stream.ended ≡ None → IsSoundStream last stream → HasFitFiles (state_of stream)
-fit-files last stream some living is =
-    let left = drop (gone stream.attrs stream.full) stream.full in
-    let files = sym (living-files stream some living) in
+pub fit-made : (name : StreamName) (attrs : StreamAttrs) (created : ℕ) → 1 ≤ attrs.rotated → HasFitFiles (new_state name attrs created)
+fit-made name attrs created some = record {
+  rising = refl;
+  last_open = refl;
+  some = omega arith;
+  one = λ _. refl;
+  few = omega arith;
+  count = one-file attrs.action attrs.rotated some;
+  begins = λ _. refl;
+  filled = (
     record {
-      rising = subst (λ (these : List LogFile). rises (stamps_of these) ≡ true) files (rises-files left stream.current (RisesTo-drop (gone stream.attrs stream.full) stream.full stream.current is.rising));
-      last_open = subst (λ (these : List LogFile). is_last_open these ≡ true) files (last-open left stream.current);
-      count = subst (λ (these : List LogFile). length these ≡ file_count stream.attrs.action stream.attrs.rotated (records_per_file stream.attrs) (length stream.records)) files (standing-count stream.attrs (length stream.records) stream.full stream.current some is.count);
-      halted = is.halted;
-    }
+      order = omega arith;
+      some = λ more. absurd (omega (arith, more));
+      bytes = subst (λ count. HasFitBytes attrs count 0) (sym (zero-count attrs.action (records_per_file attrs)))
+          (record { alike = λ _. (omega arith, omega arith); free = λ _. (omega arith, omega arith, omega arith) });
+    },
+    tt,
+  );
+  even = λ rotates alike. record { opened = (let none : 0 ≡ (0 - 1) / records_per_file attrs = omega arith in ap (λ q. q + 1) none); firsts = (omega arith, tt) };
+}
 
-pub fit-stamps : (last : ℕ) (stream : Stream) → 1 ≤ stream.attrs.rotated → stream.ended ≡ None → IsSoundStream last stream → AllByRecursion (IsStampUpTo (pos last)) (stamps_of (state_of stream).files)
-fit-stamps last stream some living is =
-    let left = drop (gone stream.attrs stream.full) stream.full in
-    subst (λ (these : List LogFile). AllByRecursion (IsStampUpTo (pos last)) (stamps_of these)) (sym (living-files stream some living))
-    (stamps-up-to last left stream.current (RisesTo-drop (gone stream.attrs stream.full) stream.full stream.current is.rising) is.upto)
+pub new-sound : (name : StreamName) (attrs : StreamAttrs) (created last : ℕ) → created ≤ last → 1 ≤ attrs.rotated → IsSoundStream last (new_stream name attrs created)
+new-sound name attrs created last le some = record {
+  rising = tt;
+  upto = le;
+  count = (made-round attrs.action (records_per_file attrs) attrs.record_size attrs.max_file).1;
+  fit = λ _. subst HasFitFiles (sym (made-is name attrs created some)) (fit-made name attrs created some);
+}

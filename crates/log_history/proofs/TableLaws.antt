@@ -1,6 +1,6 @@
 -- What the service keeps after one more change is what the change makes of what it kept before.
-use Rattle.std.proofs.Common.{◌≡◌, ℕ, ◌+◌, ◌≤◌, ◌==◌, nat_lt, Bool, true, false, not, ◌&&◌, cond, List, [], ◌∷◌, ◌++◌, length, map, refl, ap, sym, ◌∙◌, length-append}
-use Rattle.std.specs.Prelude.{Option, Some, None, option_map, filter, pos}
+use Rattle.std.proofs.Common.{◌≡◌, ℕ, ◌≤◌, ◌==◌, nat_lt, Bool, true, false, not, ◌&&◌, cond, List, [], ◌∷◌, ◌++◌, map, refl, ap, sym, ◌∙◌}
+use Rattle.std.specs.Prelude.{Option, Some, None, option_map, filter}
 use Rattle.std.specs.Option.{option_map_or}
 use Rattle.std.specs.List.{find}
 use Rattle.std.proofs.lemmas.List.{map-append}
@@ -8,25 +8,27 @@ use Rattle.std.proofs.lemmas.List.Elements.{filter-append}
 use Rattle.client_set.specs.Rising.{put, without}
 use Rattle.stream_config.specs.declared.attrs.StreamAttrs.{StreamAttrs}
 use Rattle.stream_config.specs.declared.attrs.StreamName.{StreamName}
-use Rattle.stream_config.specs.declared.state.LogFile.{LogFile}
 use Rattle.record_print.specs.declared.record.LogRecord.{LogRecord}
-use Rattle.stream_config.specs.declared.event.Stamps.{Stamps}
+use Rattle.stream_config.specs.declared.state.StreamState.{StreamState}
+use Rattle.stream_config.specs.Fit.{changes_file}
 use Rattle.stream_config.specs.Equality.{same_name}
-use Rattle.stream_config.specs.Events.{open_file, standing, files_changed, state_after}
+use Rattle.stream_config.specs.Events.{state_after}
 use Rattle.stream_config.specs.Stamps.{stamp_after}
 use Rattle.stream_config.proofs.Equalities.{decides_name}
 use Rattle.log_history.specs.Firsts.{change_first}
 use Rattle.log_history.specs.Changes.{LogChange, Began, Opened, Stored, Closed, Ended}
 use Rattle.log_history.specs.Handles.{users, openers}
-use Rattle.log_history.specs.Chronicle.{LogSetup, Stream, Chronicle, new_stream, lives, is_living, is_due, is_idle, is_ending, with_record, last_with_record, all_ended, last_of_ends, after_ends, chronicle, closed_file}
+use Rattle.log_history.specs.Chronicle.{LogSetup, Stream, Chronicle, new_stream, lives, is_living, length_next, is_due, is_idle, is_ending, with_record, last_with_record, all_ended, last_of_ends, after_ends, chronicle}
 use Rattle.log_history.specs.Answers.{living_stream}
 use Rattle.log_history.specs.Legal.{IsLogHistory}
-use Rattle.log_history.specs.Table.{OpenStream, LogTable, state_of, open_stream, table, is_named, with_opener, without_opener, new_state, due_stamps, last_after_due, storing, with_stored, has_nobody, last_after_ends, kept_streams, closed_streams, left_streams, opened_stream, table_after}
-use Rattle.log_history.proofs.FirstLaws.{none_is, Each, Each-filter, AtMostOne, AtMostOne-filter, find-filter, filter-change_first, find-map, filter-map, map-change_first, map-beside, map-at_first}
+use Rattle.log_history.specs.Table.{OpenStream, LogTable, state_of, open_stream, table, is_named, with_opener, without_opener, new_state, is_changing, last_after_due, storing, with_stored, has_nobody, last_after_ends, kept_streams, closed_streams, left_streams, opened_stream, table_after}
+use Rattle.log_history.proofs.FirstLaws.{none_is, Each, Each-find, Each-weaker, Each-filter, AtMostOne, AtMostOne-filter, find-filter, filter-change_first, find-map, filter-map, map-change_first, map-beside, map-at_first}
 use Rattle.log_history.proofs.AnswerLaws.{makes-stream}
 use Rattle.log_history.proofs.EndLaws.{filter-all_ended}
 use Rattle.log_history.proofs.Reaching.{Passes, reached}
-use Rattle.log_history.proofs.FileLists.{standing-changed, standing-one}
+use Rattle.log_history.proofs.StepLaws.{HasFull, bytes-standing, state-recorded}
+use Rattle.log_history.proofs.StreamLaws.{IsSoundStream, made-is}
+use Rattle.log_history.proofs.SoundStreams.{Each-both, sound}
 use Rattle.ais_values.proofs.Basics.{none_from}
 
 same_table : (last last' : ℕ) (users users' : List ℕ) (streams streams' : List OpenStream) → last ≡ last' → users ≡ users' → streams ≡ streams' → let kept : LogTable = record { last = last; users = users; streams = streams } in let kept' : LogTable = record { last = last'; users = users'; streams = streams' } in kept ≡ kept'
@@ -80,47 +82,29 @@ made-streams past client name attrs second created streams new nobody some =
     let made_openers : cond (same_name name name) (put nat_lt client (openers past name)) (openers past name) ≡ client ∷ [] =
     ap (λ b. cond b (put nat_lt client (openers past name)) (openers past name)) ((decides_name name name).1 refl) ∙ ap (put nat_lt client) nobody in
     let made : now stream ≡ opened_stream client name attrs created =
-    ap (λ (files : List LogFile). let opened : OpenStream = record { state = record { name = name; attrs = attrs; taken = 0; files = files }; openers = cond (same_name name name) (put nat_lt client (openers past name)) (openers past name) } in opened) (standing-one attrs (open_file (pos created)) some)
+    ap (λ (state : StreamState). let opened : OpenStream = record { state = state; openers = cond (same_name name name) (put nat_lt client (openers past name)) (openers past name) } in opened) (made-is name attrs created some)
     ∙ ap (λ (clients : List ℕ). let opened : OpenStream = record { state = new_state name attrs created; openers = clients } in opened) made_openers in
     ap (map now) (filter-append lives streams (stream ∷ []))
     ∙ map-append now (living streams) (stream ∷ [])
     ∙ ap (λ front. front ++ now stream ∷ []) others
     ∙ ap (λ last. map (open_stream past) (living streams) ++ last ∷ []) made
 
--- the files that stand once a record is stored in a stream that lives
-files-with_record : (due : Bool) (attrs : StreamAttrs) (closing created : ℕ) (full : List (ℕ × ℕ)) (current : ℕ) → 1 ≤ attrs.rotated → standing attrs (map closed_file (cond due (full ++ (current, closing) ∷ []) full) ++ open_file (pos (cond due created current)) ∷ []) ≡ files_changed attrs (cond due (Some (record { closed = pos closing; created = pos created })) None) (standing attrs (map closed_file full ++ open_file (pos current) ∷ []))
-files-with_record false attrs closing created full current some = refl
-files-with_record true attrs closing created full current some =
-    let stamps : Stamps = record { closed = pos closing; created = pos created } in
-    ap (λ front. standing attrs (front ++ open_file (pos created) ∷ [])) (map-append closed_file full ((current, closing) ∷ []))
-    ∙ sym (standing-changed attrs stamps (map closed_file full) (open_file (pos current)) some)
-
 -- a record stored in a stream that lives is stored in what is kept of it
-stored-stream : (past past' : List LogChange) (last second : ℕ) (rec : LogRecord) (stream : Stream) → openers past' stream.name ≡ openers past stream.name → 1 ≤ stream.attrs.rotated → stream.ended ≡ None → open_stream past' (with_record last second rec stream) ≡ with_stored last second rec (open_stream past stream)
-stored-stream past past' last second rec stream same some living =
-    let closing = stamp_after last second in
-    let created = stamp_after closing second in
-    let made : Option ℕ → ℕ → List LogFile → List ℕ → OpenStream =
-    λ ended taken files clients. record { state = record { name = stream.name; attrs = stream.attrs; taken = taken; files = files }; openers = clients } in
-    let now = λ (ended : Option ℕ). standing stream.attrs (map closed_file (cond (is_due stream) (stream.full ++ (stream.current, closing) ∷ []) stream.full) ++ record { created = pos (cond (is_due stream) created stream.current); closed = option_map pos ended } ∷ []) in
-    let then = λ (ended : Option ℕ). files_changed stream.attrs (due_stamps last second (state_of stream)) (standing stream.attrs (map closed_file stream.full ++ record { created = pos stream.current; closed = option_map pos ended } ∷ [])) in
-    let files_are : now stream.ended ≡ then stream.ended =
-    ap now living ∙ files-with_record (is_due stream) stream.attrs closing created stream.full stream.current some ∙ ap then (sym living) in
-    ap (λ taken. made None taken (now stream.ended) (openers past' stream.name)) (length-append stream.records (rec ∷ []))
-    ∙ ap (λ files. made None (length stream.records + 1) files (openers past' stream.name)) files_are
-    ∙ ap (λ clients. made None (length stream.records + 1) (then stream.ended) clients) same
+stored-stream : (past past' : List LogChange) (last second : ℕ) (rec : LogRecord) (stream : Stream) → openers past' stream.name ≡ openers past stream.name → Passes stream → stream.ended ≡ None → HasFull stream → open_stream past' (with_record last second rec stream) ≡ with_stored last second rec (open_stream past stream)
+stored-stream past past' last second rec stream same passes living full =
+    ap (λ (state : StreamState). let opened : OpenStream = record { state = state; openers = openers past' stream.name } in opened) (state-recorded last second rec stream passes.sizes passes.some_rotated living full)
+    ∙ ap (λ (clients : List ℕ). let opened : OpenStream = record { state = state_after (storing last second rec (state_of stream)); openers = clients } in opened) same
 
--- the state of a stream in which a record is stored
-pub state-recorded : (last second : ℕ) (rec : LogRecord) (stream : Stream) → 1 ≤ stream.attrs.rotated → stream.ended ≡ None → state_of (with_record last second rec stream) ≡ state_after (storing last second rec (state_of stream))
-state-recorded last second rec stream some living =
-    ap (λ (kept : OpenStream). kept.state) (stored-stream [] [] last second rec stream refl some living)
+-- the attributes pass, and as many files are full as the records ask for
+abbrev pub KeepsFull : Stream → Type 0
+KeepsFull stream = Passes stream × HasFull stream
 
 -- the streams once a record is stored
-stored-streams : (past past' : List LogChange) (name : StreamName) (last second : ℕ) (rec : LogRecord) (streams : List Stream) → ((other : StreamName) → openers past' other ≡ openers past other) → Each Passes streams → map (open_stream past') (living (change_first (is_living name) (with_record last second rec) streams)) ≡ change_first (is_named name) (with_stored last second rec) (map (open_stream past) (living streams))
+stored-streams : (past past' : List LogChange) (name : StreamName) (last second : ℕ) (rec : LogRecord) (streams : List Stream) → ((other : StreamName) → openers past' other ≡ openers past other) → Each KeepsFull streams → map (open_stream past') (living (change_first (is_living name) (with_record last second rec) streams)) ≡ change_first (is_named name) (with_stored last second rec) (map (open_stream past) (living streams))
 stored-streams past past' name last second rec streams same passing =
-    let kept : Each (λ stream. Passes stream × (lives stream ≡ true)) (living streams) = Each-filter Passes lives streams passing in
+    let kept : Each (λ stream. KeepsFull stream × (lives stream ≡ true)) (living streams) = Each-filter KeepsFull lives streams passing in
     ap (map (open_stream past')) (filter-change_first lives (is_called name) (with_record last second rec) (λ _. refl) streams)
-    ∙ map-change_first (open_stream past') (is_called name) (is_named name) (λ _. refl) (λ stream. Passes stream × (lives stream ≡ true)) (with_record last second rec) (with_stored last second rec)
+    ∙ map-change_first (open_stream past') (is_called name) (is_named name) (λ _. refl) (λ stream. KeepsFull stream × (lives stream ≡ true)) (with_record last second rec) (with_stored last second rec)
     (λ stream holds. stored-again stream holds) (living streams) kept
     ∙ ap (λ front. change_first (is_named name) (with_stored last second rec) front) (map-same (living streams)) where
       map-same : (these : List Stream) → map (open_stream past') these ≡ map (open_stream past) these
@@ -129,18 +113,23 @@ stored-streams past past' name last second rec streams same passing =
           ap (λ (clients : List ℕ). let first : OpenStream = record { state = state_of stream; openers = clients } in first ∷ map (open_stream past') these) (same stream.name)
           ∙ ap (λ rest. open_stream past stream ∷ rest) (map-same these)
 
-      stored-again : (stream : Stream) → Passes stream × (lives stream ≡ true) → open_stream past' (with_record last second rec stream) ≡ with_stored last second rec (open_stream past' stream)
+      stored-again : (stream : Stream) → KeepsFull stream × (lives stream ≡ true) → open_stream past' (with_record last second rec stream) ≡ with_stored last second rec (open_stream past' stream)
       stored-again stream holds =
-          stored-stream past' past' last second rec stream refl holds.0.some_rotated (none_from stream.ended holds.1)
+          stored-stream past' past' last second rec stream refl holds.0.0 (none_from stream.ended holds.1) holds.0.1
 
 -- the last stamp once a record is stored
-stored-last : (past : List LogChange) (name : StreamName) (last second : ℕ) (streams : List Stream) → option_map_or (last_with_record last second) (find (is_living name) streams) last ≡ option_map_or (λ (stream : OpenStream). last_after_due last second stream.state) (find (is_named name) (map (open_stream past) (living streams))) last
-stored-last past name last second streams =
-    elim (find (is_living name) streams) as (λ found. option_map_or (last_with_record last second) found last ≡ option_map_or (λ (stream : OpenStream). last_after_due last second stream.state) (option_map (open_stream past) found) last) [
-      | None ↦ refl
-      | Some stream ↦ refl
-    ]
-    ∙ ap (λ found. option_map_or (λ (stream : OpenStream). last_after_due last second stream.state) found last) (sym (find-living name past streams))
+pub changing-is : (rec : LogRecord) (stream : Stream) → Passes stream → is_changing (state_of stream) rec ≡ is_due stream rec
+changing-is rec stream passes = ap (λ bytes. changes_file stream.attrs bytes (length_next stream rec)) (bytes-standing stream passes.some_rotated)
+
+stored-last : (past : List LogChange) (name : StreamName) (last second : ℕ) (rec : LogRecord) (streams : List Stream) → Each Passes streams → option_map_or (last_with_record last second rec) (find (is_living name) streams) last ≡ option_map_or (λ (stream : OpenStream). last_after_due last second rec stream.state) (find (is_named name) (map (open_stream past) (living streams))) last
+stored-last past name last second rec streams passing =
+    by_found (find (is_living name) streams) refl
+    ∙ ap (λ found. option_map_or (λ (stream : OpenStream). last_after_due last second rec stream.state) found last) (sym (find-living name past streams)) where
+      by_found : (found : Option Stream) → find (is_living name) streams ≡ found → option_map_or (last_with_record last second rec) found last ≡ option_map_or (λ (stream : OpenStream). last_after_due last second rec stream.state) (option_map (open_stream past) found) last
+      by_found None is = refl
+      by_found (Some stream) is =
+          let here = Each-find Passes (is_living name) streams stream passing is in
+          ap (λ b. cond b (stamp_after (stamp_after last second) second) last) (sym (changing-is rec stream here.0))
 
 -- the streams that live once those that nobody has open have ended
 ended-streams : (past : List LogChange) (last second : ℕ) (streams : List Stream) → map (open_stream past) (living (all_ended (is_ending past) last second streams)) ≡ kept_streams (map (open_stream past) (living streams))
@@ -182,8 +171,10 @@ table-after setup (Opened client name (Some attrs) second) past legal =
 table-after setup (Stored name rec second) past legal =
     let before = reached setup past legal.1 in
     let now = chronicle setup past in
-    same_table _ _ (users past) (users past) _ _ (stored-last past name now.last second now.streams) refl
-    (stored-streams past (Stored name rec second ∷ past) name now.last second rec now.streams (λ _. refl) before.passing)
+    let last = now.last in
+    same_table _ _ (users past) (users past) _ _ (stored-last past name now.last second rec now.streams before.passing) refl
+    (stored-streams past (Stored name rec second ∷ past) name now.last second rec now.streams (λ _. refl)
+    (Each-both Passes HasFull now.streams before.passing (Each-weaker (IsSoundStream last) HasFull (λ stream is. is.count) now.streams (sound setup past legal.1))))
 table-after setup (Closed client name second) past legal =
     let before = reached setup past legal.1 in
     let now = chronicle setup past in

@@ -2,10 +2,9 @@
 use Rattle.std.specs.Prelude.{ℕ, pos, List, [], ◌∷◌, ◌++◌, Option, Some, None}
 use Rattle.client_set.specs.Members.{Stands}
 use Rattle.stream_config.specs.declared.attrs.StreamAttrs.{StreamAttrs}
-use Rattle.stream_config.specs.Events.{open_file}
-use Rattle.stream_layout.specs.Names.{log_name}
+use Rattle.stream_layout.specs.Names.{stamped_name}
 use Rattle.log_history.specs.Changes.{LogChange}
-use Rattle.log_history.specs.Chronicle.{LogSetup, Stream, chronicle, closed_file}
+use Rattle.log_history.specs.Chronicle.{LogSetup, Stream, chronicle}
 
 -- no element stands twice in the list
 abbrev pub NoneTwice : {X : Type 0} → List X → Type 0
@@ -16,18 +15,18 @@ NoneTwice (x ∷ xs) = (Stands x xs → ⊥) × NoneTwice xs
 abbrev pub names_of_full : StreamAttrs → List (ℕ × ℕ) → List (List ℕ)
 names_of_full attrs [] = []
 names_of_full attrs (file ∷ files) =
-    log_name attrs (open_file (pos file.0)) ∷ log_name attrs (closed_file file) ∷ names_of_full attrs files
+    stamped_name attrs (pos file.0) None ∷ stamped_name attrs (pos file.0) (Some (pos file.1)) ∷ names_of_full attrs files
 
 -- the name of a stream's last file since it was closed, if it was
 abbrev pub last_names : StreamAttrs → (created : ℕ) → Option ℕ → List (List ℕ)
 last_names attrs created None = []
-last_names attrs created (Some closed) = log_name attrs (closed_file (created, closed)) ∷ []
+last_names attrs created (Some closed) = stamped_name attrs (pos created) (Some (pos closed)) ∷ []
 
 -- every name that a file of a stream ever had
 abbrev pub names_in : Stream → List (List ℕ)
 names_in stream =
     names_of_full stream.attrs stream.full
-    ++ log_name stream.attrs (open_file (pos stream.current)) ∷ last_names stream.attrs stream.current stream.ended
+    ++ stamped_name stream.attrs (pos stream.current) None ∷ last_names stream.attrs stream.current stream.ended
 
 -- every name that a file of these streams ever had
 abbrev pub names_of_all : List Stream → List (List ℕ)

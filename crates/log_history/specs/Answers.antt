@@ -1,5 +1,5 @@
 -- Words of public clauses: the answers of the log service, each by a table whose first row that holds decides.
-use Rattle.std.specs.Prelude.{ℕ, nat_lt, nat_le, Bool, true, false, not, ◌&&◌, List, [], ◌∷◌, length, Option, Some, None, option_map, unwrap_or, is_some}
+use Rattle.std.specs.Prelude.{ℕ, nat_lt, nat_le, Bool, true, false, not, ◌&&◌, List, [], ◌∷◌, Option, Some, None, option_map, unwrap_or, is_some}
 use Rattle.std.specs.Prelude.{is_none, ℤ}
 use Rattle.std.specs.Option.{option_map_or}
 use Rattle.std.specs.List.{find, list_any, count_by}
@@ -10,6 +10,7 @@ use Rattle.ais_values.specs.declared.status.Status.TheVariants as status
 use Rattle.stream_config.specs.declared.attrs.StreamAttrs.{StreamAttrs}
 use Rattle.stream_config.specs.declared.attrs.StreamName.{StreamName}
 use Rattle.record_print.specs.declared.record.Header.{Header}
+use Rattle.record_print.specs.declared.record.LogRecord.{LogRecord}
 use Rattle.record_print.specs.Records.{can_write}
 use Rattle.stream_config.specs.Attributes.{kind_of}
 use Rattle.stream_config.specs.AttributeTests.{passes_attrs, have_one_place}
@@ -17,10 +18,12 @@ use Rattle.log_history.specs.Names.{is_application}
 use Rattle.stream_config.specs.declared.attrs.FullAction.{FullAction}
 use Rattle.stream_config.specs.declared.attrs.FullAction.TheVariants.{Halt}
 use Rattle.stream_config.specs.Equality.{same_attrs}
-use Rattle.stream_config.specs.Sizes.{records_per_file}
+use Rattle.stream_config.specs.Sizes.{has_room}
 use Rattle.log_history.specs.Changes.{LogChange}
 use Rattle.log_history.specs.Handles.{is_using, is_open}
-use Rattle.log_history.specs.Chronicle.{LogSetup, Stream, lives, is_living, chronicle}
+use Rattle.log_history.specs.Chronicle.{LogSetup, Stream, lives, is_living, files_had, length_next, chronicle}
+use Rattle.log_history.specs.Rounds.{last_of}
+use Rattle.log_history.specs.Times.{record_at}
 
 -- the status of the first row whose condition holds, and ok where none does
 abbrev pub answer : List (Bool × Status) → Status
@@ -69,9 +72,9 @@ abbrev pub is_halting : FullAction → Bool
 is_halting Halt = true
 is_halting _ = false
 
--- a HALT stream that has as many records as its file holds
-abbrev pub holds_all : StreamAttrs → (taken : ℕ) → Bool
-holds_all attrs taken = is_halting attrs.action && nat_le (records_per_file attrs) taken
+-- a record of so many bytes does not fit its HALT stream, whose file has so many
+abbrev pub lacks_room : StreamAttrs → (bytes len : ℕ) → Bool
+lacks_room attrs bytes len = is_halting attrs.action && not (has_room attrs bytes len)
 
 -- what holds after changes
 
@@ -89,9 +92,11 @@ abbrev pub is_crowded : LogSetup → List LogChange → Bool
 is_crowded setup past =
     nat_le 64 (count_by (λ (stream : Stream). lives stream && is_application stream.name) (chronicle setup past).streams)
 
-abbrev pub is_full : LogSetup → List LogChange → StreamName → Bool
-is_full setup past name =
-    option_map_or (λ (stream : Stream). holds_all stream.attrs (length stream.records)) (living_stream setup past name) false
+-- the record does not fit the stream of that name
+abbrev pub is_full : LogSetup → List LogChange → StreamName → LogRecord → Bool
+is_full setup past name rec =
+    option_map_or (λ (stream : Stream). lacks_room stream.attrs (last_of (files_had stream)).bytes (length_next stream rec))
+    (living_stream setup past name) false
 
 -- the answers after changes
 
@@ -103,9 +108,11 @@ open_answer setup past client name create =
     answer (open_rows (is_using past client) (living_attrs setup past name)
     (option_map_or (is_place_taken setup past) create false) (is_crowded setup past) name create)
 
-abbrev pub write_answer : LogSetup → List LogChange → (client : ℕ) → StreamName → (flags : ℕ) (time : ℤ) → Header → Status
-write_answer setup past client name flags time header =
-    answer (write_rows (is_using past client) (is_open past name client) (is_full setup past name) (kind_of name) flags time header)
+-- the record that would be written is that of this moment
+abbrev pub write_answer : LogSetup → List LogChange → (client : ℕ) → StreamName → (flags : ℕ) (time : ℤ) → Header → (body : List ℕ) → (now : ℤ) → Status
+write_answer setup past client name flags time header body now =
+    answer (write_rows (is_using past client) (is_open past name client) (is_full setup past name (record_at time header body now))
+    (kind_of name) flags time header)
 
 abbrev pub close_answer : LogSetup → List LogChange → (client : ℕ) → StreamName → Status
 close_answer setup past client name = answer (close_rows (is_using past client) (is_open past name client))
@@ -113,8 +120,8 @@ close_answer setup past client name = answer (close_rows (is_using past client) 
 abbrev pub end_answer : LogSetup → List LogChange → (client : ℕ) → Status
 end_answer setup past client = answer (end_rows (is_using past client))
 
-abbrev pub store_answer : LogSetup → List LogChange → StreamName → Status
-store_answer setup past name = answer (store_rows (is_full setup past name))
+abbrev pub store_answer : LogSetup → List LogChange → StreamName → LogRecord → Status
+store_answer setup past name rec = answer (store_rows (is_full setup past name rec))
 
 -- what an ok open makes: nothing where the stream lives
 abbrev pub making_of : LogSetup → List LogChange → StreamName → (create : Option StreamAttrs) → Option StreamAttrs

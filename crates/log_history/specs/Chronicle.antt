@@ -1,5 +1,5 @@
 -- Words of public clauses: every stream that was ever made, and the stamps of its files.
-use Rattle.std.specs.Prelude.{ℕ, Bool, true, false, ◌&&◌, if◌then◌else◌, pos, List, [], ◌∷◌, ◌++◌, length, map, Option, Some, None, is_none, option_map}
+use Rattle.std.specs.Prelude.{ℕ, ◌+◌, Bool, true, false, ◌&&◌, if◌then◌else◌, pos, List, [], ◌∷◌, ◌++◌, length, Option, Some, None, is_none, option_map}
 use Rattle.std.specs.Option.{option_map_or}
 use Rattle.std.specs.List.{find}
 use Rattle.stream_config.specs.declared.attrs.StreamAttrs.{StreamAttrs}
@@ -9,12 +9,13 @@ use Rattle.stream_config.specs.declared.state.LogFile.{LogFile}
 use Rattle.record_print.specs.declared.record.LogRecord.{LogRecord}
 use Rattle.stream_config.specs.Equality.{same_name}
 use Rattle.stream_config.specs.Fit.{changes_file}
-use Rattle.stream_config.specs.Sizes.{records_per_file}
 use Rattle.stream_config.specs.Stamps.{stamp_after}
 use Rattle.log_history.specs.Names.{is_application}
 use Rattle.log_history.specs.Firsts.{change_first}
 use Rattle.log_history.specs.Changes.{LogChange, Began, Opened, Stored, Closed, Ended}
 use Rattle.log_history.specs.Handles.{openers}
+use Rattle.log_history.specs.Lengths.{record_length, lengths_from}
+use Rattle.log_history.specs.Rounds.{Round, rounds_of, last_of, front_of}
 
 -- what the service begins with: the second of its start, and the attributes of the well-known streams
 pub record LogSetup : Type 0 where
@@ -49,9 +50,20 @@ lives stream = is_none stream.ended
 abbrev pub is_living : StreamName → Stream → Bool
 is_living name stream = lives stream && same_name stream.name name
 
--- the next record changes the file: it is a later one whose number is a multiple of those of a file, under ROTATE
-abbrev pub is_due : Stream → Bool
-is_due stream = changes_file stream.attrs.action (records_per_file stream.attrs) (length stream.records)
+-- the lengths of its records, and of the one that comes; the first has number 1
+abbrev pub lengths_of : Stream → List ℕ
+lengths_of stream = lengths_from stream.attrs 1 stream.records
+
+abbrev pub length_next : Stream → LogRecord → ℕ
+length_next stream rec = record_length stream.attrs (length stream.records + 1) rec
+
+-- every file that it had, by the number of the first record and the bytes
+abbrev pub files_had : Stream → List Round
+files_had stream = rounds_of stream.attrs (lengths_of stream)
+
+-- the next record changes the file, as it has no room in the last one
+abbrev pub is_due : Stream → LogRecord → Bool
+is_due stream rec = changes_file stream.attrs (last_of (files_had stream)).bytes (length_next stream rec)
 
 -- a stream with one record more; the last stamp before is this one
 abbrev pub with_record : (last second : ℕ) → LogRecord → Stream → Stream
@@ -59,15 +71,15 @@ with_record last second rec stream = record {
   name = stream.name;
   attrs = stream.attrs;
   records = stream.records ++ rec ∷ [];
-  full = if is_due stream then stream.full ++ (stream.current, stamp_after last second) ∷ [] else stream.full;
-  current = if is_due stream then stamp_after (stamp_after last second) second else stream.current;
+  full = if is_due stream rec then stream.full ++ (stream.current, stamp_after last second) ∷ [] else stream.full;
+  current = if is_due stream rec then stamp_after (stamp_after last second) second else stream.current;
   ended = stream.ended;
 }
 
 -- a change of file takes two stamps, the closing one first
-abbrev pub last_with_record : (last second : ℕ) → Stream → ℕ
-last_with_record last second stream =
-    if is_due stream then stamp_after (stamp_after last second) second else last
+abbrev pub last_with_record : (last second : ℕ) → LogRecord → Stream → ℕ
+last_with_record last second rec stream =
+    if is_due stream rec then stamp_after (stamp_after last second) second else last
 
 -- a stream that has ended, its last file closed by this stamp
 abbrev pub with_end : ℕ → Stream → Stream
@@ -120,7 +132,7 @@ after_making name attrs second before = record {
 abbrev pub after_record : StreamName → LogRecord → ℕ → Chronicle → Chronicle
 after_record name rec second before = record {
   streams = change_first (is_living name) (with_record before.last second rec) before.streams;
-  last = option_map_or (last_with_record before.last second) (find (is_living name) before.streams) before.last;
+  last = option_map_or (last_with_record before.last second rec) (find (is_living name) before.streams) before.last;
 }
 
 -- the three well-known streams, made at the start
@@ -146,12 +158,19 @@ chronicle setup (Closed client name second ∷ past) =
 chronicle setup (Ended client second ∷ past) = after_ends (Ended client second ∷ past) second (chronicle setup past)
 chronicle setup (Began client ∷ past) = chronicle setup past
 
--- a file by its creating and its closing stamp
-abbrev pub closed_file : ℕ × ℕ → LogFile
-closed_file stamps = record { created = pos stamps.0; closed = Some (pos stamps.1) }
+-- the full files with their stamps
+abbrev pub stamped_files : List (ℕ × ℕ) → List Round → List LogFile
+stamped_files [] rounds = []
+stamped_files (stamps ∷ full) [] = []
+stamped_files (stamps ∷ full) (round ∷ rounds) =
+    record { created = pos stamps.0; closed = Some (pos stamps.1); first = round.first; bytes = round.bytes } ∷ stamped_files full rounds
+
+abbrev pub last_file : (created : ℕ) → Option ℕ → Round → LogFile
+last_file created ended round =
+    record { created = pos created; closed = option_map pos ended; first = round.first; bytes = round.bytes }
 
 -- every file that a stream had, in order; the last is the current one until the stream ends
 abbrev pub all_files : Stream → List LogFile
 all_files stream =
-    map closed_file stream.full
-    ++ record { created = pos stream.current; closed = option_map pos stream.ended } ∷ []
+    let files = files_had stream in
+    stamped_files stream.full (front_of files) ++ last_file stream.current stream.ended (last_of files) ∷ []

@@ -9,9 +9,13 @@ use Rattle.stream_config.specs.declared.attrs.StreamName.{StreamName}
 use Rattle.stream_config.specs.Attributes.{kind_of}
 use Rattle.stream_config.specs.AttributeTests.{have_one_place}
 use Rattle.record_print.specs.declared.record.Header.{Header}
+use Rattle.record_print.specs.declared.record.LogRecord.{LogRecord}
+use Rattle.stream_config.specs.declared.state.StreamState.{StreamState}
+use Rattle.stream_config.specs.Events.{current_file}
+use Rattle.log_history.specs.Times.{record_at}
 use Rattle.log_history.specs.Names.{is_application}
-use Rattle.log_history.specs.Table.{OpenStream, LogTable, is_named}
-use Rattle.log_history.specs.Answers.{answer, begin_rows, open_rows, write_rows, close_rows, end_rows, store_rows, holds_all}
+use Rattle.log_history.specs.Table.{OpenStream, LogTable, is_named, length_in}
+use Rattle.log_history.specs.Answers.{answer, begin_rows, open_rows, write_rows, close_rows, end_rows, store_rows, lacks_room}
 
 -- the living stream of that name
 abbrev pub kept_stream : List OpenStream → StreamName → Option OpenStream
@@ -33,9 +37,13 @@ abbrev pub has_opener : List OpenStream → StreamName → (client : ℕ) → Bo
 has_opener streams name client =
     option_map_or (λ (stream : OpenStream). has client stream.openers) (kept_stream streams name) false
 
-abbrev pub is_filled : List OpenStream → StreamName → Bool
-is_filled streams name =
-    option_map_or (λ (stream : OpenStream). holds_all stream.state.attrs stream.state.taken) (kept_stream streams name) false
+-- the record does not fit the stream
+abbrev pub lacks_room_in : StreamState → LogRecord → Bool
+lacks_room_in state rec = lacks_room state.attrs (current_file state.files).bytes (length_in state rec)
+
+abbrev pub is_filled : List OpenStream → StreamName → LogRecord → Bool
+is_filled streams name rec =
+    option_map_or (λ (stream : OpenStream). lacks_room_in stream.state rec) (kept_stream streams name) false
 
 abbrev pub begin_status : LogTable → (client : ℕ) → Status
 begin_status kept client = answer (begin_rows (has client kept.users))
@@ -45,10 +53,10 @@ open_status kept client name create =
     answer (open_rows (has client kept.users) (kept_attrs kept.streams name)
     (option_map_or (has_place kept.streams) create false) (is_crowd kept.streams) name create)
 
-abbrev pub write_status : LogTable → (client : ℕ) → StreamName → (flags : ℕ) (time : ℤ) → Header → Status
-write_status kept client name flags time header =
-    answer (write_rows (has client kept.users) (has_opener kept.streams name client) (is_filled kept.streams name)
-    (kind_of name) flags time header)
+abbrev pub write_status : LogTable → (client : ℕ) → StreamName → (flags : ℕ) (time : ℤ) → Header → (body : List ℕ) → (now : ℤ) → Status
+write_status kept client name flags time header body now =
+    answer (write_rows (has client kept.users) (has_opener kept.streams name client)
+    (is_filled kept.streams name (record_at time header body now)) (kind_of name) flags time header)
 
 abbrev pub close_status : LogTable → (client : ℕ) → StreamName → Status
 close_status kept client name = answer (close_rows (has client kept.users) (has_opener kept.streams name client))
@@ -56,8 +64,8 @@ close_status kept client name = answer (close_rows (has client kept.users) (has_
 abbrev pub end_status : LogTable → (client : ℕ) → Status
 end_status kept client = answer (end_rows (has client kept.users))
 
-abbrev pub store_status : LogTable → StreamName → Status
-store_status kept name = answer (store_rows (is_filled kept.streams name))
+abbrev pub store_status : LogTable → StreamName → LogRecord → Status
+store_status kept name rec = answer (store_rows (is_filled kept.streams name rec))
 
 -- what an ok open makes: nothing where the stream lives
 abbrev pub making_in : List OpenStream → StreamName → (create : Option StreamAttrs) → Option StreamAttrs

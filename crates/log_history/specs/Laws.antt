@@ -1,15 +1,16 @@
 -- Words of public clauses, those of the laws: the files behind a change, and where records are and stand.
-use Rattle.std.specs.Prelude.{◌≡◌, ℕ, List, ◌∷◌, length, Some}
+use Rattle.std.specs.Prelude.{◌≡◌, ℕ, ◌<◌, slice_get, List, ◌∷◌, length, Some}
 use Rattle.disk_model.specs.DeviceCalls.{all_applied}
 use Rattle.stream_config.specs.declared.attrs.StreamName.{StreamName}
 use Rattle.record_print.specs.declared.record.LogRecord.{LogRecord}
 use Rattle.stream_layout.specs.Deeds.{calls_of_all}
 use Rattle.log_history.specs.Changes.{LogChange, Stored}
-use Rattle.log_history.specs.Chronicle.{LogSetup, Stream}
+use Rattle.log_history.specs.Chronicle.{LogSetup, Stream, chronicle}
 use Rattle.log_history.specs.Table.{state_of, bytes_in}
 use Rattle.log_history.specs.Files.{disk_files}
 use Rattle.log_history.specs.Deeds.{deeds_by}
-use Rattle.log_history.specs.Places.{record_in, place_in, stream_number, IsAt}
+use Rattle.log_history.specs.Places.{place_of, record_in, place_in, stream_number, IsAt}
+use Rattle.stream_layout.specs.Spots.{spot_of}
 
 -- the deeds of a change make of the files before it those behind it
 abbrev pub DeedsGiveFiles : LogSetup → LogChange → (past : List LogChange) → Type 0
@@ -33,3 +34,9 @@ abbrev pub PlacesDiffer : LogSetup → List LogChange → Type 0
 PlacesDiffer setup past =
     (one other number second : ℕ) (place : List ℕ × ℕ) → place_in setup past one number ≡ Some place →
     place_in setup past other second ≡ Some place → (one ≡ other) × (number ≡ second)
+
+-- of a stream whose records have one size a record that has a place stands at the offset of its number
+abbrev pub PlacesBySize : LogSetup → List LogChange → Type 0
+PlacesBySize setup past =
+    (stream number : ℕ) (one : Stream) (place : List ℕ × ℕ) → slice_get (chronicle setup past).streams stream ≡ Some one →
+    0 < one.attrs.record_size → place_of one number ≡ Some place → place.1 ≡ (spot_of one.attrs number).at

@@ -26,7 +26,7 @@ CanFollow setup (Opened client name None second) past =
 CanFollow setup (Opened client name (Some attrs) second) past =
     (is_some (living_stream setup past name) ≡ false) × (open_answer setup past client name (Some attrs) ≡ status.Ok)
 CanFollow setup (Stored name rec second) past =
-    (is_some (living_stream setup past name) ≡ true) × (is_full setup past name ≡ false)
+    (is_some (living_stream setup past name) ≡ true) × (is_full setup past name rec ≡ false)
 CanFollow setup (Closed client name second) past = (is_using past client ≡ true) × (is_open past name client ≡ true)
 CanFollow setup (Ended client second) past = is_using past client ≡ true
 

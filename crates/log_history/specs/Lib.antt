@@ -1,5 +1,7 @@
 pub mod Changes
 pub mod Handles
+pub mod Lengths
+pub mod Rounds
 pub mod Chronicle
 pub mod Answers
 pub mod Table

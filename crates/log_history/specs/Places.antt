@@ -1,5 +1,5 @@
 -- Words of public clauses: the records of a history, and where they stand among its files.
-use Rattle.std.specs.Prelude.{◌≡◌, ℕ, ◌+◌, ◌-◌, ◌*◌, ◌/◌, nat_lt, nat_le, Bool, ◌&&◌, if◌then◌else◌, List, length, take, drop, Option, Some, None, option_map}
+use Rattle.std.specs.Prelude.{◌≡◌, ℕ, ◌*◌, ◌%◌, nat_lt, nat_le, Bool, ◌&&◌, if◌then◌else◌, List, [], ◌∷◌, length, take, drop, Option, Some, None, option_map}
 use Rattle.std.specs.Prelude.{slice_get}
 use Rattle.std.specs.Option.{option_map_or}
 use Rattle.std.specs.FinMap.{get}
@@ -10,30 +10,52 @@ use Rattle.stream_config.specs.declared.attrs.StreamName.{StreamName}
 use Rattle.stream_config.specs.declared.state.LogFile.{LogFile}
 use Rattle.stream_config.specs.Sizes.{records_per_file}
 use Rattle.stream_layout.specs.Names.{log_name}
-use Rattle.stream_layout.specs.Spots.{spot_of}
+use Rattle.stream_config.specs.Events.{standing}
+pub use Rattle.stream_config.specs.Fit.{first_in}
+use Rattle.stream_config.specs.Fit.{next_first}
+use Rattle.stream_layout.specs.LogFiles.{records_from}
+use Rattle.std.specs.List.{concat}
 use Rattle.log_history.specs.Firsts.{before_first}
 use Rattle.log_history.specs.Changes.{LogChange}
 use Rattle.log_history.specs.Chronicle.{LogSetup, Stream, is_living, chronicle, all_files}
 use Rattle.log_history.specs.Files.{records_of}
 
--- the number of the first record that stands, of so many that were taken, where a file holds n records
-abbrev pub first_in : FullAction → (n rotated taken : ℕ) → ℕ
-first_in Wrap n rotated taken = taken - n
-first_in Halt n rotated taken = 0
-first_in Rotate n rotated taken = ((taken - 1) / n + 1 - rotated) * n
+-- the files that stand
+abbrev pub files_now : Stream → List LogFile
+files_now stream = standing stream.attrs (all_files stream)
+
+abbrev pub first_of : Stream → ℕ
+first_of stream =
+    first_in stream.attrs.action (records_per_file stream.attrs) (length stream.records)
+    (next_first (files_now stream) (length stream.records))
 
 -- a record was taken, and neither was its slot given away nor its file removed
 abbrev pub is_standing : Stream → (number : ℕ) → Bool
-is_standing stream number =
-    nat_le (first_in stream.attrs.action (records_per_file stream.attrs) stream.attrs.rotated (length stream.records)) number
-    && nat_lt number (length stream.records)
+is_standing stream number = nat_le (first_of stream) number && nat_lt number (length stream.records)
+
+-- of files that end before the record of the number `until`, the one among whose records this one is
+abbrev pub file_of : (number until : ℕ) → List LogFile → Option LogFile
+file_of number until [] = None
+file_of number until (file ∷ files) =
+    if nat_le file.first number && nat_lt number (next_first files until) then Some file else file_of number until files
+
+-- a record stands behind those of its file before it; under WRAP in the slot of its number
+abbrev pub offset_of : FullAction → (n size first number : ℕ) → List (List ℕ) → ℕ
+offset_of Wrap n size first number records = number % n * size
+offset_of Halt n size first number records = length (concat (records_from first number records))
+offset_of Rotate n size first number records = length (concat (records_from first number records))
+
+abbrev pub spot_in_file : Stream → (number : ℕ) → LogFile → List ℕ × ℕ
+spot_in_file stream number file = (
+  log_name stream.attrs file,
+  offset_of stream.attrs.action (records_per_file stream.attrs) stream.attrs.record_size file.first number (records_of stream),
+)
 
 -- the name of the file of a record, and the offset there, while it stands; the first record has number 0
 abbrev pub place_of : Stream → (number : ℕ) → Option (List ℕ × ℕ)
 place_of stream number =
     if is_standing stream number
-    then option_map (λ (file : LogFile). (log_name stream.attrs file, (spot_of stream.attrs number).at))
-    (slice_get (all_files stream) (spot_of stream.attrs number).file)
+    then option_map (spot_in_file stream number) (file_of number (length stream.records) (files_now stream))
     else None
 
 -- the same of a history, its streams numbered from 0 on in order of creation

@@ -13,14 +13,14 @@ use Rattle.stream_config.specs.declared.event.StreamEvent.TheVariants as event
 use Rattle.record_print.specs.declared.record.LogRecord.{LogRecord}
 use Rattle.record_print.specs.Printing.{printed_record}
 use Rattle.stream_config.specs.Equality.{same_name}
-use Rattle.stream_config.specs.Events.{open_file, standing, state_after}
+use Rattle.stream_config.specs.Events.{open_file, current_file, standing, state_after}
 use Rattle.stream_config.specs.Fit.{changes_file}
-use Rattle.stream_config.specs.Sizes.{records_per_file}
 use Rattle.stream_config.specs.Stamps.{stamp_after}
 use Rattle.log_history.specs.Names.{is_application}
 use Rattle.log_history.specs.Firsts.{change_first}
 use Rattle.log_history.specs.Changes.{LogChange, Began, Opened, Stored, Closed, Ended}
 use Rattle.log_history.specs.Handles.{users, openers}
+use Rattle.log_history.specs.Lengths.{record_length}
 use Rattle.log_history.specs.Chronicle.{LogSetup, Stream, lives, is_empty, chronicle, all_files}
 
 -- a living stream, and the clients that have it open, rising
@@ -39,6 +39,7 @@ state_of stream = record {
   name = stream.name;
   attrs = stream.attrs;
   taken = length stream.records;
+  opened = length stream.full + 1;
   files = standing stream.attrs (all_files stream);
 }
 
@@ -70,21 +71,28 @@ new_state name attrs created = record {
   name = name;
   attrs = attrs;
   taken = 0;
+  opened = 1;
   files = open_file (pos created) ∷ [];
 }
 
+-- how many bytes a record takes that is stored next
+abbrev pub length_in : StreamState → LogRecord → ℕ
+length_in state rec = record_length state.attrs (state.taken + 1) rec
+
+-- the next record changes the file
+abbrev pub is_changing : StreamState → LogRecord → Bool
+is_changing state rec = changes_file state.attrs (current_file state.files).bytes (length_in state rec)
+
 -- the stamps of a change of file, where the next record is due to change it
-abbrev pub due_stamps : (last second : ℕ) → StreamState → Option Stamps
-due_stamps last second state =
-    if changes_file state.attrs.action (records_per_file state.attrs) state.taken
+abbrev pub due_stamps : (last second : ℕ) → LogRecord → StreamState → Option Stamps
+due_stamps last second rec state =
+    if is_changing state rec
     then Some (record { closed = pos (stamp_after last second); created = pos (stamp_after (stamp_after last second) second) })
     else None
 
-abbrev pub last_after_due : (last second : ℕ) → StreamState → ℕ
-last_after_due last second state =
-    if changes_file state.attrs.action (records_per_file state.attrs) state.taken
-    then stamp_after (stamp_after last second) second
-    else last
+abbrev pub last_after_due : (last second : ℕ) → LogRecord → StreamState → ℕ
+last_after_due last second rec state =
+    if is_changing state rec then stamp_after (stamp_after last second) second else last
 
 -- the bytes of a record that is stored in a stream
 abbrev pub bytes_in : StreamState → LogRecord → List ℕ
@@ -92,7 +100,7 @@ bytes_in state rec = printed_record (pieces_of state.attrs.expr) (state.taken + 
 
 -- a record stored in a stream
 abbrev pub storing : (last second : ℕ) → LogRecord → StreamState → StreamEvent
-storing last second rec state = event.Stored state (bytes_in state rec) (due_stamps last second state)
+storing last second rec state = event.Stored state (bytes_in state rec) (due_stamps last second rec state)
 
 abbrev pub with_stored : (last second : ℕ) → LogRecord → OpenStream → OpenStream
 with_stored last second rec stream =
@@ -139,7 +147,7 @@ table_after (Opened client name (Some attrs) second) kept = record {
   streams = kept.streams ++ opened_stream client name attrs (stamp_after kept.last second) ∷ [];
 }
 table_after (Stored name rec second) kept = record {
-  last = option_map_or (λ (stream : OpenStream). last_after_due kept.last second stream.state) (find (is_named name) kept.streams) kept.last;
+  last = option_map_or (λ (stream : OpenStream). last_after_due kept.last second rec stream.state) (find (is_named name) kept.streams) kept.last;
   users = kept.users;
   streams = change_first (is_named name) (with_stored kept.last second rec) kept.streams;
 }

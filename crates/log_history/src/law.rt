@@ -1,5 +1,5 @@
 //! Laws of the Log Service over all that may happen to it.
-ghost use Rattle.std.specs.Prelude.{◌≡◌, ◌⊎◌, ℕ, ◌≤◌, List, [], ◌∷◌, Some, option_map};
+ghost use Rattle.std.specs.Prelude.{◌≡◌, ◌⊎◌, ℕ, ◌+◌, ◌-◌, ◌/◌, ◌<◌, ◌≤◌, List, [], ◌∷◌, ◌++◌, length, replicate, All, Some, option_map};
 ghost use Rattle.std.specs.List.{AllByRecursion};
 ghost use Rattle.std.specs.FinMap.{get};
 ghost use Rattle.client_set.specs.Members.{Stands};
@@ -21,7 +21,8 @@ ghost use Rattle.log_history.specs.Stamps.{second_in, CanStamp, stamps_of_all};
 ghost use Rattle.log_history.specs.Deeds.{opening_deeds};
 ghost use Rattle.log_history.specs.Answers.{living_stream};
 ghost use Rattle.log_history.specs.Places.{record_in};
-ghost use Rattle.log_history.specs.Laws.{DeedsGiveFiles, StandsLast, RecordsStand, PlacesDiffer};
+ghost use Rattle.log_history.specs.Laws.{DeedsGiveFiles, StandsLast, RecordsStand, PlacesDiffer, PlacesBySize};
+ghost use Rattle.log_history.specs.Rounds.{rounds, round_pushed, AreRounds, RoundsBeginEvenly};
 ghost use Rattle.log_history.specs.AllNames.{NoneTwice, names_ever};
 
 /// What is kept after one more change is what the change makes of what was kept; it is fit, so that
@@ -68,7 +69,8 @@ pub fn law_of_files()
 
 /// A record keeps its number in its stream and its bytes whatever changes; one that is stored is the
 /// last of its stream. It stands at its place among the files, with its bytes, until its slot is
-/// given away or its file removed, and no other record stands there.
+/// given away or its file removed, and no other record stands there. Where all records have one size, its offset
+/// is that of its number.
 pub fn law_of_records()
     ensures stored { (setup : LogSetup) (past : List LogChange) (name : StreamName)
         (rec : LogRecord) (second : ℕ) (stream : Stream) →
@@ -80,4 +82,21 @@ pub fn law_of_records()
         (chronicle setup past).last ≤ 20000000100 → RecordsStand setup past }
     ensures alone { (setup : LogSetup) (past : List LogChange) → IsLogHistory setup past →
         (chronicle setup past).last ≤ 20000000100 → PlacesDiffer setup past }
+    ensures slots { (setup : LogSetup) (past : List LogChange) → IsLogHistory setup past →
+        PlacesBySize setup past }
+{}
+
+/// The files of a stream that rotates, by the lengths of its records, none above the greatest size of a file: each
+/// begins with the least record through which the one before would be above it, and has the bytes of its records.
+/// One record more is added to the last, or begins the next. Where all records have one size, n of which a file
+/// holds, each begins n behind the one before, and there are as many as the records ask for.
+pub fn law_of_rounds()
+    ensures closed { (most : ℕ) (lens : List ℕ) → All (λ len. len ≤ most) lens
+        → AreRounds most lens (rounds most lens) }
+    ensures step { (most len : ℕ) (lens : List ℕ) →
+        rounds most (lens ++ len ∷ []) ≡ round_pushed most (length lens) len (rounds most lens) }
+    ensures even { (most size count : ℕ) → 0 < size → size ≤ most
+        → RoundsBeginEvenly (most / size) 0 (rounds most (replicate count size)) }
+    ensures count { (most size count : ℕ) → 0 < size → size ≤ most
+        → length (rounds most (replicate count size)) ≡ (count - 1) / (most / size) + 1 }
 {}

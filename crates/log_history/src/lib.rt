@@ -4,4 +4,4 @@
 
 mod law;
 
-pub use law::{law_of_changes, law_of_files, law_of_names, law_of_records};
+pub use law::{law_of_changes, law_of_files, law_of_names, law_of_records, law_of_rounds};

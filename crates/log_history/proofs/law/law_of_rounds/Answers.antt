@@ -1,0 +1,11 @@
+use Rattle.log_history.proofs.RoundLaws.{closed-form, step-form}
+use Rattle.log_history.proofs.EvenLaws.{even-form, count-form}
+use Rattle.log_history.proofs.law.law_of_rounds.Goals as goal
+
+pub returns : goal.returns
+returns c = record {
+  closed = closed-form;
+  step = step-form;
+  even = even-form;
+  count = count-form;
+}
