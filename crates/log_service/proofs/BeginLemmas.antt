@@ -1,13 +1,21 @@
 -- The streams with which a state begins.
-use Rattle.std.proofs.Common.{◌≡◌, ℕ, ◌<◌, suc, false, ◌||◌, List, [], ◌∷◌, ◌++◌, length, get_or, drop, append_assoc, refl, ap, sym, ◌∙◌, subst, arith, length-append}
+use Rattle.std.proofs.Common.{w64, ◌≡◌, ℕ, ◌<◌, suc, false, ◌||◌, List, [], ◌∷◌, ◌++◌, length, get_or, drop, append_assoc, refl, ap, sym, ◌∙◌, subst, arith, length-append}
 use Rattle.std.specs.List.{list_any}
 use Rattle.std.proofs.Math.Seq.{drop-cons}
 use Rattle.stream_config.specs.declared.attrs.StreamAttrs.{StreamAttrs}
 use Rattle.stream_config.specs.declared.attrs.StreamName.TheVariants as name
 use Rattle.stream_config.specs.declared.state.StreamState.{StreamState}
-use Rattle.log_history.specs.Table.{OpenStream, has_nobody}
-use Rattle.log_service.specs.State.{joined_streams, IsSoundStream, AreSoundStreams}
-use Rattle.log_service.specs.Beginning.{unopened_stream, AreWells, second_stamp, third_stamp, well_streams}
+use Rattle.std.specs.Prelude.{ℤ, pos, unsigned_abs, map}
+use mir.Val.{SFits}
+use Rattle.stream_config.specs.declared.event.StreamEvent.{StreamEvent}
+use Rattle.log_history.specs.Chronicle.{LogSetup, new_stream}
+use Rattle.log_history.specs.Legal.{IsSetup}
+use Rattle.log_history.specs.Table.{OpenStream, has_nobody, state_of, new_state, table}
+use Rattle.log_history.proofs.StreamLaws.{made-is}
+use Rattle.log_service.specs.Moments.{IsTimeOfCall, second_of}
+use Rattle.log_service.proofs.EndLemmas.{second-bound}
+use Rattle.log_service.specs.State.{made_event, BeginsWith, HasBegun, table_with, joined_streams, IsSoundStream, AreSoundStreams}
+use Rattle.log_service.specs.Beginning.{unopened_stream, AreWells, second_stamp, third_stamp, well_streams, HasWells}
 
 -- a stream among sound ones is sound
 pub sound-at : (front rest : List OpenStream) (stream : OpenStream) → AreSoundStreams (front ++ stream ∷ rest) → IsSoundStream stream
@@ -63,3 +71,31 @@ wells-are start (x ∷ y ∷ z ∷ w ∷ more) alarm notification system first s
 -- what is put behind a list in three steps stands behind it in a row
 pub three-behind : {A : Type 0} (front one two all : List A) (a b c : A) → one ≡ front ++ a ∷ [] → two ≡ one ++ b ∷ [] → all ≡ two ++ c ∷ [] → all ≡ front ++ a ∷ b ∷ c ∷ []
 three-behind front one two all a b c first second third = rw (third, second, first) (simp append_assoc)
+
+-- the streams of a service to which nothing happened yet
+start-streams : (setup : LogSetup) → IsSetup setup → (table setup []).streams ≡ well_streams setup.start (setup.alarm ∷ setup.notification ∷ setup.system ∷ [])
+start-streams setup sound =
+    let opened : StreamState → OpenStream = λ state. record { state = state; openers = [] } in
+    let alarm = λ (created : ℕ). state_of (new_stream name.Alarm setup.alarm created) in
+    let second = second_stamp setup.start in
+    let third = third_stamp setup.start in
+    ap (λ state. opened state ∷ opened (state_of (new_stream name.Notification setup.notification second)) ∷ opened (state_of (new_stream name.System setup.system third)) ∷ []) (made-is name.Alarm setup.alarm setup.start sound.alarm.some_rotated)
+    ∙ ap (λ state. opened (new_state name.Alarm setup.alarm setup.start) ∷ opened state ∷ opened (state_of (new_stream name.System setup.system third)) ∷ []) (made-is name.Notification setup.notification second sound.notification.some_rotated)
+    ∙ ap (λ state. opened (new_state name.Alarm setup.alarm setup.start) ∷ opened (new_state name.Notification setup.notification second) ∷ opened state ∷ []) (made-is name.System setup.system third sound.system.some_rotated)
+
+pub begun : (setup : LogSetup) (start : ℤ) (wells : List StreamAttrs) (last : ℤ) (users : List ℕ) (streams : List OpenStream) (events : List StreamEvent) → users ≡ [] → BeginsWith setup start wells → HasWells (second_of start) wells last streams events → HasBegun setup (table_with (unsigned_abs last) users streams, events)
+begun setup start wells last users streams events none begins has =
+    let all : well_streams (second_of start) wells ≡ (table setup []).streams =
+    ap (well_streams (second_of start)) begins.attributes
+    ∙ ap (λ second. well_streams second (setup.alarm ∷ setup.notification ∷ setup.system ∷ [])) (sym begins.second)
+    ∙ sym (start-streams setup begins.sound) in
+    let stamp : unsigned_abs last ≡ (table setup []).last = ap unsigned_abs has.stamp ∙ ap third_stamp (sym begins.second) in
+    record {
+      now = ap (λ these. table_with (unsigned_abs last) these streams) none ∙ ap (λ n. table_with n [] streams) stamp ∙ ap (table_with (table setup []).last []) (has.made ∙ all);
+      done = has.told ∙ ap (map made_event) all;
+    }
+
+pub third-fits : (start : ℤ) → IsTimeOfCall start → (last : ℤ) → last ≡ pos (third_stamp (second_of start)) → SFits w64 last
+third-fits start time last is =
+    let low = second-bound start time in
+    subst (λ (z : ℤ). SFits w64 z) (sym is) (record { sfits = omega (arith, low) })

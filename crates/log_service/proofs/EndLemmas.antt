@@ -6,14 +6,13 @@ use Rattle.std.proofs.Math.Dec.{T}
 use Rattle.std.proofs.lemmas.Bool.{leb-true, le-leb, or_parts}
 use mir.Val.{SFits}
 use Rattle.stream_config.specs.declared.state.StreamState.{StreamState}
-use Rattle.stream_config.specs.Fit.{changes_file}
-use Rattle.stream_config.specs.Sizes.{records_per_file}
+use Rattle.record_print.specs.declared.record.LogRecord.{LogRecord}
 use Rattle.std.specs.Prelude.{ℤ, pos, negsuc, ◌≤ℤ◌, unsigned_abs}
 use Rattle.std.specs.List.{list_any}
 use Rattle.stream_config.specs.declared.event.StreamEvent.{StreamEvent}
 use Rattle.stream_config.specs.declared.event.StreamEvent.TheVariants.{Ended}
 use Rattle.stream_config.specs.Stamps.{stamp_after}
-use Rattle.log_history.specs.Table.{OpenStream, has_nobody, without_opener, last_after_due, last_after_ends, ends_in, left_streams}
+use Rattle.log_history.specs.Table.{OpenStream, has_nobody, without_opener, is_changing, last_after_due, last_after_ends, ends_in, left_streams}
 use Rattle.log_service.specs.Moments.{IsTimeOfCall, IsMoment, second_of}
 use Rattle.log_service.specs.Changing.{last_of_end, end_of, last_of_endings, endings_of}
 use Rattle.ais_values.proofs.Basics.{true_from_T, pos-unsigned_abs}
@@ -109,8 +108,8 @@ pub due-bound : (last second : ℕ) (b : Bool) → last ≤ 19999999000 → seco
 due-bound last second true low early = omega arith
 due-bound last second false low early = omega arith
 
-pub due-fits : (last now : ℤ) (state : StreamState) (stamped : ℤ) → IsMoment last now → stamped ≡ pos (last_after_due (unsigned_abs last) (second_of now) state) → SFits w64 stamped
-due-fits last now state stamped moment is =
+pub due-fits : (last now : ℤ) (rec : LogRecord) (state : StreamState) (stamped : ℤ) → IsMoment last now → stamped ≡ pos (last_after_due (unsigned_abs last) (second_of now) rec state) → SFits w64 stamped
+due-fits last now rec state stamped moment is =
     let time : IsTimeOfCall now = record { from = moment.from; to = moment.to } in
-    let bound = due-bound (unsigned_abs last) (second_of now) (changes_file state.attrs.action (records_per_file state.attrs) state.taken) (abs-bound last 19999999000 moment.last_from moment.last_to) (second-bound now time) in
+    let bound = due-bound (unsigned_abs last) (second_of now) (is_changing state rec) (abs-bound last 19999999000 moment.last_from moment.last_to) (second-bound now time) in
     subst (λ (z : ℤ). SFits w64 z) (sym is) (record { sfits = omega arith })

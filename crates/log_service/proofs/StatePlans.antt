@@ -1,6 +1,6 @@
 -- The plans of a state's calls, by what they do to its parts.
-use Rattle.std.proofs.Common.{◌≡◌, ℕ, false, List, refl, ap, sym, subst, ◌∙◌}
-use Rattle.std.specs.Prelude.{Option, ℤ, unsigned_abs}
+use Rattle.std.proofs.Common.{◌≡◌, ◌≢◌, ℕ, false, List, [], refl, ap, sym, subst, ◌∙◌}
+use Rattle.std.specs.Prelude.{Option, ℤ, pos, ◌≤ℤ◌, unsigned_abs}
 use Rattle.std.specs.List.{list_any}
 use Rattle.ais_values.specs.declared.status.Status.{Status}
 use Rattle.ais_values.specs.declared.status.Status.TheVariants as status
@@ -17,7 +17,7 @@ use Rattle.log_service.specs.Opening.{opening_in}
 use Rattle.log_service.specs.Changing.{AreEndsIn}
 use Rattle.log_service.specs.Planning.{planned, CanCommit, Plans, streams_after}
 use Rattle.log_service.specs.PlanningParts.{IsOfStreams, PlansOpening, PlansStoring}
-use Rattle.log_service.specs.declared.plan.Doing.TheVariants.{Leave, End}
+use Rattle.log_service.specs.declared.plan.Doing.TheVariants.{Stay, Leave, End}
 use Rattle.log_service.specs.declared.plan.LogPlan.{LogPlan}
 use Rattle.log_service.proofs.KeptLemmas.{AreFew-changed, AreFew-mapped, AreFew-filtered, busy-kept, busy-changed, ended-from}
 use Rattle.log_service.proofs.WriteLemmas.{made-stored, stored-from}
@@ -39,6 +39,18 @@ module _ (last : ℤ) (users : List ℕ) (streams : List OpenStream) (kept : Log
         refused = λ wrong. absurd (wrong ok);
         can = can;
       }))
+
+  -- a call that is refused
+  pub refused-as : (expected : Status) (change : LogChange) (result : Status) (plan : LogPlan) → result ≡ expected → result ≢ status.Ok → pos 0 ≤ℤ last → plan ≡ record { step = record { status = result; events = [] }; last = last; doing = Stay } → Plans kept expected change plan
+  refused-as expected change result plan same wrong from is =
+      subst (λ (k : LogTable). Plans k expected change plan) view
+      (subst (λ (p : LogPlan). Plans parts expected change p) (sym is)
+      (subst (λ (s : Status). Plans parts s change (record { step = record { status = result; events = [] }; last = last; doing = Stay })) same (record {
+        answer = refl;
+        ok = λ ok. absurd (wrong ok);
+        refused = λ _. record { now = refl; done = refl };
+        can = record { from = from; can = tt; few = few; busy = busy };
+      })))
 
   pub ended-as : (now : ℤ) (expected : Status) (client : ℕ) (stamped : ℤ) (events : List StreamEvent) (plan : LogPlan) → status.Ok ≡ expected → AreEndsIn last now (left_streams client streams) (stamped, events) → plan ≡ accepted_plan events stamped (End client) → Plans kept expected (Ended client (second_of now)) plan
   ended-as now expected client stamped events plan same ends is =

@@ -1,5 +1,5 @@
 -- What the plans of calls do to the living streams.
-use Rattle.std.proofs.Common.{◌≡◌, ℕ, ◌+◌, List, [], ◌∷◌, nat_lt, get_or, refl, ap, sym, subst, ◌∙◌}
+use Rattle.std.proofs.Common.{◌≡◌, ◌≤◌, ℕ, ◌+◌, List, [], ◌∷◌, nat_lt, get_or, refl, ap, sym, subst, ◌∙◌}
 use Rattle.std.specs.Prelude.{Option, ℤ, pos, ◌≤ℤ◌, unsigned_abs}
 use Rattle.std.specs.Option.{option_map_or}
 use Rattle.ais_values.specs.declared.status.Status.TheVariants as status
@@ -8,6 +8,7 @@ use Rattle.client_set.proofs.ChangedPlace.{set-change_at}
 use Rattle.stream_config.specs.declared.attrs.StreamName.{StreamName}
 use Rattle.stream_config.specs.declared.state.LogFile.{LogFile}
 use Rattle.stream_config.specs.declared.event.StreamEvent.{StreamEvent}
+use Rattle.stream_config.specs.Events.{state_after}
 use Rattle.record_print.specs.declared.record.LogRecord.{LogRecord}
 use Rattle.log_history.specs.Table.{OpenStream, is_named, last_after_due, storing, with_stored, with_opener}
 use Rattle.log_service.specs.Moments.{second_of}
@@ -24,8 +25,8 @@ use Rattle.ais_values.proofs.Basics.{pos-unsigned_abs}
 abbrev pub accepted_plan : List StreamEvent → (last : ℤ) → Doing → LogPlan
 accepted_plan events last doing = record { step = record { status = status.Ok; events = events }; last = last; doing = doing }
 
-abbrev last_of : (last second : ℕ) → Option OpenStream → ℕ
-last_of last second found = option_map_or (λ (stream : OpenStream). last_after_due last second stream.state) found last
+abbrev last_of : (last second : ℕ) → LogRecord → Option OpenStream → ℕ
+last_of last second rec found = option_map_or (λ (stream : OpenStream). last_after_due last second rec stream.state) found last
 
 abbrev events_of : (last second : ℕ) → LogRecord → Option OpenStream → List StreamEvent
 events_of last second rec found =
@@ -37,25 +38,27 @@ stores-nowhere last now name rec streams events plan from events_are nowhere is 
     subst (PlansStoring last now name rec streams) (sym is) (record {
       sound = record { ok = refl; users = λ users. refl; can = tt };
       stores = record {
-        stamp = sym (pos-unsigned_abs last from) ∙ ap (λ found. pos (last_of (unsigned_abs last) (second_of now) found)) (sym nowhere.none);
+        stamp = sym (pos-unsigned_abs last from) ∙ ap (λ found. pos (last_of (unsigned_abs last) (second_of now) rec found)) (sym nowhere.none);
         events = events_are ∙ ap (events_of (unsigned_abs last) (second_of now) rec) (sym nowhere.none);
         streams = sym (nowhere.unchanged (with_stored (unsigned_abs last) (second_of now) rec));
       };
     })
 
 -- where there is one, it is stored there
-pub stores-at : (last now : ℤ) (name : StreamName) (rec : LogRecord) (streams : List OpenStream) (place : ℕ) (read : OpenStream) (taken : ℕ) (filed : ℤ × List LogFile) (event : StreamEvent) (events : List StreamEvent) (plan : LogPlan) → IsFirst (is_named name) streams place → read ≡ get_or streams place read → taken ≡ read.state.taken + 1 → IsFiling last now read.state filed → event ≡ storing (unsigned_abs last) (second_of now) rec read.state → events ≡ event ∷ [] → plan ≡ accepted_plan events filed.0 (Store place taken filed.1) → PlansStoring last now name rec streams plan
-stores-at last now name rec streams place read taken filed event events plan first is taken_is filing event_is events_are plan_is =
+pub stores-at : (last now : ℤ) (name : StreamName) (rec : LogRecord) (streams : List OpenStream) (place : ℕ) (read : OpenStream) (taken : ℕ) (stamp : ℤ) (opened : ℕ) (files : List LogFile) (event : StreamEvent) (events : List StreamEvent) (plan : LogPlan) → IsFirst (is_named name) streams place → read ≡ get_or streams place read → taken ≡ read.state.taken + 1 → opened ≤ taken + 1 → IsFiling last now rec read.state stamp opened files → event ≡ storing (unsigned_abs last) (second_of now) rec read.state → events ≡ event ∷ [] → plan ≡ accepted_plan events stamp (Store place taken opened files) → PlansStoring last now name rec streams plan
+stores-at last now name rec streams place read taken stamp opened files event events plan first is taken_is few filing event_is events_are plan_is =
     let found = found-at (is_named name) streams place read first is in
-    let new : with_files taken filed.1 read ≡ with_stored (unsigned_abs last) (second_of now) rec read =
-    ap (λ n. with_files n filed.1 read) taken_is ∙ ap (λ files. with_files (read.state.taken + 1) files read) filing.files in
+    let after = state_after (storing (unsigned_abs last) (second_of now) rec read.state) in
+    let new : with_files taken opened files read ≡ with_stored (unsigned_abs last) (second_of now) rec read =
+    ap (λ n. with_files n opened files read) taken_is ∙ ap (λ o. with_files (read.state.taken + 1) o files read) filing.opened_is
+    ∙ ap (λ (these : List LogFile). with_files (read.state.taken + 1) after.opened these read) filing.files_are in
     subst (PlansStoring last now name rec streams) (sym plan_is) (record {
-      sound = record { ok = refl; users = λ users. refl; can = first.within };
+      sound = record { ok = refl; users = λ users. refl; can = (first.within, few) };
       stores = record {
-        stamp = filing.stamp ∙ ap (λ one. pos (last_of (unsigned_abs last) (second_of now) one)) (sym found);
+        stamp = filing.stamp_is ∙ ap (λ one. pos (last_of (unsigned_abs last) (second_of now) rec one)) (sym found);
         events = events_are ∙ ap (λ one. one ∷ []) event_is ∙ ap (events_of (unsigned_abs last) (second_of now) rec) (sym found);
-        streams = sym (set-change_at (with_files taken filed.1) streams place read is first.within)
-            ∙ changed-at (is_named name) streams place read (with_files taken filed.1 read) (with_stored (unsigned_abs last) (second_of now) rec) first is new;
+        streams = sym (set-change_at (with_files taken opened files) streams place read is first.within)
+            ∙ changed-at (is_named name) streams place read (with_files taken opened files read) (with_stored (unsigned_abs last) (second_of now) rec) first is new;
       };
     })
 

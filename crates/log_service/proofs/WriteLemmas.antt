@@ -1,12 +1,12 @@
 -- What an ok write tells, and that the state stays as it is kept once a record is stored.
-use Rattle.std.proofs.Common.{◌≡◌, ℕ, Bool, true, false, not, ◌&&◌, ◌||◌, cond, List, [], ◌∷◌, nat_lt, nat_le, refl, ap, sym, ◌∙◌, subst, arith}
+use Rattle.std.proofs.Common.{Some, w64, ◌≤◌, ◌^◌, ◌≡◌, ℕ, Bool, true, false, not, ◌&&◌, ◌||◌, cond, List, [], ◌∷◌, nat_lt, nat_le, refl, ap, sym, ◌∙◌, subst, arith}
 use Rattle.std.specs.Prelude.{ℤ, pos, negsuc, ◌≤ℤ◌, unsigned_abs}
 use Rattle.std.specs.Option.{option_map_or}
 use Rattle.std.specs.List.{find}
 use Rattle.std.specs.Int.{is_negative}
 use Rattle.std.specs.Ordering.{int_eq}
 use Rattle.std.proofs.lemmas.Bool.Decides.{nat_tests}
-use Rattle.std.proofs.lemmas.Bool.{and_parts}
+use Rattle.std.proofs.lemmas.Bool.{and_parts, le-ltb}
 use Rattle.ais_values.specs.Times.{unknown_time}
 use Rattle.ais_values.specs.TimeTests.{is_time}
 use Rattle.ais_values.specs.Events.{is_event_type}
@@ -18,9 +18,12 @@ use Rattle.stream_config.specs.declared.event.StreamEvent.{StreamEvent}
 use Rattle.record_print.specs.declared.record.Header.{Header}
 use Rattle.record_print.specs.declared.record.Header.TheVariants.{Ntf, Generic}
 use Rattle.record_print.specs.declared.record.LogRecord.{LogRecord}
-use Rattle.record_print.specs.Printing.{can_print, has_codes}
+use Rattle.record_print.specs.Printing.{event_time, can_print, has_codes}
 use Rattle.record_print.specs.Records.{can_have, can_write}
-use Rattle.log_history.specs.Answers.{answer, write_rows}
+use Rattle.log_history.specs.Answers.{answer, write_rows, store_rows}
+use Rattle.format_expr.specs.declared.token.Moment.TheVariants.{Record, Event}
+use Rattle.record_print.specs.Lengths.{IsTimed, with_event_time, HasParts}
+use mir.Val.{SFits}
 use Rattle.log_history.specs.Times.{filled_time, filled_header, record_at}
 use Rattle.log_history.specs.Table.{OpenStream, LogTable, is_named, last_after_due}
 use Rattle.log_history.specs.Changes.{Stored}
@@ -39,6 +42,35 @@ write-rows using opened full kind flags time header ok =
       told true true true w l is = absurd cc
       told true true false false l is = absurd cc
       told true true false true l is = refl
+
+-- and it has room
+pub write-room : (using opened full : Bool) (kind : StreamKind) (flags : ℕ) (time : ℤ) (header : Header) → answer (write_rows using opened full kind flags time header) ≡ status.Ok → full ≡ false
+write-room using opened full kind flags time header ok =
+    told using opened (nat_lt 1 flags) (can_write kind time header) full ok where
+      told : (u o f w l : Bool) → answer ((not u, status.BadHandle) ∷ (not o, status.BadHandle) ∷ (f, status.BadFlags) ∷ (not w, status.InvalidParam) ∷ (l, status.NoSpace) ∷ []) ≡ status.Ok → l ≡ false
+      told false o f w l is = absurd cc
+      told true false f w l is = absurd cc
+      told true true true w l is = absurd cc
+      told true true false false l is = absurd cc
+      told true true false true true is = absurd cc
+      told true true false true false is = refl
+
+pub store-room : (full : Bool) → answer (store_rows full) ≡ status.Ok → full ≡ false
+store-room true is = absurd cc
+store-room false is = refl
+
+-- where no earlier row holds, the room decides
+pub write-decides : (using opened full : Bool) (kind : StreamKind) (flags : ℕ) (time : ℤ) (header : Header) → using ≡ true → opened ≡ true → flags ≤ 1 → can_write kind time header ≡ true
+    → cond full status.NoSpace status.Ok ≡ answer (write_rows using opened full kind flags time header)
+write-decides using opened full kind flags time header uses opens low may =
+    told using opened (nat_lt 1 flags) (can_write kind time header) full uses opens (le-ltb 1 flags low) may where
+      told : (u o f w l : Bool) → u ≡ true → o ≡ true → f ≡ false → w ≡ true → cond l status.NoSpace status.Ok ≡ answer ((not u, status.BadHandle) ∷ (not o, status.BadHandle) ∷ (f, status.BadFlags) ∷ (not w, status.InvalidParam) ∷ (l, status.NoSpace) ∷ [])
+      told false o f w l a b c d = cc
+      told true false f w l a b c d = cc
+      told true true true w l a b c d = cc
+      told true true false false l a b c d = cc
+      told true true false true true a b c d = refl
+      told true true false true false a b c d = refl
 
 pub not-negative : (z : ℤ) → pos 0 ≤ℤ z → is_negative z ≡ false
 not-negative (pos n) from = grind (arith, nat_tests)
@@ -64,6 +96,38 @@ printable kind time header body now from can =
     let both = and_parts (is_time time) (can_have kind header) can in
     ap (λ b. not b && has_codes (filled_header header now)) (filled-time time now from both.0) ∙ filled-codes kind header now from both.1
 
+-- the record of a write has its header, but for the time of its event, and its body
+time-low : (z : ℤ) → SFits w64 z → unsigned_abs z ≤ 2 ^ 63
+time-low (pos n) fits = let low = fits.sfits in omega (arith, low)
+time-low (negsuc n) fits = let low = fits.sfits in omega (arith, low)
+
+filled-low : (time now : ℤ) → unsigned_abs time ≤ 2 ^ 63 → unsigned_abs now ≤ 2 ^ 63 → unsigned_abs (filled_time time now) ≤ 2 ^ 63
+filled-low time now low low' = by_case (int_eq time unknown_time) where
+  by_case : (b : Bool) → unsigned_abs (cond b now time) ≤ 2 ^ 63
+  by_case true = low'
+  by_case false = low
+
+record-timed : (time : ℤ) (header : Header) (body : List ℕ) (now : ℤ) → unsigned_abs time ≤ 2 ^ 63 → unsigned_abs now ≤ 2 ^ 63 → ((event : ℕ) → event_time header ≡ Some event → event ≤ 2 ^ 63) → IsTimed (record_at time header body now)
+record-timed time header body now low low' event Record shown is = let e : unsigned_abs (filled_time time now) ≡ shown = cc in subst (λ n. n ≤ 2 ^ 63) e (filled-low time now low low')
+record-timed time (Ntf id event_type object notifier class event_at) body now low low' event Event shown is =
+    let e : unsigned_abs (filled_time event_at now) ≡ shown = cc in subst (λ n. n ≤ 2 ^ 63) e (filled-low event_at now (event (unsigned_abs event_at) refl) low')
+record-timed time (Generic class user severity) body now low low' event Event shown is = cc
+
+event-of : (header : Header) (now : ℤ) → (event : ℤ) × (filled_header header now ≡ with_event_time event header)
+event-of (Ntf id event_type object notifier class event_at) now = (filled_time event_at now, refl)
+event-of (Generic class user severity) now = (now, refl)
+
+pub has-parts : (kind : StreamKind) (time : ℤ) (header : Header) (body : List ℕ) (now : ℤ) → SFits w64 time → SFits w64 now → pos 0 ≤ℤ now → ((event : ℕ) → event_time header ≡ Some event → event ≤ 2 ^ 63) → can_write kind time header ≡ true → HasParts header body (record_at time header body now)
+has-parts kind time header body now fits fits' from event can =
+    let told = event-of header now in
+    record {
+      event = told.0;
+      header_is = told.1;
+      body_is = refl;
+      printable = printable kind time header body now from can;
+      timed = record-timed time header body now (time-low time fits) (time-low now fits') event;
+    }
+
 pub stored-from : (last now : ℤ) (name : StreamName) (rec : LogRecord) (old new : List OpenStream) (stored : ℤ × List StreamEvent) → StoresIn last now name rec old new stored → pos 0 ≤ℤ stored.0
 stored-from last now name rec old new stored stores = subst (λ (z : ℤ). pos 0 ≤ℤ z) (sym stores.stamp) (pos-from _)
 
@@ -73,6 +137,6 @@ made-stored last now name rec old new users kept stored stamp events kept_is sto
     let after : LogTable = record { last = unsigned_abs stamp; users = users; streams = new } in
     subst (λ (k : LogTable). Made (Stored name rec (second_of now)) k after events) kept_is (record {
       now = ap (λ (n : ℕ). let it : LogTable = record { last = n; users = users; streams = new } in it) (ap unsigned_abs (stamp_is ∙ stores.stamp))
-          ∙ ap (λ (streams : List OpenStream). let it : LogTable = record { last = option_map_or (λ (stream : OpenStream). last_after_due (unsigned_abs last) (second_of now) stream.state) (find (is_named name) old) (unsigned_abs last); users = users; streams = streams } in it) stores.streams;
+          ∙ ap (λ (streams : List OpenStream). let it : LogTable = record { last = option_map_or (λ (stream : OpenStream). last_after_due (unsigned_abs last) (second_of now) rec stream.state) (find (is_named name) old) (unsigned_abs last); users = users; streams = streams } in it) stores.streams;
       done = events_is ∙ stores.events;
     })

@@ -1,5 +1,5 @@
 -- Words of bodies alone: what changes as a record is stored, and as streams end.
-use Rattle.std.specs.Prelude.{true, ◌≡◌, ℕ, ℤ, pos, unsigned_abs, List, [], ◌∷◌, ◌++◌, Option, Some, None, if◌then◌else◌}
+use Rattle.std.specs.Prelude.{true, ◌≡◌, ℕ, ◌+◌, ℤ, pos, unsigned_abs, List, [], ◌∷◌, ◌++◌, Option, Some, None, if◌then◌else◌}
 use Rattle.std.specs.Option.{option_map_or}
 use Rattle.std.specs.List.{find}
 use Rattle.stream_config.specs.declared.attrs.StreamAttrs.{StreamAttrs}
@@ -7,14 +7,14 @@ use Rattle.stream_config.specs.declared.attrs.StreamName.{StreamName}
 use Rattle.stream_config.specs.declared.state.StreamState.{StreamState}
 use Rattle.stream_config.specs.declared.state.LogFile.{LogFile}
 use Rattle.stream_config.specs.declared.event.Stamps.{Stamps}
-use Rattle.stream_config.specs.Events.{files_changed}
+use Rattle.stream_config.specs.Events.{state_after}
 use Rattle.stream_config.specs.declared.event.StreamEvent.{StreamEvent}
 use Rattle.record_print.specs.declared.record.LogRecord.{LogRecord}
 use Rattle.ais_values.specs.declared.status.Status.{Status}
 use Rattle.log_history.specs.Answers.{answer, open_rows}
 use Rattle.log_history.specs.KeptAnswers.{kept_attrs, has_place, is_crowd}
 use Rattle.log_history.specs.Firsts.{change_first}
-use Rattle.log_history.specs.Table.{OpenStream, is_named, with_opener, due_stamps, last_after_due, storing, with_stored, last_after_ends, ends_in, left_streams}
+use Rattle.log_history.specs.Table.{OpenStream, is_named, with_opener, last_after_due, storing, with_stored, last_after_ends, ends_in, left_streams}
 use Rattle.log_history.specs.Table.{has_nobody, without_opener, new_state, opened_stream}
 use Rattle.stream_config.specs.Stamps.{stamp_after}
 use Rattle.stream_config.specs.declared.event.StreamEvent.TheVariants.{Made, Ended}
@@ -25,10 +25,16 @@ abbrev pub last_with : ℤ → Option Stamps → ℤ
 last_with last None = last
 last_with last (Some stamps) = stamps.created
 
--- the last stamp and the files once the next record is stored
-pub record IsFiling (last now : ℤ) (state : StreamState) (filed : ℤ × List LogFile) : Type 0 where
-  pub stamp : filed.0 ≡ pos (last_after_due (unsigned_abs last) (second_of now) state)
-  pub files : filed.1 ≡ files_changed state.attrs (due_stamps (unsigned_abs last) (second_of now) state) state.files
+-- how many files were made once these stamps are taken
+abbrev pub opened_with : ℕ → Option Stamps → ℕ
+opened_with opened None = opened
+opened_with opened (Some stamps) = opened + 1
+
+-- the last stamp, the files that stand and how many were made once the next record is stored
+pub record IsFiling (last now : ℤ) (rec : LogRecord) (state : StreamState) (stamp : ℤ) (opened : ℕ) (files : List LogFile) : Type 0 where
+  pub stamp_is : stamp ≡ pos (last_after_due (unsigned_abs last) (second_of now) rec state)
+  pub opened_is : opened ≡ (state_after (storing (unsigned_abs last) (second_of now) rec state)).opened
+  pub files_are : files ≡ (state_after (storing (unsigned_abs last) (second_of now) rec state)).files
 
 -- the streams once a client has made one, with the last stamp then and the events
 pub record MakesIn (last now : ℤ) (client : ℕ) (name : StreamName) (attrs : StreamAttrs)
@@ -51,7 +57,7 @@ OpensIn last now client name None old new opened = JoinsIn last client name old 
 -- the streams once a record is stored in the one of this name, with the last stamp then and the events
 pub record StoresIn (last now : ℤ) (name : StreamName) (rec : LogRecord) (old new : List OpenStream) (stored : ℤ × List StreamEvent) : Type 0 where
   pub stamp :
-      stored.0 ≡ pos (option_map_or (λ (stream : OpenStream). last_after_due (unsigned_abs last) (second_of now) stream.state)
+      stored.0 ≡ pos (option_map_or (λ (stream : OpenStream). last_after_due (unsigned_abs last) (second_of now) rec stream.state)
       (find (is_named name) old) (unsigned_abs last))
   pub events :
       stored.1 ≡ option_map_or (λ (stream : OpenStream). storing (unsigned_abs last) (second_of now) rec stream.state ∷ [])

@@ -16,6 +16,6 @@ OpensByRows setup past =
 
 abbrev pub WritesByRows : LogSetup → List LogChange → Type 0
 WritesByRows setup past =
-    (client : ℕ) (name : StreamName) (flags : ℕ) (time : ℤ) (header : Header) →
-    write_status (table setup past) client name flags time header
-    ≡ write_answer setup past client name flags time header
+    (client : ℕ) (name : StreamName) (flags : ℕ) (time : ℤ) (header : Header) (body : List ℕ) (now : ℤ) →
+    write_status (table setup past) client name flags time header body now
+    ≡ write_answer setup past client name flags time header body now

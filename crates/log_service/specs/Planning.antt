@@ -1,5 +1,5 @@
 -- Words of public clauses: what a planned call tells, what it makes of the state, and when it can be made.
-use Rattle.std.specs.Prelude.{◌≡◌, ◌≢◌, ◌<◌, ℕ, ◌==◌, false, pos, ◌≤ℤ◌, unsigned_abs, List, [], ◌∷◌, ◌++◌, length}
+use Rattle.std.specs.Prelude.{◌≡◌, ◌≢◌, ◌<◌, ◌≤◌, ◌+◌, ℕ, ◌==◌, false, pos, ◌≤ℤ◌, unsigned_abs, List, [], ◌∷◌, ◌++◌, length}
 use Rattle.std.specs.List.{list_any}
 use Rattle.ais_values.specs.declared.status.Status.{Status}
 use Rattle.ais_values.specs.declared.status.Status.TheVariants as status
@@ -21,9 +21,9 @@ step_of plan = plan.step
 abbrev pub with_openers : List ℕ → OpenStream → OpenStream
 with_openers openers stream = record { state = stream.state; openers = openers }
 
-abbrev pub with_files : (taken : ℕ) → List LogFile → OpenStream → OpenStream
-with_files taken files stream = record {
-  state = record { name = stream.state.name; attrs = stream.state.attrs; taken = taken; files = files };
+abbrev pub with_files : (taken opened : ℕ) → List LogFile → OpenStream → OpenStream
+with_files taken opened files stream = record {
+  state = record { name = stream.state.name; attrs = stream.state.attrs; taken = taken; opened = opened; files = files };
   openers = stream.openers;
 }
 
@@ -33,7 +33,7 @@ streams_after Stay streams = streams
 streams_after (Begin users) streams = streams
 streams_after (Join place openers) streams = change_at (with_openers openers) streams place
 streams_after (Make stream) streams = streams ++ stream ∷ []
-streams_after (Store place taken files) streams = change_at (with_files taken files) streams place
+streams_after (Store place taken opened files) streams = change_at (with_files taken opened files) streams place
 streams_after (Leave name client) streams = kept_streams (closed_streams client name streams)
 streams_after (End client) streams = kept_streams (left_streams client streams)
 
@@ -43,10 +43,10 @@ users_after (Begin begun) users = begun
 users_after (End client) users = without (λ other. other == client) users
 users_after _ users = users
 
--- there is the stream that changes
+-- there is the stream that changes, and no more files were made of it than its records ask for
 abbrev pub CanDo : Doing → List OpenStream → Type 0
 CanDo (Join place openers) streams = place < length streams
-CanDo (Store place taken files) streams = place < length streams
+CanDo (Store place taken opened files) streams = (place < length streams) × (opened ≤ taken + 1)
 CanDo _ streams = Unit {0}
 
 -- what the planned call makes of a state

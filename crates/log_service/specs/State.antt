@@ -1,5 +1,5 @@
 -- Words of public clauses: when a call can come, what it did, and of which parts a state can be made.
-use Rattle.std.specs.Prelude.{◌≡◌, ◌<◌, ◌≤◌, ℕ, suc, nat_lt, true, false, ℤ, pos, ◌≤ℤ◌, if◌then◌else◌, List, [], ◌∷◌, map}
+use Rattle.std.specs.Prelude.{◌≡◌, ◌+◌, ◌<◌, ◌≤◌, ℕ, suc, nat_lt, true, false, ℤ, pos, ◌≤ℤ◌, if◌then◌else◌, List, [], ◌∷◌, map}
 use Rattle.std.specs.List.{AllByRecursion}
 use Rattle.std.specs.Option.{ForSome}
 use Rattle.ais_values.specs.declared.kind.StreamKind.{StreamKind}
@@ -94,11 +94,13 @@ joined_streams (state ∷ states) (clients ∷ openers) =
 abbrev pub table_with : ℕ → List ℕ → List OpenStream → LogTable
 table_with last users streams = record { last = last; users = users; streams = streams }
 
--- a living stream: its attributes pass, its openers rise, and somebody has it open where it is an application's
+-- a living stream: its attributes pass, its openers rise, somebody has it open where it is an application's, and every file but the
+-- first began with a record
 pub record IsSoundStream (stream : OpenStream) : Type 0 where
   pub passes : PassesAttrs (kind_of stream.state.name) stream.state.attrs
   pub openers : IsRising nat_lt stream.openers
   pub opened : has_nobody stream ≡ false
+  pub few : stream.state.opened ≤ stream.state.taken + 1
 
 -- how many streams are applications', and how many are not
 abbrev pub applications_in : List OpenStream → ℕ

@@ -1,5 +1,5 @@
 //! The streams with which a state begins.
-ghost use Rattle.std.specs.Prelude.{◌≡◌, ◌≤ℤ◌, ◌++◌, nat_lt, pos, length, map, unsigned_abs, [], ◌∷◌, IfOk, OnOk};
+ghost use Rattle.std.specs.Prelude.{◌≡◌, ◌≤◌, ◌+◌, ◌≤ℤ◌, ◌++◌, nat_lt, pos, length, map, unsigned_abs, [], ◌∷◌, IfOk, OnOk};
 ghost use Rattle.client_set.specs.Rising.{IsRising};
 ghost use Rattle.stream_config.specs.Attributes.{kind_of, PassesAttrs};
 ghost use Rattle.log_history.specs.Table.{new_state};
@@ -130,6 +130,7 @@ fn push_rebuilt(
     openers: &[u16],
 ) -> Result<(), AllocError>
     requires passes { PassesAttrs (kind_of state.name) state.attrs }
+    requires few { state.opened ≤ state.taken + 1 }
     requires rising { IsRising nat_lt openers.now }
     ensures { OnOk result (streams.new.items
         ≡ streams.old.items ++ record { state = state; openers = openers.now } ∷ []) }

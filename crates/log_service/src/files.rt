@@ -1,36 +1,30 @@
 //! The files of a stream as its next record is stored.
-ghost use Rattle.std.specs.Prelude.{◌≡◌, ◌≤◌, ℕ, drop, vec_len, unsigned_abs, IfOk};
+ghost use Rattle.std.specs.Prelude.{◌≡◌, ◌≢◌, ◌+◌, ◌<◌, ◌≤◌, ◌^◌, ℕ, drop, vec_len, unsigned_abs, IfOk, None, false};
 ghost use Rattle.stream_config.specs.Attributes.{IsSized};
-ghost use Rattle.stream_config.specs.Sizes.{records_per_file};
 ghost use Rattle.stream_config.specs.Fit.{changes_file};
-ghost use Rattle.stream_config.specs.Events.{most_files, last_closed, files_changed};
-ghost use Rattle.log_history.specs.Table.{due_stamps};
+ghost use Rattle.stream_config.specs.Events.{current_file, most_files, last_closed, last_with as files_with, next_offset, files_stored};
+ghost use Rattle.record_print.specs.declared.record.LogRecord.{LogRecord as RecordOf};
+ghost use Rattle.log_history.specs.Table.{length_in, due_stamps};
 ghost use Rattle.log_service.specs.Moments.{IsMoment, second_of};
-ghost use Rattle.log_service.specs.Changing.{last_with};
+ghost use Rattle.log_service.specs.Changing.{last_with, opened_with};
 
 use ais_values::{Duplicate, Seq};
 use std::alloc::{AllocError, Global};
-use stream_config::{FullAction, LogFile, Stamps, StreamAttrs, StreamState, per_file, stamp};
+use stream_config::{
+    FullAction, LogFile, Stamps, StreamAttrs, StreamState, changes_file, current_of, next_offset,
+    stamp,
+};
 
-/// Whether the file changes before the next record.
-fn changes_file(action: FullAction, n: u32, taken: u32) -> bool
-    requires { 1 ≤ n }
-    ensures { result ≡ changes_file action n taken }
-{
-    match action {
-        FullAction::Wrap | FullAction::Halt => false,
-        FullAction::Rotate => taken > 0 && taken % n == 0,
-    }
-}
-
-/// The stamps of the change of file that the next record brings, where it brings one.
-pub(crate) fn due_stamps(state: &StreamState, last: i64, now: i64) -> Option<Stamps>
-    requires sized { IsSized state.now.attrs }
+/// The stamps of the change of file that the next record of so many bytes brings, where it brings one.
+pub(crate) fn due_stamps(state: &StreamState, len: u32, last: i64, now: i64) -> Option<Stamps>
     requires moment { IsMoment last now }
-    ensures { result ≡ due_stamps (unsigned_abs last) (second_of now) state.now }
+    ensures due { (rec : RecordOf) → len ≡ length_in state.now rec →
+        result ≡ due_stamps (unsigned_abs last) (second_of now) rec state.now }
+    ensures none { result ≡ None → changes_file state.now.attrs
+        (current_file state.now.files).bytes len ≡ false }
 {
-    let n = per_file(&state.attrs);
-    if !changes_file(state.attrs.action, n, state.taken) {
+    let current = current_of(state.files.as_slice());
+    if !changes_file(&state.attrs, current.bytes, len) {
         return None;
     }
     let closed = stamp(last, now);
@@ -45,6 +39,17 @@ pub(crate) fn last_after(last: i64, stamps: Option<Stamps>) -> i64
     match stamps {
         None => last,
         Some(stamps) => stamps.created,
+    }
+}
+
+/// How many files were made once these stamps are taken.
+pub(crate) fn opened_after(opened: u32, stamps: Option<Stamps>) -> u32
+    requires { opened < 4294967295 }
+    ensures { result ≡ opened_with opened stamps }
+{
+    match stamps {
+        None => opened,
+        Some(_) => opened + 1,
     }
 }
 
@@ -78,25 +83,44 @@ fn close_last(files: &mut Vec<LogFile>, closed: i64)
     }
 }
 
-/// The files that stand once the next record is stored.
-pub(crate) fn files_changed(
-    alloc: Global,
-    attrs: &StreamAttrs,
-    stamps: Option<Stamps>,
-    files: &Seq<LogFile>,
-) -> Result<Seq<LogFile>, AllocError>
-    ensures { IfOk result (λ changed. changed ≡ files_changed attrs.now stamps files.now) }
+/// So many bytes are written at a place in the last file.
+fn write_last(files: &mut Vec<LogFile>, at: u64, len: u32)
+    requires { at + len < 2 ^ 64 }
+    ensures { files.new.items ≡ files_with at len files.old.items }
 {
-    let mut changed = files.copy(alloc)?.into_vec();
-    if let Some(stamps) = stamps {
-        close_last(&mut changed, stamps.closed);
-        changed.push(LogFile {
-            created: stamps.created,
-            closed: None,
-        })?;
-        let most = most_files(attrs.action, attrs.rotated) as usize;
-        let excess = changed.len().saturating_sub(most);
-        remove_front(&mut changed, excess);
+    let count = files.len();
+    if count > 0 {
+        let bytes = files[count - 1].bytes.max(at + u64::from(len));
+        files[count - 1].bytes = bytes;
     }
-    Ok(Seq::from_vec(changed))
+}
+
+/// The files that stand once a record of so many bytes is stored, with these stamps where it begins a file.
+pub(crate) fn files_stored(
+    alloc: Global,
+    state: &StreamState,
+    len: u32,
+    stamps: Option<Stamps>,
+) -> Result<Seq<LogFile>, AllocError>
+    requires sized { IsSized state.now.attrs }
+    requires room { stamps ≡ None → next_offset state.now + len < 2 ^ 64 }
+    ensures { IfOk result (λ files. files ≡ files_stored state.now len stamps) }
+{
+    let mut files = state.files.copy(alloc)?.into_vec();
+    match stamps {
+        None => write_last(&mut files, next_offset(state), len),
+        Some(stamps) => {
+            close_last(&mut files, stamps.closed);
+            files.push(LogFile {
+                created: stamps.created,
+                closed: None,
+                first: state.taken,
+                bytes: u64::from(len),
+            })?;
+            let most = most_files(state.attrs.action, state.attrs.rotated) as usize;
+            let excess = files.len().saturating_sub(most);
+            remove_front(&mut files, excess);
+        }
+    }
+    Ok(Seq::from_vec(files))
 }

@@ -2,6 +2,7 @@
 ghost use Rattle.std.specs.Prelude.{◌≡◌, ℕ, List, ◌∷◌, Option};
 ghost use Rattle.stream_config.specs.declared.attrs.StreamName.{StreamName};
 ghost use Rattle.stream_config.specs.declared.attrs.StreamAttrs.{StreamAttrs};
+ghost use Rattle.record_print.specs.declared.record.LogRecord.{LogRecord};
 ghost use Rattle.log_history.specs.Changes.{LogChange};
 ghost use Rattle.log_history.specs.Chronicle.{LogSetup};
 ghost use Rattle.log_history.specs.Legal.{IsLogHistory};
@@ -26,8 +27,9 @@ pub fn law_of_history()
     ensures close { (setup : LogSetup) (past : List LogChange) → IsLogHistory setup past →
         (client : ℕ) (name : StreamName) →
         close_status (table setup past) client name ≡ close_answer setup past client name }
-    ensures store { (setup : LogSetup) (past : List LogChange) (name : StreamName) →
-        store_status (table setup past) name ≡ store_answer setup past name }
+    ensures store { (setup : LogSetup) (past : List LogChange) → IsLogHistory setup past →
+        (name : StreamName) (rec : LogRecord) →
+        store_status (table setup past) name rec ≡ store_answer setup past name rec }
     ensures after { (setup : LogSetup) (change : LogChange) (past : List LogChange) →
         IsLogHistory setup (change ∷ past) →
         table setup (change ∷ past) ≡ table_after change (table setup past) }

@@ -1,5 +1,5 @@
 //! A living stream, as the state keeps it.
-ghost use Rattle.std.specs.Prelude.{◌≡◌, ◌≤ℤ◌, ◌<◌, ℕ, nat_lt, pos, unsigned_abs, IsTrue, IfOk};
+ghost use Rattle.std.specs.Prelude.{◌≡◌, ◌≤ℤ◌, ◌+◌, ◌<◌, ◌≤◌, ℕ, nat_lt, false, pos, unsigned_abs, IsTrue, IfOk};
 ghost use Rattle.client_set.specs.Members.{has};
 ghost use Rattle.client_set.specs.Rising.{put};
 ghost use Rattle.format_expr.specs.Reading.{pieces_of};
@@ -7,24 +7,27 @@ ghost use Rattle.stream_config.specs.Attributes.{kind_of, PassesAttrs};
 ghost use Rattle.stream_config.specs.AttributeTests.{have_one_place};
 ghost use Rattle.stream_config.specs.Equality.{same_attrs};
 ghost use Rattle.record_print.specs.Printing.{can_print};
-ghost use Rattle.log_history.specs.Answers.{holds_all};
-ghost use Rattle.log_history.specs.Table.{OpenStream, is_named, without_opener, has_nobody, new_state, storing};
+ghost use Rattle.stream_config.specs.Events.{current_file};
+ghost use Rattle.record_print.specs.Lengths.{HasParts};
+ghost use Rattle.record_print.specs.declared.record.LogRecord.{LogRecord as RecordOf};
+ghost use Rattle.log_history.specs.Answers.{lacks_room};
+ghost use Rattle.log_history.specs.Table.{OpenStream, is_named, without_opener, has_nobody, new_state, length_in, storing};
 ghost use Rattle.log_history.specs.KeptAnswers.{is_of_application};
 ghost use Rattle.log_service.specs.Moments.{IsMoment, second_of};
 ghost use Rattle.log_service.specs.Changing.{IsFiling};
 ghost use Rattle.log_service.specs.State.{made_event};
 ghost use Rattle.log_service.specs.Planning.{with_openers, with_files};
 
-use crate::files::{due_stamps, files_changed, last_after};
-use ais_values::{Duplicate, Seq};
+use crate::files::{due_stamps, files_stored, last_after, opened_after};
+use ais_values::{Duplicate, Seq, Text};
 use client_set::ClientSet;
 use format_expr::{Expr, ExprAnswer, parse_expr};
-use record_print::{LogRecord, print_record};
+use record_print::{Header, LogRecord, parts_length, print_record, printed_length};
 use std::alloc::{AllocError, Global};
 use std::marker::Model;
 use stream_config::{
-    FullAction, LogFile, StreamAttrs, StreamEvent, StreamName, StreamState, have_one_place,
-    per_file,
+    FullAction, LogFile, StreamAttrs, StreamEvent, StreamName, StreamState, current_of, has_room,
+    have_one_place,
 };
 
 /// A living stream, the clients that have it open, and its expression, which was read when the stream was made.
@@ -73,11 +76,14 @@ pub(crate) fn new_state(
     files.push(LogFile {
         created,
         closed: None,
+        first: 0,
+        bytes: 0,
     })?;
     Ok(StreamState {
         name,
         attrs,
         taken: 0,
+        opened: 1,
         files,
     })
 }
@@ -89,7 +95,8 @@ impl LiveStream {
         state: StreamState,
         openers: ClientSet,
     ) -> Result<LiveStream, AllocError>
-        requires { PassesAttrs (kind_of state.name) state.attrs }
+        requires passes { PassesAttrs (kind_of state.name) state.attrs }
+        requires few { state.opened ≤ state.taken + 1 }
         ensures { IfOk result (λ stream. stream ≡ record { state = state; openers = openers }) }
     {
         match expression(alloc, &state.name, &state.attrs) {
@@ -166,12 +173,40 @@ impl LiveStream {
         have_one_place(&self.state.attrs, attrs)
     }
 
-    /// Whether the stream halts and has as many records as its file holds.
-    pub(crate) fn holds_all(&self) -> bool
-        ensures { result ≡ holds_all self.now.state.attrs self.now.state.taken }
+    /// How many bytes the record takes that is stored next.
+    #[tactic(auto, using(crate::proofs::StreamLemmas::size_low))]
+    pub(crate) fn length_of(&self, rec: &LogRecord) -> u32
+        requires printable { IsTrue (can_print rec.now) }
+        requires numbers { self.now.state.taken < 4294967294 }
+        ensures length { result ≡ length_in self.now.state rec.now }
+        ensures bound { result ≤ 16384 }
     {
+        match self.state.attrs.record_size {
+            0 => printed_length(&self.expr, rec),
+            size => size,
+        }
+    }
+
+    /// How many bytes a record with this header and body takes that is stored next, whichever its times are.
+    pub(crate) fn length_of_parts(&self, header: &Header, body: &Text) -> u32
+        requires { self.now.state.taken < 4294967294 }
+        ensures { (rec : RecordOf) → HasParts header.now body.now rec
+            → result ≡ length_in self.now.state rec }
+    {
+        match self.state.attrs.record_size {
+            0 => parts_length(&self.expr, header, body),
+            size => size,
+        }
+    }
+
+    /// Whether the stream halts and a record of so many bytes does not fit its file.
+    pub(crate) fn lacks_room(&self, len: u32) -> bool
+        ensures { result ≡ lacks_room self.now.state.attrs (current_file self.now.state.files).bytes
+            len }
+    {
+        let current = current_of(self.state.files.as_slice());
         self.state.attrs.action == FullAction::Halt
-            && self.state.taken >= per_file(&self.state.attrs)
+            && !has_room(&self.state.attrs, current.bytes, len)
     }
 
     /// The clients that have the stream open once this one has opened it.
@@ -224,10 +259,11 @@ impl LiveStream {
         Ok(StreamEvent::Made { state })
     }
 
-    /// What the storing of a record does.
+    /// What the storing of a record does, which takes so many bytes.
     pub(crate) fn storing(
         &self,
         alloc: Global,
+        len: u32,
         last: i64,
         rec: &LogRecord,
         now: i64,
@@ -235,10 +271,11 @@ impl LiveStream {
         requires moment { IsMoment last now }
         requires printable { IsTrue (can_print rec.now) }
         requires numbers { self.now.state.taken < 4294967294 }
+        requires length { len ≡ length_in self.now.state rec.now }
         ensures { IfOk result (λ event. event
             ≡ storing (unsigned_abs last) (second_of now) rec.now self.now.state) }
     {
-        let stamps = due_stamps(&self.state, last, now);
+        let stamps = due_stamps(&self.state, len, last, now);
         let size = self.state.attrs.record_size;
         let bytes = print_record(alloc, &self.expr, self.state.taken + 1, rec, size)?;
         let before = self.state.copy(alloc)?;
@@ -249,26 +286,36 @@ impl LiveStream {
         })
     }
 
-    /// The last stamp and the files once a record is stored.
+    /// The last stamp, how many files were made and those that stand, once a record of so many bytes is stored.
     pub(crate) fn filing(
         &self,
         alloc: Global,
+        len: u32,
         last: i64,
         now: i64,
-    ) -> Result<(i64, Seq<LogFile>), AllocError>
+    ) -> Result<(i64, u32, Seq<LogFile>), AllocError>
         requires moment { IsMoment last now }
-        ensures { IfOk result (IsFiling last now self.now.state) }
+        requires length { len ≤ 16384 }
+        requires numbers { self.now.state.taken < 4294967294 }
+        requires room { lacks_room self.now.state.attrs (current_file self.now.state.files).bytes len
+            ≡ false }
+        ensures filing { IfOk result (λ filed. (rec : RecordOf) → len ≡ length_in self.now.state rec
+            → IsFiling last now rec self.now.state filed.0 filed.1 filed.2) }
+        ensures few { IfOk result (λ filed. filed.1 ≤ self.now.state.taken + 2) }
     {
-        let stamps = due_stamps(&self.state, last, now);
-        let files = files_changed(alloc, &self.state.attrs, stamps, &self.state.files)?;
-        Ok((last_after(last, stamps), files))
+        let stamps = due_stamps(&self.state, len, last, now);
+        let files = files_stored(alloc, &self.state, len, stamps)?;
+        let opened = opened_after(self.state.opened, stamps);
+        Ok((last_after(last, stamps), opened, files))
     }
 
-    /// So many records are taken, and these files stand.
-    pub(crate) fn put_files(&mut self, taken: u32, files: Seq<LogFile>)
-        ensures { self.new ≡ with_files taken files self.old }
+    /// So many records are taken, so many files were made, and these stand.
+    pub(crate) fn put_files(&mut self, taken: u32, opened: u32, files: Seq<LogFile>)
+        requires { opened ≤ taken + 1 }
+        ensures { self.new ≡ with_files taken opened files self.old }
     {
         self.state.taken = taken;
+        self.state.opened = opened;
         self.state.files = files;
     }
 }

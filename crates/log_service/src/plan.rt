@@ -1,5 +1,5 @@
 //! What a call would do, planned with all the memory that it takes.
-ghost use Rattle.std.specs.Prelude.{◌≡◌, ◌<◌, ◌++◌, ◌∷◌, [], vec_len, vec_capacity};
+ghost use Rattle.std.specs.Prelude.{◌≡◌, ◌<◌, ◌≤◌, ◌+◌, ◌++◌, ◌∷◌, [], vec_len, vec_capacity};
 ghost use Rattle.client_set.specs.Edits.{change_at};
 ghost use Rattle.log_service.specs.Planning.{step_of, with_openers, with_files, CanDo, streams_after, users_after};
 
@@ -29,10 +29,11 @@ pub(crate) enum Doing {
     Make {
         stream: LiveStream,
     },
-    /// The stream at a place has taken so many records then, and has these files.
+    /// The stream at a place has taken so many records then, so many files were made of it, and these stand.
     Store {
         place: usize,
         taken: u32,
+        opened: u32,
         files: Seq<LogFile>,
     },
     /// A client closes the stream of this name.
@@ -103,12 +104,19 @@ fn put_openers(streams: &mut Vec<LiveStream>, place: usize, openers: ClientSet)
     streams[place].put_openers(openers);
 }
 
-/// The stream at a place has taken so many records, and has these files.
-fn put_files(streams: &mut Vec<LiveStream>, place: usize, taken: u32, files: Seq<LogFile>)
-    requires { place < vec_len streams.old }
-    ensures { streams.new.items ≡ change_at (with_files taken files) streams.old.items place }
+/// The stream at a place has taken so many records, so many files were made of it, and these stand.
+fn put_files(
+    streams: &mut Vec<LiveStream>,
+    place: usize,
+    taken: u32,
+    opened: u32,
+    files: Seq<LogFile>,
+)
+    requires place { place < vec_len streams.old }
+    requires few { opened ≤ taken + 1 }
+    ensures { streams.new.items ≡ change_at (with_files taken opened files) streams.old.items place }
 {
-    streams[place].put_files(taken, files);
+    streams[place].put_files(taken, opened, files);
 }
 
 /// Does what was planned. It takes no memory.
@@ -126,8 +134,9 @@ pub(crate) fn carry_out(streams: &mut Vec<LiveStream>, users: &mut ClientSet, do
         Doing::Store {
             place,
             taken,
+            opened,
             files,
-        } => put_files(streams, place, taken, files),
+        } => put_files(streams, place, taken, opened, files),
         Doing::Leave { name, client } => {
             leave(streams, &name, client);
             drop_idle(streams);

@@ -1,5 +1,6 @@
 //! Records as they are accepted.
-ghost use Rattle.std.specs.Prelude.{◌≡◌, IfOk};
+ghost use Rattle.std.specs.Prelude.{◌≡◌, ◌≤◌, ◌^◌, ℕ, Some, IfOk};
+ghost use Rattle.record_print.specs.Printing.{event_time};
 ghost use Rattle.record_print.specs.Records.{can_write};
 ghost use Rattle.log_history.specs.Times.{filled_time, filled_header, record_at};
 ghost use Rattle.log_service.specs.State.{stream_of_kind};
@@ -25,6 +26,15 @@ pub(crate) fn stream_of_kind(kind: StreamKind) -> StreamName
         StreamKind::Notification | StreamKind::System | StreamKind::Application => {
             StreamName::Notification
         }
+    }
+}
+
+/// The time of a header lies within the range of its type.
+pub(crate) fn read_event(header: &Header)
+    ensures { (time : ℕ) → event_time header.now ≡ Some time → time ≤ 2 ^ 63 }
+{
+    if let Header::Ntf { event_time, .. } = header {
+        let _event = *event_time;
     }
 }
 

@@ -3,6 +3,11 @@ ghost use Rattle.std.specs.Prelude.{◌≡◌, ◌≢◌, ◌↔◌, ◌<◌, �
 ghost use Rattle.std.specs.Option.{option_copied};
 ghost use Rattle.client_set.specs.Members.{has};
 ghost use Rattle.stream_config.specs.AttributeTests.{passes_attrs};
+ghost use Rattle.record_print.specs.Printing.{can_print};
+ghost use Rattle.record_print.specs.Records.{can_write};
+ghost use Rattle.stream_config.specs.Attributes.{kind_of};
+ghost use Rattle.record_print.specs.Lengths.{HasParts};
+ghost use Rattle.record_print.specs.declared.record.LogRecord.{LogRecord as RecordOf};
 ghost use Rattle.log_history.specs.Names.{is_application};
 ghost use Rattle.log_history.specs.Chronicle.{LogSetup};
 ghost use Rattle.log_history.specs.Changes.{Began, Stored, Closed, Ended};
@@ -17,7 +22,7 @@ ghost use Rattle.log_service.specs.Planning.{step_of, planned, CanCommit, Plans}
 
 use crate::live::LiveStream;
 use crate::plan::{Doing, LogPlan, carry_out};
-use crate::records::{may_write, stream_of_kind};
+use crate::records::{may_write, read_event, stream_of_kind};
 use crate::step::Step;
 use crate::{begin, streams};
 use ais_values::{Duplicate, Seq, Status, StreamKind, Text};
@@ -475,19 +480,40 @@ impl LogState {
         }
     }
 
-    /// Whether the stream of this name halts and has as many records as its file holds.
-    fn is_full(&self, name: &StreamName) -> bool
-        ensures { result ≡ is_filled self.now.table.streams name.now }
+    /// Whether a record with this header and body does not fit the stream of this name, whichever its times are.
+    fn is_full(&self, name: &StreamName, header: &Header, body: &Text) -> bool
+        requires { HasNumberLeft self.now.table name.now }
+        ensures { (rec : RecordOf) → HasParts header.now body.now rec
+            → result ≡ is_filled self.now.table.streams name.now rec }
     {
         match streams::stream_of(self.streams.as_slice(), name) {
-            Some(stream) => stream.holds_all(),
+            Some(stream) => stream.lacks_room(stream.length_of_parts(header, body)),
             None => false,
         }
     }
 
+    /// Whether the record of a write does not fit the stream of this name.
+    fn is_full_for(
+        &self,
+        name: &StreamName,
+        time: i64,
+        header: &Header,
+        body: &Text,
+        now: i64,
+    ) -> bool
+        requires moment { IsCallTime self.now.table now }
+        requires numbers { HasNumberLeft self.now.table name.now }
+        requires writable { IsTrue (can_write (kind_of name.now) time header.now) }
+        ensures { result ≡ is_filled self.now.table.streams name.now
+            (record_at time header.now body.now now) }
+    {
+        read_event(header);
+        self.is_full(name, header, body)
+    }
+
     /// What decides a write, the first of these that holds: `BadHandle` where the client does not use the service
     /// or does not have the stream open, `BadFlags` where flags are above 1, `InvalidParam` where the record may
-    /// not be written to a stream of the kind, `NoSpace` where the stream is full; and else ok.
+    /// not be written to a stream of the kind, `NoSpace` where it does not fit the stream; and else ok.
     fn write_status(
         &self,
         client: u16,
@@ -495,8 +521,13 @@ impl LogState {
         flags: u32,
         time: i64,
         header: &Header,
+        body: &Text,
+        now: i64,
     ) -> Status
-        ensures { result ≡ write_status self.now.table client name.now flags time header.now }
+        requires moment { IsCallTime self.now.table now }
+        requires numbers { HasNumberLeft self.now.table name.now }
+        ensures { result ≡ write_status self.now.table client name.now flags time header.now body.now
+            now }
     {
         if !self.users.contains(client) {
             Status::BadHandle
@@ -506,7 +537,7 @@ impl LogState {
             Status::BadFlags
         } else if !may_write(name.kind(), time, header) {
             Status::InvalidParam
-        } else if self.is_full(name) {
+        } else if self.is_full_for(name, time, header, body, now) {
             Status::NoSpace
         } else {
             Status::Ok
@@ -528,10 +559,10 @@ impl LogState {
         requires moment { IsCallTime self.now.table now }
         requires numbers { HasNumberLeft self.now.table name.now }
         ensures { IfOk result (Plans self.now.table
-            (write_status self.now.table client name.now flags time header.now)
+            (write_status self.now.table client name.now flags time header.now body.now now)
             (Stored name.now (record_at time header.now body.now now) (second_of now))) }
     {
-        let status = self.write_status(client, name, flags, time, header);
+        let status = self.write_status(client, name, flags, time, header, body, now);
         if status != Status::Ok {
             return Ok(LogPlan::refused(alloc, self.last, status));
         }
@@ -555,7 +586,7 @@ impl LogState {
         requires moment { IsCallTime self.old.table now }
         requires numbers { HasNumberLeft self.old.table name.now }
         ensures ok { IfOk result (Plans self.old.table
-            (write_status self.old.table client name.now flags time header.now)
+            (write_status self.old.table client name.now flags time header.now body.now now)
             (Stored name.now (record_at time header.now body.now now) (second_of now))) }
         ensures table { self.new.table ≡ self.old.table }
         ensures room { OnOk result (1 ≤ self.new.spare) }
@@ -569,7 +600,7 @@ impl LogState {
     /// Writes a record to a stream. An unknown time stands for this moment. The answer is that of the first of
     /// these that holds: `BadHandle`, the client does not use the service or does not have the stream open;
     /// `BadFlags`, flags are above 1; `InvalidParam`, the record may not be written to a stream of the kind;
-    /// `NoSpace`, the stream is full. Where none holds the record is stored, and the answer is ok. On an error,
+    /// `NoSpace`, the record does not fit the stream. Where none holds the record is stored, and the answer is ok. On an error,
     /// and with another answer, nothing changes.
     pub fn write(
         &mut self,
@@ -585,7 +616,7 @@ impl LogState {
         requires moment { IsCallTime self.old.table now }
         requires numbers { HasNumberLeft self.old.table name.now }
         ensures status { IfOk result (λ step. step.status
-            ≡ write_status self.old.table client name.now flags time header.now) }
+            ≡ write_status self.old.table client name.now flags time header.now body.now now) }
         ensures ok { IfOk result (λ step. step.status ≡ Status.Ok
             → Made (Stored name.now (record_at time header.now body.now now) (second_of now))
             self.old.table self.new.table step.events) }
@@ -599,15 +630,17 @@ impl LogState {
         }
     }
 
-    /// What decides the storing of a record: `NoSpace` where the stream of this name is full, and else ok.
-    fn store_status(&self, name: &StreamName) -> Status
-        ensures { result ≡ store_status self.now.table name.now }
+    /// What decides the storing of a record: `NoSpace` where it does not fit the stream of this name, and else ok.
+    fn store_status(&self, name: &StreamName, rec: &LogRecord) -> Status
+        requires printable { IsTrue (can_print rec.now) }
+        requires numbers { HasNumberLeft self.now.table name.now }
+        ensures { result ≡ store_status self.now.table name.now rec.now }
     {
-        if self.is_full(name) {
-            Status::NoSpace
-        } else {
-            Status::Ok
-        }
+        let full = match streams::stream_of(self.streams.as_slice(), name) {
+            Some(stream) => stream.lacks_room(stream.length_of(rec)),
+            None => false,
+        };
+        if full { Status::NoSpace } else { Status::Ok }
     }
 
     /// The plan of `store` for the state as it is. An error is want of memory.
@@ -622,11 +655,11 @@ impl LogState {
         requires notified { IsNotified kind rec.now }
         requires numbers { HasNumberLeft self.now.table (stream_of_kind kind) }
         ensures { IfOk result (Plans self.now.table
-            (store_status self.now.table (stream_of_kind kind))
+            (store_status self.now.table (stream_of_kind kind) rec.now)
             (Stored (stream_of_kind kind) rec.now (second_of now))) }
     {
         let name = stream_of_kind(kind);
-        let status = self.store_status(&name);
+        let status = self.store_status(&name, rec);
         if status != Status::Ok {
             return Ok(LogPlan::refused(alloc, self.last, status));
         }
@@ -647,7 +680,7 @@ impl LogState {
         requires notified { IsNotified kind rec.now }
         requires numbers { HasNumberLeft self.old.table (stream_of_kind kind) }
         ensures ok { IfOk result (Plans self.old.table
-            (store_status self.old.table (stream_of_kind kind))
+            (store_status self.old.table (stream_of_kind kind) rec.now)
             (Stored (stream_of_kind kind) rec.now (second_of now))) }
         ensures table { self.new.table ≡ self.old.table }
         ensures room { OnOk result (1 ≤ self.new.spare) }
@@ -658,7 +691,7 @@ impl LogState {
         }
     }
 
-    /// Stores the record of a notification in the stream of its kind. `NoSpace` exactly where that stream is full.
+    /// Stores the record of a notification in the stream of its kind. `NoSpace` exactly where it does not fit.
     /// On an error, and with another answer than ok, nothing changes.
     pub fn store(
         &mut self,
@@ -671,7 +704,7 @@ impl LogState {
         requires notified { IsNotified kind rec.now }
         requires numbers { HasNumberLeft self.old.table (stream_of_kind kind) }
         ensures status { IfOk result (λ step. step.status
-            ≡ store_status self.old.table (stream_of_kind kind)) }
+            ≡ store_status self.old.table (stream_of_kind kind) rec.now) }
         ensures ok { IfOk result (λ step. step.status ≡ Status.Ok
             → Made (Stored (stream_of_kind kind) rec.now (second_of now))
             self.old.table self.new.table step.events) }

@@ -6,7 +6,7 @@ ghost use Rattle.stream_config.specs.Attributes.{kind_of, PassesAttrs};
 ghost use Rattle.record_print.specs.Printing.{can_print};
 ghost use Rattle.log_history.specs.Table.{OpenStream, is_named, has_nobody, kept_streams, closed_streams, left_streams, opened_stream};
 ghost use Rattle.log_history.specs.Times.{record_at};
-ghost use Rattle.log_history.specs.KeptAnswers.{kept_stream, is_of_application, has_place, making_in};
+ghost use Rattle.log_history.specs.KeptAnswers.{kept_stream, is_of_application, has_place, is_filled, making_in};
 ghost use Rattle.log_service.specs.Moments.{IsTimeOfCall, IsMoment, second_of};
 ghost use Rattle.log_service.specs.State.{made_event};
 ghost use Rattle.log_service.specs.Changing.{AreEndsIn, last_of_end, end_of, last_of_endings, endings_of};
@@ -186,6 +186,7 @@ pub(crate) fn storing_plan(
     requires printable { IsTrue (can_print rec.now) }
     requires numbers { ForSome (kept_stream streams.now name.now)
         (λ stream. stream.state.taken < 4294967294) }
+    requires room { is_filled streams.now name.now rec.now ≡ false }
     ensures { IfOk result (PlansStoring last now name.now rec.now streams.now) }
 {
     let Some(place) = place_of(streams, name) else {
@@ -193,15 +194,17 @@ pub(crate) fn storing_plan(
     };
     let stream = &streams[place];
     let taken = stream.state().taken + 1;
-    let event = stream.storing(alloc, last, rec, now)?;
+    let len = stream.length_of(rec);
+    let event = stream.storing(alloc, len, last, rec, now)?;
     let events = alone(alloc, event)?;
-    let (stamped, files) = stream.filing(alloc, last, now)?;
+    let (stamped, opened, files) = stream.filing(alloc, len, last, now)?;
     Ok(LogPlan::accepted(
         events,
         stamped,
         Doing::Store {
             place,
             taken,
+            opened,
             files,
         },
     ))
@@ -222,6 +225,7 @@ pub(crate) fn writing_plan(
     requires printable { IsTrue (can_print (record_at time header.now body.now now)) }
     requires numbers { ForSome (kept_stream streams.now name.now)
         (λ stream. stream.state.taken < 4294967294) }
+    requires room { is_filled streams.now name.now (record_at time header.now body.now now) ≡ false }
     ensures { IfOk result (PlansStoring last now name.now
         (record_at time header.now body.now now) streams.now) }
 {

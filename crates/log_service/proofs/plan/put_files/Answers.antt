@@ -6,4 +6,4 @@ use Rattle.log_service.proofs.plan.put_files.Goals as goal
 pub returns : goal.returns
 returns c =
     let items = c.args.streams.now.items in
-    ap (set items c.args.place) c.put_files.ensures ∙ set-change_at (with_files c.args.taken c.args.files) items c.args.place c.index_mut.result.now c.index_mut.ensures.value (omega (arith, c.args.streams.now.ok.0))
+    ap (set items c.args.place) c.put_files.ensures ∙ set-change_at (with_files c.args.taken c.args.opened c.args.files) items c.args.place c.index_mut.result.now c.index_mut.ensures.value (omega (arith, c.args.streams.now.ok.0))

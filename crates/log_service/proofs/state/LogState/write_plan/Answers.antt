@@ -1,14 +1,14 @@
-use Rattle.std.proofs.Common.{◌≡◌, List, sym, subst, ap, ◌∙◌, rules}
+use Rattle.std.proofs.Common.{◌≡◌, ◌≢◌, List, sym, subst, ap, ◌∙◌, rules}
 use Rattle.std.proofs.lemmas.Int.{to_z-of_z}
 use Rattle.ais_values.specs.declared.status.Status.TheVariants as status
 use Rattle.stream_config.specs.Attributes.{kind_of}
 use Rattle.log_history.specs.Times.{record_at}
 use Rattle.log_history.specs.Table.{OpenStream, LogTable}
-use Rattle.log_history.specs.KeptAnswers.{write_status}
+use Rattle.log_history.specs.KeptAnswers.{write_status, is_filled}
 use Rattle.log_service.specs.PlanningParts.{PlansStoring}
 use Rattle.log_service.proofs.KeptLemmas.{moment-of, moment-fits, same_table}
-use Rattle.log_service.proofs.WriteLemmas.{write-rows, printable}
-use Rattle.log_service.proofs.StatePlans.{stored-as}
+use Rattle.log_service.proofs.WriteLemmas.{write-rows, write-room, printable}
+use Rattle.log_service.proofs.StatePlans.{stored-as, refused-as}
 use Rattle.log_service.proofs.state.LogState.write_plan.Goals as goal
 
 pub writing_plan-requires-clause-printable : goal.writing_plan-requires-clause-printable
@@ -18,6 +18,15 @@ writing_plan-requires-clause-printable c =
     let ok : c.write_status-status.result ≡ status.Ok = search rules in
     let may = write-rows _ _ _ (kind_of c.args.name.now) c.args.flags c.args.time c.args.header.now (sym (simp to_z-of_z at c.write_status-status.ensures) ∙ ok) in
     simp to_z-of_z (printable (kind_of c.args.name.now) c.args.time c.args.header.now c.args.body.now c.args.now c.requires.moment.from may)
+
+pub writing_plan-requires-clause-room : goal.writing_plan-requires-clause-room
+writing_plan-requires-clause-room c =
+    let time_fits = c.ranges.time in
+    let now_fits = c.ranges.now in
+    let ok : c.write_status-status.result ≡ status.Ok = search rules in
+    let rec = record_at c.args.time c.args.header.now c.args.body.now c.args.now in
+    let room = write-room _ _ _ (kind_of c.args.name.now) c.args.flags c.args.time c.args.header.now (sym (simp to_z-of_z at c.write_status-status.ensures) ∙ ok) in
+    simp to_z-of_z (ap (λ (list : List OpenStream). is_filled list c.args.name.now rec) (c.as_slice-streams.ensures.value ∙ ap (λ (kept : LogTable). kept.streams) (same_table c.self.view_is)) ∙ room)
 
 pub returns : goal.returns
 returns c =
@@ -32,4 +41,15 @@ returns c =
     let rec = record_at c.args.time c.args.header.now c.args.body.now c.args.now in
     let told = simp to_z-of_z at c.in_ok-plan.ensures in
     let plans = subst (λ (list : List OpenStream). PlansStoring last c.args.now c.args.name.now rec list c.in_ok-plan.plan) c.as_slice-streams.ensures.value told in
-    stored-as last c.self.inside.users items c.args.self.now.table (same_table c.self.view_is) c.self.invariant.few c.self.invariant.busy c.args.now (write_status c.args.self.now.table c.args.client c.args.name.now c.args.flags c.args.time c.args.header.now) c.args.name.now rec c.in_ok-plan.plan (sym ok ∙ answered) plans
+    stored-as last c.self.inside.users items c.args.self.now.table (same_table c.self.view_is) c.self.invariant.few c.self.invariant.busy c.args.now (write_status c.args.self.now.table c.args.client c.args.name.now c.args.flags c.args.time c.args.header.now c.args.body.now c.args.now) c.args.name.now rec c.in_ok-plan.plan (sym ok ∙ answered) plans
+
+pub returns-then-ne : goal.returns-then-ne
+returns-then-ne c =
+    let time_fits = c.ranges.time in
+    let now_fits = c.ranges.now in
+    let last = c.self.inside.last in
+    let moment = moment-of last c.args.now c.args.self.now.table c.self.invariant.from (ap (λ (kept : LogTable). kept.last) (same_table c.self.view_is)) c.requires.moment in
+    let last_fits = moment-fits last c.args.now moment in
+    let wrong : c.write_status-status.result ≢ status.Ok = search rules in
+    refused-as last c.self.inside.users c.self.inside.streams.items c.args.self.now.table (same_table c.self.view_is) c.self.invariant.few c.self.invariant.busy
+    _ _ c.write_status-status.result c.refused.result (simp to_z-of_z at c.write_status-status.ensures) wrong c.self.invariant.from (simp to_z-of_z at c.refused.ensures)
