@@ -1,4 +1,5 @@
--- Words of bodies alone, but for a time's: how many bytes a text has, counted before it is printed.
+-- Words of public clauses: the parts of a record by which its length is known, and the lengths of times. The others are words of
+-- bodies alone: how many bytes a text has, counted before it is printed.
 use Rattle.std.specs.Prelude.{ℤ, IsTrue, ◌≡◌, ℕ, ◌*◌, ◌^◌, ◌<◌, ◌≤◌, List, length, Option, Some, None}
 use Rattle.std.specs.List.{sum_by}
 use Rattle.format_expr.specs.declared.token.Moment.{Moment}

@@ -10,7 +10,7 @@ use std::alloc::{AllocError, Global};
 pub enum FullAction {
     /// A new record takes the place of the oldest.
     Wrap,
-    /// No further record is taken.
+    /// A record that does not fit is not taken.
     Halt,
     /// A new file is begun.
     Rotate,
@@ -25,7 +25,7 @@ pub struct StreamAttrs {
     pub path: Text,
     /// The greatest size of one of its files, in bytes.
     pub max_file: u64,
-    /// The size of each of its records, in bytes.
+    /// The size of each of its records, in bytes; 0 where each has the size of its text.
     pub record_size: u32,
     /// The high-availability property, 0 or 1.
     pub ha: u8,

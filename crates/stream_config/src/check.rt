@@ -79,8 +79,9 @@ fn is_format(kind: StreamKind, text: &[u8]) -> bool
 /// Whether a stream of the kind may have these attributes.
 ///
 /// `InvalidParam`, the only error, comes exactly where one of these fails: the file has 1 to 64 bytes, each a
-/// letter, a digit, `_` or `-`; the path is `.` or follows the same rule; the record size is 32 to 16,384;
-/// the greatest file size is at least the record size and at most 1,073,741,824; the high-availability
+/// letter, a digit, `_` or `-`; the path is `.` or follows the same rule; the record size is 0 or 32 to 16,384;
+/// the greatest file size is at least the record size, and with record size 0 at least 16,384; with record
+/// size 0 the stream does not wrap; the greatest file size is at most 1,073,741,824; the high-availability
 /// property is 0 or 1; the number of rotated files is 1 to 128; the expression is one of the kind, of at most
 /// 1,024 bytes. It takes no memory.
 pub fn check_attrs(kind: StreamKind, attrs: &StreamAttrs) -> Result<(), Status>

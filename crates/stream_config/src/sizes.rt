@@ -10,7 +10,8 @@ use crate::StreamAttrs;
 pub const NANOSECONDS: i64 = 1_000_000_000;
 
 /// How many records a file of a stream of these attributes holds, which is 1 at least: the greatest file size
-/// divided by the record size, rounded down. The sizes lie within the bounds of `check_attrs`.
+/// divided by the record size, rounded down. The sizes lie within the bounds of `check_attrs`, and the record size
+/// is above 0.
 pub fn per_file(attrs: &StreamAttrs) -> u32
     requires sized { IsSized attrs.now }
     requires alike { 0 < attrs.now.record_size }
