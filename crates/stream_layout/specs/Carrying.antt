@@ -36,7 +36,7 @@ pub record IsFitMade (state : StreamState) : Type 0 where
   pub stream : IsFitStream state
   pub fresh : state.taken ≡ 0
 
--- a record that the stream takes: a HALT stream is not full, the file changes exactly where there are stamps
+-- a record that the stream takes: it fits a HALT stream, the file changes exactly where there are stamps
 pub record IsFitStored (before : StreamState) (bytes : List ℕ) (stamps : Option Stamps) : Type 0 where
   pub stream : IsFitStream before
   pub size : IsLength before.attrs (length bytes)

@@ -1,7 +1,7 @@
 //! Where a record stands.
 ghost use Rattle.std.specs.Prelude.{◌≡◌, ◌<◌};
 ghost use Rattle.stream_config.specs.Attributes.{IsSized};
-ghost use Rattle.stream_layout.specs.Carrying.{IsFitStream};
+ghost use Rattle.stream_config.specs.Fit.{HasFitFiles};
 ghost use Rattle.stream_layout.specs.Spots.{spot_of, next_spot};
 
 use ais_values::Duplicate;
@@ -52,9 +52,12 @@ pub fn place(attrs: &StreamAttrs, k: u32) -> Spot
     }
 }
 
-/// The place of a stream's next record of so many bytes; none exactly where it does not fit its HALT stream.
+/// The place of a stream's next record, which takes so many bytes: in the current file, or at the start of the next
+/// where a stream that rotates has no room for it there. None exactly where it does not fit its HALT stream. The
+/// attributes pass `check_attrs`, and the files are those of a living stream. It takes no memory.
 pub fn place_next(state: &StreamState, len: u32) -> Option<Spot>
-    requires stream { IsFitStream state.now }
+    requires sized { IsSized state.now.attrs }
+    requires files { HasFitFiles state.now }
     requires few { state.now.opened < 4294967295 }
     ensures { result ≡ next_spot state.now len }
 {
