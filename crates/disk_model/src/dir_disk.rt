@@ -112,13 +112,12 @@ impl<R: Files + AllocGlobal + Drop> DirDisk<R> {
 }
 
 impl<R: Files + AllocGlobal + Clone + Drop> SharedDisk for DirDisk<R> {
-    ghost files = { λ _. None };
-
-    ghost faults = { λ disk. disk.faults };
-
-    ghost stops = { λ disk. disk.stops };
-
-    ghost tally = { λ disk. disk.tally };
+    ghost seen = { λ disk. record {
+      files = None;
+      tally = disk.tally;
+      faults = disk.faults;
+      stops = disk.stops;
+    } };
 
     fn names(&mut self, alloc: Global) -> Result<Seq<Text>, DiskAnswer> {
         self.count_read();

@@ -1,4 +1,4 @@
-//! A disk that servers share: the trait with its meaning, a disk in memory, and one on folders.
+//! A disk that servers share: the trait with its meaning, a disk in memory, one on folders, and one without room.
 #![tactic(auto)]
 
 mod answers;
@@ -8,6 +8,7 @@ mod entries;
 mod folders;
 mod kept_files;
 mod mem_disk;
+mod no_disk;
 mod shared_disk;
 mod shelf;
 mod stored_file;
@@ -17,5 +18,6 @@ mod walk;
 pub use answers::{DiskAnswer, DiskFault};
 pub use dir_disk::DirDisk;
 pub use mem_disk::MemDisk;
+pub use no_disk::NoDisk;
 pub use shared_disk::SharedDisk;
 pub use tally::Tally;

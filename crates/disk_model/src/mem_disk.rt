@@ -134,13 +134,12 @@ impl MemDisk {
 }
 
 impl SharedDisk for MemDisk {
-    ghost files = { λ disk. Some disk.files };
-
-    ghost faults = { λ disk. disk.faults };
-
-    ghost stops = { λ disk. disk.stops };
-
-    ghost tally = { λ disk. disk.tally };
+    ghost seen = { λ disk. record {
+      files = Some disk.files;
+      tally = disk.tally;
+      faults = disk.faults;
+      stops = disk.stops;
+    } };
 
     fn names(&mut self, alloc: Global) -> Result<Seq<Text>, DiskAnswer>
         ensures exact { Reads result self.old self.new }
