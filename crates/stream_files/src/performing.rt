@@ -19,10 +19,12 @@ use stream_layout::Deed;
 /// calls from the front, fewer than all, and the armed count fell by these. Of changing calls the disk counts
 /// those done and, where one was not, that one; of reading calls none.
 pub fn perform<D: SharedDisk>(disk: &mut D, deeds: &Seq<Deed>) -> Result<(), DiskAnswer>
-    ensures performs { Performs (calls_of_all deeds.now) result (D.files disk.old)
-        (D.files disk.new) (D.tally disk.old) (D.tally disk.new) }
-    ensures cause { RoseExactlyOn (D.faults disk.old) (D.faults disk.new) result DiskAnswer.Failed }
-    ensures stop { RoseExactlyOn (D.stops disk.old) (D.stops disk.new) result DiskAnswer.Stopped }
+    ensures performs { Performs (calls_of_all deeds.now) result (D.seen disk.old).files
+        (D.seen disk.new).files (D.seen disk.old).tally (D.seen disk.new).tally }
+    ensures cause { RoseExactlyOn (D.seen disk.old).faults (D.seen disk.new).faults result
+        DiskAnswer.Failed }
+    ensures stop { RoseExactlyOn (D.seen disk.old).stops (D.seen disk.new).stops result
+        DiskAnswer.Stopped }
 {
     for deed in deeds.as_slice() {
         match perform_one(disk, deed) {
@@ -34,10 +36,12 @@ pub fn perform<D: SharedDisk>(disk: &mut D, deeds: &Seq<Deed>) -> Result<(), Dis
 }
 
 fn perform_one<D: SharedDisk>(disk: &mut D, deed: &Deed) -> Result<(), DiskAnswer>
-    ensures performs { Performs (calls_of deed.now) result (D.files disk.old)
-        (D.files disk.new) (D.tally disk.old) (D.tally disk.new) }
-    ensures cause { RoseExactlyOn (D.faults disk.old) (D.faults disk.new) result DiskAnswer.Failed }
-    ensures stop { RoseExactlyOn (D.stops disk.old) (D.stops disk.new) result DiskAnswer.Stopped }
+    ensures performs { Performs (calls_of deed.now) result (D.seen disk.old).files
+        (D.seen disk.new).files (D.seen disk.old).tally (D.seen disk.new).tally }
+    ensures cause { RoseExactlyOn (D.seen disk.old).faults (D.seen disk.new).faults result
+        DiskAnswer.Failed }
+    ensures stop { RoseExactlyOn (D.seen disk.old).stops (D.seen disk.new).stops result
+        DiskAnswer.Stopped }
 {
     match deed {
         Deed::Put { name, bytes } => put(disk, name, bytes),
@@ -50,10 +54,12 @@ fn perform_one<D: SharedDisk>(disk: &mut D, deed: &Deed) -> Result<(), DiskAnswe
 
 fn put<D: SharedDisk>(disk: &mut D, name: &Text, bytes: &Text) -> Result<(), DiskAnswer>
     ensures performs { Performs (CallCreate name.now ∷ CallWrite name.now 0 bytes.now
-        ∷ CallSync name.now ∷ []) result (D.files disk.old) (D.files disk.new)
-        (D.tally disk.old) (D.tally disk.new) }
-    ensures cause { RoseExactlyOn (D.faults disk.old) (D.faults disk.new) result DiskAnswer.Failed }
-    ensures stop { RoseExactlyOn (D.stops disk.old) (D.stops disk.new) result DiskAnswer.Stopped }
+        ∷ CallSync name.now ∷ []) result (D.seen disk.old).files (D.seen disk.new).files
+        (D.seen disk.old).tally (D.seen disk.new).tally }
+    ensures cause { RoseExactlyOn (D.seen disk.old).faults (D.seen disk.new).faults result
+        DiskAnswer.Failed }
+    ensures stop { RoseExactlyOn (D.seen disk.old).stops (D.seen disk.new).stops result
+        DiskAnswer.Stopped }
 {
     match disk.create(name.as_slice()) {
         Ok(()) => write_and_sync(disk, name, 0, bytes),
@@ -62,10 +68,12 @@ fn put<D: SharedDisk>(disk: &mut D, name: &Text, bytes: &Text) -> Result<(), Dis
 }
 
 fn create<D: SharedDisk>(disk: &mut D, name: &Text) -> Result<(), DiskAnswer>
-    ensures performs { Performs (CallCreate name.now ∷ []) result (D.files disk.old)
-        (D.files disk.new) (D.tally disk.old) (D.tally disk.new) }
-    ensures cause { RoseExactlyOn (D.faults disk.old) (D.faults disk.new) result DiskAnswer.Failed }
-    ensures stop { RoseExactlyOn (D.stops disk.old) (D.stops disk.new) result DiskAnswer.Stopped }
+    ensures performs { Performs (CallCreate name.now ∷ []) result (D.seen disk.old).files
+        (D.seen disk.new).files (D.seen disk.old).tally (D.seen disk.new).tally }
+    ensures cause { RoseExactlyOn (D.seen disk.old).faults (D.seen disk.new).faults result
+        DiskAnswer.Failed }
+    ensures stop { RoseExactlyOn (D.seen disk.old).stops (D.seen disk.new).stops result
+        DiskAnswer.Stopped }
 {
     disk.create(name.as_slice())
 }
@@ -77,9 +85,12 @@ fn write_and_sync<D: SharedDisk>(
     bytes: &Text,
 ) -> Result<(), DiskAnswer>
     ensures performs { Performs (CallWrite name.now at bytes.now ∷ CallSync name.now ∷ []) result
-        (D.files disk.old) (D.files disk.new) (D.tally disk.old) (D.tally disk.new) }
-    ensures cause { RoseExactlyOn (D.faults disk.old) (D.faults disk.new) result DiskAnswer.Failed }
-    ensures stop { RoseExactlyOn (D.stops disk.old) (D.stops disk.new) result DiskAnswer.Stopped }
+        (D.seen disk.old).files (D.seen disk.new).files
+        (D.seen disk.old).tally (D.seen disk.new).tally }
+    ensures cause { RoseExactlyOn (D.seen disk.old).faults (D.seen disk.new).faults result
+        DiskAnswer.Failed }
+    ensures stop { RoseExactlyOn (D.seen disk.old).stops (D.seen disk.new).stops result
+        DiskAnswer.Stopped }
 {
     match disk.write_at(name.as_slice(), at, bytes.as_slice()) {
         Ok(()) => disk.sync(name.as_slice()),
@@ -88,19 +99,23 @@ fn write_and_sync<D: SharedDisk>(
 }
 
 fn rename<D: SharedDisk>(disk: &mut D, from: &Text, to: &Text) -> Result<(), DiskAnswer>
-    ensures performs { Performs (CallRename from.now to.now ∷ []) result (D.files disk.old)
-        (D.files disk.new) (D.tally disk.old) (D.tally disk.new) }
-    ensures cause { RoseExactlyOn (D.faults disk.old) (D.faults disk.new) result DiskAnswer.Failed }
-    ensures stop { RoseExactlyOn (D.stops disk.old) (D.stops disk.new) result DiskAnswer.Stopped }
+    ensures performs { Performs (CallRename from.now to.now ∷ []) result (D.seen disk.old).files
+        (D.seen disk.new).files (D.seen disk.old).tally (D.seen disk.new).tally }
+    ensures cause { RoseExactlyOn (D.seen disk.old).faults (D.seen disk.new).faults result
+        DiskAnswer.Failed }
+    ensures stop { RoseExactlyOn (D.seen disk.old).stops (D.seen disk.new).stops result
+        DiskAnswer.Stopped }
 {
     disk.rename(from.as_slice(), to.as_slice())
 }
 
 fn remove<D: SharedDisk>(disk: &mut D, name: &Text) -> Result<(), DiskAnswer>
-    ensures performs { Performs (CallRemove name.now ∷ []) result (D.files disk.old)
-        (D.files disk.new) (D.tally disk.old) (D.tally disk.new) }
-    ensures cause { RoseExactlyOn (D.faults disk.old) (D.faults disk.new) result DiskAnswer.Failed }
-    ensures stop { RoseExactlyOn (D.stops disk.old) (D.stops disk.new) result DiskAnswer.Stopped }
+    ensures performs { Performs (CallRemove name.now ∷ []) result (D.seen disk.old).files
+        (D.seen disk.new).files (D.seen disk.old).tally (D.seen disk.new).tally }
+    ensures cause { RoseExactlyOn (D.seen disk.old).faults (D.seen disk.new).faults result
+        DiskAnswer.Failed }
+    ensures stop { RoseExactlyOn (D.seen disk.old).stops (D.seen disk.new).stops result
+        DiskAnswer.Stopped }
 {
     disk.remove(name.as_slice())
 }

@@ -6,8 +6,8 @@ use Rattle.stream_files.proofs.performing.perform.Given as goal
 
 abbrev pub invariant-loop-deed : goal.invariant-loop-deed
 invariant-loop-deed g l = record {
-  done : g.D.SharedDisk.files l.disk ≡ option_map (all_applied (calls_of_all (take l.deed-index l.deed-items))) (g.D.SharedDisk.files l.initial.disk);
-  counted : CountsDone (length (calls_of_all (take l.deed-index l.deed-items))) (g.D.SharedDisk.tally l.initial.disk) (g.D.SharedDisk.tally l.disk);
-  stands : g.D.SharedDisk.faults l.disk ≡ g.D.SharedDisk.faults l.initial.disk;
-  runs : g.D.SharedDisk.stops l.disk ≡ g.D.SharedDisk.stops l.initial.disk;
+  done : (g.D.SharedDisk.seen l.disk).files ≡ option_map (all_applied (calls_of_all (take l.deed-index l.deed-items))) (g.D.SharedDisk.seen l.initial.disk).files;
+  counted : CountsDone (length (calls_of_all (take l.deed-index l.deed-items))) (g.D.SharedDisk.seen l.initial.disk).tally (g.D.SharedDisk.seen l.disk).tally;
+  stands : (g.D.SharedDisk.seen l.disk).faults ≡ (g.D.SharedDisk.seen l.initial.disk).faults;
+  runs : (g.D.SharedDisk.seen l.disk).stops ≡ (g.D.SharedDisk.seen l.initial.disk).stops;
 }

@@ -6,8 +6,8 @@ use Rattle.stream_files.proofs.performing.put.Goals as goal
 
 pub returns-in-Ok-clause-performs : goal.returns-in-Ok-clause-performs
 returns-in-Ok-clause-performs g c =
-    let done : g.D.SharedDisk.files c.create.new.self
-    ≡ option_map (all_applied (CallCreate c.args.name.now ∷ [])) (g.D.SharedDisk.files c.args.disk.now) =
+    let done : (g.D.SharedDisk.seen c.create.new.self).files
+    ≡ option_map (all_applied (CallCreate c.args.name.now ∷ [])) (g.D.SharedDisk.seen c.args.disk.now).files =
     rw (← c.as_slice.ensures.bytes) c.in-Ok.ensures.done in
     performs_after (CallCreate c.args.name.now ∷ []) (CallWrite c.args.name.now 0 c.args.bytes.now ∷ CallSync c.args.name.now ∷ [])
     c.write_and_sync.result _ _ _ _ _ _ done (counts-one (tt {0}) _ _ c.in-Ok.ensures.counted) c.write_and_sync.ensures.performs
@@ -15,8 +15,8 @@ returns-in-Ok-clause-performs g c =
 pub returns-in-Err-clause-performs : goal.returns-in-Err-clause-performs
 returns-in-Err-clause-performs g c =
     let first : Breaks c.in-Err.answer (CallCreate c.args.name.now ∷ [])
-    (g.D.SharedDisk.files c.args.disk.now) (g.D.SharedDisk.files c.create.new.self)
-    (g.D.SharedDisk.tally c.args.disk.now) (g.D.SharedDisk.tally c.create.new.self) =
+    (g.D.SharedDisk.seen c.args.disk.now).files (g.D.SharedDisk.seen c.create.new.self).files
+    (g.D.SharedDisk.seen c.args.disk.now).tally (g.D.SharedDisk.seen c.create.new.self).tally =
     rw (← c.as_slice.ensures.bytes)
     (breaks_one (CallCreate _) c.in-Err.answer _ _ _ _ c.in-Err.ensures.memory c.in-Err.ensures.failed c.in-Err.ensures.stopped c.in-Err.ensures.counted) in
     breaks_within [] (CallCreate c.args.name.now ∷ []) (CallWrite c.args.name.now 0 c.args.bytes.now ∷ CallSync c.args.name.now ∷ [])
