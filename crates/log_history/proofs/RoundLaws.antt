@@ -1,5 +1,6 @@
--- The files of records by their lengths are D9's, and one more record is a step.
+-- The files of records by their lengths have the closed form, and one more record is a step.
 use Rattle.std.proofs.Common.{◌≡◌, ℕ, zero, suc, ◌+◌, ◌-◌, ◌<◌, ◌≤◌, ◌⊎◌, Bool, true, false, nat_le, cond, List, [], ◌∷◌, ◌++◌, length, take, drop, refl, sym, ap, subst, ◌∙◌, inl, inr, arith, length-drop}
+use Rattle.std.specs.Prelude.{Some, option_map, slice_get}
 use Rattle.std.specs.List.{All, sum}
 use Rattle.std.proofs.lemmas.Bool.{cases_lt, leb-true, leb-false}
 use Rattle.std.proofs.lemmas.List.{drop-drop}
@@ -21,6 +22,16 @@ some-rounds most first bytes number (len ∷ lens) =
     (record { first = first; bytes = bytes } ∷ rounds_on most number len (suc number) lens))) [
       | true ↦ some-rounds most first (bytes + len) (suc number) lens
       | false ↦ omega arith
+    ]
+
+-- the first file begins with the first record
+pub start-form : (most first bytes number : ℕ) (lens : List ℕ) → option_map (λ (round : Round). round.first) (slice_get (rounds_on most first bytes number lens) 0) ≡ Some first
+start-form most first bytes number [] = refl
+start-form most first bytes number (len ∷ lens) =
+    elim (nat_le (bytes + len) most) as (λ b. option_map (λ (round : Round). round.first) (slice_get (cond b (rounds_on most first (bytes + len) (suc number) lens)
+    (record { first = first; bytes = bytes } ∷ rounds_on most number len (suc number) lens)) 0) ≡ Some first) [
+      | true ↦ start-form most first (bytes + len) (suc number) lens
+      | false ↦ refl
     ]
 
 pub rounds-push : (most first bytes number : ℕ) (lens : List ℕ) (len : ℕ)

@@ -5,7 +5,8 @@ use Rattle.stream_config.specs.declared.attrs.StreamName.{StreamName}
 use Rattle.record_print.specs.declared.record.LogRecord.{LogRecord}
 use Rattle.stream_layout.specs.Deeds.{calls_of_all}
 use Rattle.log_history.specs.Changes.{LogChange, Stored}
-use Rattle.log_history.specs.Chronicle.{LogSetup, Stream, chronicle}
+use Rattle.log_history.specs.Chronicle.{LogSetup, Stream, files_had, chronicle}
+use Rattle.log_history.specs.Rounds.{front_of}
 use Rattle.log_history.specs.Table.{state_of, bytes_in}
 use Rattle.log_history.specs.Files.{disk_files}
 use Rattle.log_history.specs.Deeds.{deeds_by}
@@ -16,6 +17,12 @@ use Rattle.stream_layout.specs.Spots.{spot_of}
 abbrev pub DeedsGiveFiles : LogSetup → LogChange → (past : List LogChange) → Type 0
 DeedsGiveFiles setup change past =
     all_applied (calls_of_all (deeds_by setup change past)) (disk_files setup past) ≡ disk_files setup (change ∷ past)
+
+-- of each file that a stream had but its last one there are the two stamps
+abbrev pub FilesAreStamped : LogSetup → List LogChange → Type 0
+FilesAreStamped setup past =
+    (stream : ℕ) (one : Stream) → slice_get (chronicle setup past).streams stream ≡ Some one →
+    length one.full ≡ length (front_of (files_had one))
 
 -- a record that is stored under the name of this living stream is the stream's last, with its bytes
 abbrev pub StandsLast : LogSetup → (past : List LogChange) → StreamName → LogRecord → (second : ℕ) → Stream → Type 0

@@ -46,7 +46,7 @@ pub record IsLastFirst (most : ℕ) (lens : List ℕ) (first : ℕ) : Type 0 whe
   pub within : first ≤ length lens
   pub none : (k : ℕ) → first < k → k < length lens → total first (k + 1) lens ≤ most
 
--- files by D9: each begins where the one before is over, and has the bytes of its records
+-- the files of records of these lengths: each begins where the one before is over, and has the bytes of its records
 abbrev pub AreRounds : (most : ℕ) → List ℕ → List Round → Type 0
 AreRounds most lens [] = ⊤
 AreRounds most lens (round ∷ []) = IsLastFirst most lens round.first × (round.bytes ≡ total round.first (length lens) lens)

@@ -1,5 +1,5 @@
 //! Laws of the Log Service over all that may happen to it.
-ghost use Rattle.std.specs.Prelude.{◌≡◌, ◌⊎◌, ℕ, ◌+◌, ◌-◌, ◌/◌, ◌<◌, ◌≤◌, List, [], ◌∷◌, ◌++◌, length, replicate, All, Some, option_map};
+ghost use Rattle.std.specs.Prelude.{◌≡◌, ◌⊎◌, ℕ, ◌+◌, ◌-◌, ◌/◌, ◌<◌, ◌≤◌, List, [], ◌∷◌, ◌++◌, length, replicate, slice_get, All, Some, option_map};
 ghost use Rattle.std.specs.List.{AllByRecursion};
 ghost use Rattle.std.specs.FinMap.{get};
 ghost use Rattle.client_set.specs.Members.{Stands};
@@ -21,8 +21,8 @@ ghost use Rattle.log_history.specs.Stamps.{second_in, CanStamp, stamps_of_all};
 ghost use Rattle.log_history.specs.Deeds.{opening_deeds};
 ghost use Rattle.log_history.specs.Answers.{living_stream};
 ghost use Rattle.log_history.specs.Places.{record_in};
-ghost use Rattle.log_history.specs.Laws.{DeedsGiveFiles, StandsLast, RecordsStand, PlacesDiffer, PlacesBySize};
-ghost use Rattle.log_history.specs.Rounds.{rounds, round_pushed, AreRounds, RoundsBeginEvenly};
+ghost use Rattle.log_history.specs.Laws.{DeedsGiveFiles, FilesAreStamped, StandsLast, RecordsStand, PlacesDiffer, PlacesBySize};
+ghost use Rattle.log_history.specs.Rounds.{Round, rounds, round_pushed, AreRounds, RoundsBeginEvenly};
 ghost use Rattle.log_history.specs.AllNames.{NoneTwice, names_ever};
 
 /// What is kept after one more change is what the change makes of what was kept; it is fit, so that
@@ -56,7 +56,8 @@ pub fn law_of_names()
 {}
 
 /// Performing the deeds of a change on the files before it gives the files after it; performing
-/// those of the start on no files gives the files of a service to which nothing happened yet.
+/// those of the start on no files gives the files of a service to which nothing happened yet. Each
+/// file that a stream had has its stamps.
 pub fn law_of_files()
     ensures found { (setup : LogSetup) (past : List LogChange) (name : List ℕ) →
         get (disk_files setup past) name ≡ option_map settled_file (file_at setup past name) }
@@ -65,6 +66,8 @@ pub fn law_of_files()
         DeedsGiveFiles setup change past }
     ensures start { (setup : LogSetup) → IsSetup setup → setup.start ≤ 20000000000 →
         all_applied (calls_of_all (opening_deeds setup)) no_files ≡ disk_files setup [] }
+    ensures stamped { (setup : LogSetup) (past : List LogChange) → IsLogHistory setup past →
+        FilesAreStamped setup past }
 {}
 
 /// A record keeps its number in its stream and its bytes whatever changes; one that is stored is the
@@ -86,11 +89,14 @@ pub fn law_of_records()
         PlacesBySize setup past }
 {}
 
-/// The files of a stream that rotates, by the lengths of its records, none above the greatest size of a file: each
-/// begins with the least record through which the one before would be above it, and has the bytes of its records.
+/// The files of a stream that rotates, by the lengths of its records, none above the greatest size of a file: the
+/// first begins with record 0, each other with the least record through which the one before would be above that
+/// size, and each has the bytes of its records.
 /// One record more is added to the last, or begins the next. Where all records have one size, n of which a file
 /// holds, each begins n behind the one before, and there are as many as the records ask for.
 pub fn law_of_rounds()
+    ensures start { (most : ℕ) (lens : List ℕ) →
+        option_map (λ (round : Round). round.first) (slice_get (rounds most lens) 0) ≡ Some 0 }
     ensures closed { (most : ℕ) (lens : List ℕ) → All (λ len. len ≤ most) lens
         → AreRounds most lens (rounds most lens) }
     ensures step { (most len : ℕ) (lens : List ℕ) →
