@@ -23,9 +23,9 @@ use Rattle.ntf_history.specs.Subscriptions.{sub_at, account, asked_by, asked_whi
 use Rattle.ntf_history.proofs.MarkLaws.{told-asked, losses-dropped}
 use Rattle.plain_service.specs.Setups.{Setup}
 use Rattle.plain_service.specs.Pasts.{Past}
-use Rattle.plain_service.specs.Alarms.{accepted_as}
+use Rattle.plain_service.specs.Alarms.{accepted_as, accepted_notification}
 use Rattle.plain_service.specs.Answers.{status_of}
-use Rattle.plain_service.specs.Changing.{past_of, past_after, accepted_notification}
+use Rattle.plain_service.specs.Changing.{past_of, past_after}
 use Rattle.plain_service.specs.Replies.{ok_reply, reply_by, reply_of, id_told, ids_told}
 use Rattle.plain_service.specs.Items.{made_for, through_for}
 use Rattle.plain_service.specs.Asked.{sub_for, lost_for, mark_under, mark_asked, sends_asked, sends_dropped, lower_id}
@@ -74,9 +74,9 @@ module _ (setup : Setup) (past : Past) (sender seq : ℕ) (now : ℤ) (notificat
 asked-called : (setup : Setup) (past : List Entry) (sender seq : ℕ) (now : ℤ) (call : Call) (client key : ℕ) → sends_asked setup past client key ≡ map mark_of (asked_while (past_of setup past).ntf client key) → sends_asked setup (Called sender seq now call ∷ past) client key ≡ map mark_of (asked_while (past_of setup (Called sender seq now call ∷ past)).ntf client key)
 unfolding sub_for reply_of
 asked-called setup past sender seq now (NtfSend notification) client key before =
-    send-asked setup (past_of setup past) sender seq now notification client key (sends_asked setup past client key) (status_of setup (past_of setup past) sender (NtfSend notification)) before
+    send-asked setup (past_of setup past) sender seq now notification client key (sends_asked setup past client key) (status_of setup (past_of setup past) sender now (NtfSend notification)) before
 asked-called setup past sender seq now call client key before =
-    past_after-by (λ after. sends_asked setup past client key ≡ map mark_of (asked_while after.ntf client key)) setup (past_of setup past) sender seq now call (status_of setup (past_of setup past) sender call) before (λ ok. before)
+    past_after-by (λ after. sends_asked setup past client key ≡ map mark_of (asked_while after.ntf client key)) setup (past_of setup past) sender seq now call (status_of setup (past_of setup past) sender now call) before (λ ok. before)
 
 asked-changes : (setup : Setup) (past : List Entry) (client key : ℕ) → sends_asked setup past client key ≡ map mark_of (asked_while (past_of setup past).ntf client key)
 asked-changes setup [] client key = refl
@@ -87,9 +87,9 @@ asked-changes setup (Receipted other number through now ∷ past) client key = a
 dropped-called : (setup : Setup) (past : List Entry) (sender seq : ℕ) (now : ℤ) (call : Call) (client key : ℕ) → sends_dropped setup past client key ≡ map mark_of (dropped_while setup.capacity (past_of setup past).ntf client key) → sends_dropped setup (Called sender seq now call ∷ past) client key ≡ map mark_of (dropped_while setup.capacity (past_of setup (Called sender seq now call ∷ past)).ntf client key)
 unfolding sub_for reply_of made_for through_for
 dropped-called setup past sender seq now (NtfSend notification) client key before =
-    send-dropped setup (past_of setup past) sender seq now notification client key setup.capacity (sends_dropped setup past client key) (status_of setup (past_of setup past) sender (NtfSend notification)) before
+    send-dropped setup (past_of setup past) sender seq now notification client key setup.capacity (sends_dropped setup past client key) (status_of setup (past_of setup past) sender now (NtfSend notification)) before
 dropped-called setup past sender seq now call client key before =
-    past_after-by (λ after. sends_dropped setup past client key ≡ map mark_of (dropped_while setup.capacity after.ntf client key)) setup (past_of setup past) sender seq now call (status_of setup (past_of setup past) sender call) before (λ ok. before)
+    past_after-by (λ after. sends_dropped setup past client key ≡ map mark_of (dropped_while setup.capacity after.ntf client key)) setup (past_of setup past) sender seq now call (status_of setup (past_of setup past) sender now call) before (λ ok. before)
 
 dropped-changes : (setup : Setup) (past : List Entry) (client key : ℕ) → sends_dropped setup past client key ≡ map mark_of (dropped_while setup.capacity (past_of setup past).ntf client key)
 dropped-changes setup [] client key = refl
@@ -153,9 +153,9 @@ ids-longer _ ids = omega arith
 
 rises-called : (setup : Setup) (past : List Entry) (sender seq : ℕ) (now : ℤ) (call : Call) (client key : ℕ) → Rises (length (ids_told setup past)) (sends_asked setup past client key) → Rises (length (ids_told setup (Called sender seq now call ∷ past))) (sends_asked setup (Called sender seq now call ∷ past) client key)
 rises-called setup past sender seq now (NtfSend notification) client key rises =
-    rises-send (ids_told setup past) (sends_asked setup past client key) notification (reply_of setup past sender (NtfSend notification)) (sub_for setup past client key) (id-next setup past sender (NtfSend notification)) rises
+    rises-send (ids_told setup past) (sends_asked setup past client key) notification (reply_of setup past sender now (NtfSend notification)) (sub_for setup past client key) (id-next setup past sender now (NtfSend notification)) rises
 rises-called setup past sender seq now call client key rises =
-    Rises-later (length (ids_told setup past)) (length (id_told (reply_of setup past sender call) (ids_told setup past))) (sends_asked setup past client key) (ids-longer (reply_of setup past sender call) (ids_told setup past)) rises
+    Rises-later (length (ids_told setup past)) (length (id_told (reply_of setup past sender now call) (ids_told setup past))) (sends_asked setup past client key) (ids-longer (reply_of setup past sender now call) (ids_told setup past)) rises
 
 sends-rise : (setup : Setup) (past : List Entry) (client key : ℕ) → Rises (length (ids_told setup past)) (sends_asked setup past client key)
 sends-rise setup [] client key = record { below = tt; rising = tt }

@@ -44,7 +44,7 @@ timely-called setup past client seq now _ early timely = timely
 pub timely : (setup : Setup) (entries : List Entry) → IsHistory setup entries → AreTimely (past_of setup entries).log
 timely setup [] history = tt
 timely setup (Called client seq now call ∷ entries) history =
-    past_after-by (λ after. AreTimely after.log) setup (past_of setup entries) client seq now call (status_of setup (past_of setup entries) client call)
+    past_after-by (λ after. AreTimely after.log) setup (past_of setup entries) client seq now call (status_of setup (past_of setup entries) client now call)
     (timely setup entries history.1)
     (λ ok. timely-called setup (past_of setup entries) client seq now call (second-bound now history.0.0.time) (timely setup entries history.1))
 timely setup (Receipted client key through now ∷ entries) history = timely setup entries history.1
@@ -76,7 +76,7 @@ fit-answered setup past _ change legal early can = tt
 pub entry-events-fit : (setup : Setup) (entry : Entry) (entries : List Entry) → IsHistory setup (entry ∷ entries) → AllByRecursion IsFitEvent (events_by setup (past_of setup entries) entry)
 entry-events-fit setup (Called client seq now call) entries history =
     let past = past_of setup entries in
-    fit-answered setup past (status_of setup past client call) (log_change setup past client now call)
+    fit-answered setup past (status_of setup past client now call) (log_change setup past client now call)
     (λ ok. log-follows setup past client seq now call (possible setup entries history.1).log ok)
     (timely-called setup past client seq now call (second-bound now history.0.0.time) (timely setup entries history.1))
     (λ second early. can-stamp setup entries second history.1 history.0.0.few early)

@@ -39,7 +39,7 @@ pub last_id-told : (setup : Setup) (past : List Entry) → last_id (past_of setu
 unfolding reply_of
 last_id-told setup [] = refl
 last_id-told setup (Called client seq now call ∷ past) =
-    id-answered setup (past_of setup past) client seq now call (ids_told setup past) (status_of setup (past_of setup past) client call) (last_id-told setup past)
+    id-answered setup (past_of setup past) client seq now call (ids_told setup past) (status_of setup (past_of setup past) client now call) (last_id-told setup past)
 last_id-told setup (Receipted client key through now ∷ past) = last_id-told setup past
 
 not-told : (setup : Setup) (past : Past) (client : ℕ) (call : Call) (answered : Status) (id : ℕ) → reply_by answered (ok_reply setup past client call) ≡ Sent id → id ≡ last_id past.ntf + 1
@@ -52,18 +52,18 @@ not-told setup past client _ status.Ok id is = cc
 not-told setup past client call _ id is = cc
 
 -- **a send that is answered ok is told the number of those before it, and one**
-pub id-next : (setup : Setup) (past : List Entry) (client : ℕ) (call : Call) (id : ℕ) → reply_of setup past client call ≡ Sent id → id ≡ length (ids_told setup past) + 1
+pub id-next : (setup : Setup) (past : List Entry) (client : ℕ) (now : ℤ) (call : Call) (id : ℕ) → reply_of setup past client now call ≡ Sent id → id ≡ length (ids_told setup past) + 1
 unfolding reply_of
-id-next setup past client call id is =
-    not-told setup (past_of setup past) client call (status_of setup (past_of setup past) client call) id is ∙ ap (λ n. n + 1) (last_id-told setup past)
+id-next setup past client now call id is =
+    not-told setup (past_of setup past) client call (status_of setup (past_of setup past) client now call) id is ∙ ap (λ n. n + 1) (last_id-told setup past)
 
-counted-told : (setup : Setup) (past : List Entry) (client : ℕ) (call : Call) (told : Reply) → reply_of setup past client call ≡ told → AreCounted (ids_told setup past) → AreCounted (id_told told (ids_told setup past))
-counted-told setup past client call (Sent id) is counted = (id-next setup past client call id is, counted)
-counted-told setup past client call _ is counted = counted
+counted-told : (setup : Setup) (past : List Entry) (client : ℕ) (now : ℤ) (call : Call) (told : Reply) → reply_of setup past client now call ≡ told → AreCounted (ids_told setup past) → AreCounted (id_told told (ids_told setup past))
+counted-told setup past client now call (Sent id) is counted = (id-next setup past client now call id is, counted)
+counted-told setup past client now call _ is counted = counted
 
 -- **the ids that were told are 1, 2, 3 and so on**
 pub ids-counted : (setup : Setup) (past : List Entry) → AreCounted (ids_told setup past)
 ids-counted setup [] = tt
 ids-counted setup (Called client seq now call ∷ past) =
-    counted-told setup past client call (reply_of setup past client call) refl (ids-counted setup past)
+    counted-told setup past client now call (reply_of setup past client now call) refl (ids-counted setup past)
 ids-counted setup (Receipted client key through now ∷ past) = ids-counted setup past

@@ -21,8 +21,8 @@ use Rattle.ntf_history.proofs.GrowthLaws.{Extends-same, made-grows, through-move
 use Rattle.plain_service.specs.Setups.{Setup, log_setup}
 use Rattle.plain_service.specs.Pasts.{Past}
 use Rattle.plain_service.specs.Answers.{status_of}
-use Rattle.plain_service.specs.Alarms.{taken_by, stream_for}
-use Rattle.plain_service.specs.Changing.{past_of, ntf_change, accepted_notification}
+use Rattle.plain_service.specs.Alarms.{accepted_notification, taken_by, stream_for}
+use Rattle.plain_service.specs.Changing.{past_of, ntf_change}
 use Rattle.plain_service.specs.Items.{held_for, items_for, items_after, items_of, made_for, through_for, lasts_for, is_new_receipt, IsHeldItem, IsReceipt, Leaves}
 use Rattle.plain_service.proofs.ListLaws.{standing-each, each-mapped}
 use Rattle.plain_service.proofs.Possible.{past_after-by}
@@ -36,7 +36,7 @@ grows-option capacity (Some change) past client key = made-grows capacity change
 pub items-grow : (setup : Setup) (entry : Entry) (past : List Entry) (client key : ℕ) → Extends (made_for setup past client key) (made_for setup (entry ∷ past) client key)
 unfolding made_for
 items-grow setup (Called caller seq now call) past client key =
-    past_after-by (λ after. Extends (made setup.capacity (past_of setup past).ntf client key) (made setup.capacity after.ntf client key)) setup (past_of setup past) caller seq now call (status_of setup (past_of setup past) caller call)
+    past_after-by (λ after. Extends (made setup.capacity (past_of setup past).ntf client key) (made setup.capacity after.ntf client key)) setup (past_of setup past) caller seq now call (status_of setup (past_of setup past) caller now call)
     (Extends-same (made setup.capacity (past_of setup past).ntf client key))
     (λ ok. grows-option setup.capacity (ntf_change setup (past_of setup past) caller seq now call) (past_of setup past).ntf client key)
 items-grow setup (Receipted caller number through now) past client key =
@@ -64,7 +64,7 @@ entry_for now _ = Called 0 0 now NtfInit
 pub through-steps : (setup : Setup) (entry : Entry) (past : List Entry) (client key : ℕ) → (through_for setup (entry ∷ past) client key ≡ through_for setup past client key) ⊎ ((now : ℤ) × (entry ≡ Receipted client key (through_for setup (entry ∷ past) client key) now))
 unfolding through_for
 through-steps setup (Called caller seq now call) past client key =
-    inl (past_after-by (λ after. through_of setup.capacity after.ntf client key ≡ through_of setup.capacity (past_of setup past).ntf client key) setup (past_of setup past) caller seq now call (status_of setup (past_of setup past) caller call)
+    inl (past_after-by (λ after. through_of setup.capacity after.ntf client key ≡ through_of setup.capacity (past_of setup past).ntf client key) setup (past_of setup past) caller seq now call (status_of setup (past_of setup past) caller now call)
     refl (λ ok. through-called setup.capacity setup (past_of setup past) caller seq now call client key))
 through-steps setup (Receipted caller number through now) past client key = elim (through-moves setup.capacity (ntf.Receipted caller number through) (past_of setup past).ntf client key) [
   | inl same ↦ inl same

@@ -28,7 +28,7 @@ use Rattle.log_history.specs.Handles.{is_using, is_open}
 use Rattle.log_history.specs.Chronicle.{LogSetup, Stream}
 use Rattle.log_history.specs.Answers.{living_stream, is_full}
 use Rattle.log_history.specs.Legal.{IsLogHistory}
-use Rattle.log_history.specs.Times.{second_of}
+use Rattle.log_history.specs.Times.{second_of, record_at}
 use Rattle.log_history.proofs.Reaching.{reached}
 use Rattle.log_history.proofs.KeptLaws.{has-openers}
 use Rattle.ntf_history.specs.Changes.{NtfChange}
@@ -38,9 +38,9 @@ use Rattle.ntf_history.specs.StoredAlarms.{is_alarm, alarms_sent}
 use Rattle.ntf_history.specs.Possible.{HaveNumbersBelow, ArePossible}
 use Rattle.plain_service.specs.Setups.{Setup, log_setup}
 use Rattle.plain_service.specs.Pasts.{Past}
-use Rattle.plain_service.specs.Alarms.{stream_for, taken_by}
+use Rattle.plain_service.specs.Alarms.{accepted_notification, stream_for, record_for, taken_by}
 use Rattle.plain_service.specs.Answers.{status_of}
-use Rattle.plain_service.specs.Changing.{accepted_notification, past_after, past_of}
+use Rattle.plain_service.specs.Changing.{past_after, past_of}
 use Rattle.plain_service.specs.Replies.{calls_of, next_number}
 use Rattle.plain_service.specs.Legal.{IsHistory}
 use Rattle.plain_service.proofs.WellKnown.{stored_in, stored_in-bound, living-alarm, living-notification, taken-alarm, taken-notification}
@@ -76,7 +76,7 @@ pub lives-for : (setup : LogSetup) (past : List LogChange) (alarm : Bool) → is
 lives-for setup past true = ap is_some (living-alarm setup past)
 lives-for setup past false = ap is_some (living-notification setup past)
 
-pub log-follows : (setup : Setup) (past : Past) (client seq : ℕ) (now : ℤ) (call : Call) → IsLogHistory (log_setup setup) past.log → status_of setup past client call ≡ status.Ok → IsLogHistory (log_setup setup) (past_after setup past client seq now call status.Ok).log
+pub log-follows : (setup : Setup) (past : Past) (client seq : ℕ) (now : ℤ) (call : Call) → IsLogHistory (log_setup setup) past.log → status_of setup past client now call ≡ status.Ok → IsLogHistory (log_setup setup) (past_after setup past client seq now call status.Ok).log
 log-follows setup past client seq now LogInit legal ok = (begin-ok (is_using past.log client) ok, legal)
 log-follows setup past client seq now (LogOpen stream None) legal ok =
     let told = open-ok (is_using past.log client) (is_none (option_map (λ (s : Stream). s.attrs) (living_stream (log_setup setup) past.log stream))) ok in
@@ -88,19 +88,19 @@ log-follows setup past client seq now (LogOpen stream (Some attrs)) legal ok = b
   by_case None none = ((ap is_some none, ok), legal)
   by_case (Some found) is = ((create-ok (is_using past.log client) _ _ _ stream attrs ok, ap is_some is), legal)
 log-follows setup past client seq now (LogWrite stream invocation flags time header body) legal ok =
-    let told = write-ok (is_using past.log client) (is_open past.log stream client) (nat_lt 1 flags) (can_write (kind_of stream) time header) (is_full (log_setup setup) past.log stream) ok in
+    let told = write-ok (is_using past.log client) (is_open past.log stream client) (nat_lt 1 flags) (can_write (kind_of stream) time header) (is_full (log_setup setup) past.log stream (record_at time header body now)) ok in
     ((open-lives (log_setup setup) past.log legal stream client told.1, told.3), legal)
 log-follows setup past client seq now (LogClose stream) legal ok =
     (close-ok (is_using past.log client) (is_open past.log stream client) ok, legal)
 log-follows setup past client seq now LogFini legal ok = (end-ok (is_using past.log client) ok, legal)
 log-follows setup past client seq now (NtfSend notification) legal ok =
-    let told = send-ok (ntf.is_using past.ntf client) (is_sound notification) (is_full (log_setup setup) past.log (stream_for notification.body)) ok in
+    let told = send-ok (ntf.is_using past.ntf client) (is_sound notification) (is_full (log_setup setup) past.log (stream_for notification.body) (record_for now (accepted_notification past now notification))) ok in
     ((lives-for (log_setup setup) past.log (is_alarm notification.body), told.2), legal)
 log-follows setup past client seq now _ legal ok = legal
 
 -- the Notification Service
 
-pub ntf-follows : (setup : Setup) (past : Past) (client seq : ℕ) (now : ℤ) (call : Call) → ArePossible past.ntf → length past.log < 4294967295 → HaveNumbersBelow (stored_in name.Alarm past.log) (alarms_sent past.ntf) → is_known past.ntf client seq ≡ false → status_of setup past client call ≡ status.Ok → ArePossible (past_after setup past client seq now call status.Ok).ntf
+pub ntf-follows : (setup : Setup) (past : Past) (client seq : ℕ) (now : ℤ) (call : Call) → ArePossible past.ntf → length past.log < 4294967295 → HaveNumbersBelow (stored_in name.Alarm past.log) (alarms_sent past.ntf) → is_known past.ntf client seq ≡ false → status_of setup past client now call ≡ status.Ok → ArePossible (past_after setup past client seq now call status.Ok).ntf
 ntf-follows setup past client seq now NtfInit possible few below new ok = (tt, possible)
 ntf-follows setup past client seq now (NtfSend notification) possible few below new ok =
     (record { id = refl; bound = bound (is_alarm notification.body); later = later }, possible) where
@@ -205,9 +205,9 @@ ntf-count : (setup : Setup) (past : Past) (client seq : ℕ) (now : ℤ) (call :
 ntf-count setup past client seq now LogInit = omega arith
 ntf-count setup past client seq now call = omega arith
 
-pub call-possible : (setup : Setup) (entries : List Entry) (past : Past) (client seq : ℕ) (now : ℤ) (call : Call) → HasPossible setup entries past → length entries < 4000000000 → seq ≡ next_number client entries → HasPossible setup (Called client seq now call ∷ entries) (past_after setup past client seq now call (status_of setup past client call))
+pub call-possible : (setup : Setup) (entries : List Entry) (past : Past) (client seq : ℕ) (now : ℤ) (call : Call) → HasPossible setup entries past → length entries < 4000000000 → seq ≡ next_number client entries → HasPossible setup (Called client seq now call ∷ entries) (past_after setup past client seq now call (status_of setup past client now call))
 call-possible setup entries past client seq now call before few next =
-    past_after-by (HasPossible setup (Called client seq now call ∷ entries)) setup past client seq now call (status_of setup past client call)
+    past_after-by (HasPossible setup (Called client seq now call ∷ entries)) setup past client seq now call (status_of setup past client now call)
     (record {
       log = before.log;
       ntf = before.ntf;

@@ -22,8 +22,8 @@ use Rattle.log_history.proofs.RecordLaws.{record-stands, record-kept, record-sto
 use Rattle.log_history.proofs.StampLaws.{stamp-room}
 use Rattle.plain_service.specs.Setups.{Setup, log_setup}
 use Rattle.plain_service.specs.Pasts.{Past}
-use Rattle.plain_service.specs.Alarms.{stream_for, record_for}
-use Rattle.plain_service.specs.Changing.{accepted_notification, log_change, if_ok, past_of}
+use Rattle.plain_service.specs.Alarms.{accepted_notification, stream_for, record_for}
+use Rattle.plain_service.specs.Changing.{log_change, if_ok, past_of}
 use Rattle.plain_service.specs.Legal.{IsHistory}
 use Rattle.plain_service.specs.Answers.{status_of}
 use Rattle.plain_service.specs.Replies.{reply_of, reply_by, ok_reply, calls_of, next_number}
@@ -137,23 +137,23 @@ record-made setup past client now (NtfSend notification) told is legal =
 record-made setup past client now call told is legal = cc
 
 -- **a call that was answered as stored has a record**
-pub record-told : (setup : Setup) (client seq : ℕ) (now : ℤ) (call : Call) (entries : List Entry) → IsHistory setup (Called client seq now call ∷ entries) → is_stored call (reply_of setup entries client call) ≡ true → (stored : StoredRecord) × (record_of setup (Called client seq now call ∷ entries) client seq ≡ Some stored)
+pub record-told : (setup : Setup) (client seq : ℕ) (now : ℤ) (call : Call) (entries : List Entry) → IsHistory setup (Called client seq now call ∷ entries) → is_stored call (reply_of setup entries client now call) ≡ true → (stored : StoredRecord) × (record_of setup (Called client seq now call ∷ entries) client seq ≡ Some stored)
 unfolding record_of reply_of
 record-told setup client seq now call entries history is =
     let past = past_of setup entries in
     let change = log_change setup past client now call in
-    let ok = stored-ok (status_of setup past client call) call (ok_reply setup past client call) is in
-    let legal : IsLogHistory (log_setup setup) (cons_option (if_ok (status_of setup past client call) change) past.log) = (possible setup (Called client seq now call ∷ entries) history).log in
-    let made = record-made setup past client now call (reply_by (status_of setup past client call) (ok_reply setup past client call)) is
+    let ok = stored-ok (status_of setup past client now call) call (ok_reply setup past client call) is in
+    let legal : IsLogHistory (log_setup setup) (cons_option (if_ok (status_of setup past client now call) change) past.log) = (possible setup (Called client seq now call ∷ entries) history).log in
+    let made = record-made setup past client now call (reply_by (status_of setup past client now call) (ok_reply setup past client call)) is
     (subst (λ answered. IsLogHistory (log_setup setup) (cons_option (if_ok answered change) past.log)) ok legal) in
     let own : (client == client && seq == seq) ≡ true = grind (arith, nat_tests) in (
       made.0,
-      ap (λ b. cond b (record_by (log_setup setup) past.log (if_ok (status_of setup past client call) change)) (record_of setup entries client seq)) own
+      ap (λ b. cond b (record_by (log_setup setup) past.log (if_ok (status_of setup past client now call) change)) (record_of setup entries client seq)) own
           ∙ ap (λ answered. record_by (log_setup setup) past.log (if_ok answered change)) ok ∙ made.1,
     )
 
 -- **and has it in every longer history**
-pub record-told_later : (setup : Setup) (later : List Entry) (client seq : ℕ) (now : ℤ) (call : Call) (entries : List Entry) → IsHistory setup (later ++ Called client seq now call ∷ entries) → is_stored call (reply_of setup entries client call) ≡ true → (stored : StoredRecord) × (record_of setup (later ++ Called client seq now call ∷ entries) client seq ≡ Some stored)
+pub record-told_later : (setup : Setup) (later : List Entry) (client seq : ℕ) (now : ℤ) (call : Call) (entries : List Entry) → IsHistory setup (later ++ Called client seq now call ∷ entries) → is_stored call (reply_of setup entries client now call) ≡ true → (stored : StoredRecord) × (record_of setup (later ++ Called client seq now call ∷ entries) client seq ≡ Some stored)
 record-told_later setup [] client seq now call entries history is = record-told setup client seq now call entries history is
 record-told_later setup (entry ∷ later) client seq now call entries history is =
     let before = record-told_later setup later client seq now call entries history.1 is in

@@ -3,8 +3,13 @@ use Rattle.std.proofs.Common.{◌≡◌, ℕ, true, false, List, [], ◌∷◌, 
 use Rattle.std.specs.Prelude.{Some, None, ℤ, pos, codes}
 use Rattle.ais_values.specs.declared.kind.StreamKind.TheVariants as kind
 use Rattle.ais_values.specs.declared.status.Status.TheVariants as status
+use Rattle.stream_config.specs.declared.attrs.FullAction.{FullAction}
+use Rattle.stream_config.specs.declared.attrs.FullAction.TheVariants.{Halt, Rotate}
 use Rattle.stream_config.specs.declared.attrs.StreamAttrs.{StreamAttrs}
 use Rattle.stream_config.specs.WellKnown.{default_attrs}
+use Rattle.record_print.specs.Printing.{printed_record}
+use Rattle.format_expr.specs.Reading.{pieces_of, pieces_from}
+use Rattle.format_expr.specs.Tokens.{part_with, shown_parts}
 use Rattle.ntf_types.specs.declared.notification.Body.TheVariants.{Alarm}
 use Rattle.ntf_types.specs.declared.notification.Notification.{Notification}
 use Rattle.ntf_types.specs.SoundTests.{is_sound}
@@ -126,19 +131,19 @@ reading =
     called 1 (ReaderStart 2 (pos 100) alarms)
     (called 1 (NtfSend (alarm 0 (pos 100) (codes "y"))) (called 1 (NtfSend (alarm 0 (pos 100) (codes "x"))) (called 1 NtfInit [])))
 
-first_read : reply_of setup reading 1 (ReaderRead 2) ≡ Found (alarm 1 (pos 100) (codes "x"))
+first_read : reply_of setup reading 1 now (ReaderRead 2) ≡ Found (alarm 1 (pos 100) (codes "x"))
 unfolding reply_of is_fit is_sound admits admits_option admits_common admits_body
 first_read = refl
 
-second_read : reply_of setup (called 1 (ReaderRead 2) reading) 1 (ReaderRead 2) ≡ Found (alarm 2 (pos 100) (codes "y"))
+second_read : reply_of setup (called 1 (ReaderRead 2) reading) 1 now (ReaderRead 2) ≡ Found (alarm 2 (pos 100) (codes "y"))
 unfolding reply_of is_fit is_sound admits admits_option admits_common admits_body
 second_read = refl
 
-third_read : reply_of setup (called 1 (ReaderRead 2) (called 1 (ReaderRead 2) reading)) 1 (ReaderRead 1) ≡ Found (alarm 1 (pos 100) (codes "x"))
+third_read : reply_of setup (called 1 (ReaderRead 2) (called 1 (ReaderRead 2) reading)) 1 now (ReaderRead 1) ≡ Found (alarm 1 (pos 100) (codes "x"))
 unfolding reply_of is_fit is_sound admits admits_option admits_common admits_body
 third_read = refl
 
-fourth_read : reply_of setup (called 1 (ReaderRead 1) (called 1 (ReaderRead 2) (called 1 (ReaderRead 2) reading))) 1 (ReaderRead 1) ≡ Refused status.NotExist
+fourth_read : reply_of setup (called 1 (ReaderRead 1) (called 1 (ReaderRead 2) (called 1 (ReaderRead 2) reading))) 1 now (ReaderRead 1) ≡ Refused status.NotExist
 unfolding reply_of is_fit is_sound admits admits_option admits_common admits_body
 fourth_read = refl
 
@@ -151,29 +156,54 @@ rotated =
     called 1 (NtfSend (alarm 0 (pos 200) (codes "y")))
     (called 1 (ReaderStart 7 (pos 0) alarms) (called 1 (NtfSend (alarm 0 (pos 100) (codes "x"))) (called 1 NtfInit [])))
 
-none_before : reply_of one_kept rotated 1 (ReaderRead 1) ≡ Refused status.NotExist
+none_before : reply_of one_kept rotated 1 now (ReaderRead 1) ≡ Refused status.NotExist
 unfolding reply_of is_fit is_sound admits admits_option admits_common admits_body
 none_before = refl
 
-one_behind : reply_of one_kept (called 1 (ReaderRead 1) rotated) 1 (ReaderRead 2) ≡ Found (alarm 2 (pos 200) (codes "y"))
+one_behind : reply_of one_kept (called 1 (ReaderRead 1) rotated) 1 now (ReaderRead 2) ≡ Found (alarm 2 (pos 200) (codes "y"))
 unfolding reply_of is_fit is_sound admits admits_option admits_common admits_body
 one_behind = refl
 
+-- records of the sizes of their texts: an alarm that does not fit is refused, and a shorter one has the next id
+abbrev freely : ℕ → FullAction → Setup
+freely max action =
+    with_alarm (record (default_attrs kind.Alarm) { record_size = 0; max_file = max; action = action; rotated = 1; expr = codes "@Cb" })
+
+abbrev one_sent : List Entry
+one_sent = called 1 (NtfSend (alarm 0 now (codes "abc"))) (called 1 NtfInit [])
+
+free_full : reply_of (freely 6 Halt) one_sent 1 now (NtfSend (alarm 0 now (codes "de"))) ≡ Refused status.NoSpace
+unfolding reply_of is_fit is_sound admits admits_option admits_common admits_body printed_record pieces_of pieces_from part_with shown_parts
+free_full = refl
+
+free_fits : reply_of (freely 6 Halt) (called 1 (NtfSend (alarm 0 now (codes "de"))) one_sent) 1 now (NtfSend (alarm 0 now (codes "d"))) ≡ Sent 2
+unfolding reply_of is_fit is_sound admits admits_option admits_common admits_body printed_record pieces_of pieces_from part_with shown_parts
+free_fits = refl
+
+-- the second begins the next file where the first leaves it no room, and the first is gone
+both_stand : reply_of (freely 4 Rotate) rotated 1 now (ReaderRead 1) ≡ Found (alarm 1 (pos 100) (codes "x"))
+unfolding reply_of is_fit is_sound admits admits_option admits_common admits_body printed_record pieces_of pieces_from part_with shown_parts
+both_stand = refl
+
+first_gone : reply_of (freely 3 Rotate) rotated 1 now (ReaderRead 1) ≡ Refused status.NotExist
+unfolding reply_of is_fit is_sound admits admits_option admits_common admits_body printed_record pieces_of pieces_from part_with shown_parts
+first_gone = refl
+
 -- a service that is not begun refuses, and one that is begun is not begun again
-not_begun : reply_of setup [] 1 (NtfUnsubscribe 1) ≡ Refused status.BadHandle
+not_begun : reply_of setup [] 1 now (NtfUnsubscribe 1) ≡ Refused status.BadHandle
 unfolding reply_of
 not_begun = refl
 
-begun_once : reply_of setup (called 1 LogInit []) 1 LogInit ≡ Refused status.NoResources
+begun_once : reply_of setup (called 1 LogInit []) 1 now LogInit ≡ Refused status.NoResources
 unfolding reply_of
 begun_once = refl
 
 -- a use that ended takes the subscriptions and the reader with it
-ended : reply_of setup (called 1 NtfInit (called 1 NtfFini reading)) 1 ReaderEnd ≡ Refused status.BadHandle
+ended : reply_of setup (called 1 NtfInit (called 1 NtfFini reading)) 1 now ReaderEnd ≡ Refused status.BadHandle
 unfolding reply_of is_fit is_sound admits admits_option admits_common admits_body
 ended = refl
 
 -- ids are those of the sends that were answered ok
-third_id : reply_of setup (called 1 (NtfSend (record (alarm 0 now []) { event_type = 1 })) reading) 1 (NtfSend (alarm 0 now [])) ≡ Sent 3
+third_id : reply_of setup (called 1 (NtfSend (record (alarm 0 now []) { event_type = 1 })) reading) 1 now (NtfSend (alarm 0 now [])) ≡ Sent 3
 unfolding reply_of is_fit is_sound admits admits_option admits_common admits_body
 third_id = refl

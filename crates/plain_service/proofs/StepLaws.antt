@@ -37,9 +37,9 @@ ntf-option capacity past None possible_after = refl
 ntf-option capacity past (Some change) possible_after = table_of-step capacity change past possible_after.0
 
 -- **what is kept of the Notification Service, after a call and after a receipt**
-pub ntf-step : (setup : Setup) (client seq : ℕ) (now : ℤ) (call : Call) (entries : List Entry) → IsHistory setup (Called client seq now call ∷ entries) → table_of setup.capacity (past_of setup (Called client seq now call ∷ entries)).ntf ≡ option_map_or (λ c. after_change c (table_of setup.capacity (past_of setup entries).ntf)) (if_ok (status_of setup (past_of setup entries) client call) (ntf_change setup (past_of setup entries) client seq now call)) (table_of setup.capacity (past_of setup entries).ntf)
+pub ntf-step : (setup : Setup) (client seq : ℕ) (now : ℤ) (call : Call) (entries : List Entry) → IsHistory setup (Called client seq now call ∷ entries) → table_of setup.capacity (past_of setup (Called client seq now call ∷ entries)).ntf ≡ option_map_or (λ c. after_change c (table_of setup.capacity (past_of setup entries).ntf)) (if_ok (status_of setup (past_of setup entries) client now call) (ntf_change setup (past_of setup entries) client seq now call)) (table_of setup.capacity (past_of setup entries).ntf)
 ntf-step setup client seq now call entries history =
-    ntf-option setup.capacity (past_of setup entries).ntf (if_ok (status_of setup (past_of setup entries) client call) (ntf_change setup (past_of setup entries) client seq now call)) (possible setup (Called client seq now call ∷ entries) history).ntf
+    ntf-option setup.capacity (past_of setup entries).ntf (if_ok (status_of setup (past_of setup entries) client now call) (ntf_change setup (past_of setup entries) client seq now call)) (possible setup (Called client seq now call ∷ entries) history).ntf
 
 pub receipt-step : (setup : Setup) (client key through : ℕ) (now : ℤ) (entries : List Entry) → IsHistory setup (Receipted client key through now ∷ entries) → table_of setup.capacity (past_of setup (Receipted client key through now ∷ entries)).ntf ≡ after_receipt client key through (table_of setup.capacity (past_of setup entries).ntf)
 receipt-step setup client key through now entries history =

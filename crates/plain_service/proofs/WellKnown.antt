@@ -193,6 +193,23 @@ well_known setup (Closed client closed second ∷ past) =
 well_known setup (Ended client second ∷ past) =
     HaveWell-ends setup (stored_in name.Alarm past) (stored_in name.Notification past) (stored_in name.System past) second (Ended client second ∷ past) (chronicle setup past) (well_known setup past)
 
+-- the alarm stream takes the records of its name, and no other change touches it
+pub alarm-stored : (setup : LogSetup) (rec : LogRecord) (second : ℕ) (past : List LogChange) → (well_known setup (Stored name.Alarm rec second ∷ past)).alarm ≡ with_record (chronicle setup past).last second rec (well_known setup past).alarm
+unfolding well_known HaveWell-stored
+alarm-stored setup rec second past = refl
+
+pub alarm-beside : (setup : LogSetup) (change : LogChange) (past : List LogChange) → stored_in name.Alarm (change ∷ past) ≡ stored_in name.Alarm past → (well_known setup (change ∷ past)).alarm ≡ (well_known setup past).alarm
+unfolding well_known HaveWell-stored HaveWell-made HaveWell-ends
+alarm-beside setup (Stored name.Alarm rec second) past beside = absurd (omega (arith, beside))
+alarm-beside setup (Stored name.Notification rec second) past beside = refl
+alarm-beside setup (Stored name.System rec second) past beside = refl
+alarm-beside setup (Stored (name.App own) rec second) past beside = refl
+alarm-beside setup (Opened client opened None second) past beside = refl
+alarm-beside setup (Opened client opened (Some attrs) second) past beside = refl
+alarm-beside setup (Began client) past beside = refl
+alarm-beside setup (Closed client closed second) past beside = refl
+alarm-beside setup (Ended client second) past beside = refl
+
 find-here : {X : Type 0} (test : X → Bool) (x : X) (xs : List X) → test x ≡ true → find test (x ∷ xs) ≡ Some x
 find-here test x xs is = ap (λ b. cond b (Some x) (find test xs)) is
 

@@ -1,9 +1,8 @@
 -- Words of public clauses: notifications as they are accepted and stored, and which stored alarms stand.
-use Rattle.std.specs.Prelude.{ℕ, ℤ, if◌then◌else◌, List, length}
+use Rattle.std.specs.Prelude.{ℕ, ◌+◌, ℤ, if◌then◌else◌, List, length}
 use Rattle.std.specs.Option.{option_map_or}
 use Rattle.stream_config.specs.declared.attrs.StreamName.{StreamName}
 use Rattle.stream_config.specs.declared.attrs.StreamName.TheVariants as name
-use Rattle.stream_config.specs.Sizes.{records_per_file}
 use Rattle.record_print.specs.declared.record.Header.TheVariants.{Ntf}
 use Rattle.record_print.specs.declared.record.LogRecord.{LogRecord}
 use Rattle.ntf_types.specs.declared.notification.Body.{Body}
@@ -12,8 +11,9 @@ use Rattle.alarm_view.specs.declared.alarm.KeptAlarm.{KeptAlarm}
 use Rattle.log_history.specs.Chronicle.{LogSetup, Stream}
 use Rattle.log_history.specs.Changes.{LogChange}
 use Rattle.log_history.specs.Answers.{living_stream}
-pub use Rattle.log_history.specs.Places.{first_in}
+use Rattle.log_history.specs.Places.{first_of}
 use Rattle.log_history.specs.Times.{filled_time}
+use Rattle.ntf_history.specs.Changes.{last_id}
 use Rattle.ntf_history.specs.StoredAlarms.{is_alarm, stored_alarms}
 use Rattle.plain_service.specs.Setups.{Setup, log_setup}
 use Rattle.plain_service.specs.Pasts.{Past}
@@ -33,6 +33,10 @@ accepted_as id now notification = record {
   body = notification.body;
 }
 
+-- the notification of a send that is accepted at a moment: it has the next id
+abbrev pub accepted_notification : Past → (now : ℤ) → Notification → Notification
+accepted_notification past now notification = accepted_as (last_id past.ntf + 1) now notification
+
 -- alarms and security alarms are stored in the alarm stream, all others in the notification stream
 abbrev pub stream_for : Body → StreamName
 stream_for body = if is_alarm body then name.Alarm else name.Notification
@@ -51,8 +55,7 @@ taken_by setup past name = option_map_or (λ (stream : Stream). length stream.re
 
 -- the number of the first record of the alarm stream that stands
 abbrev pub first_standing : Setup → List LogChange → ℕ
-first_standing setup past =
-    first_in setup.alarm.action (records_per_file setup.alarm) setup.alarm.rotated (taken_by (log_setup setup) past name.Alarm)
+first_standing setup past = option_map_or first_of (living_stream (log_setup setup) past name.Alarm) 0
 
 -- the alarms that were sent and whose records stand, in order of their records
 abbrev pub alarms_stored : Setup → Past → List KeptAlarm

@@ -1,5 +1,5 @@
 -- Words of public clauses: the sends for which a subscription asks, and which of them were dropped.
-use Rattle.std.specs.Prelude.{ℕ, ◌-◌, nat_lt, Bool, if◌then◌else◌, List, [], ◌∷◌, ◌++◌, length, map, Option}
+use Rattle.std.specs.Prelude.{ℕ, ◌-◌, ℤ, nat_lt, Bool, if◌then◌else◌, List, [], ◌∷◌, ◌++◌, length, map, Option}
 use Rattle.ntf_types.specs.declared.notification.Notification.{Notification}
 use Rattle.ntf_types.specs.Kinds.{kind_of}
 use Rattle.sub_queue.specs.declared.item.Lost.{Lost}
@@ -37,22 +37,22 @@ mark_asked found notification (Sent id) = map (mark_under id) (asked_by found no
 mark_asked found notification _ = []
 
 -- the mark of a send after a history, where it is answered ok and the subscription of this client and key lasts and asks for it
-abbrev pub mark_for : Setup → List Entry → (client key sender : ℕ) → Notification → List Lost
-mark_for setup past client key sender notification =
-    mark_asked (sub_for setup past client key) notification (reply_of setup past sender (NtfSend notification))
+abbrev pub mark_for : Setup → List Entry → (client key sender : ℕ) (now : ℤ) → Notification → List Lost
+mark_for setup past client key sender now notification =
+    mark_asked (sub_for setup past client key) notification (reply_of setup past sender now (NtfSend notification))
 
 -- the marks of the ok sends for which the subscription of this client and key asked while it lasted, in order
 abbrev pub sends_asked : Setup → List Entry → (client key : ℕ) → List Lost
 sends_asked setup [] client key = []
 sends_asked setup (Called sender seq now (NtfSend notification) ∷ past) client key =
-    sends_asked setup past client key ++ mark_for setup past client key sender notification
+    sends_asked setup past client key ++ mark_for setup past client key sender now notification
 sends_asked setup (_ ∷ past) client key = sends_asked setup past client key
 
 -- those of them that were dropped: as they came, its queue had no place
 abbrev pub sends_dropped : Setup → List Entry → (client key : ℕ) → List Lost
 sends_dropped setup [] client key = []
 sends_dropped setup (Called sender seq now (NtfSend notification) ∷ past) client key =
-    sends_dropped setup past client key ++ (if has_place_for setup past client key then [] else mark_for setup past client key sender notification)
+    sends_dropped setup past client key ++ (if has_place_for setup past client key then [] else mark_for setup past client key sender now notification)
 sends_dropped setup (_ ∷ past) client key = sends_dropped setup past client key
 
 -- marks stand in the order of their ids

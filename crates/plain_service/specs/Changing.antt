@@ -1,10 +1,12 @@
 -- Words of public clauses: what each entry of a history changes. A history is a list of entries, the newest first.
-use Rattle.std.specs.Prelude.{ℕ, ◌+◌, ℤ, List, [], ◌∷◌, Option, Some, None}
+use Rattle.std.specs.Prelude.{ℕ, ℤ, List, [], ◌∷◌, Option, Some, None}
 use Rattle.std.specs.List.{cons_option}
 use Rattle.std.specs.Prelude.{option_map}
 use Rattle.ais_values.specs.declared.status.Status.{Status}
 use Rattle.ais_values.specs.declared.status.Status.TheVariants as status
 use Rattle.ntf_types.specs.declared.notification.Notification.{Notification}
+use Rattle.stream_config.specs.declared.attrs.StreamAttrs.{StreamAttrs}
+use Rattle.stream_config.specs.declared.attrs.StreamName.{StreamName}
 use Rattle.calls.specs.declared.call.Call.{Call}
 use Rattle.calls.specs.declared.call.Call.TheVariants.{LogInit, LogOpen, LogWrite, LogClose, LogFini, NtfInit, NtfSend}
 use Rattle.calls.specs.declared.call.Call.TheVariants.{NtfSubscribe, NtfUnsubscribe, ReaderStart, ReaderRead, ReaderEnd, NtfFini}
@@ -16,43 +18,49 @@ use Rattle.log_history.specs.Changes.{LogChange}
 use Rattle.log_history.specs.Changes.{LogChange as log}
 use Rattle.log_history.specs.Answers.{making_of}
 use Rattle.log_history.specs.Times.{second_of, record_at}
-use Rattle.ntf_history.specs.Changes.{NtfChange, last_id}
+use Rattle.ntf_history.specs.Changes.{NtfChange}
 use Rattle.ntf_history.specs.Changes.{NtfChange as ntf}
 use Rattle.ntf_history.specs.Readers.{ReaderChange, reader_of}
 use Rattle.ntf_history.specs.Readers.{ReaderChange as reading}
 use Rattle.ntf_history.specs.Rows.{start_by, read_by}
 use Rattle.plain_service.specs.Setups.{Setup, log_setup}
 use Rattle.plain_service.specs.Pasts.{Past, no_past}
-use Rattle.plain_service.specs.Alarms.{accepted_as, stream_for, record_for, taken_by, alarms_stored}
+use Rattle.plain_service.specs.Alarms.{accepted_notification, stream_for, record_for, taken_by, alarms_stored}
 use Rattle.plain_service.specs.Answers.{status_of}
 
--- the notification of a send that is accepted at a moment: it has the next id
-abbrev pub accepted_notification : Past → (now : ℤ) → Notification → Notification
-accepted_notification past now notification = accepted_as (last_id past.ntf + 1) now notification
-
--- what an ok call changes in the Log Service; a send stores its notification's record
-abbrev pub log_change : Setup → Past → (client : ℕ) (now : ℤ) → Call → Option LogChange
-log_change setup past client now LogInit = Some (log.Began client)
-log_change setup past client now (LogOpen name create) =
-    Some (log.Opened client name (making_of (log_setup setup) past.log name create) (second_of now))
-log_change setup past client now (LogWrite name invocation flags time header body) =
+-- what an ok call changes in the Log Service, by what an open makes and how a notification is accepted; a send stores its notification's
+-- record
+abbrev pub log_change_with : (making : StreamName → Option StreamAttrs → Option StreamAttrs) (accepting : ℤ → Notification → Notification) (client : ℕ) (now : ℤ) → Call → Option LogChange
+log_change_with making accepting client now LogInit = Some (log.Began client)
+log_change_with making accepting client now (LogOpen name create) =
+    Some (log.Opened client name (making name create) (second_of now))
+log_change_with making accepting client now (LogWrite name invocation flags time header body) =
     Some (log.Stored name (record_at time header body now) (second_of now))
-log_change setup past client now (LogClose name) = Some (log.Closed client name (second_of now))
-log_change setup past client now LogFini = Some (log.Ended client (second_of now))
-log_change setup past client now (NtfSend notification) =
-    Some (log.Stored (stream_for notification.body) (record_for now (accepted_notification past now notification)) (second_of now))
-log_change setup past client now _ = None
+log_change_with making accepting client now (LogClose name) = Some (log.Closed client name (second_of now))
+log_change_with making accepting client now LogFini = Some (log.Ended client (second_of now))
+log_change_with making accepting client now (NtfSend notification) =
+    Some (log.Stored (stream_for notification.body) (record_for now (accepting now notification)) (second_of now))
+log_change_with making accepting client now _ = None
 
--- what an ok call changes in the Notification Service; the number of a call that subscribes is the subscription's key
-abbrev pub ntf_change : Setup → Past → (client seq : ℕ) (now : ℤ) → Call → Option NtfChange
-ntf_change setup past client seq now NtfInit = Some (ntf.Began client)
-ntf_change setup past client seq now (NtfSend notification) =
-    Some (ntf.Sent (accepted_notification past now notification) (taken_by (log_setup setup) past.log (stream_for notification.body)))
-ntf_change setup past client seq now (NtfSubscribe id filters) =
+abbrev pub log_change : Setup → Past → (client : ℕ) (now : ℤ) → Call → Option LogChange
+log_change setup past client now call =
+    log_change_with (making_of (log_setup setup) past.log) (accepted_notification past) client now call
+
+-- what an ok call changes in the Notification Service, by how many records a stream has taken; the number of a call that subscribes is the
+-- subscription's key
+abbrev pub ntf_change_with : (accepting : ℤ → Notification → Notification) (taken : StreamName → ℕ) (client seq : ℕ) (now : ℤ) → Call → Option NtfChange
+ntf_change_with accepting taken client seq now NtfInit = Some (ntf.Began client)
+ntf_change_with accepting taken client seq now (NtfSend notification) =
+    Some (ntf.Sent (accepting now notification) (taken (stream_for notification.body)))
+ntf_change_with accepting taken client seq now (NtfSubscribe id filters) =
     Some (ntf.Subscribed (record { client = client; key = seq; id = id; filters = filters }))
-ntf_change setup past client seq now (NtfUnsubscribe id) = Some (ntf.Unsubscribed client id)
-ntf_change setup past client seq now NtfFini = Some (ntf.Ended client)
-ntf_change setup past client seq now _ = None
+ntf_change_with accepting taken client seq now (NtfUnsubscribe id) = Some (ntf.Unsubscribed client id)
+ntf_change_with accepting taken client seq now NtfFini = Some (ntf.Ended client)
+ntf_change_with accepting taken client seq now _ = None
+
+abbrev pub ntf_change : Setup → Past → (client seq : ℕ) (now : ℤ) → Call → Option NtfChange
+ntf_change setup past client seq now call =
+    ntf_change_with (accepted_notification past) (taken_by (log_setup setup) past.log) client seq now call
 
 -- what an ok call changes of the client's reader
 abbrev pub reader_change : Setup → Past → (client : ℕ) → Call → Option ReaderChange
@@ -80,7 +88,7 @@ past_after setup past client seq now call answered = record {
 -- all that happened, with a call
 abbrev pub past_with : Setup → Past → (client seq : ℕ) (now : ℤ) → Call → Past
 past_with setup past client seq now call =
-    past_after setup past client seq now call (status_of setup past client call)
+    past_after setup past client seq now call (status_of setup past client now call)
 
 -- all that happened, with a receipt; one that is not new changes nothing
 abbrev pub past_received : Past → (client key through : ℕ) → Past

@@ -10,8 +10,7 @@ use Rattle.stream_config.specs.declared.state.StreamState.{StreamState}
 use Rattle.stream_config.specs.Attributes.{kind_of, PassesAttrs}
 use Rattle.stream_config.specs.AttributeTests.{have_one_place}
 use Rattle.stream_config.specs.Equality.{same_name}
-use Rattle.stream_config.specs.Fit.{stamps_of, HasFitFiles}
-use Rattle.stream_config.specs.Sizes.{records_per_file}
+use Rattle.stream_config.specs.Fit.{stamps_of, HasFitFiles, first_standing}
 use Rattle.ntf_types.specs.Sound.{IsSound}
 use Rattle.ntf_filters.specs.Fit as filters
 use Rattle.sub_queue.specs.Queue.{IsCapacity}
@@ -27,7 +26,6 @@ use Rattle.log_history.specs.Names.{is_application}
 use Rattle.log_history.specs.Stamps.{IsStampUpTo}
 use Rattle.ntf_history.specs.Rows.{asks_for_alarms}
 use Rattle.ntf_history.specs.Subscriptions.{key_first}
-use Rattle.plain_service.specs.Alarms.{first_in}
 use Rattle.plain_service.specs.Legal.{IsClient}
 
 -- clients, rising strictly
@@ -92,7 +90,7 @@ pub record HasFitStamp (saved : Saved) : Type 0 where
 
 -- the record of this number stands in the files of a stream
 pub record IsStanding (state : StreamState) (number : ℕ) : Type 0 where
-  pub from : first_in state.attrs.action (records_per_file state.attrs) state.attrs.rotated state.taken ≤ number
+  pub from : first_standing state ≤ number
   pub below : number < state.taken
 
 -- an alarm or security alarm that was sent, and whose record stands in the alarm stream, which is the first

@@ -34,7 +34,7 @@ ntf_table setup past = table_of setup.capacity (past_of setup past).ntf
 abbrev pub ntf_table_after : Setup → (client seq : ℕ) (now : ℤ) → Call → (past : List Entry) → NtfTable
 ntf_table_after setup client seq now call past =
     option_map_or (λ change. after_change change (ntf_table setup past))
-    (if_ok (status_of setup (past_of setup past) client call) (ntf_change setup (past_of setup past) client seq now call))
+    (if_ok (status_of setup (past_of setup past) client now call) (ntf_change setup (past_of setup past) client seq now call))
     (ntf_table setup past)
 
 -- the number through which a subscription has receipts stands, or the entry is a receipt that moves it there
@@ -51,7 +51,7 @@ DeedsGiveFiles setup entry past =
 -- where a call was answered as one that stored a record, this longer history has it
 abbrev pub KeepsStored : Setup → (later : List Entry) → (client seq : ℕ) (now : ℤ) → Call → (past : List Entry) → Type 0
 KeepsStored setup later client seq now call past =
-    is_stored call (reply_of setup past client call) ≡ true →
+    is_stored call (reply_of setup past client now call) ≡ true →
     (stored : StoredRecord) × (record_of setup (later ++ Called client seq now call ∷ past) client seq ≡ Some stored)
 
 -- each record of the one history is the same call's in the other

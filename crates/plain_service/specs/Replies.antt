@@ -1,5 +1,5 @@
 -- Words of public clauses: replies, and what is kept of the calls of each client.
-use Rattle.std.specs.Prelude.{◌≡◌, ⊤, ◌++◌, ℕ, ◌+◌, nat_lt, ◌==◌, if◌then◌else◌, List, [], ◌∷◌, length, take, reverse, map, Option, Some, None}
+use Rattle.std.specs.Prelude.{◌≡◌, ⊤, ◌++◌, ℕ, ◌+◌, ℤ, nat_lt, ◌==◌, if◌then◌else◌, List, [], ◌∷◌, length, take, reverse, map, Option, Some, None}
 use Rattle.client_set.specs.Rising.{put}
 use Rattle.ais_values.specs.declared.status.Status.{Status}
 use Rattle.ais_values.specs.declared.status.Status.TheVariants as status
@@ -37,13 +37,13 @@ abbrev pub reply_by : Status → Reply → Reply
 reply_by status.Ok told = told
 reply_by refusal told = Refused refusal
 
--- the reply to a client's call after all that happened
-abbrev pub reply_after : Setup → Past → (client : ℕ) → Call → Reply
-reply_after setup past client call = reply_by (status_of setup past client call) (ok_reply setup past client call)
+-- the reply to a client's call, accepted at a moment after all that happened
+abbrev pub reply_after : Setup → Past → (client : ℕ) (now : ℤ) → Call → Reply
+reply_after setup past client now call = reply_by (status_of setup past client now call) (ok_reply setup past client call)
 
--- the reply to a client's call after a history
-unfoldable pub reply_of : Setup → List Entry → (client : ℕ) → Call → Reply
-reply_of setup past client call = reply_after setup (past_of setup past) client call
+-- the reply to a client's call, accepted at a moment after a history
+unfoldable pub reply_of : Setup → List Entry → (client : ℕ) (now : ℤ) → Call → Reply
+reply_of setup past client now call = reply_after setup (past_of setup past) client now call
 
 -- the client's calls, the newest first
 abbrev pub calls_of : ℕ → List Entry → List Call
@@ -60,7 +60,7 @@ next_number client past = length (calls_of client past) + 1
 abbrev pub replies_to : Setup → ℕ → List Entry → List Reply
 replies_to setup client [] = []
 replies_to setup client (Called caller seq now call ∷ past) =
-    if caller == client then reply_of setup past caller call ∷ replies_to setup client past else replies_to setup client past
+    if caller == client then reply_of setup past caller now call ∷ replies_to setup client past else replies_to setup client past
 replies_to setup client (Receipted caller key through now ∷ past) = replies_to setup client past
 
 -- the clients that made a call, rising
@@ -87,7 +87,7 @@ id_told _ ids = ids
 
 abbrev pub ids_told : Setup → List Entry → List ℕ
 ids_told setup [] = []
-ids_told setup (Called client seq now call ∷ past) = id_told (reply_of setup past client call) (ids_told setup past)
+ids_told setup (Called client seq now call ∷ past) = id_told (reply_of setup past client now call) (ids_told setup past)
 ids_told setup (Receipted client key through now ∷ past) = ids_told setup past
 
 -- ids count 1, 2, 3 and so on, the last one first

@@ -22,7 +22,7 @@ files_of setup past = disk_files (log_setup setup) (past_of setup past).log
 -- what an entry changes in the Log Service
 abbrev pub log_change_by : Setup → Past → Entry → Option LogChange
 log_change_by setup past (Called client seq now call) =
-    if_ok (status_of setup past client call) (log_change setup past client now call)
+    if_ok (status_of setup past client now call) (log_change setup past client now call)
 log_change_by setup past (Receipted client key through now) = None
 
 -- what an entry does to streams, in order

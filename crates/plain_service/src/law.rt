@@ -32,23 +32,24 @@ pub fn law_of_replies()
         EndsIn (replies_to setup client (later ++ past)) (replies_to setup client past) }
     ensures own { (setup : Setup) (client seq : ℕ) (now : ℤ) (call : CallOf) (past : List EntryOf) →
         replies_to setup client (Called client seq now call ∷ past)
-        ≡ reply_of setup past client call ∷ replies_to setup client past }
+        ≡ reply_of setup past client now call ∷ replies_to setup client past }
     ensures count { (setup : Setup) (client : ℕ) (past : List EntryOf) →
         length (replies_to setup client past) ≡ length (calls_of client past) }
-    ensures refused { (setup : Setup) (past : List EntryOf) (client : ℕ) (call : CallOf) →
-        let answered = status_of setup (past_of setup past) client call in
-        answered ≢ status.Ok → reply_of setup past client call ≡ Refused answered }
-    ensures told { (setup : Setup) (past : List EntryOf) (client : ℕ) (call : CallOf) →
-        status_of setup (past_of setup past) client call ≡ status.Ok →
-        reply_of setup past client call ≡ ok_reply setup (past_of setup past) client call }
+    ensures refused { (setup : Setup) (past : List EntryOf) (client : ℕ) (now : ℤ) (call : CallOf) →
+        let answered = status_of setup (past_of setup past) client now call in
+        answered ≢ status.Ok → reply_of setup past client now call ≡ Refused answered }
+    ensures told { (setup : Setup) (past : List EntryOf) (client : ℕ) (now : ℤ) (call : CallOf) →
+        status_of setup (past_of setup past) client now call ≡ status.Ok →
+        reply_of setup past client now call ≡ ok_reply setup (past_of setup past) client call }
 {}
 
 /// The ids that sends are told are 1, 2, 3 and so on: the next is one above the count of those
 /// told.
 pub fn law_of_ids()
     ensures counted { (setup : Setup) (past : List EntryOf) → AreCounted (ids_told setup past) }
-    ensures next { (setup : Setup) (past : List EntryOf) (client : ℕ) (call : CallOf) (id : ℕ) →
-        reply_of setup past client call ≡ Sent id → id ≡ length (ids_told setup past) + 1 }
+    ensures next { (setup : Setup) (past : List EntryOf) (client : ℕ) (now : ℤ) (call : CallOf)
+        (id : ℕ) →
+        reply_of setup past client now call ≡ Sent id → id ≡ length (ids_told setup past) + 1 }
 {}
 
 /// Items that were made stay made, in order. An item is held exactly where it was made, under its

@@ -9,7 +9,7 @@ returns c = record {
   stand = replies-stand;
   own = replies-own;
   count = length-replies;
-  refused = λ setup past client call refused.
-      reply-refused setup past client call (status_of setup (past_of setup past) client call) refused refl;
+  refused = λ setup past client now call refused.
+      reply-refused setup past client now call (status_of setup (past_of setup past) client now call) refused refl;
   told = reply-ok;
 }
