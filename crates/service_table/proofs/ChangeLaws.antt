@@ -11,8 +11,8 @@ use Rattle.log_history.proofs.KeptLaws as kept
 use Rattle.ntf_history.specs.Changes.{NtfChange as ntf}
 use Rattle.plain_service.specs.Setups.{Setup, log_setup}
 use Rattle.plain_service.specs.Pasts.{Past}
-use Rattle.plain_service.specs.Alarms.{stream_for}
-use Rattle.plain_service.specs.Changing.{accepted_notification, log_change, ntf_change}
+use Rattle.plain_service.specs.Alarms.{accepted_notification, stream_for}
+use Rattle.plain_service.specs.Changing.{log_change, ntf_change}
 use Rattle.service_table.specs.Steps.{log_change_in, ntf_change_in}
 use Rattle.service_table.specs.Histories.{table_with}
 use Rattle.service_table.proofs.StatusLaws.{taken-kept}

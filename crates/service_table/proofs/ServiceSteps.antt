@@ -53,21 +53,21 @@ same_parts number number' log log' ntf ntf' alarms alarms' readings readings' wi
     ∙ ap (λ x. of_parts number' log' ntf' alarms' readings' x) f
 
 module _ (setup : Setup) (entries : List Entry) (history : IsHistory setup entries) where
-  pub reply-is : (client : ℕ) (call : Call) → reply_in (service_of setup entries) client call ≡ reply_of setup entries client call
+  pub reply-is : (client : ℕ) (now : ℤ) (call : Call) → reply_in (service_of setup entries) client now call ≡ reply_of setup entries client now call
   unfolding service_of reply_of
-  reply-is client call = reply-with setup entries (past_of setup entries) (possible setup entries history).log client call
+  reply-is client now call = reply-with setup entries (past_of setup entries) (possible setup entries history).log client now call
 
-  log-changed : (client : ℕ) (now : ℤ) (call : Call) → if_ok (status_in (table_with setup entries (past_of setup entries)) client call) (log_change_in (table_with setup entries (past_of setup entries)) client now call) ≡ if_ok (status_of setup (past_of setup entries) client call) (log_change setup (past_of setup entries) client now call)
+  log-changed : (client : ℕ) (now : ℤ) (call : Call) → if_ok (status_in (table_with setup entries (past_of setup entries)) client now call) (log_change_in (table_with setup entries (past_of setup entries)) client now call) ≡ if_ok (status_of setup (past_of setup entries) client now call) (log_change setup (past_of setup entries) client now call)
   log-changed client now call =
       let past = past_of setup entries in
-      ap (λ status. if_ok status (log_change_in (table_with setup entries past) client now call)) (status-with setup entries past (possible setup entries history).log client call)
-      ∙ ap (if_ok (status_of setup past client call)) (log-change setup entries past client now call)
+      ap (λ status. if_ok status (log_change_in (table_with setup entries past) client now call)) (status-with setup entries past (possible setup entries history).log client now call)
+      ∙ ap (if_ok (status_of setup past client now call)) (log-change setup entries past client now call)
 
-  ntf-changed : (client seq : ℕ) (now : ℤ) (call : Call) → if_ok (status_in (table_with setup entries (past_of setup entries)) client call) (ntf_change_in (table_with setup entries (past_of setup entries)) client seq now call) ≡ if_ok (status_of setup (past_of setup entries) client call) (ntf_change setup (past_of setup entries) client seq now call)
+  ntf-changed : (client seq : ℕ) (now : ℤ) (call : Call) → if_ok (status_in (table_with setup entries (past_of setup entries)) client now call) (ntf_change_in (table_with setup entries (past_of setup entries)) client seq now call) ≡ if_ok (status_of setup (past_of setup entries) client now call) (ntf_change setup (past_of setup entries) client seq now call)
   ntf-changed client seq now call =
       let past = past_of setup entries in
-      ap (λ status. if_ok status (ntf_change_in (table_with setup entries past) client seq now call)) (status-with setup entries past (possible setup entries history).log client call)
-      ∙ ap (if_ok (status_of setup past client call)) (ntf-change setup entries past client seq now call)
+      ap (λ status. if_ok status (ntf_change_in (table_with setup entries past) client seq now call)) (status-with setup entries past (possible setup entries history).log client now call)
+      ∙ ap (if_ok (status_of setup past client now call)) (ntf-change setup entries past client seq now call)
 
   -- what an entry does to streams
   pub events-is : (client seq : ℕ) (now : ℤ) (call : Call) → events_in (service_of setup entries) client now call ≡ events_by setup (past_of setup entries) (Called client seq now call)
@@ -88,25 +88,25 @@ call-step setup client seq now call entries history =
     let past = past_of setup entries in
     let later = past_of setup (Called client seq now call ∷ entries) in
     let kept = table_with setup entries past in
-    let status = status_of setup past client call in
-    let old = status-with setup entries past (possible setup entries history.1).log client call in
+    let status = status_of setup past client now call in
+    let old = status-with setup entries past (possible setup entries history.1).log client now call in
     let changing = log-changed setup entries history.1 client now call in
     let sending = ntf-changed setup entries history.1 client seq now call in
-    let log_is : table (log_setup setup) later.log ≡ logged (if_ok (status_in kept client call) (log_change_in kept client now call)) kept.log =
+    let log_is : table (log_setup setup) later.log ≡ logged (if_ok (status_in kept client now call) (log_change_in kept client now call)) kept.log =
     log-step setup (Called client seq now call) entries history ∙ ap (λ change. logged change kept.log) (sym changing) in
-    let ntf_is : table_of setup.capacity later.ntf ≡ notified (if_ok (status_in kept client call) (ntf_change_in kept client seq now call)) kept.ntf =
+    let ntf_is : table_of setup.capacity later.ntf ≡ notified (if_ok (status_in kept client now call) (ntf_change_in kept client seq now call)) kept.ntf =
     ntf-step setup client seq now call entries history ∙ ap (λ change. notified change kept.ntf) (sym sending) in
-    let alarms_are : alarms_stored setup later ≡ alarms_after (if_ok (status_in kept client call) (log_change_in kept client now call)) (if_ok (status_in kept client call) (ntf_change_in kept client seq now call)) (logged (if_ok (status_in kept client call) (log_change_in kept client now call)) kept.log).streams kept.alarms =
-    alarms-called setup past client seq now call status
+    let alarms_are : alarms_stored setup later ≡ alarms_after (if_ok (status_in kept client now call) (log_change_in kept client now call)) (if_ok (status_in kept client now call) (ntf_change_in kept client seq now call)) (logged (if_ok (status_in kept client now call) (log_change_in kept client now call)) kept.log).streams kept.alarms =
+    alarms-called setup past client seq now call status (possible setup entries history.1).log
     ∙ ap (λ change. alarms_after change (if_ok status (ntf_change setup past client seq now call)) (table (log_setup setup) later.log).streams kept.alarms) (sym changing)
-    ∙ ap (λ change. alarms_after (if_ok (status_in kept client call) (log_change_in kept client now call)) change (table (log_setup setup) later.log).streams kept.alarms) (sym sending)
-    ∙ ap (λ (log : LogTable). alarms_after (if_ok (status_in kept client call) (log_change_in kept client now call)) (if_ok (status_in kept client call) (ntf_change_in kept client seq now call)) log.streams kept.alarms) log_is in
-    let readers_are : map saved_reader (readers later.readings) ≡ where_ok (status_in kept client call) (readers_after kept.alarms client call kept.readers) kept.readers =
+    ∙ ap (λ change. alarms_after (if_ok (status_in kept client now call) (log_change_in kept client now call)) change (table (log_setup setup) later.log).streams kept.alarms) (sym sending)
+    ∙ ap (λ (log : LogTable). alarms_after (if_ok (status_in kept client now call) (log_change_in kept client now call)) (if_ok (status_in kept client now call) (ntf_change_in kept client seq now call)) log.streams kept.alarms) log_is in
+    let readers_are : map saved_reader (readers later.readings) ≡ where_ok (status_in kept client now call) (readers_after kept.alarms client call kept.readers) kept.readers =
     readers-called setup past client call status
     ∙ ap (λ s. where_ok s (readers_after kept.alarms client call kept.readers) kept.readers) (sym old) in
-    let windows_are : map (caller_of setup (Called client seq now call ∷ entries)) (callers (Called client seq now call ∷ entries)) ≡ answered client (reply_in kept client call) kept.windows =
+    let windows_are : map (caller_of setup (Called client seq now call ∷ entries)) (callers (Called client seq now call ∷ entries)) ≡ answered client (reply_in kept client now call) kept.windows =
     windows-called setup client seq now call entries
-    ∙ ap (λ reply. answered client reply kept.windows) (sym (reply-with setup entries past (possible setup entries history.1).log client call)) in
+    ∙ ap (λ reply. answered client reply kept.windows) (sym (reply-with setup entries past (possible setup entries history.1).log client now call)) in
     let number_is : length (Called client seq now call ∷ entries) ≡ length entries + 1 = omega arith in
     same_parts _ _ _ _ _ _ _ _ _ _ _ _ number_is log_is ntf_is alarms_are readers_are windows_are
 

@@ -28,7 +28,7 @@ use Rattle.ntf_history.proofs.ReaderLaws.{find-reader}
 use Rattle.ntf_service.proofs.HistoryLaws as service
 use Rattle.plain_service.specs.Setups.{Setup, log_setup}
 use Rattle.plain_service.specs.Pasts.{Past}
-use Rattle.plain_service.specs.Alarms.{stream_for, alarms_stored, taken_by}
+use Rattle.plain_service.specs.Alarms.{accepted_notification, stream_for, record_for, alarms_stored, taken_by}
 use Rattle.plain_service.specs.Answers.{status_of}
 use Rattle.plain_service.specs.Replies.{found_reply, reply_by, ok_reply, reply_after}
 use Rattle.plain_service.specs.Values.{saved_reader}
@@ -69,49 +69,50 @@ module _ (setup : Setup) (entries : List Entry) (past : Past) where
         | Some stream ↦ refl
       ]
 
-  send-status : (client : ℕ) (notification : Notification) → status_in (table_with setup entries past) client (NtfSend notification) ≡ status_of setup past client (NtfSend notification)
-  send-status client notification =
-      let full = is_filled (table (log_setup setup) past.log).streams (stream_for notification.body) in
+  send-status : IsLogHistory (log_setup setup) past.log → (client : ℕ) (now : ℤ) (notification : Notification) → status_in (table_with setup entries past) client now (NtfSend notification) ≡ status_of setup past client now (NtfSend notification)
+  send-status legal client now notification =
+      let rec = record_for now (accepted_notification past now notification) in
+      let full = is_filled (table (log_setup setup) past.log).streams (stream_for notification.body) rec in
       ap (λ using. answer (send_by using (is_sound notification) full)) (has-users past.ntf client)
-      ∙ ap (λ filled. answer (send_by (ntf.is_using past.ntf client) (is_sound notification) filled)) (kept.is-filled (log_setup setup) past.log (stream_for notification.body))
+      ∙ ap (λ filled. answer (send_by (ntf.is_using past.ntf client) (is_sound notification) filled)) (kept.is-filled (log_setup setup) past.log legal (stream_for notification.body) rec)
 
-  start-status : (client code : ℕ) (value : ℤ) (filters : FilterSet) → status_in (table_with setup entries past) client (ReaderStart code value filters) ≡ status_of setup past client (ReaderStart code value filters)
-  start-status client code value filters =
+  start-status : (client code : ℕ) (now value : ℤ) (filters : FilterSet) → status_in (table_with setup entries past) client now (ReaderStart code value filters) ≡ status_of setup past client now (ReaderStart code value filters)
+  start-status client code now value filters =
       let kept_ones = map saved_reader (readers past.readings) in
       let found = is_none (start_by (mode_of code) value filters (alarms_stored setup past)) in
       ap (λ using. answer (start_rows_by using (is_some (reader_for client kept_ones)) (nat_le 16 (length kept_ones)) found code value filters)) (has-users past.ntf client)
       ∙ ap (λ has_one. answer (start_rows_by (ntf.is_using past.ntf client) has_one (nat_le 16 (length kept_ones)) found code value filters)) (ap is_some (kept-reader past.readings client) ∙ some-mapped (reader_of past.readings client))
       ∙ ap (λ count. answer (start_rows_by (ntf.is_using past.ntf client) (is_some (reader_of past.readings client)) (nat_le 16 count) found code value filters)) (length-map (readers past.readings) saved_reader)
 
-  read-status : (client code : ℕ) → status_in (table_with setup entries past) client (ReaderRead code) ≡ status_of setup past client (ReaderRead code)
-  read-status client code =
+  read-status : (client code : ℕ) (now : ℤ) → status_in (table_with setup entries past) client now (ReaderRead code) ≡ status_of setup past client now (ReaderRead code)
+  read-status client code now =
       let kept_ones = map saved_reader (readers past.readings) in
       let stored = alarms_stored setup past in
       ap (λ using. answer (read_rows_by using (is_none (reader_for client kept_ones)) (is_none (read_in (reader_for client kept_ones) code stored)) code)) (has-users past.ntf client)
       ∙ ap (λ missing. answer (read_rows_by (ntf.is_using past.ntf client) missing (is_none (read_in (reader_for client kept_ones) code stored)) code)) (ap is_none (kept-reader past.readings client) ∙ none-mapped (reader_of past.readings client))
       ∙ ap (λ found. answer (read_rows_by (ntf.is_using past.ntf client) (is_none (reader_of past.readings client)) (is_none found) code)) (read-kept past.readings client code stored)
 
-  stop-status : (client : ℕ) → status_in (table_with setup entries past) client ReaderEnd ≡ status_of setup past client ReaderEnd
-  stop-status client =
+  stop-status : (client : ℕ) (now : ℤ) → status_in (table_with setup entries past) client now ReaderEnd ≡ status_of setup past client now ReaderEnd
+  stop-status client now =
       ap (λ using. answer (stop_rows_by using (is_none (reader_for client (map saved_reader (readers past.readings)))))) (has-users past.ntf client)
       ∙ ap (λ missing. answer (stop_rows_by (ntf.is_using past.ntf client) missing)) (ap is_none (kept-reader past.readings client) ∙ none-mapped (reader_of past.readings client))
 
   -- **the statuses**
-  pub status-with : IsLogHistory (log_setup setup) past.log → (client : ℕ) (call : Call) → status_in (table_with setup entries past) client call ≡ status_of setup past client call
-  status-with legal client LogInit = kept.begin-status (log_setup setup) past.log client
-  status-with legal client (LogOpen name create) = kept.open-status (log_setup setup) past.log client name create
-  status-with legal client (LogWrite name invocation flags time header body) =
-      kept.write-status (log_setup setup) past.log legal client name flags time header
-  status-with legal client (LogClose name) = kept.close-status (log_setup setup) past.log legal client name
-  status-with legal client LogFini = kept.end-status (log_setup setup) past.log client
-  status-with legal client NtfInit = service.begin-rows setup.capacity past.ntf client
-  status-with legal client (NtfSend notification) = send-status client notification
-  status-with legal client (NtfSubscribe id filters) = service.subscribe-rows setup.capacity past.ntf client id filters
-  status-with legal client (NtfUnsubscribe id) = service.unsubscribe-rows setup.capacity past.ntf client id
-  status-with legal client (ReaderStart mode value filters) = start-status client mode value filters
-  status-with legal client (ReaderRead direction) = read-status client direction
-  status-with legal client ReaderEnd = stop-status client
-  status-with legal client NtfFini = service.end-rows setup.capacity past.ntf client
+  pub status-with : IsLogHistory (log_setup setup) past.log → (client : ℕ) (now : ℤ) (call : Call) → status_in (table_with setup entries past) client now call ≡ status_of setup past client now call
+  status-with legal client now LogInit = kept.begin-status (log_setup setup) past.log client
+  status-with legal client now (LogOpen name create) = kept.open-status (log_setup setup) past.log client name create
+  status-with legal client now (LogWrite name invocation flags time header body) =
+      kept.write-status (log_setup setup) past.log legal client name flags time header body now
+  status-with legal client now (LogClose name) = kept.close-status (log_setup setup) past.log legal client name
+  status-with legal client now LogFini = kept.end-status (log_setup setup) past.log client
+  status-with legal client now NtfInit = service.begin-rows setup.capacity past.ntf client
+  status-with legal client now (NtfSend notification) = send-status legal client now notification
+  status-with legal client now (NtfSubscribe id filters) = service.subscribe-rows setup.capacity past.ntf client id filters
+  status-with legal client now (NtfUnsubscribe id) = service.unsubscribe-rows setup.capacity past.ntf client id
+  status-with legal client now (ReaderStart mode value filters) = start-status client mode now value filters
+  status-with legal client now (ReaderRead direction) = read-status client direction now
+  status-with legal client now ReaderEnd = stop-status client now
+  status-with legal client now NtfFini = service.end-rows setup.capacity past.ntf client
 
   told-with : (client : ℕ) (call : Call) → told_in (table_with setup entries past) client call ≡ ok_reply setup past client call
   told-with client (ReaderRead direction) = ap found_reply (read-kept past.readings client direction (alarms_stored setup past))
@@ -129,7 +130,7 @@ module _ (setup : Setup) (entries : List Entry) (past : Past) where
   told-with client NtfFini = refl
 
   -- **the replies**
-  pub reply-with : IsLogHistory (log_setup setup) past.log → (client : ℕ) (call : Call) → reply_in (table_with setup entries past) client call ≡ reply_after setup past client call
-  reply-with legal client call =
-      ap (λ status. reply_by status (told_in (table_with setup entries past) client call)) (status-with legal client call)
-      ∙ ap (reply_by (status_of setup past client call)) (told-with client call)
+  pub reply-with : IsLogHistory (log_setup setup) past.log → (client : ℕ) (now : ℤ) (call : Call) → reply_in (table_with setup entries past) client now call ≡ reply_after setup past client now call
+  reply-with legal client now call =
+      ap (λ status. reply_by status (told_in (table_with setup entries past) client call)) (status-with legal client now call)
+      ∙ ap (reply_by (status_of setup past client now call)) (told-with client call)

@@ -43,7 +43,7 @@ unanswered setup client [] none = refl
 unanswered setup client (Called caller seq now call ∷ entries) none =
     let beside : (caller == client || has client (callers entries)) ≡ false = sym (has-put client caller (callers entries)) ∙ none in
     let rest = unanswered setup client entries (or_parts (caller == client) (has client (callers entries)) beside).1 in
-    ap (λ mine. cond mine (reply_of setup entries caller call ∷ replies_to setup client entries) (replies_to setup client entries)) (or_parts (caller == client) (has client (callers entries)) beside).0 ∙ rest
+    ap (λ mine. cond mine (reply_of setup entries caller now call ∷ replies_to setup client entries) (replies_to setup client entries)) (or_parts (caller == client) (has client (callers entries)) beside).0 ∙ rest
 unanswered setup client (Receipted caller key through now ∷ entries) none = unanswered setup client entries none
 
 pub window-kept : (setup : Setup) (client : ℕ) (entries : List Entry) → window_for client (map (caller_of setup entries) (callers entries)) ≡ window_of (replies_to setup client entries)
@@ -108,11 +108,11 @@ module _ (f g : ℕ → ClientWindow) (client : ℕ) (beside : (other : ℕ) →
             ∙ sym (tests (g other) (map g others) other (g_own other))
 
 -- **the windows after a call**
-pub windows-called : (setup : Setup) (client seq : ℕ) (now : ℤ) (call : Call) (entries : List Entry) → map (caller_of setup (Called client seq now call ∷ entries)) (callers (Called client seq now call ∷ entries)) ≡ answered client (reply_of setup entries client call) (map (caller_of setup entries) (callers entries))
+pub windows-called : (setup : Setup) (client seq : ℕ) (now : ℤ) (call : Call) (entries : List Entry) → map (caller_of setup (Called client seq now call ∷ entries)) (callers (Called client seq now call ∷ entries)) ≡ answered client (reply_of setup entries client now call) (map (caller_of setup entries) (callers entries))
 windows-called setup client seq now call entries =
     let now_of = caller_of setup (Called client seq now call ∷ entries) in
     let then_of = caller_of setup entries in
-    let reply = reply_of setup entries client call in
+    let reply = reply_of setup entries client now call in
     let own : now_of client ≡ client_window client (with_reply reply (window_for client (map then_of (callers entries)))) =
     ap (λ (all : List Reply). client_window client (window_of all)) (replies-own setup client seq now call entries)
     ∙ ap (client_window client) (sym (more-window reply (replies_to setup client entries)))

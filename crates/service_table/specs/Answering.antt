@@ -16,15 +16,21 @@ use Rattle.calls.specs.declared.saved.SavedReader.{SavedReader}
 use Rattle.log_history.specs.KeptAnswers.{is_filled, begin_status, open_status, write_status, close_status, end_status}
 use Rattle.ntf_history.specs.Rows.{answer, send_by, start_rows_by, read_rows_by, stop_rows_by, start_by, read_by}
 use Rattle.ntf_service.specs.State.{begin_answer, end_answer, subscribe_answer, unsubscribe_answer}
-use Rattle.plain_service.specs.Alarms.{stream_for}
+use Rattle.ntf_history.specs.Tables.{NtfTable}
+use Rattle.plain_service.specs.Alarms.{accepted_as, stream_for, record_for}
 use Rattle.plain_service.specs.Replies.{found_reply, reply_by}
 use Rattle.service_table.specs.Tables.{ServiceTable, kept_reader_of, reader_for}
 
 -- the answers of calls that touch more than one part
 
-abbrev pub send_status : ServiceTable → (client : ℕ) → Notification → Status
-send_status kept client notification =
-    answer (send_by (has client kept.ntf.users) (is_sound notification) (is_filled kept.log.streams (stream_for notification.body)))
+-- the notification of a send that is accepted at a moment
+abbrev pub accepted_in : NtfTable → (now : ℤ) → Notification → Notification
+accepted_in kept now notification = accepted_as (kept.last_id + 1) now notification
+
+abbrev pub send_status : ServiceTable → (client : ℕ) (now : ℤ) → Notification → Status
+send_status kept client now notification =
+    answer (send_by (has client kept.ntf.users) (is_sound notification)
+    (is_filled kept.log.streams (stream_for notification.body) (record_for now (accepted_in kept.ntf now notification))))
 
 -- a start by a client among these readers and stored alarms
 abbrev pub start_answer : (is_user : Bool) (client : ℕ) → List SavedReader → List KeptAlarm → (code : ℕ) (value : ℤ) → FilterSet → Status
@@ -44,23 +50,23 @@ read_answer is_user reader code stored = answer (read_rows_by is_user (is_none r
 abbrev pub stop_answer : (is_user : Bool) (client : ℕ) → List SavedReader → Status
 stop_answer is_user client readers = answer (stop_rows_by is_user (is_none (reader_for client readers)))
 
--- the status of a client's call
-abbrev pub status_in : ServiceTable → (client : ℕ) → Call → Status
-status_in kept client LogInit = begin_status kept.log client
-status_in kept client (LogOpen name create) = open_status kept.log client name create
-status_in kept client (LogWrite name invocation flags time header body) = write_status kept.log client name flags time header
-status_in kept client (LogClose name) = close_status kept.log client name
-status_in kept client LogFini = end_status kept.log client
-status_in kept client NtfInit = begin_answer client kept.ntf
-status_in kept client (NtfSend notification) = send_status kept client notification
-status_in kept client (NtfSubscribe id filters) = subscribe_answer client id filters kept.ntf
-status_in kept client (NtfUnsubscribe id) = unsubscribe_answer client id kept.ntf
-status_in kept client (ReaderStart mode value filters) =
+-- the status of a client's call that is accepted at a moment
+abbrev pub status_in : ServiceTable → (client : ℕ) (now : ℤ) → Call → Status
+status_in kept client now LogInit = begin_status kept.log client
+status_in kept client now (LogOpen name create) = open_status kept.log client name create
+status_in kept client now (LogWrite name invocation flags time header body) = write_status kept.log client name flags time header body now
+status_in kept client now (LogClose name) = close_status kept.log client name
+status_in kept client now LogFini = end_status kept.log client
+status_in kept client now NtfInit = begin_answer client kept.ntf
+status_in kept client now (NtfSend notification) = send_status kept client now notification
+status_in kept client now (NtfSubscribe id filters) = subscribe_answer client id filters kept.ntf
+status_in kept client now (NtfUnsubscribe id) = unsubscribe_answer client id kept.ntf
+status_in kept client now (ReaderStart mode value filters) =
     start_answer (has client kept.ntf.users) client kept.readers kept.alarms mode value filters
-status_in kept client (ReaderRead direction) =
+status_in kept client now (ReaderRead direction) =
     read_answer (has client kept.ntf.users) (reader_for client kept.readers) direction kept.alarms
-status_in kept client ReaderEnd = stop_answer (has client kept.ntf.users) client kept.readers
-status_in kept client NtfFini = end_answer client kept.ntf
+status_in kept client now ReaderEnd = stop_answer (has client kept.ntf.users) client kept.readers
+status_in kept client now NtfFini = end_answer client kept.ntf
 
 -- what an ok call is told
 abbrev pub told_in : ServiceTable → (client : ℕ) → Call → Reply
@@ -70,5 +76,5 @@ told_in kept client (ReaderRead direction) =
 told_in kept client _ = Done
 
 -- the reply to a client's call
-abbrev pub reply_in : ServiceTable → (client : ℕ) → Call → Reply
-reply_in kept client call = reply_by (status_in kept client call) (told_in kept client call)
+abbrev pub reply_in : ServiceTable → (client : ℕ) (now : ℤ) → Call → Reply
+reply_in kept client now call = reply_by (status_in kept client now call) (told_in kept client call)

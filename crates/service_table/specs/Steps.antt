@@ -8,20 +8,18 @@ use Rattle.ntf_filters.specs.declared.filter.FilterSet.{FilterSet}
 use Rattle.stream_config.specs.declared.attrs.StreamName.{StreamName}
 use Rattle.stream_config.specs.declared.attrs.StreamName.TheVariants as name
 use Rattle.stream_config.specs.declared.event.StreamEvent.{StreamEvent}
-use Rattle.stream_config.specs.Sizes.{records_per_file}
+use Rattle.stream_config.specs.Fit.{first_standing}
 use Rattle.client_set.specs.Rising.{put, without}
 use Rattle.client_window.specs.Windows.{Kept, window_of}
 use Rattle.alarm_view.specs.declared.alarm.KeptAlarm.{KeptAlarm}
 use Rattle.alarm_view.specs.Alarms.{kept_alarm, from_record}
 use Rattle.alarm_view.specs.Modes.{mode_of}
 use Rattle.calls.specs.declared.call.Call.{Call}
-use Rattle.calls.specs.declared.call.Call.TheVariants.{LogInit, LogOpen, LogWrite, LogClose, LogFini, NtfInit, NtfSend, NtfSubscribe, NtfUnsubscribe}
 use Rattle.calls.specs.declared.call.Call.TheVariants.{ReaderStart, ReaderRead, ReaderEnd, NtfFini}
 use Rattle.calls.specs.declared.reply.Reply.{Reply}
 use Rattle.calls.specs.declared.saved.SavedReader.{SavedReader}
 use Rattle.log_history.specs.Changes.{LogChange}
 use Rattle.log_history.specs.Changes.{LogChange as log}
-use Rattle.log_history.specs.Times.{second_of, record_at}
 use Rattle.log_history.specs.Table.{OpenStream, LogTable, table_after, events_of}
 use Rattle.log_history.specs.KeptAnswers.{kept_stream, making_in}
 use Rattle.ntf_history.specs.Changes.{NtfChange}
@@ -29,43 +27,22 @@ use Rattle.ntf_history.specs.Changes.{NtfChange as ntf}
 use Rattle.ntf_history.specs.StoredAlarms.{is_alarm}
 use Rattle.ntf_history.specs.Tables.{NtfTable, after_change, after_receipt}
 use Rattle.ntf_history.specs.Rows.{start_by}
-use Rattle.plain_service.specs.Alarms.{accepted_as, stream_for, record_for, first_in}
-use Rattle.plain_service.specs.Changing.{if_ok}
+use Rattle.plain_service.specs.Changing.{log_change_with, ntf_change_with, if_ok}
 use Rattle.service_table.specs.declared.caller.ClientWindow.{ClientWindow}
 use Rattle.service_table.specs.Tables.{ServiceTable, client_window, is_reader_for, reader_for, reader_before, is_window_for, window_before}
-use Rattle.service_table.specs.Answering.{read_in, status_in, reply_in}
+use Rattle.service_table.specs.Answering.{accepted_in, read_in, status_in, reply_in}
 
 -- how many records the stream of that name has taken
 abbrev pub taken_in : List OpenStream → StreamName → ℕ
 taken_in streams name = option_map_or (λ (stream : OpenStream). stream.state.taken) (kept_stream streams name) 0
 
--- the notification of a send that is accepted at a moment
-abbrev pub accepted_in : NtfTable → (now : ℤ) → Notification → Notification
-accepted_in kept now notification = accepted_as (kept.last_id + 1) now notification
-
 -- what an ok call changes in the Log Service
 abbrev pub log_change_in : ServiceTable → (client : ℕ) (now : ℤ) → Call → Option LogChange
-log_change_in kept client now LogInit = Some (log.Began client)
-log_change_in kept client now (LogOpen name create) =
-    Some (log.Opened client name (making_in kept.log.streams name create) (second_of now))
-log_change_in kept client now (LogWrite name invocation flags time header body) =
-    Some (log.Stored name (record_at time header body now) (second_of now))
-log_change_in kept client now (LogClose name) = Some (log.Closed client name (second_of now))
-log_change_in kept client now LogFini = Some (log.Ended client (second_of now))
-log_change_in kept client now (NtfSend notification) =
-    Some (log.Stored (stream_for notification.body) (record_for now (accepted_in kept.ntf now notification)) (second_of now))
-log_change_in kept client now _ = None
+log_change_in kept client now call = log_change_with (making_in kept.log.streams) (accepted_in kept.ntf) client now call
 
 -- what an ok call changes in the Notification Service
 abbrev pub ntf_change_in : ServiceTable → (client seq : ℕ) (now : ℤ) → Call → Option NtfChange
-ntf_change_in kept client seq now NtfInit = Some (ntf.Began client)
-ntf_change_in kept client seq now (NtfSend notification) =
-    Some (ntf.Sent (accepted_in kept.ntf now notification) (taken_in kept.log.streams (stream_for notification.body)))
-ntf_change_in kept client seq now (NtfSubscribe id filters) =
-    Some (ntf.Subscribed (record { client = client; key = seq; id = id; filters = filters }))
-ntf_change_in kept client seq now (NtfUnsubscribe id) = Some (ntf.Unsubscribed client id)
-ntf_change_in kept client seq now NtfFini = Some (ntf.Ended client)
-ntf_change_in kept client seq now _ = None
+ntf_change_in kept client seq now call = ntf_change_with (accepted_in kept.ntf) (taken_in kept.log.streams) client seq now call
 
 -- the tables after a change, if there is one
 
@@ -78,9 +55,7 @@ notified change kept = option_map_or (λ c. after_change c kept) change kept
 -- the number of the first record of the alarm stream that stands
 abbrev pub standing_from : List OpenStream → ℕ
 standing_from streams =
-    option_map_or
-    (λ (stream : OpenStream). first_in stream.state.attrs.action (records_per_file stream.state.attrs) stream.state.attrs.rotated stream.state.taken)
-    (kept_stream streams name.Alarm) 0
+    option_map_or (λ (stream : OpenStream). first_standing stream.state) (kept_stream streams name.Alarm) 0
 
 -- an alarm that is sent stands behind the others
 abbrev pub alarms_with : Option NtfChange → List KeptAlarm → List KeptAlarm
@@ -164,7 +139,7 @@ replied client reply kept = record {
 -- what is kept after a call
 abbrev pub after_call : ServiceTable → (client seq : ℕ) (now : ℤ) → Call → ServiceTable
 after_call kept client seq now call =
-    replied client (reply_in kept client call) (changed kept client seq now call (status_in kept client call))
+    replied client (reply_in kept client now call) (changed kept client seq now call (status_in kept client now call))
 
 -- what is kept after a receipt
 abbrev pub after_receipt_in : ServiceTable → (client key through : ℕ) → ServiceTable
@@ -180,4 +155,4 @@ after_receipt_in kept client key through = record {
 -- what a call does to streams, in order
 abbrev pub events_in : ServiceTable → (client : ℕ) (now : ℤ) → Call → List StreamEvent
 events_in kept client now call =
-    option_map_or (λ change. events_of change kept.log) (if_ok (status_in kept client call) (log_change_in kept client now call)) []
+    option_map_or (λ change. events_of change kept.log) (if_ok (status_in kept client now call) (log_change_in kept client now call)) []
