@@ -57,23 +57,23 @@ attrs_code =
     (λ p fits. record { file = fits.0; path = fits.1.0; max_file = fits.1.1.0; record_size = fits.1.1.1.0; ha = fits.1.1.1.1.0; action = fits.1.1.1.1.1.0; rotated = fits.1.1.1.1.1.1.0; expr = fits.1.1.1.1.1.1.1 })
     (λ x fits. ((x.file, (x.path, (x.max_file, (x.record_size, (x.ha, (x.action, (x.rotated, x.expr))))))), refl, (fits.file, (fits.path, (fits.max_file, (fits.record_size, (fits.ha, (fits.action, (fits.rotated, fits.expr)))))))))
 
--- a file of a stream, by its stamps
+-- a file of a stream
 pub log_file_code : Code log_file_at log_file_text LogFileFits
 unfolding log_file_at log_file_text
 log_file_code =
-    made_code log_file_of log_file_text LogFileFits (both_code signed_code (option_code signed_at signed_text IsSigned signed_code))
+    made_code log_file_of log_file_text LogFileFits (both_code signed_code (both_code (option_code signed_at signed_text IsSigned signed_code) (both_code (number_code 4) (number_code 8))))
     (λ p fits. refl)
-    (λ p fits. record { created = fits.0; closed = fits.1 })
-    (λ x fits. ((x.created, x.closed), refl, (fits.created, fits.closed)))
+    (λ p fits. record { created = fits.0; closed = fits.1.0; first = fits.1.1.0; bytes = fits.1.1.1 })
+    (λ x fits. ((x.created, (x.closed, (x.first, x.bytes))), refl, (fits.created, (fits.closed, (fits.first, fits.bytes)))))
 
 -- a stream as it stands
 pub stream_code : Code stream_at stream_text StreamFits
 unfolding stream_at stream_text
 stream_code =
-    made_code stream_of stream_text StreamFits (both_code stream_name_code (both_code attrs_code (both_code (number_code 4) (list_code log_file_at log_file_text LogFileFits log_file_code))))
+    made_code stream_of stream_text StreamFits (both_code stream_name_code (both_code attrs_code (both_code (number_code 4) (both_code (number_code 4) (list_code log_file_at log_file_text LogFileFits log_file_code)))))
     (λ p fits. refl)
-    (λ p fits. record { name = fits.0; attrs = fits.1.0; taken = fits.1.1.0; files = fits.1.1.1 })
-    (λ x fits. ((x.name, (x.attrs, (x.taken, x.files))), refl, (fits.name, (fits.attrs, (fits.taken, fits.files)))))
+    (λ p fits. record { name = fits.0; attrs = fits.1.0; taken = fits.1.1.0; opened = fits.1.1.1.0; files = fits.1.1.1.1 })
+    (λ x fits. ((x.name, (x.attrs, (x.taken, (x.opened, x.files)))), refl, (fits.name, (fits.attrs, (fits.taken, (fits.opened, fits.files))))))
 
 -- the header of a log record
 pub header_code : Code header_at header_text HeaderFits

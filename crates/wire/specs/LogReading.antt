@@ -48,19 +48,21 @@ attrs_at bytes =
     made attrs_of (both text_at (both text_at (both (number_at 8) (both (number_at 4) (both (number_at 1)
     (both action_at (both (number_at 4) text_at))))))) bytes
 
--- a file of a stream, by its stamps
-abbrev pub log_file_of : ℤ × Option ℤ → LogFile
-log_file_of p = record { created = p.0; closed = p.1 }
+-- a file of a stream
+abbrev pub log_file_of : ℤ × (Option ℤ × (ℕ × ℕ)) → LogFile
+log_file_of p = record { created = p.0; closed = p.1.0; first = p.1.1.0; bytes = p.1.1.1 }
 
 unfoldable pub log_file_at : At LogFile
-log_file_at bytes = made log_file_of (both signed_at (option_at signed_at)) bytes
+log_file_at bytes =
+    made log_file_of (both signed_at (both (option_at signed_at) (both (number_at 4) (number_at 8)))) bytes
 
 -- a stream as it stands
-abbrev pub stream_of : StreamName × (StreamAttrs × (ℕ × List LogFile)) → StreamState
-stream_of p = record { name = p.0; attrs = p.1.0; taken = p.1.1.0; files = p.1.1.1 }
+abbrev pub stream_of : StreamName × (StreamAttrs × (ℕ × (ℕ × List LogFile))) → StreamState
+stream_of p = record { name = p.0; attrs = p.1.0; taken = p.1.1.0; opened = p.1.1.1.0; files = p.1.1.1.1 }
 
 unfoldable pub stream_at : At StreamState
-stream_at bytes = made stream_of (both stream_name_at (both attrs_at (both (number_at 4) (list_at log_file_at)))) bytes
+stream_at bytes =
+    made stream_of (both stream_name_at (both attrs_at (both (number_at 4) (both (number_at 4) (list_at log_file_at))))) bytes
 
 -- the header of a log record
 unfoldable pub header_at : At Header

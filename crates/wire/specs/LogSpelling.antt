@@ -52,24 +52,28 @@ pub record AttrsFits (attrs : StreamAttrs) : Type 0 where
   pub rotated : IsNumber 4 attrs.rotated
   pub expr : IsText attrs.expr
 
--- a file of a stream, by its stamps
+-- a file of a stream: its stamps, the number of its first record, its length
 unfoldable pub log_file_text : LogFile → List ℕ
 log_file_text file =
-    signed_text file.created ++ option_text signed_text file.closed
+    signed_text file.created ++ (option_text signed_text file.closed ++ (number_text 4 file.first ++ number_text 8 file.bytes))
 
 pub record LogFileFits (file : LogFile) : Type 0 where
   pub created : IsSigned file.created
   pub closed : OptionFits IsSigned file.closed
+  pub first : IsNumber 4 file.first
+  pub bytes : IsNumber 8 file.bytes
 
 -- a stream as it stands
 unfoldable pub stream_text : StreamState → List ℕ
 stream_text stream =
-    stream_name_text stream.name ++ (attrs_text stream.attrs ++ (number_text 4 stream.taken ++ list_text log_file_text stream.files))
+    stream_name_text stream.name ++ (attrs_text stream.attrs ++ (number_text 4 stream.taken
+    ++ (number_text 4 stream.opened ++ list_text log_file_text stream.files)))
 
 pub record StreamFits (stream : StreamState) : Type 0 where
   pub name : StreamNameFits stream.name
   pub attrs : AttrsFits stream.attrs
   pub taken : IsNumber 4 stream.taken
+  pub opened : IsNumber 4 stream.opened
   pub files : ListFits LogFileFits stream.files
 
 -- the header of a log record

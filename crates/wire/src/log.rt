@@ -134,13 +134,21 @@ impl Wire for LogFile {
 
     #[tactic(auto, unfolding(crate::specs::LogSpelling::log_file_text))]
     fn spell(&self, out: &mut Vec<u8>) -> Result<(), AllocError> {
-        (&self.created, &self.closed).spell_parts(out)
+        (&self.created, (&self.closed, (&self.first, &self.bytes))).spell_parts(out)
     }
 
     #[tactic(auto, unfolding(crate::specs::LogReading::log_file_at))]
     fn read_front(alloc: Global, bytes: &[u8]) -> Result<(LogFile, &[u8]), Trouble> {
-        let ((created, closed), rest) = Wire::read_front(alloc, bytes)?;
-        Ok((LogFile { created, closed }, rest))
+        let ((created, (closed, (first, bytes))), rest) = Wire::read_front(alloc, bytes)?;
+        Ok((
+            LogFile {
+                created,
+                closed,
+                first,
+                bytes,
+            },
+            rest,
+        ))
     }
 }
 
@@ -156,17 +164,22 @@ impl Wire for StreamState {
 
     #[tactic(auto, unfolding(crate::specs::LogSpelling::stream_text))]
     fn spell(&self, out: &mut Vec<u8>) -> Result<(), AllocError> {
-        (&self.name, (&self.attrs, (&self.taken, &self.files))).spell_parts(out)
+        (
+            &self.name,
+            (&self.attrs, (&self.taken, (&self.opened, &self.files))),
+        )
+            .spell_parts(out)
     }
 
     #[tactic(auto, unfolding(crate::specs::LogReading::stream_at))]
     fn read_front(alloc: Global, bytes: &[u8]) -> Result<(StreamState, &[u8]), Trouble> {
-        let ((name, (attrs, (taken, files))), rest) = Wire::read_front(alloc, bytes)?;
+        let ((name, (attrs, (taken, (opened, files)))), rest) = Wire::read_front(alloc, bytes)?;
         Ok((
             StreamState {
                 name,
                 attrs,
                 taken,
+                opened,
                 files,
             },
             rest,
