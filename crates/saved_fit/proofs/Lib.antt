@@ -1,3 +1,4 @@
 pub mod RisingLaws
 pub mod FileLaws
+pub mod FillingLaws
 pub mod SubLaws

@@ -1,9 +1,6 @@
 -- Words of bodies alone: the files of a stream and their stamps, file by file.
-use Rattle.std.specs.Prelude.{◌≡◌, ◌≤◌, ℤ, int_lt, Bool, true, not, ◌&&◌, List, [], ◌∷◌, Option, Some, None, is_none}
-use Rattle.stream_config.specs.declared.attrs.FullAction.TheVariants.{Halt}
+use Rattle.std.specs.Prelude.{ℤ, int_lt, Bool, true, not, ◌&&◌, List, [], ◌∷◌, Option, Some, None, is_none}
 use Rattle.stream_config.specs.declared.state.LogFile.{LogFile}
-use Rattle.stream_config.specs.declared.state.StreamState.{StreamState}
-use Rattle.stream_config.specs.Sizes.{records_per_file}
 use Rattle.log_history.specs.Stamps.{IsStampUpTo}
 
 -- a stamp is behind the last one, if there is one
@@ -35,10 +32,6 @@ files_rise last (file ∷ files) = is_behind last file && files_rise (Some (last
 abbrev pub open_last : Bool → List LogFile → Bool
 open_last before [] = before
 open_last before (file ∷ files) = not before && open_last (is_none file.closed) files
-
--- a stream that halts holds no more records than its file
-abbrev pub IsWithinBound : StreamState → Type 0
-IsWithinBound state = state.attrs.action ≡ Halt → state.taken ≤ records_per_file state.attrs
 
 abbrev pub HasStampsBy : (last created : ℤ) → Option ℤ → Type 0
 HasStampsBy last created None = IsStampUpTo last created

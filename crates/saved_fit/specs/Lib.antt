@@ -1,4 +1,5 @@
 pub mod Rising
 pub mod Files
+pub mod Filling
 pub mod Streams
 pub mod Asking

@@ -3,20 +3,29 @@ ghost use Rattle.std.specs.Prelude.{◌≡◌, ◌↔◌, IsTrue, MatchOption, s
 ghost use Rattle.std.specs.List.{AllByRecursion};
 ghost use Rattle.alarm_view.specs.Alarms.{IsAlarm};
 ghost use Rattle.client_set.specs.Rising.{IsRising};
+ghost use Rattle.stream_config.specs.Attributes.{IsSized};
 ghost use Rattle.calls.specs.declared.saved.SavedStream.{SavedStream as StreamOf};
 ghost use Rattle.plain_service.specs.Fitness.{IsFitStream, IsStanding, IsFitAlarm, is_record_before, is_id_before, HaveFitAlarms};
 
 use crate::judging::{Judged, all_fit};
 use crate::rising::{are_rising, ids_rise};
-use crate::standing::is_standing;
 use calls::{Saved, SavedAlarm};
 use ntf_types::{Body, check_notification};
+use stream_config::{StreamState, first_standing};
 
 /// Whether a notification is an alarm or a security alarm.
 fn is_alarm(body: &Body) -> bool
     ensures { IsTrue result ↔ IsAlarm body.now }
 {
     matches!(body, Body::Alarm { .. } | Body::Security { .. })
+}
+
+/// Whether the record of this number stands in the files of a stream.
+fn is_standing(state: &StreamState, number: u32) -> bool
+    requires { IsSized state.now.attrs }
+    ensures { IsTrue result ↔ IsStanding state.now number }
+{
+    first_standing(state) <= number && number < state.taken
 }
 
 /// Whether the record of this number stands in the first stream of a value whose streams are fit.

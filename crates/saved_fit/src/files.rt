@@ -2,12 +2,13 @@
 ghost use Rattle.std.specs.Prelude.{◌≡◌, ◌≤◌, ◌↔◌, IsTrue, None, length, false};
 ghost use Rattle.std.specs.List.{AllByRecursion};
 ghost use Rattle.stream_config.specs.Attributes.{kind_of, PassesAttrs};
-ghost use Rattle.stream_config.specs.Sizes.{records_per_file};
-ghost use Rattle.stream_config.specs.Fit.{stamps_of, rises, is_last_open, file_count, HasFitFiles};
+ghost use Rattle.stream_config.specs.Fit.{stamps_of, rises, is_last_open, count_standing, next_first, HasFitFiles};
 ghost use Rattle.log_history.specs.Stamps.{IsStampUpTo};
-ghost use Rattle.saved_fit.specs.Files.{is_behind, last_stamp, files_rise, open_last, IsWithinBound, HasStampsUpTo};
+ghost use Rattle.saved_fit.specs.Files.{is_behind, last_stamp, files_rise, open_last, HasStampsUpTo};
+ghost use Rattle.saved_fit.specs.Filling.{IsAlone, HasStart};
 
-use stream_config::{FullAction, LogFile, StreamState, per_file};
+use crate::filling::{are_even_if_alike, are_filled};
+use stream_config::{FullAction, LogFile, StreamState};
 
 /// Whether a file was made behind a stamp, if there is one, and closed behind its making, if it was.
 fn is_behind(last: Option<i64>, file: &LogFile) -> bool
@@ -75,37 +76,44 @@ fn is_last_open(files: &[LogFile]) -> bool
     open_last(files)
 }
 
-/// How many files stand once so many records were taken, where a file holds `n` and `rotated` stand at most.
-fn count_rotated(n: u32, rotated: u32, taken: u32) -> u64
-    requires { 1 ≤ n }
-    ensures { result ≡ file_count FullAction.Rotate rotated n taken }
+/// How many files stand of those that were made.
+fn count_standing(state: &StreamState) -> u32
+    ensures { result ≡ count_standing state.now.attrs.action state.now.attrs.rotated state.now.opened }
 {
-    let count = u64::from(taken.saturating_sub(1) / n) + 1;
-    let most = u64::from(rotated);
-    if count < most { count } else { most }
+    match state.attrs.action {
+        FullAction::Wrap | FullAction::Halt => state.opened,
+        FullAction::Rotate => state.opened.min(state.attrs.rotated),
+    }
 }
 
-/// Whether as many files stand as the records of a stream ask for.
+/// Whether as many files stand as were made, or the last of them that may.
 fn has_count(state: &StreamState) -> bool
-    requires { PassesAttrs (kind_of state.now.name) state.now.attrs }
-    ensures { IsTrue result ↔ (length state.now.files ≡ file_count state.now.attrs.action
-        state.now.attrs.rotated (records_per_file state.now.attrs) state.now.taken) }
+    ensures { IsTrue result ↔ (length state.now.files
+        ≡ count_standing state.now.attrs.action state.now.attrs.rotated state.now.opened) }
 {
-    let n = per_file(&state.attrs);
-    let count = match state.attrs.action {
-        FullAction::Wrap => 1,
-        FullAction::Halt => 1,
-        FullAction::Rotate => count_rotated(n, state.attrs.rotated, state.taken),
-    };
-    state.files.as_slice().len() as u64 == count
+    state.files.as_slice().len() as u64 == u64::from(count_standing(state))
 }
 
-/// Whether a stream that halts holds no more records than its file.
-fn is_within(state: &StreamState) -> bool
-    requires { PassesAttrs (kind_of state.now.name) state.now.attrs }
-    ensures { IsTrue result ↔ IsWithinBound state.now }
+/// Whether a stream that does not rotate has one file.
+fn is_alone(state: &StreamState) -> bool
+    ensures { IsTrue result ↔ IsAlone state.now }
 {
-    state.attrs.action != FullAction::Halt || state.taken <= per_file(&state.attrs)
+    state.attrs.action == FullAction::Rotate || state.opened == 1
+}
+
+/// Whether files begin with the first record of all.
+fn begin_at_start(files: &[LogFile]) -> bool
+    ensures { IsTrue result ↔ (next_first files.now 0 ≡ 0) }
+{
+    files.is_empty() || files[0].first == 0
+}
+
+/// Whether the files that stand begin with the first record of all, where all that were made stand.
+fn has_start(state: &StreamState) -> bool
+    ensures { IsTrue result ↔ HasStart state.now }
+{
+    let files = state.files.as_slice();
+    files.len() as u64 != u64::from(state.opened) || begin_at_start(files)
 }
 
 /// Whether the files of a stream are those of so many records.
@@ -115,8 +123,13 @@ pub(crate) fn has_fit_files(state: &StreamState) -> bool
 {
     stamps_rise(state.files.as_slice())
         && is_last_open(state.files.as_slice())
+        && state.opened >= 1
+        && is_alone(state)
+        && state.opened <= state.taken.max(1)
         && has_count(state)
-        && is_within(state)
+        && has_start(state)
+        && are_filled(&state.attrs, state.taken, state.files.as_slice())
+        && are_even_if_alike(state)
 }
 
 /// Whether a stamp is not negative, and not behind the last one.

@@ -5,10 +5,10 @@ mod alarms;
 mod asking;
 mod clients;
 mod files;
+mod filling;
 mod fit;
 mod judging;
 mod rising;
-mod standing;
 mod streams;
 
 pub use fit::is_fit;
