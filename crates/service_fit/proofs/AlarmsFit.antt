@@ -7,7 +7,7 @@ use Rattle.std.proofs.lemmas.Bool.{leb-true}
 use Rattle.stream_config.specs.declared.attrs.StreamName.{StreamName}
 use Rattle.stream_config.specs.declared.attrs.StreamName.TheVariants as name
 use Rattle.stream_config.specs.Equality.{same_name}
-use Rattle.stream_config.specs.Sizes.{records_per_file}
+use Rattle.stream_config.specs.Fit.{first_standing}
 use Rattle.stream_config.specs.Stamps.{stamp_after}
 use Rattle.record_print.specs.declared.record.LogRecord.{LogRecord}
 use Rattle.log_history.specs.Names.{is_application}
@@ -26,11 +26,12 @@ use Rattle.ntf_history.specs.Changes.NtfChange.{Sent}
 use Rattle.ntf_history.specs.StoredAlarms.{is_alarm}
 use Rattle.ntf_history.proofs.AlarmLaws.{is_alarm-is}
 use Rattle.plain_service.specs.Setups.{IsMoment}
-use Rattle.plain_service.specs.Alarms.{first_in, stream_for, record_for}
+use Rattle.plain_service.specs.Alarms.{stream_for, record_for}
 use Rattle.plain_service.specs.Fitness.{IsStanding}
 use Rattle.plain_service.proofs.ListLaws.{each-weaker, each-push, each-filter}
 use Rattle.service_table.specs.Tables.{ServiceTable}
-use Rattle.service_table.specs.Steps.{taken_in, accepted_in, standing_from, alarms_with}
+use Rattle.service_table.specs.Answering.{accepted_in}
+use Rattle.service_table.specs.Steps.{taken_in, standing_from, alarms_with}
 use Rattle.service_fit.proofs.SentLaws.{IsAccepted, accepted}
 use Rattle.service_fit.specs.Fit.{IsFitState, IsAlarmFirst, alarm_count, WasStored}
 use Rattle.service_fit.proofs.LogFit.{StandInOrder}
@@ -143,9 +144,9 @@ stands-from : (streams : List OpenStream) (number : ℕ) → IsAlarmFirst stream
 stands-from [] number first from under = absurd first
 stands-from (s ∷ streams) number first from under =
     let named : same_name s.state.name name.Alarm ≡ true = ap (λ n. same_name n name.Alarm) first.0 in
-    let start = first_in s.state.attrs.action (records_per_file s.state.attrs) s.state.attrs.rotated s.state.taken in
+    let start = first_standing s.state in
     let same : standing_from (s ∷ streams) ≡ start =
-    ap (λ b. option_map_or (λ (stream : OpenStream). first_in stream.state.attrs.action (records_per_file stream.state.attrs) stream.state.attrs.rotated stream.state.taken) (cond b (Some s) (kept_stream streams name.Alarm)) 0) named in
+    ap (λ b. option_map_or (λ (stream : OpenStream). first_standing stream.state) (cond b (Some s) (kept_stream streams name.Alarm)) 0) named in
     record { from = leb-true start number (ap (λ n. nat_le n number) (sym same) ∙ from); below = under }
 
 left-fit : (streams : List OpenStream) (last_id : ℕ) (alarms : List KeptAlarm) → IsAlarmFirst streams → AreInOrder alarms → AllByRecursion (IsKnown (alarm_count streams) last_id) alarms → AreFitAlarms streams last_id (from_record (standing_from streams) alarms)

@@ -4,25 +4,21 @@ use Rattle.std.specs.Prelude.{Option, Some, None, pos}
 use Rattle.std.specs.Option.{option_map_or}
 use Rattle.std.specs.List.{AllByRecursion}
 use Rattle.std.proofs.lemmas.List.{length-map}
-use Rattle.format_expr.specs.Reading.{pieces_of}
 use Rattle.stream_config.specs.declared.attrs.StreamName.{StreamName}
 use Rattle.stream_config.specs.declared.event.StreamEvent.TheVariants as event
-use Rattle.stream_config.specs.Fit.{stamps_of, changes_file}
-use Rattle.stream_config.specs.Sizes.{records_per_file}
+use Rattle.stream_config.specs.Fit.{stamps_of}
 use Rattle.stream_config.specs.Stamps.{stamp_after}
 use Rattle.stream_layout.specs.Carrying.{IsFitStream, IsFitEvent}
 use Rattle.record_print.specs.declared.record.LogRecord.{LogRecord}
-use Rattle.record_print.proofs.LineLaws.{length-printed_record}
 use Rattle.log_history.specs.Changes.{LogChange, Began, Opened, Stored, Closed, Ended}
-use Rattle.log_history.specs.Answers.{holds_all}
-use Rattle.log_history.specs.Table.{OpenStream, LogTable, is_named, without_opener, storing, has_nobody, ends_in, closed_streams, left_streams, events_of, opened_stream}
-use Rattle.log_history.specs.KeptAnswers.{kept_stream}
-use Rattle.log_history.proofs.SoundStreams.{room-left}
-use Rattle.log_history.proofs.EventLaws.{length-changed, stamps-are, due-is, due-stamps}
+use Rattle.log_history.specs.Table.{OpenStream, LogTable, is_named, without_opener, is_changing, storing, has_nobody, ends_in, closed_streams, left_streams, events_of, opened_stream}
+use Rattle.log_history.specs.KeptAnswers.{kept_stream, lacks_room_in}
+use Rattle.log_history.proofs.EventLaws.{length-changed, stamps-are, due-stamps}
 use Rattle.log_history.proofs.StreamLaws.{stamp-is}
 use Rattle.log_history.specs.Stamps.{second_in}
 use Rattle.plain_service.proofs.ListLaws.{each-weaker, each-mapped, each-change_first}
 use Rattle.service_fit.specs.Fit.{IsFitState}
+use Rattle.service_fit.proofs.FileSteps.{can-take}
 use Rattle.service_fit.proofs.LogFit.{IsFitInside, few-streams}
 use Rattle.service_fit.proofs.LogSteps.{CanChange, fit-new, filled-is}
 
@@ -33,17 +29,15 @@ fit-state last number stream le fit = record {
   stamps = stamps-are last le (stamps_of stream.state.files) fit.stamps;
 }
 
-fit-storing : (last second number : ℕ) (rec : LogRecord) (stream : OpenStream) → last + 2 ≤ 20000000100 → second < 20000000100 → holds_all stream.state.attrs stream.state.taken ≡ false → IsFitState last number stream → IsFitEvent (storing last second rec stream.state)
+fit-storing : (last second number : ℕ) (rec : LogRecord) (stream : OpenStream) → last + 2 ≤ 20000000100 → second < 20000000100 → lacks_room_in stream.state rec ≡ false → IsFitState last number stream → IsFitEvent (storing last second rec stream.state)
 fit-storing last second number rec stream le early room fit =
-    let attrs = stream.state.attrs in
-    let due = changes_file attrs.action (records_per_file attrs) stream.state.taken in
-    let size : 0 < attrs.record_size = omega (arith, fit.attributes.sizes.least_record) in
+    let can = can-take last second number rec stream fit room in
     record {
       stream = fit-state last number stream (omega (arith, le)) fit;
-      size = length-printed_record (pieces_of attrs.expr) (stream.state.taken + 1) rec attrs.record_size size;
-      room = room-left attrs stream.state.taken room;
-      changes = due-is due (record { closed = pos (stamp_after last second); created = pos (stamp_after (stamp_after last second) second) });
-      new_stamps = due-stamps due last second le early;
+      size = can.size;
+      room = can.room;
+      changes = can.changes;
+      new_stamps = due-stamps (is_changing stream.state rec) last second le early;
     }
 
 fit-ends : (last number second most : ℕ) (streams : List OpenStream) → most ≤ 20000000100 → last + length streams ≤ 20000000100 → second + length streams ≤ 20000000100 → AllByRecursion (IsFitState most number) streams → AllByRecursion IsFitEvent (ends_in last second streams)
@@ -70,7 +64,7 @@ find-fit last number stream (one ∷ streams) s each is = by_case (is_named stre
 stored-fit : (number second : ℕ) (rec : LogRecord) (kept : LogTable) (stream : StreamName) → number < 4000000000 → second ≤ 9000000000 → CanChange kept (Stored stream rec second) → IsFitInside number kept → (found : Option OpenStream) → kept_stream kept.streams stream ≡ found → AllByRecursion (IsFitState kept.last number) kept.streams → AllByRecursion IsFitEvent (option_map_or (λ (s : OpenStream). storing kept.last second rec s.state ∷ []) found [])
 stored-fit number second rec kept stream few early can fit None is each = tt
 stored-fit number second rec kept stream few early can fit (Some s) is each =
-    (fit-storing kept.last second number rec s (omega (arith, fit.room, few)) (omega (arith, early)) (filled-is kept.streams stream s can is) (find-fit kept.last number stream kept.streams s each is), tt)
+    (fit-storing kept.last second number rec s (omega (arith, fit.room, few)) (omega (arith, early)) (filled-is kept.streams stream rec s can is) (find-fit kept.last number stream kept.streams s each is), tt)
 
 -- **the events of a change can happen**
 pub events-fit : (number : ℕ) (kept : LogTable) (change : LogChange) → number < 4000000000 → second_in change ≤ 9000000000 → CanChange kept change → IsFitInside number kept → AllByRecursion IsFitEvent (events_of change kept)

@@ -16,13 +16,13 @@ use Rattle.calls.specs.declared.call.Call.{Call}
 use Rattle.calls.specs.declared.call.Call.TheVariants.{LogInit, LogOpen, LogWrite, LogClose, LogFini, NtfInit, NtfSend, NtfSubscribe, NtfUnsubscribe, ReaderStart, ReaderRead, ReaderEnd, NtfFini}
 use Rattle.calls.specs.declared.reply.Reply.{Reply}
 use Rattle.plain_service.specs.Setups.{IsMoment}
-use Rattle.plain_service.specs.Alarms.{stream_for}
+use Rattle.plain_service.specs.Alarms.{stream_for, record_for}
 use Rattle.plain_service.specs.Fitness.{IsFit}
 use Rattle.plain_service.specs.Legal.{IsClient}
 use Rattle.plain_service.proofs.HistoryEvents.{second-bound}
 use Rattle.plain_service.proofs.OkAnswers.{send-ok}
 use Rattle.service_table.specs.Tables.{ServiceTable, saved_table}
-use Rattle.service_table.specs.Answering.{status_in, reply_in}
+use Rattle.service_table.specs.Answering.{accepted_in, status_in, reply_in}
 use Rattle.service_table.specs.Steps.{log_change_in, ntf_change_in, logged, notified, alarms_after, window_for, answered, changed, replied, after_call, after_receipt_in}
 use Rattle.service_fit.specs.Laws.{CanGoOn, CanComeNext}
 use Rattle.service_fit.proofs.AlarmsFit.{AreFitAlarms, alarms-same, alarms-written, alarms-sent}
@@ -69,7 +69,7 @@ fit-notified kept client reply (Some change) few can fit =
 
 -- the alarms
 
-fit-alarms : (kept : ServiceTable) (client seq : ℕ) (now : ℤ) (call : Call) → IsFitTable kept → IsMoment now → status_in kept client call ≡ status.Ok → let later = logged (log_change_in kept client now call) kept.log in IsFitInside (kept.number + 1) later → AreFitAlarms later.streams (notified (ntf_change_in kept client seq now call) kept.ntf).last_id (alarms_after (log_change_in kept client now call) (ntf_change_in kept client seq now call) later.streams kept.alarms)
+fit-alarms : (kept : ServiceTable) (client seq : ℕ) (now : ℤ) (call : Call) → IsFitTable kept → IsMoment now → status_in kept client now call ≡ status.Ok → let later = logged (log_change_in kept client now call) kept.log in IsFitInside (kept.number + 1) later → AreFitAlarms later.streams (notified (ntf_change_in kept client seq now call) kept.ntf).last_id (alarms_after (log_change_in kept client now call) (ntf_change_in kept client seq now call) later.streams kept.alarms)
 fit-alarms kept client seq now LogInit fit moment ok log = fit.alarms
 fit-alarms kept client seq now (LogOpen stream create) fit moment ok log =
     alarms-same kept.log (Opened client stream (making_in kept.log.streams stream create) (second_of now)) kept.ntf.last_id kept.alarms fit.log.order tt fit.alarms
@@ -81,7 +81,7 @@ fit-alarms kept client seq now (LogClose stream) fit moment ok log =
 fit-alarms kept client seq now LogFini fit moment ok log =
     alarms-same kept.log (LogChange.Ended client (second_of now)) kept.ntf.last_id kept.alarms fit.log.order tt fit.alarms
 fit-alarms kept client seq now (NtfSend notification) fit moment ok log =
-    let told = send-ok (has client kept.ntf.users) (is_sound notification) (is_filled kept.log.streams (stream_for notification.body)) ok in
+    let told = send-ok (has client kept.ntf.users) (is_sound notification) (is_filled kept.log.streams (stream_for notification.body) (record_for now (accepted_in kept.ntf now notification))) ok in
     alarms-sent kept now notification kept.number fit.few moment told.1 (alarm-first kept.number kept.log fit.log)
     (alarm-first (kept.number + 1) (logged (log_change_in kept client now (NtfSend notification)) kept.log) log) fit.log.each fit.alarms
 fit-alarms kept client seq now NtfInit fit moment ok log = fit.alarms
@@ -95,7 +95,7 @@ fit-alarms kept client seq now NtfFini fit moment ok log = fit.alarms
 -- the whole
 
 module _ (kept : ServiceTable) (client seq : ℕ) (now : ℤ) (call : Call) (reply : Reply) (fit : IsFitTable kept) (few : kept.number < 4000000000) (caller : IsClient client) (moment : IsMoment now) (next : seq ≡ (window_for client kept.windows).next) where
-  fit-ok : status_in kept client call ≡ status.Ok → IsFitTable (replied client reply (changed kept client seq now call status.Ok))
+  fit-ok : status_in kept client now call ≡ status.Ok → IsFitTable (replied client reply (changed kept client seq now call status.Ok))
   fit-ok ok =
       let change = log_change_in kept client now call in
       let sent = ntf_change_in kept client seq now call in
@@ -119,7 +119,7 @@ module _ (kept : ServiceTable) (client seq : ℕ) (now : ℤ) (call : Call) (rep
     windows = callers-answered kept.number client reply kept.windows caller fit.windows;
   }
 
-  pub fit-status : (answer : Status) → status_in kept client call ≡ answer → IsFitTable (replied client reply (changed kept client seq now call answer))
+  pub fit-status : (answer : Status) → status_in kept client now call ≡ answer → IsFitTable (replied client reply (changed kept client seq now call answer))
   fit-status status.Ok is = fit-ok is
   fit-status _ is = fit-refused
 
@@ -127,7 +127,7 @@ module _ (kept : ServiceTable) (client seq : ℕ) (now : ℤ) (call : Call) (rep
 pub fit-call : (kept : ServiceTable) (client seq : ℕ) (now : ℤ) (call : Call) → CanComeNext kept client seq now → IsFit (saved_table (after_call kept client seq now call))
 fit-call kept client seq now call can =
     value-of (after_call kept client seq now call)
-    (fit-status kept client seq now call (reply_in kept client call) (table-of kept can.table.queues can.table.fit) can.table.few can.caller can.moment can.next (status_in kept client call) refl)
+    (fit-status kept client seq now call (reply_in kept client now call) (table-of kept can.table.queues can.table.fit) can.table.few can.caller can.moment can.next (status_in kept client now call) refl)
 
 -- a receipt
 pub fit-received : (kept : ServiceTable) (client key through : ℕ) → IsFitTable kept → kept.number < 4000000000 → IsFitTable (after_receipt_in kept client key through)

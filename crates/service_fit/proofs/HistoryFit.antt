@@ -4,16 +4,14 @@ use Rattle.std.specs.Prelude.{pos}
 use Rattle.stream_config.specs.declared.attrs.StreamAttrs.{StreamAttrs}
 use Rattle.stream_config.specs.declared.attrs.StreamName.{StreamName}
 use Rattle.stream_config.specs.declared.attrs.StreamName.TheVariants as name
-use Rattle.stream_config.specs.declared.state.LogFile.{LogFile}
 use Rattle.stream_config.specs.declared.state.StreamState.{StreamState}
 use Rattle.stream_config.specs.Attributes.{kind_of, PassesAttrs}
 use Rattle.stream_config.specs.AttributeTests.{have_one_place}
-use Rattle.stream_config.specs.Events.{open_file}
 use Rattle.stream_config.specs.Stamps.{stamp_after}
 use Rattle.log_history.specs.Chronicle.{LogSetup, new_stream}
 use Rattle.log_history.specs.Legal.{IsSetup}
 use Rattle.log_history.specs.Table.{OpenStream, state_of, new_state, table}
-use Rattle.log_history.proofs.FileLists.{standing-one}
+use Rattle.log_history.proofs.StreamLaws.{made-is}
 use Rattle.client_window.specs.Windows.{Kept}
 use Rattle.calls.specs.declared.entry.Entry.{Entry}
 use Rattle.calls.specs.declared.entry.Entry.TheVariants.{Called, Receipted}
@@ -38,13 +36,9 @@ use Rattle.service_fit.proofs.LogSteps.{reopened, fit-new}
 use Rattle.service_fit.proofs.ValueFit.{IsFitTable, value-of}
 
 -- a stream as it is made
-pub new-state : (stream : StreamName) (attrs : StreamAttrs) (created : ℕ) → 1 ≤ attrs.rotated → state_of (new_stream stream attrs created) ≡ new_state stream attrs created
-new-state stream attrs created some =
-    ap (λ (files : List LogFile). let state : StreamState = record { name = stream; attrs = attrs; taken = 0; files = files } in state) (standing-one attrs (open_file (pos created)) some)
-
 fit-made : (last created : ℕ) (stream : StreamName) (attrs : StreamAttrs) → created ≤ last → PassesAttrs (kind_of stream) attrs → IsFitState last 0 (record { state = state_of (new_stream stream attrs created); openers = [] })
 fit-made last created stream attrs le passes =
-    subst (λ (state : StreamState). let one : OpenStream = record { state = state; openers = [] } in IsFitState last 0 one) (sym (new-state stream attrs created passes.some_rotated))
+    subst (λ (state : StreamState). let one : OpenStream = record { state = state; openers = [] } in IsFitState last 0 one) (sym (made-is stream attrs created passes.some_rotated))
     (reopened last 0 (record { state = new_state stream attrs created; openers = 0 ∷ [] }) [] (fit-new 0 last created 0 stream attrs le passes))
 
 -- the log of a service that nobody has used
@@ -108,7 +102,7 @@ table-fit setup (Called client seq now call ∷ entries) history =
     let kept = service_of setup entries in
     let can = history.0 in
     subst IsFitTable (sym (call-step setup client seq now call entries history))
-    (fit-status kept client seq now call (reply_in kept client call) (table-fit setup entries history.1) (omega (arith, number-is setup entries, can.0.few)) can.0.caller can.0.time (can.1 ∙ sym (next-is setup client entries)) (status_in kept client call) refl)
+    (fit-status kept client seq now call (reply_in kept client now call) (table-fit setup entries history.1) (omega (arith, number-is setup entries, can.0.few)) can.0.caller can.0.time (can.1 ∙ sym (next-is setup client entries)) (status_in kept client now call) refl)
 table-fit setup (Receipted client key through now ∷ entries) history =
     let kept = service_of setup entries in
     subst IsFitTable (sym (receipt-taken setup client key through now entries history))

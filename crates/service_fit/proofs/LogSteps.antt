@@ -5,29 +5,24 @@ use Rattle.std.specs.Option.{option_map_or}
 use Rattle.std.specs.List.{find, AllByRecursion}
 use Rattle.std.proofs.lemmas.List.{length-map}
 use Rattle.ais_values.specs.Codes.{all_differ}
-use Rattle.stream_config.specs.declared.attrs.FullAction.{FullAction}
-use Rattle.stream_config.specs.declared.attrs.FullAction.TheVariants.{Wrap, Halt, Rotate}
 use Rattle.stream_config.specs.declared.attrs.StreamAttrs.{StreamAttrs}
 use Rattle.stream_config.specs.declared.attrs.StreamName.{StreamName}
 use Rattle.stream_config.specs.declared.attrs.StreamName.TheVariants as name
 use Rattle.stream_config.specs.Attributes.{kind_of, PassesAttrs}
 use Rattle.stream_config.specs.Equality.{same_name}
-use Rattle.stream_config.specs.Fit.{file_count, changes_file}
-use Rattle.stream_config.specs.Sizes.{records_per_file}
 use Rattle.stream_config.specs.Stamps.{stamp_after}
 use Rattle.record_print.specs.declared.record.LogRecord.{LogRecord}
 use Rattle.log_history.specs.Names.{is_application}
 use Rattle.log_history.specs.Firsts.{change_first}
 use Rattle.log_history.specs.Chronicle.{is_empty}
 use Rattle.log_history.specs.Changes.{LogChange, Began, Opened, Stored, Closed, Ended}
-use Rattle.log_history.specs.Answers.{holds_all}
 use Rattle.log_history.specs.FitTables.{have_one_name}
-use Rattle.log_history.specs.KeptAnswers.{kept_stream, has_place, is_filled, is_of_application}
+use Rattle.log_history.specs.KeptAnswers.{kept_stream, has_place, lacks_room_in, is_filled, is_of_application}
 use Rattle.log_history.specs.Stamps.{second_in}
-use Rattle.log_history.specs.Table.{OpenStream, LogTable, is_named, with_opener, without_opener, last_after_due, with_stored, has_nobody, last_after_ends, kept_streams, closed_streams, left_streams, opened_stream, table_after}
+use Rattle.log_history.specs.Table.{OpenStream, LogTable, is_named, with_opener, without_opener, is_changing, last_after_due, with_stored, has_nobody, last_after_ends, kept_streams, closed_streams, left_streams, opened_stream, table_after}
 use Rattle.log_history.proofs.EventLaws.{length-changed}
-use Rattle.log_history.proofs.SoundStreams.{room-left, due-grows}
-use Rattle.log_history.proofs.StreamLaws.{stamp-up-to}
+use Rattle.log_history.proofs.SoundStreams.{due-grows}
+use Rattle.log_history.proofs.StreamLaws.{stamp-up-to, fit-made as fit-new_state}
 use Rattle.plain_service.specs.Fitness.{IsAmong}
 use Rattle.plain_service.specs.Legal.{IsClient}
 use Rattle.plain_service.proofs.ListLaws.{each-weaker, each-push, each-filter, each-change_first, each-mapped, none-each, any-none, differ-changed, differ-filtered, differ-pushed, differ-mapped}
@@ -40,7 +35,7 @@ use Rattle.service_fit.proofs.LogFit.{StandInOrder, IsFitInside, few-streams}
 -- what the events of a change of the log need beside what is kept
 abbrev pub CanChange : LogTable → LogChange → Type 0
 CanChange kept (Opened client stream (Some attrs) second) = PassesAttrs (kind_of stream) attrs
-CanChange kept (Stored stream rec second) = is_filled kept.streams stream ≡ false
+CanChange kept (Stored stream rec second) = is_filled kept.streams stream rec ≡ false
 CanChange kept _ = Unit {0}
 
 -- a stream can be made: an application's, of which none lives under its name or at its place
@@ -149,15 +144,13 @@ due-few : (due : Bool) (last second bound : ℕ) → last + 2 ≤ bound → seco
 due-few true last second bound low early = omega (arith, low, early)
 due-few false last second bound low early = omega (arith, low)
 
-stored-last : (last second : ℕ) (found : Option OpenStream) → last ≤ option_map_or (λ (s : OpenStream). last_after_due last second s.state) found last
-stored-last last second None = omega arith
-stored-last last second (Some s) =
-    due-grows (changes_file s.state.attrs.action (records_per_file s.state.attrs) s.state.taken) last second
+stored-last : (last second : ℕ) (rec : LogRecord) (found : Option OpenStream) → last ≤ option_map_or (λ (s : OpenStream). last_after_due last second rec s.state) found last
+stored-last last second rec None = omega arith
+stored-last last second rec (Some s) = due-grows (is_changing s.state rec) last second
 
-stored-few : (last second bound : ℕ) (found : Option OpenStream) → last + 2 ≤ bound → second + 1 ≤ bound → option_map_or (λ (s : OpenStream). last_after_due last second s.state) found last ≤ bound
-stored-few last second bound None low early = omega (arith, low)
-stored-few last second bound (Some s) low early =
-    due-few (changes_file s.state.attrs.action (records_per_file s.state.attrs) s.state.taken) last second bound low early
+stored-few : (last second bound : ℕ) (rec : LogRecord) (found : Option OpenStream) → last + 2 ≤ bound → second + 1 ≤ bound → option_map_or (λ (s : OpenStream). last_after_due last second rec s.state) found last ≤ bound
+stored-few last second bound rec None low early = omega (arith, low)
+stored-few last second bound rec (Some s) low early = due-few (is_changing s.state rec) last second bound low early
 
 ends-last : (last second : ℕ) (streams : List OpenStream) → last ≤ last_after_ends last second streams
 ends-last last second [] = omega arith
@@ -178,24 +171,17 @@ ends-room second bound kept last (s ∷ streams) room early =
           omega (arith, later)
 
 -- a stream that is made
-one-file : (attrs : StreamAttrs) → 1 ≤ attrs.rotated → 1 ≡ file_count attrs.action attrs.rotated (records_per_file attrs) 0
-one-file attrs some = by_case attrs.action where
-  by_case : (action : FullAction) → 1 ≡ file_count action attrs.rotated (records_per_file attrs) 0
-  by_case Wrap = refl
-  by_case Halt = refl
-  by_case Rotate = omega (arith, some)
-
 pub fit-new : (client last created number : ℕ) (stream : StreamName) (attrs : StreamAttrs) → created ≤ last → PassesAttrs (kind_of stream) attrs → IsFitState last number (opened_stream client stream attrs created)
 fit-new client last created number stream attrs le passes = record {
   attributes = passes;
-  files = record { rising = refl; last_open = refl; count = one-file attrs passes.some_rotated; halted = λ halts. omega arith };
+  files = fit-new_state stream attrs created passes.some_rotated;
   stamps = (stamp-up-to last created le, tt);
   taken = omega arith;
 }
 
-pub filled-is : (streams : List OpenStream) (stream : StreamName) (s : OpenStream) → is_filled streams stream ≡ false → kept_stream streams stream ≡ Some s → holds_all s.state.attrs s.state.taken ≡ false
-filled-is streams stream s room found =
-    sym (ap (λ o. option_map_or (λ (one : OpenStream). holds_all one.state.attrs one.state.taken) o false) found) ∙ room
+pub filled-is : (streams : List OpenStream) (stream : StreamName) (rec : LogRecord) (s : OpenStream) → is_filled streams stream rec ≡ false → kept_stream streams stream ≡ Some s → lacks_room_in s.state rec ≡ false
+filled-is streams stream rec s room found =
+    sym (ap (λ o. option_map_or (λ (one : OpenStream). lacks_room_in one.state rec) o false) found) ∙ room
 
 ends-fit : (number second last : ℕ) (streams : List OpenStream) → second ≤ 9000000000 → AllByRecursion (IsFitState last number) streams → length streams ≤ 67 → last + length streams ≤ 9000000103 + 2 * number → AllByRecursion (IsFitState (last_after_ends last second streams) (number + 1)) (kept_streams streams) × (last_after_ends last second streams + length (kept_streams streams) ≤ 9000000103 + 2 * (number + 1))
 ends-fit number second last streams early each few room =
@@ -257,24 +243,24 @@ module _ (number : ℕ) (kept : LogTable) (fit : IsFitInside number kept) where
         room = omega (arith, fit.room, few-streams number kept fit, count, early);
       }
 
-  fit-recorded : (stream : StreamName) (rec : LogRecord) (second : ℕ) → second ≤ 9000000000 → is_filled kept.streams stream ≡ false → IsFitInside (number + 1) (table_after (Stored stream rec second) kept)
+  fit-recorded : (stream : StreamName) (rec : LogRecord) (second : ℕ) → second ≤ 9000000000 → is_filled kept.streams stream rec ≡ false → IsFitInside (number + 1) (table_after (Stored stream rec second) kept)
   fit-recorded stream rec second early room =
       let found = kept_stream kept.streams stream in
-      let last = option_map_or (λ (s : OpenStream). last_after_due kept.last second s.state) found kept.last in
+      let last = option_map_or (λ (s : OpenStream). last_after_due kept.last second rec s.state) found kept.last in
       let change = with_stored kept.last second rec in
       let same = length-changed (is_named stream) change kept.streams in
       let few = few-streams number kept fit in
       record {
         sound = sound-stored kept fit.sound stream rec second;
         each = all-first (IsFitState kept.last number) (IsFitState last (number + 1)) (is_named stream) change
-            (λ s. later-stream kept.last last number s (stored-last kept.last second found)) kept.streams
+            (λ s. later-stream kept.last last number s (stored-last kept.last second rec found)) kept.streams
             (λ s is fit_one. subst (λ l. IsFitState l (number + 1) (change s))
-            (ap (λ o. option_map_or (λ (one : OpenStream). last_after_due kept.last second one.state) o kept.last) (sym is))
-            (fit-stored kept.last second number rec s (room-left s.state.attrs s.state.taken (filled-is kept.streams stream s room is)) fit_one))
+            (ap (λ o. option_map_or (λ (one : OpenStream). last_after_due kept.last second rec one.state) o kept.last) (sym is))
+            (fit-stored kept.last second number rec s fit_one (filled-is kept.streams stream rec s room is)))
             fit.each;
         order = order-changed stream change (λ _. refl) kept.streams fit.order;
         names = differ-changed have_one_name (is_named stream) change (λ _ _. refl) (λ _ _. refl) kept.streams ∙ fit.names;
-        room = omega (arith, stored-few kept.last second (9000000105 + 2 * number - length kept.streams) found (omega (arith, fit.room, few)) (omega (arith, few, early)), fit.room, few, same);
+        room = omega (arith, stored-few kept.last second (9000000105 + 2 * number - length kept.streams) rec found (omega (arith, fit.room, few)) (omega (arith, few, early)), fit.room, few, same);
       }
 
   fit-left : (later : LogTable) (second : ℕ) (left : List OpenStream) → second ≤ 9000000000 → later.last ≡ last_after_ends kept.last second left → later.streams ≡ kept_streams left → length left ≡ length kept.streams → AllByRecursion (IsFitState kept.last number) left → StandInOrder left → all_differ have_one_name left ≡ true → IsSoundLog later → IsFitInside (number + 1) later

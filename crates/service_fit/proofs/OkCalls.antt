@@ -17,7 +17,7 @@ use Rattle.log_history.specs.Changes.{LogChange}
 use Rattle.log_history.specs.Changes.{LogChange as log}
 use Rattle.log_history.specs.Names.{is_application}
 use Rattle.log_history.specs.Answers.{answer, open_rows}
-use Rattle.log_history.specs.Times.{second_of}
+use Rattle.log_history.specs.Times.{second_of, record_at}
 use Rattle.log_history.specs.Table.{OpenStream, LogTable}
 use Rattle.log_history.specs.KeptAnswers.{kept_stream, kept_attrs, has_place, is_of_application, is_crowd, has_opener, is_filled, open_status, making_in}
 use Rattle.log_history.proofs.AnswerLaws.{open-rows}
@@ -29,12 +29,12 @@ use Rattle.ntf_history.specs.Tables.{NtfTable, is_kept_under}
 use Rattle.calls.specs.declared.call.Call.{Call}
 use Rattle.calls.specs.declared.call.Call.TheVariants.{LogInit, LogOpen, LogWrite, LogClose, LogFini, NtfInit, NtfSend, NtfSubscribe, NtfUnsubscribe, ReaderStart, ReaderRead, ReaderEnd, NtfFini}
 use Rattle.calls.specs.declared.reply.Reply.{Reply}
-use Rattle.plain_service.specs.Alarms.{stream_for}
+use Rattle.plain_service.specs.Alarms.{stream_for, record_for}
 use Rattle.plain_service.specs.Legal.{IsClient}
 use Rattle.plain_service.proofs.OkAnswers.{open-ok, create-ok, write-ok, send-ok, subscribe-ok}
 use Rattle.service_table.specs.declared.caller.ClientWindow.{ClientWindow}
 use Rattle.service_table.specs.Tables.{ServiceTable}
-use Rattle.service_table.specs.Answering.{status_in}
+use Rattle.service_table.specs.Answering.{accepted_in, status_in}
 use Rattle.service_table.specs.Steps.{log_change_in, ntf_change_in, window_for, answered}
 use Rattle.service_fit.proofs.LogSteps.{CanChange, CanJoin}
 use Rattle.service_fit.proofs.NtfFit.{CanNotify}
@@ -99,16 +99,16 @@ abbrev pub JoinsOption : LogTable → Option LogChange → Type 0
 JoinsOption kept None = Unit {0}
 JoinsOption kept (Some change) = CanJoin kept change
 
-pub call-can : (kept : ServiceTable) (client : ℕ) (now : ℤ) (call : Call) → status_in kept client call ≡ status.Ok → CanOption kept.log (log_change_in kept client now call)
+pub call-can : (kept : ServiceTable) (client : ℕ) (now : ℤ) (call : Call) → status_in kept client now call ≡ status.Ok → CanOption kept.log (log_change_in kept client now call)
 call-can kept client now LogInit ok = tt
 call-can kept client now (LogOpen stream create) ok = opening-can kept.log client (second_of now) stream create ok
 call-can kept client now (LogWrite stream invocation flags time header body) ok =
-    (write-ok (has client kept.log.users) (has_opener kept.log.streams stream client) (nat_lt 1 flags) (can_write (kind_of stream) time header) (is_filled kept.log.streams stream) ok).3
+    (write-ok (has client kept.log.users) (has_opener kept.log.streams stream client) (nat_lt 1 flags) (can_write (kind_of stream) time header) (is_filled kept.log.streams stream (record_at time header body now)) ok).3
 call-can kept client now (LogClose stream) ok = tt
 call-can kept client now LogFini ok = tt
 call-can kept client now NtfInit ok = tt
 call-can kept client now (NtfSend notification) ok =
-    (send-ok (has client kept.ntf.users) (is_sound notification) (is_filled kept.log.streams (stream_for notification.body)) ok).2
+    (send-ok (has client kept.ntf.users) (is_sound notification) (is_filled kept.log.streams (stream_for notification.body) (record_for now (accepted_in kept.ntf now notification))) ok).2
 call-can kept client now (NtfSubscribe id filters) ok = tt
 call-can kept client now (NtfUnsubscribe id) ok = tt
 call-can kept client now (ReaderStart mode value filters) ok = tt
@@ -116,7 +116,7 @@ call-can kept client now (ReaderRead direction) ok = tt
 call-can kept client now ReaderEnd ok = tt
 call-can kept client now NtfFini ok = tt
 
-pub call-joins : (kept : ServiceTable) (client : ℕ) (now : ℤ) (call : Call) → IsClient client → status_in kept client call ≡ status.Ok → JoinsOption kept.log (log_change_in kept client now call)
+pub call-joins : (kept : ServiceTable) (client : ℕ) (now : ℤ) (call : Call) → IsClient client → status_in kept client now call ≡ status.Ok → JoinsOption kept.log (log_change_in kept client now call)
 call-joins kept client now LogInit caller ok = caller
 call-joins kept client now (LogOpen stream create) caller ok = opening-joins kept.log client (second_of now) stream create caller ok
 call-joins kept client now (LogWrite stream invocation flags time header body) caller ok = tt
@@ -137,7 +137,7 @@ abbrev pub NotifiesOption : NtfTable → List ClientWindow → Option NtfChange 
 NotifiesOption kept later None = Unit {0}
 NotifiesOption kept later (Some change) = CanNotify kept later change
 
-pub call-notifies : (kept : ServiceTable) (client seq : ℕ) (now : ℤ) (call : Call) (reply : Reply) → IsClient client → seq ≡ (window_for client kept.windows).next → status_in kept client call ≡ status.Ok → NotifiesOption kept.ntf (answered client reply kept.windows) (ntf_change_in kept client seq now call)
+pub call-notifies : (kept : ServiceTable) (client seq : ℕ) (now : ℤ) (call : Call) (reply : Reply) → IsClient client → seq ≡ (window_for client kept.windows).next → status_in kept client now call ≡ status.Ok → NotifiesOption kept.ntf (answered client reply kept.windows) (ntf_change_in kept client seq now call)
 call-notifies kept client seq now (NtfSubscribe id filters) reply caller next ok =
     let told = subscribe-ok (has client kept.ntf.users) (is_fit filters) (list_any (is_kept_under client id) kept.ntf.subs) (nat_le 64 (length kept.ntf.subs)) ok in
     record {

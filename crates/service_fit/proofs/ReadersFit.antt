@@ -86,7 +86,7 @@ reader-started kept client asked (Some alarm) caller user right alarms room fit 
     }
 
 -- **the readers after an ok call**
-pub fit-readers : (kept : ServiceTable) (client seq : ℕ) (now : ℤ) (call : Call) → IsClient client → status_in kept client call ≡ status.Ok → AreFitReaders kept.ntf.users kept.readers → AreFitReaders (notified (ntf_change_in kept client seq now call) kept.ntf).users (readers_after kept.alarms client call kept.readers)
+pub fit-readers : (kept : ServiceTable) (client seq : ℕ) (now : ℤ) (call : Call) → IsClient client → status_in kept client now call ≡ status.Ok → AreFitReaders kept.ntf.users kept.readers → AreFitReaders (notified (ntf_change_in kept client seq now call) kept.ntf).users (readers_after kept.alarms client call kept.readers)
 fit-readers kept client seq now (ReaderStart mode value asked) caller ok fit =
     let found = start_by (mode_of mode) value asked kept.alarms in
     let is = start-ok (has client kept.ntf.users) (is_none (mode_of mode)) (int_lt value (pos 0) && not (mode == 7)) (is_fit asked) (asks_for_alarms asked) (is_some (reader_for client kept.readers)) (nat_le 16 (length kept.readers)) (is_none found) ok in

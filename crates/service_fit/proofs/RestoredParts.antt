@@ -8,6 +8,7 @@ use Rattle.client_set.specs.Rising.{IsRising}
 use Rattle.stream_config.specs.declared.attrs.StreamName.{StreamName}
 use Rattle.stream_config.specs.declared.attrs.StreamName.TheVariants as name
 use Rattle.stream_config.specs.Attributes.{kind_of, PassesAttrs}
+use Rattle.stream_config.specs.Fit.{HasFitFiles}
 use Rattle.log_history.specs.Names.{is_application}
 use Rattle.log_history.specs.Chronicle.{is_empty}
 use Rattle.log_history.specs.Table.{OpenStream, has_nobody}
@@ -58,15 +59,15 @@ occupied (one ∷ two ∷ three ∷ streams) known others =
     let others_too : AllByRecursion IsOccupied streams = occupied-others streams others in
     (occupied-known one name.Alarm first refl, (occupied-known two name.Notification second refl, (occupied-known three name.System third refl, others_too)))
 
-module _ (Q : OpenStream → Type 0) (sound : (stream : OpenStream) → PassesAttrs (kind_of stream.state.name) stream.state.attrs → IsRising nat_lt stream.openers → has_nobody stream ≡ false → Q stream) where
+module _ (Q : OpenStream → Type 0) (sound : (stream : OpenStream) → PassesAttrs (kind_of stream.state.name) stream.state.attrs → IsRising nat_lt stream.openers → has_nobody stream ≡ false → HasFitFiles stream.state → Q stream) where
   each-sound : (saved : Saved) (streams : List SavedStream) → AllByRecursion (IsFitStream saved) streams → AllByRecursion IsOccupied streams → AllByRecursion Q (map kept_stream_of streams)
   each-sound saved [] each busy = tt
   each-sound saved (stream ∷ streams) each busy = (
-    sound (kept_stream_of stream) each.0.attributes each.0.openers.rising busy.0,
+    sound (kept_stream_of stream) each.0.attributes each.0.openers.rising busy.0 each.0.files,
     each-sound saved streams each.1 busy.1,
   )
 
-  -- **each stream passes, has openers that rise, and somebody has it open where it is an application's**
+  -- **each stream passes, has openers that rise, is open for somebody where it is an application's, and its files are fit**
   pub streams-fit : (saved : Saved) → IsFit saved → AllByRecursion Q (table_of_saved saved).log.streams
   streams-fit saved fit =
       each-sound saved saved.streams fit.streams.each
