@@ -57,10 +57,12 @@ pub(crate) fn hear_or_ignore(
 
 /// Does the deeds that are owed, if there are any.
 pub(crate) fn do_deeds<D: SharedDisk>(disk: &mut D, owed: &Option<Owed>) -> Result<(), DiskAnswer>
-    ensures performs { Performs (calls_of_all (deeds_in owed.now)) result (D.files disk.old)
-        (D.files disk.new) (D.tally disk.old) (D.tally disk.new) }
-    ensures cause { RoseExactlyOn (D.faults disk.old) (D.faults disk.new) result DiskAnswer.Failed }
-    ensures stop { RoseExactlyOn (D.stops disk.old) (D.stops disk.new) result DiskAnswer.Stopped }
+    ensures performs { Performs (calls_of_all (deeds_in owed.now)) result (D.seen disk.old).files
+        (D.seen disk.new).files (D.seen disk.old).tally (D.seen disk.new).tally }
+    ensures cause { RoseExactlyOn (D.seen disk.old).faults (D.seen disk.new).faults result
+        DiskAnswer.Failed }
+    ensures stop { RoseExactlyOn (D.seen disk.old).stops (D.seen disk.new).stops result
+        DiskAnswer.Stopped }
 {
     match owed {
         None => Ok(()),

@@ -247,13 +247,14 @@ impl Replica {
         ensures done { IfOk result (λ heard. (heard ≡ worked (replies_in self.old.owed))
             × (self.new ≡ emptied self.old)) }
         ensures performs { Performs (calls_of_all (deeds_in self.old.owed)) result
-            (D.files disk.old) (D.files disk.new) (D.tally disk.old) (D.tally disk.new) }
+            (D.seen disk.old).files (D.seen disk.new).files
+            (D.seen disk.old).tally (D.seen disk.new).tally }
         ensures memory { IsErrOf result DiskAnswer.Memory → self.new ≡ self.old }
         ensures failed { IsErrOf result DiskAnswer.Failed → self.new ≡ down }
         ensures stopped { IsErrOf result DiskAnswer.Stopped → self.new ≡ down }
-        ensures cause { RoseExactlyOn (D.faults disk.old) (D.faults disk.new) result
+        ensures cause { RoseExactlyOn (D.seen disk.old).faults (D.seen disk.new).faults result
             DiskAnswer.Failed }
-        ensures stop { RoseExactlyOn (D.stops disk.old) (D.stops disk.new) result
+        ensures stop { RoseExactlyOn (D.seen disk.old).stops (D.seen disk.new).stops result
             DiskAnswer.Stopped }
     {
         match do_deeds(disk, &self.owed) {

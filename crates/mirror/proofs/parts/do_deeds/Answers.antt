@@ -10,7 +10,7 @@ use Rattle.mirror.proofs.parts.do_deeds.Goals as goal
 
 pub returns-in-None-clause-performs : goal.returns-in-None-clause-performs
 returns-in-None-clause-performs g c =
-    let files = g.D.SharedDisk.files c.args.disk.now in
-    let tally = g.D.SharedDisk.tally c.args.disk.now in
+    let files = (g.D.SharedDisk.seen c.args.disk.now).files in
+    let tally = (g.D.SharedDisk.seen c.args.disk.now).tally in
     subst (λ (owed : Option Owed). (files ≡ option_map (all_applied (calls_of_all (deeds_in owed))) files)
     × CountsDone (length (calls_of_all (deeds_in owed))) tally tally) (sym c.in-None.is) (none_applied files, counts-none tally)
