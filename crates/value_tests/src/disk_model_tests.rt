@@ -599,3 +599,34 @@ fn what_was_cut_off_is_gone(rt: HostRuntime) -> Result<(), Fail> {
     done?;
     Ok(())
 }
+
+// A disk without room answers `Memory` to each changing call, also where it is armed, and no file stands on it.
+fn finds_no_room(rt: &impl Abort, disk: &mut NoDisk, alloc: Global) -> Result<(), DiskAnswer> {
+    disk.arm(1);
+    for call in [
+        Step::Create("f"),
+        Step::Write("f", 0, b"x"),
+        Step::Cut("f", 0),
+        Step::Sync("f"),
+        Step::Rename("f", "g"),
+        Step::Remove("f"),
+    ] {
+        let lacked = plays_one(rt, disk, alloc, call);
+        assert!(rt; lacked == Err(DiskAnswer::Memory));
+        lists(rt, disk, alloc, &[])?;
+        holds(rt, disk, alloc, "f", None)?;
+    }
+    assert!(rt; disk.read(b"f", 0, &mut [7; 2]) == Ok(0));
+    disk.disarm();
+    disk.crash();
+    Ok(())
+}
+
+#[test]
+fn a_disk_without_room_takes_nothing(rt: HostRuntime) -> Result<(), Fail> {
+    let mut disk = NoDisk::new();
+    let done = finds_no_room(&rt, &mut disk, rt.alloc());
+    drop(disk);
+    done?;
+    Ok(())
+}
