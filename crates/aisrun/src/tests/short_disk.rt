@@ -12,13 +12,12 @@ pub(crate) struct ShortDisk {
 impl SharedDisk for ShortDisk {
     ghost use Rattle.std.specs.Prelude.{None};
 
-    ghost files = { λ _. None };
-
-    ghost faults = { λ disk. disk.inner.faults };
-
-    ghost stops = { λ disk. disk.inner.stops };
-
-    ghost tally = { λ disk. disk.inner.tally };
+    ghost seen = { λ disk. record {
+      files = None;
+      tally = disk.inner.tally;
+      faults = disk.inner.faults;
+      stops = disk.inner.stops;
+    } };
 
     fn names(&mut self, alloc: Global) -> Result<Seq<Text>, DiskAnswer> {
         match self.inner.names(alloc) {
