@@ -52,9 +52,11 @@ class Pattern:
 
     def __init__(self, pattern, made):
         self.pattern, self.made = re.compile(pattern, re.S), made
+        self.value = None
 
     def read(self, text, at, _):
         found = self.pattern.match(text, at)
+        self.value = found and found.group()
         return found.end() if found else None
 
     def make(self, rng):
@@ -154,7 +156,7 @@ class Listed:
 
 
 class Noted:
-    """A number or a quoted text whose value is noted under a name."""
+    """A number, a word or a quoted text whose value is noted under a name."""
 
     def __init__(self, name, form):
         self.name, self.form = name, form
@@ -194,7 +196,7 @@ EXPRESSION = Quoted((b"@Cr @Cb", b"@Cb", b"@Cr @Ch:@Cn @Sv @Sl \"@Cb\"", b"@Cr @
 TYPE = Pattern(rb"0x[0-9a-f]{4}", [b"0x4001", b"0x4001", b"0x1001", b"0x2003", b"0x3001", b"0x5005", b"0x4006", b"0x0000", b"0xffff",
                                    b"0xABCD", b"0x401"])
 CLASS = Chain(U32, b".", U16, b".", U16)
-FULL = OneOf(b"wrap", b"halt", b"rotate")
+FULL = Pattern(rb"wrap|halt|rotate", [b"wrap", b"halt", b"rotate"])
 SERVER = OneOf(b"a", b"b")
 STREAM = OneOf(b"alarm", b"notification", b"system", Chain(b"app:", Quoted((b"w", b"w", b"x"), 256, name=True)))
 VALUE = OneOf(Chain(b"int:", TIME), Chain(b"name:", NAME), Chain(b"text:", TEXT), Chain(b"bin:", TEXT))
@@ -227,16 +229,16 @@ FILTERS = Chain(*(group(kind) for kind in KINDS))
 NOTE = OneOf(*map(note, KINDS))
 VERSION = Chain(Pattern(rb"[A-Z]", [b"A", b"A", b"A", b"B", b"Z", b"a", b"AA"]), b".", U8, b".", U8)
 CREATE = Maybe(b" create file=", Quoted((b"f", b"app1", b"f" * 64, b"f" * 65, b"a/b")), b" path=", Quoted((b".", b"web", b"..", b"")),
-               b" max=", Number(0, 2**64 - 1, (32, 64, 64, 100, 2**30, 2**30 + 1)), b" rec=", Number(0, 2**32 - 1, (32, 32, 64, 16384, 16385, 31)),
+               b" max=", Number(0, 2**64 - 1, (32, 64, 64, 100, 16383, 16384, 2**30, 2**30 + 1)),
+               b" rec=", Number(0, 2**32 - 1, (0, 0, 32, 32, 64, 16384, 16385, 31)),
                b" ha=", U8, b" full=", FULL, b" rot=", Number(0, 2**32 - 1, (1, 2, 128, 129, 0)), Maybe(b" fmt=", EXPRESSION))
 
 
 def options(word):
     def one(name, form):
         return Maybe(b" " + word + name + b"=", Noted(word + name, form))
-    return Chain(one(b"fmt", EXPRESSION), one(b"rec", Number(0, 2**32 - 1, (32, 64, 256, 16384, 16385, 31))),
-                 one(b"max", Number(0, 2**64 - 1, (64, 256, 1024, 2**30, 2**30 + 1))), Maybe(b" " + word + b"full=", FULL),
-                 one(b"rot", Number(0, 2**32 - 1, (1, 2, 128, 129, 0))))
+    return Chain(one(b"fmt", EXPRESSION), one(b"rec", Number(0, 2**32 - 1, (0, 32, 64, 256, 16384, 16385, 31))),
+                 one(b"max", Number(0, 2**64 - 1, (64, 256, 1024, 16383, 16384, 2**30, 2**30 + 1))), one(b"full", FULL), one(b"rot", Number(0, 2**32 - 1, (1, 2, 128, 129, 0))))
 
 
 CLUSTER = Chain(b"cluster start=", Noted(b"time", MOMENT), b" queue=", Number(1, 256, (1, 2, 4)), b" callbacks=", Number(1, 256, (1, 2, 8, 16)),

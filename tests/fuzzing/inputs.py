@@ -11,6 +11,14 @@ from wire import MESSAGE
 
 BEGINS = [b"", b" alarmrec=64 alarmmax=64 alarmrot=1", b" alarmrec=64 alarmmax=128 alarmrot=2 ntfrec=64 ntfmax=64 ntffull=halt",
           b' sysfmt="@Cr @Cb" sysrec=32 sysmax=64 sysfull=wrap', b" alarmrec=64 alarmmax=192 alarmfull=wrap sysrec=64 sysmax=64 sysfull=halt"]
+# Records of size 0, with lines that fill files of these.
+UNSIZED = [b' sysfmt="@Cb" sysrec=0 sysmax=16384 sysrot=2', b' alarmfmt="@Cr @Cb" alarmrec=0 alarmmax=16384 alarmrot=1 sysrec=0 sysmax=16384 sysfull=halt',
+           b" alarmrec=0 alarmmax=16384 alarmfull=halt ntfrec=0 ntfmax=16385 sysfmt=\"@Cx@Cb\" sysrec=0 sysmax=20000 sysrot=1"]
+LONG = [b'log 1 write system inv=1 flags=1 gen sev=6 class=0.0.0 user="u" body="%s"' % (b"y" * count) for count in (0, 5000, 8190, 8191, 16382, 16383)] + [
+    b'log 1 write alarm inv=1 flags=0 ntfh id=1 type=0x4001 obj="o" by="b" class=0.0.0 body="%s"' % (b"z" * count) for count in (0, 8000, 16300)] + [
+        b'ntf 2 send alarm type=0x4001 obj="o" by="b" class=0.0.0 time=%d text="%s" cause=1 sev=1' % (time, b"t" * 1024) for time in (3, 5)] + [
+            b"log 1 open alarm", b'log 1 open app:"w" create file="f" path="web" max=16384 rec=0 ha=0 full=rotate rot=2 fmt="@Cb"',
+            b'log 1 write app:"w" inv=1 flags=1 gen sev=6 class=0.0.0 user="u" body="%s"' % (b"w" * 9000)]
 OPENING = [b"log 1 init A.2.1", b"log 1 open system", b"ntf 1 init A.1.1", b"ntf 2 init A.1.1", b"ntf 1 subscribe 9 filter alarm filter security", b"settle"]
 STEPS = [b"settle", b"settle", b"dispatch 1 all workers=3", b"dispatch 1 one", b"crash a", b"restart a", b"crash b", b"restart b", b"arm a 1", b"arm a 3",
          b"arm b 2", b"arm b 9", b"disarm", b"push", b"work", b"work", b"mirror", b"mirror", b"ack", b"ack", b"resend 1", b"resend 2", b"files",
@@ -52,15 +60,15 @@ class Inputs:
 
     def made(self, rng):
         """Lines made from the grammar, most of which it takes: what they begin with lets calls do something."""
+        usual, begins = (USUAL, BEGINS) if rng.random() < 0.85 else (USUAL + LONG * 4, UNSIZED)
         lines = [CLUSTER.make(rng)] if rng.random() < 0.3 else [
-            b"cluster start=1704067200000000000 queue=%d callbacks=%d" % (rng.choice([1, 2, 16]), rng.choice([1, 8, 64])) + rng.choice(BEGINS)]
+            b"cluster start=1704067200000000000 queue=%d callbacks=%d" % (rng.choice([1, 2, 16]), rng.choice([1, 8, 64])) + rng.choice(begins)]
         if rng.random() < 0.9:
             lines += OPENING
         count = rng.choice([1, 8, 20, 40, 60])
         while len(lines) < count:
             kind = rng.random()
-            usual = USUAL if kind < 0.75 else STEPS
-            line = rng.choice(usual) if kind < 0.9 else TIMED.make(rng) if kind < 0.92 else rng.choice(self.grammar.forms).make(rng)
+            line = rng.choice(usual if kind < 0.75 else STEPS) if kind < 0.9 else TIMED.make(rng) if kind < 0.92 else rng.choice(self.grammar.forms).make(rng)
             line = self.injected(rng) if self.grammar.injects and rng.random() < 0.05 else line
             lines += [line] * (rng.choice([1, 1, 2, 3]) if rng.random() < 0.98 else 34)
         return lines + [b"settle", b"files"] * (rng.random() < 0.5)

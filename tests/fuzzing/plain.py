@@ -3,7 +3,7 @@ import datetime
 import re
 
 from grammar import quote, unescape
-from rules import read_expression
+from rules import has_good_sizes, read_expression
 
 UNKNOWN = -(2**63)
 TYPES = {b"objects": (0x1001, 0x1002), b"attributes": (0x2001, 0x2002, 0x2003, 0x2004), b"states": (0x3001,),
@@ -173,12 +173,13 @@ def text_of(pieces, number, record, cut):
 
 
 def printed(kind, expression, number, record, size):
-    """A record as it is stored."""
+    """A record as it is stored: of the stream's size, or with size 0 of what its text needs."""
     pieces = read_expression(kind, expression)
     text = text_of(pieces, number, record, b"C")
-    if len(text) > size - 1:
+    most = size - 1 if size else 16383
+    if len(text) > most:
         text = text_of(pieces, number, record, b"T")
-    return text.ljust(size - 1)[:size - 1] + b"\n"
+    return text[:most].ljust(size - 1) + b"\n"
 
 
 # Streams and the files that they leave.
@@ -189,17 +190,38 @@ def stamp_text(second):
 
 
 class Stream:
-    """A stream: its attributes, records, who has it open, and the stamps of its files, oldest first."""
+    """A stream: its attributes, who has it open, the lengths of its records, and of its files that stand, oldest first, the first record
+    and the name once it was closed."""
 
     def __init__(self, name, kind, attrs, created):
         self.name, self.kind, self.attrs, self.openers = name, kind, attrs, set()
-        self.count, self.created, self.rounds = 0, created, []
+        self.lengths, self.created, self.firsts, self.rounds = [], created, [0], []
+
+    @property
+    def count(self):
+        return len(self.lengths)
 
     def per_file(self):
+        """How many records of one size a file holds."""
         return self.attrs["max"] // self.attrs["rec"]
 
-    def is_full(self):
-        return self.attrs["full"] == b"halt" and self.count == self.per_file()
+    def text_of(self, record):
+        """The bytes of the record that is stored next."""
+        return printed(self.kind, self.attrs["fmt"], self.count + 1, record, self.attrs["rec"])
+
+    def fits(self, text):
+        """Whether a record fits behind those of the current file: by their number where all have one size, else by their bytes."""
+        held = self.lengths[self.firsts[-1]:]
+        return len(held) < self.per_file() if self.attrs["rec"] else sum(held) + len(text) <= self.attrs["max"]
+
+    def refuses(self, record):
+        return self.attrs["full"] == b"halt" and not self.fits(self.text_of(record))
+
+    def offset(self):
+        """Where a record stands that comes to the current file."""
+        if self.attrs["full"] == b"wrap":
+            return self.count % self.per_file() * self.attrs["rec"]
+        return sum(self.lengths[self.firsts[-1]:])
 
     def file_name(self, created, closed=None):
         folder = b"" if self.attrs["path"] == b"." else self.attrs["path"] + b"/"
@@ -215,18 +237,13 @@ class Stream:
 
     def first_kept(self):
         """The first record that stands in the files."""
-        if self.count == 0:
-            return 0
-        per = self.per_file()
-        if self.attrs["full"] == b"rotate":
-            return max(0, (self.count - 1) // per - self.attrs["rot"] + 1) * per
-        return max(0, self.count - per)
+        return max(0, self.count - self.per_file()) if self.attrs["full"] == b"wrap" else self.firsts[0]
 
 
 def are_good_attrs(kind, attrs):
     name = re.compile(rb"[A-Za-z0-9_-]{1,64}")
     return bool(name.fullmatch(attrs["file"]) and (attrs["path"] == b"." or name.fullmatch(attrs["path"]))
-                and 32 <= attrs["rec"] <= 16384 and attrs["rec"] <= attrs["max"] <= 2**30 and attrs["ha"] <= 1 and 1 <= attrs["rot"] <= 128
+                and has_good_sizes(attrs["rec"], attrs["max"], attrs["full"]) and attrs["ha"] <= 1 and 1 <= attrs["rot"] <= 128
                 and isinstance(read_expression(kind, attrs["fmt"]), list))
 
 
@@ -255,19 +272,20 @@ class Service:
         return stream
 
     def store(self, stream, record, time):
-        attrs, per, number = stream.attrs, stream.per_file(), stream.count
-        if attrs["full"] == b"rotate" and number and number % per == 0:
+        text = stream.text_of(record)
+        if stream.attrs["full"] == b"rotate" and not stream.fits(text):
             closed = self.stamp(time)
             old = stream.file_name(stream.created, closed)
             self.deeds.append((1, "rename", stream.file_name(stream.created), old))
             stream.rounds.append(old)
+            stream.firsts.append(stream.count)
             stream.created = self.stamp(time)
             self.deeds.append((1, "put", stream.file_name(stream.created), b""))
-            if len(stream.rounds) + 1 > attrs["rot"]:
+            if len(stream.firsts) > stream.attrs["rot"]:
+                stream.firsts.pop(0)
                 self.deeds.append((1, "remove", stream.rounds.pop(0)))
-        text = printed(stream.kind, attrs["fmt"], number + 1, record, attrs["rec"])
-        self.deeds.append((2, "write", stream.file_name(stream.created), number % per * attrs["rec"], text))
-        stream.count += 1
+        self.deeds.append((2, "write", stream.file_name(stream.created), stream.offset(), text))
+        stream.lengths.append(len(text))
 
     def end(self, stream, time):
         self.deeds.append((1, "rename", stream.file_name(stream.created), stream.file_name(stream.created, self.stamp(time))))
@@ -357,9 +375,10 @@ class Service:
         if generic != wants or not is_time(when) or generic and header["sev"] > 6 or not generic and (
                 not is_time(event) or not any(header["type"] in types for types in TYPES.values())):
             return b"INVALID_PARAM"
-        if stream.is_full():
+        record = {"time": time if when == UNKNOWN else when, "header": header, "body": unquoted(found[b"body"])}
+        if stream.refuses(record):
             return b"NO_SPACE"
-        self.store(stream, {"time": time if when == UNKNOWN else when, "header": header, "body": unquoted(found[b"body"])}, time)
+        self.store(stream, record, time)
         return b"ok"
 
     def ntf_call(self, client, words, time, number):
@@ -392,14 +411,15 @@ class Service:
         if not is_sound(note):
             return b"INVALID_PARAM"
         stream = self.streams[0 if CODES[note["kind"]] >= 0x4000 else 1]
-        if stream.is_full():
+        note.update(id=self.last_id + 1, time=time if note["time"] == UNKNOWN else note["time"])
+        header = {"class": note["class"], "id": note["id"], "type": note["type"], "obj": note["obj"], "by": note["by"], "evtime": note["time"]}
+        record = {"time": time, "header": header, "body": note["text"]}
+        if stream.refuses(record):
             return b"NO_SPACE"
         self.last_id += 1
-        note.update(id=self.last_id, time=time if note["time"] == UNKNOWN else note["time"])
-        header = {"class": note["class"], "id": note["id"], "type": note["type"], "obj": note["obj"], "by": note["by"], "evtime": note["time"]}
         if stream is self.streams[0]:
             self.alarms.append((stream.count, note))
-        self.store(stream, {"time": time, "header": header, "body": note["text"]}, time)
+        self.store(stream, record, time)
         for sub in self.subs.values():
             if matches(sub["filters"], note):
                 if len(sub["items"]) < self.queue:

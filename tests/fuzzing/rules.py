@@ -101,11 +101,17 @@ def scanned(pieces, size, data, token, wanted):
     return b"".join(lines)
 
 
+def has_good_sizes(size, most, full):
+    """Whether these can be the size of records, the greatest size of files, and what is done with full ones."""
+    return (32 <= size <= 16384 and size <= most or size == 0 and 16384 <= most and full != b"wrap") and most <= 2**30
+
+
 def has_good_options(found):
     """Whether the options of a cluster line make attributes that its three streams may have."""
     for word, kind in ((b"alarm", b"alarm"), (b"ntf", b"notification"), (b"sys", b"system")):
-        record, most, kept = found.get(word + b"rec", 256), found.get(word + b"max", 262144), found.get(word + b"rot", 4)
-        if not (32 <= record <= 16384 and record <= most <= 2**30 and 1 <= kept <= 128):
+        if not has_good_sizes(found.get(word + b"rec", 256), found.get(word + b"max", 262144), found.get(word + b"full", b"rotate")):
+            return False
+        if not 1 <= found.get(word + b"rot", 4) <= 128:
             return False
         if isinstance(read_expression(kind, found.get(word + b"fmt", b"@Cr")), tuple):
             return False

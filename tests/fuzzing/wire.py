@@ -133,7 +133,7 @@ REPLY = Cases((STATUS,), (), (U64,), (NOTE,))
 ENTRY = Cases((CLIENT, COUNT, I64, CALL), (CLIENT, COUNT, COUNT, I64))
 LOST = Many(Parts(U16, U64))
 CONTENT = Cases((NOTE,), (LOST,))
-STATE = Parts(STREAM, ATTRS, U32, Many(Parts(I64, maybe(I64))))
+STATE = Parts(STREAM, ATTRS, U32, U32, Many(Parts(I64, maybe(I64), U32, U64)))
 SAVED = Parts(U64, I64, U64, U32, Many(U16), Many(U16), Many(Parts(CLIENT, COUNT, Many(REPLY))), Many(Parts(STATE, Many(U16))),
               Many(Parts(U32, NOTE)), Many(Parts(CLIENT, COUNT, U32, FILTERS, U32, Many(CONTENT), LOST)),
               Many(Parts(CLIENT, FILTERS, I64, U64, FLAG)))
