@@ -21,11 +21,20 @@ pub enum Reply {
 #[derive(PartialEq, Drop)]
 pub enum Callback {
     /// What became of a record whose writer asked to be told.
-    Written { invocation: u64, status: Status },
+    Written {
+        invocation: u64,
+        status: Status,
+    },
     /// A notification for the subscription of this id.
-    Notified { id: u32, notification: Notification },
+    Notified {
+        id: u32,
+        notification: Boxed<Notification>,
+    },
     /// Notifications for the subscription of this id were lost.
-    Discarded { id: u32, lost: Seq<Lost> },
+    Discarded {
+        id: u32,
+        lost: Seq<Lost>,
+    },
 }
 
 impl Duplicate for Reply {

@@ -4,7 +4,7 @@ ghost use Rattle.std.specs.Option.{option_to_list};
 ghost use Rattle.cluster_facts.specs.Agents.{status_of, callbacks_of, callback_of};
 
 use ais_values::{Duplicate, Status};
-use calls::{Call, Callback, Reply};
+use calls::{Boxed, Call, Callback, Reply};
 use std::alloc::{AllocError, Global};
 use sub_queue::Content;
 
@@ -48,7 +48,7 @@ pub fn callback_of_item(alloc: Global, id: u32, content: &Content) -> Result<Cal
     match content {
         Content::Notified { notification } => Ok(Callback::Notified {
             id,
-            notification: notification.copy(alloc)?,
+            notification: Boxed::new(alloc, notification.copy(alloc)?)?,
         }),
         Content::Discarded { lost } => Ok(Callback::Discarded {
             id,

@@ -263,7 +263,7 @@ pub fn put_callback(
                 Piece::Word(b" ntf "),
                 Piece::Number(u64::from(*id)),
                 Piece::Word(b" "),
-                Piece::Note(notification),
+                Piece::Note(notification.get()),
                 Piece::Word(b"\n"),
             ],
         ),

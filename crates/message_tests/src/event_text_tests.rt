@@ -280,7 +280,7 @@ fn tells_of_callbacks(rt: HostRuntime) {
         1,
         Callback::Notified {
             id: 9,
-            notification,
+            notification: Boxed::new(alloc, notification).expect(&rt, "memory"),
         },
         shown,
     );
