@@ -6,34 +6,34 @@ use mathlib.Core.List.{IsPrefix}
 use Rattle.callback_dispatch.specs.declared.numbered.Numbered.{Numbered}
 use Rattle.calls.specs.declared.reply.Callback.{Callback}
 use Rattle.callback_dispatch.specs.Seen.{numbered, union, longer_of}
-use Rattle.callback_dispatch.specs.Crew.{Room, gathered, TookMore}
+use Rattle.callback_dispatch.specs.Crew.{Buffer, gathered, TookMore}
 use Rattle.callback_dispatch.proofs.Elements.{length-numbered, length-prefix}
 use Rattle.callback_dispatch.proofs.Unions.{union-permutes}
 
 pub same_permutes : (xs ys : List Numbered) → ys ≡ xs → IsPermutation xs ys
 same_permutes xs ys same = subst (IsPermutation xs) (sym same) (IsPermutation-refl xs)
 
-gathered-more : (rooms more : List Room) (room : Room) → more ≡ rooms ++ room ∷ [] → gathered more ≡ gathered rooms ++ room.items
-gathered-more rooms more room is =
-    ap gathered is ∙ flat_map-append (λ (r : Room). r.items) rooms (room ∷ []) ∙ ap (λ l. gathered rooms ++ l) (append-nil room.items)
+pub gathered-more : (buffers more : List Buffer) (buffer : Buffer) → more ≡ buffers ++ buffer ∷ [] → gathered more ≡ gathered buffers ++ buffer.items
+gathered-more buffers more buffer is =
+    ap gathered is ∙ flat_map-append (λ (r : Buffer). r.items) buffers (buffer ∷ []) ∙ ap (λ l. gathered buffers ++ l) (append-nil buffer.items)
 
 -- no worker
-pub none_took : (list : List Numbered) (rooms : List Room) → rooms ≡ [] → IsPermutation (list ++ gathered rooms) list
-none_took list rooms none = same_permutes (list ++ gathered rooms) list (sym (ap (λ (r : List Room). list ++ gathered r) none ∙ append-nil list))
+pub none_took : (list : List Numbered) (buffers : List Buffer) → buffers ≡ [] → IsPermutation (list ++ gathered buffers) list
+none_took list buffers none = same_permutes (list ++ gathered buffers) list (sym (ap (λ (r : List Buffer). list ++ gathered r) none ∙ append-nil list))
 
 -- a worker alone
-pub one_took : (list new : List Numbered) (rooms more : List Room) (room : Room) → rooms ≡ [] → more ≡ rooms ++ room ∷ [] → new ≡ list ++ room.items → IsPermutation (list ++ gathered more) new
-one_took list new rooms more room none is took =
-    let all : gathered more ≡ room.items = gathered-more rooms more room is ∙ ap (λ (r : List Room). gathered r ++ room.items) none in
+pub one_took : (list new : List Numbered) (buffers more : List Buffer) (buffer : Buffer) → buffers ≡ [] → more ≡ buffers ++ buffer ∷ [] → new ≡ list ++ buffer.items → IsPermutation (list ++ gathered more) new
+one_took list new buffers more buffer none is took =
+    let all : gathered more ≡ buffer.items = gathered-more buffers more buffer is ∙ ap (λ (r : List Buffer). gathered r ++ buffer.items) none in
     same_permutes (list ++ gathered more) new (took ∙ sym (ap (λ (l : List Numbered). list ++ l) all))
 
 -- a worker beside others
-pub both_took : (list old other mine theirs new : List Numbered) (rooms more : List Room) (room : Room) → more ≡ rooms ++ room ∷ [] → other ≡ [] → mine ≡ other ++ room.items → old ≡ list → IsPermutation (old ++ gathered rooms) theirs → new ≡ union theirs mine → IsPermutation (list ++ gathered more) new
-both_took list old other mine theirs new rooms more room is empty took same others joined =
-    let own : mine ≡ room.items = took ∙ ap (λ (l : List Numbered). l ++ room.items) empty in
-    let all : list ++ gathered more ≡ (old ++ gathered rooms) ++ mine = ap (λ (l : List Numbered). list ++ l) (gathered-more rooms more room is) ∙ sym (append_assoc list (gathered rooms) room.items) ∙ ap (λ (l : List Numbered). (l ++ gathered rooms) ++ room.items) (sym same) ∙ ap (λ (l : List Numbered). (old ++ gathered rooms) ++ l) (sym own) in
-    let first = IsPermutation-append_left mine (old ++ gathered rooms) theirs others in
-    let whole = IsPermutation-trans ((old ++ gathered rooms) ++ mine) (theirs ++ mine) (union theirs mine) first (union-permutes theirs mine) in
+pub both_took : (list old other mine theirs new : List Numbered) (buffers more : List Buffer) (buffer : Buffer) → more ≡ buffers ++ buffer ∷ [] → other ≡ [] → mine ≡ other ++ buffer.items → old ≡ list → IsPermutation (old ++ gathered buffers) theirs → new ≡ union theirs mine → IsPermutation (list ++ gathered more) new
+both_took list old other mine theirs new buffers more buffer is empty took same others joined =
+    let own : mine ≡ buffer.items = took ∙ ap (λ (l : List Numbered). l ++ buffer.items) empty in
+    let all : list ++ gathered more ≡ (old ++ gathered buffers) ++ mine = ap (λ (l : List Numbered). list ++ l) (gathered-more buffers more buffer is) ∙ sym (append_assoc list (gathered buffers) buffer.items) ∙ ap (λ (l : List Numbered). (l ++ gathered buffers) ++ buffer.items) (sym same) ∙ ap (λ (l : List Numbered). (old ++ gathered buffers) ++ l) (sym own) in
+    let first = IsPermutation-append_left mine (old ++ gathered buffers) theirs others in
+    let whole = IsPermutation-trans ((old ++ gathered buffers) ++ mine) (theirs ++ mine) (union theirs mine) first (union-permutes theirs mine) in
     subst (λ (y : List Numbered × List Numbered). IsPermutation y.0 y.1) (λ i. (sym all i, sym joined i)) whole
 
 -- takers that know the same know it when they are joined

@@ -6,5 +6,5 @@ pub mod Joins
 pub mod Looks
 pub mod Order
 pub mod Crews
-pub mod Merges
+pub mod Collected
 pub mod Sharing

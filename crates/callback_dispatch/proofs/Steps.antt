@@ -107,7 +107,9 @@ pops_first pass v x items views may rule at (callback ∷ back) is =
     let same = length-set views pass w in
     let within = at-within views pass v at in
     let whole = rule.whole in
-    let place : number ≡ 1 + length rule.front = omega arith in (
+    let place : number ≡ 1 + length rule.front = omega arith in
+    let known : IsPrefix v.known (rule.front ++ callback ∷ back) = (mine.known.0, mine.known.1 ∙ ap (λ (l : List Callback). rule.front ++ l) is) in
+    let fed : length rule.front < length v.known → slice_get v.known (length rule.front) ≡ Some x.callback = λ more. prefix-at v.known rule.front callback back known more ∙ ap Some (sym (ap (λ (y : Numbered). y.callback) head)) in (
       w,
       record {
         feeder = rule.feeder;
@@ -140,11 +142,11 @@ pops_first pass v x items views may rule at (callback ∷ back) is =
         subst (AllBelow x.number) (sym mine.takes) (taken-below rule.taker pass 1 rule.front x.number (omega arith)),
         (λ all.
             let took = took_all (x ∷ items) views rule pass v at all in
-            let count : length v.taken ≡ length rule.front = ap length took ∙ length-numbered 1 rule.front in
-            let known : IsPrefix v.known (rule.front ++ callback ∷ back) = (mine.known.0, mine.known.1 ∙ ap (λ (l : List Callback). rule.front ++ l) is) in (
+            let count : length v.taken ≡ length rule.front = ap length took ∙ length-numbered 1 rule.front in (
               numbers ∙ ap suc (sym count),
-              (λ known_more. ap (slice_get v.known) count ∙ prefix-at v.known rule.front callback back known (omega arith) ∙ ap Some (sym (ap (λ (y : Numbered). y.callback) head))),
+              (λ known_more. ap (slice_get v.known) count ∙ fed (omega arith)),
             )),
+        (length rule.front, numbers, fed),
       ),
     )
 

@@ -1,22 +1,20 @@
--- Words of bodies alone: the rooms into which workers put what they take.
-use Rattle.std.specs.Prelude.{◌≡◌, ℕ, ◌≤◌, All, List, [], ◌++◌}
+-- Words of bodies alone: the buffers into which workers put what they take.
+use Rattle.std.specs.Prelude.{◌≡◌, ℕ, ◌≤◌, All, List, [], ◌++◌, vec_capacity}
 use Rattle.std.specs.List.{flat_map}
-use Rattle.std.specs.Global.{Global}
-use Rattle.std.specs.VecDeque.{deque_capacity}
-use Rattle.std_alloc.specs.declared.vec.deque.VecDeque.{VecDeque}
+use Rattle.std.specs.Global.{Vec}
 use Rattle.callback_dispatch.specs.declared.numbered.Numbered.{Numbered}
 
-abbrev pub Room : Type 0
-Room = VecDeque Numbered Global
+abbrev pub Buffer : Type 0
+Buffer = Vec Numbered
 
-abbrev pub gathered : List Room → List Numbered
-gathered rooms = flat_map (λ room. room.items) rooms
+abbrev pub gathered : List Buffer → List Numbered
+gathered buffers = flat_map (λ buffer. buffer.items) buffers
 
-abbrev pub IsFree : ℕ → Room → Type 0
-IsFree places room = (room.items ≡ []) × (places ≤ deque_capacity room)
+abbrev pub IsFree : ℕ → Buffer → Type 0
+IsFree places buffer = (buffer.items ≡ []) × (places ≤ vec_capacity buffer)
 
-abbrev pub AreFree : ℕ → List Room → Type 0
-AreFree places rooms = All (IsFree places) rooms
+abbrev pub AreFree : ℕ → List Buffer → Type 0
+AreFree places buffers = All (IsFree places) buffers
 
 -- the same elements come to both lists
 abbrev pub TookMore : List Numbered → List Numbered → List Numbered → List Numbered → Type 0

@@ -61,9 +61,14 @@ abbrev pub IsNext : Numbered → List Numbered → List Callback → Type 0
 IsNext x taken known =
     (x.number ≡ suc (length taken)) × (length taken < length known → slice_get known (length taken) ≡ Some x.callback)
 
+-- the element is what was fed under its number, as far as that is known
+abbrev pub IsOfFed : Numbered → List Callback → Type 0
+IsOfFed x known =
+    (place : ℕ) × (x.number ≡ suc place) × (place < length known → slice_get known place ≡ Some x.callback)
+
 abbrev pub Popped : View → Numbered → View → Type 0
 Popped v x w =
-    (w ≡ popped v x) × AllBelow x.number v.taken × (v.share ≡ 8 → IsNext x v.taken v.known)
+    (w ≡ popped v x) × AllBelow x.number v.taken × (v.share ≡ 8 → IsNext x v.taken v.known) × IsOfFed x v.known
 
 -- what a pass that took all knows of what the queue holds
 pub record TookAll (v : View) (items : List Numbered) : Type 0 where

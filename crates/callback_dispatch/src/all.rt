@@ -1,10 +1,11 @@
 //! All that waits is handed out by many workers.
 ghost use Rattle.std.specs.Prelude.{◌≡◌, ◌+◌, ◌<◌, ◌≤◌, [], ◌++◌, length, take, IsPermutation, IfOk, IfErr, vec_len, vec_capacity};
 ghost use Rattle.std.specs.List.Sorted.{IsNonDecreasingBy};
+ghost use mathlib.Core.List.{IsPrefix};
 ghost use Rattle.callback_dispatch.specs.Seen.{numbered};
 ghost use Rattle.callback_dispatch.specs.Crew.{AreFree};
 
-use crate::rooms::{Room, free_rooms, merge};
+use crate::buffers::{Buffer, collect, free_buffers};
 use crate::workers::{gather, take_left};
 use crate::{CallbackQueue, Feeder, Gate, Numbered, Taker};
 use ais_values::Seq;
@@ -12,19 +13,20 @@ use std::alloc::{AllocError, Global};
 use std::sync::Wait;
 use std::thread::Threads;
 
-// The memory of a dispatch: an empty room for each worker, and an empty vector with room for all that waits.
+// The memory of a dispatch: an empty buffer for each worker, none where nothing waits, and an empty vector; each has room
+// for all that waits.
 fn free_memory(
     alloc: Global,
     workers: u32,
-    places: usize,
     waiting: usize,
-) -> Result<(Vec<Room>, Vec<Numbered>), AllocError>
-    ensures rooms { IfOk result (λ free. (vec_len free.0 ≡ workers) × AreFree places free.0.items) }
+) -> Result<(Vec<Buffer>, Vec<Numbered>), AllocError>
+    ensures buffers { IfOk result (λ free. (vec_len free.0 ≤ workers) × AreFree waiting free.0.items) }
     ensures answer { IfOk result (λ free. (free.1.items ≡ []) × (waiting ≤ vec_capacity free.1)) }
 {
     let answer = Vec::with_capacity(alloc, waiting)?;
-    let rooms = free_rooms(alloc, workers, places)?;
-    Ok((rooms, answer))
+    let workers = if waiting == 0 { 0 } else { workers };
+    let buffers = free_buffers(alloc, workers, waiting)?;
+    Ok((buffers, answer))
 }
 
 // The elements by number.
@@ -43,11 +45,13 @@ fn settle(queue: &CallbackQueue, feeder: &mut Feeder, taker: &mut Taker)
     requires taker { (taker.old.queue ≡ queue.now.name) × (taker.old.share ≡ 8) }
     ensures feeder { (feeder.new.queue ≡ feeder.old.queue) × (feeder.new.list ≡ feeder.old.list)
         × (feeder.old.count ≤ feeder.new.count) × (feeder.new.count ≡ length taker.new.list) }
+    ensures bounded { feeder.new.count ≤ length feeder.new.list }
+    ensures grows { IsPrefix taker.old.known taker.new.known }
     ensures taker { (taker.new.queue ≡ taker.old.queue) × (taker.new.list ≡ taker.old.list)
         × (taker.new.share ≡ 8) × (taker.new.known ≡ feeder.old.list) }
     ensures exact { taker.new.list ≡ numbered 1 (take (length taker.new.list) feeder.old.list) }
 {
-    queue.acquaint(feeder, taker);
+    queue.exchange(feeder, taker);
 }
 
 // The workers take. They may leave something: what one of them learns where it finds nothing is lost as it is joined.
@@ -58,13 +62,13 @@ fn take_by_workers<R: Threads + Wait + Sync, G: Gate>(
     feeder: &mut Feeder,
     taker: Taker,
     waiting: usize,
-    free: (Vec<Room>, Vec<Numbered>),
+    free: (Vec<Buffer>, Vec<Numbered>),
     gate: &G,
 ) -> (Taker, Vec<Numbered>)
     requires feeder { feeder.old.queue ≡ queue.now.name }
     requires taker { (taker.queue ≡ queue.now.name) × (taker.share ≡ 8) }
     requires waiting { length feeder.old.list ≤ length taker.list + waiting }
-    requires rooms { (vec_len free.0 ≤ 8) × AreFree queue.now.capacity free.0.items }
+    requires buffers { (vec_len free.0 ≤ 8) × AreFree waiting free.0.items }
     requires answer { (free.1.items ≡ []) × (waiting ≤ vec_capacity free.1) }
     ensures feeder { (feeder.new.queue ≡ feeder.old.queue) × (feeder.new.list ≡ feeder.old.list)
         × (feeder.old.count ≤ feeder.new.count) }
@@ -75,10 +79,10 @@ fn take_by_workers<R: Threads + Wait + Sync, G: Gate>(
     ensures few { vec_len result.1 ≤ waiting }
     ensures room { waiting ≤ vec_capacity result.1 }
 {
-    let (rooms, answer) = free;
-    let (mut taker, rooms) = gather(rt, queue, taker, 0, queue.capacity(), rooms, gate);
+    let (buffers, answer) = free;
+    let (mut taker, buffers) = gather(rt, queue, taker, 0, waiting, buffers, gate);
     settle(queue, feeder, &mut taker);
-    let answer = merge(rooms, answer);
+    let answer = collect(buffers, answer);
     (taker, answer)
 }
 
@@ -90,13 +94,13 @@ fn take_all<R: Threads + Wait + Sync, G: Gate>(
     feeder: &mut Feeder,
     taker: Taker,
     waiting: usize,
-    free: (Vec<Room>, Vec<Numbered>),
+    free: (Vec<Buffer>, Vec<Numbered>),
     gate: &G,
 ) -> (Taker, Vec<Numbered>)
     requires feeder { feeder.old.queue ≡ queue.now.name }
     requires taker { (taker.queue ≡ queue.now.name) × (taker.share ≡ 8) }
     requires waiting { length feeder.old.list ≤ length taker.list + waiting }
-    requires rooms { (vec_len free.0 ≤ 8) × AreFree queue.now.capacity free.0.items }
+    requires buffers { (vec_len free.0 ≤ 8) × AreFree waiting free.0.items }
     requires answer { (free.1.items ≡ []) × (waiting ≤ vec_capacity free.1) }
     ensures feeder { (feeder.new.queue ≡ feeder.old.queue) × (feeder.new.list ≡ feeder.old.list)
         × (feeder.old.count ≤ feeder.new.count) × (feeder.new.count ≡ length feeder.old.list) }
@@ -115,10 +119,10 @@ fn take_all<R: Threads + Wait + Sync, G: Gate>(
 impl CallbackQueue {
     /// Hands out all that was fed and not taken, by so many workers in threads of their own, in order of numbers.
     ///
-    /// Each worker passes the gate first, and takes until it finds nothing or has taken as many elements as the
-    /// queue has places; then the taker itself takes what they left. The answer is the same for every number of
-    /// workers. All memory is taken first: where it runs out nothing is taken, and the taker comes back with the
-    /// error. The feeder is lent, so that nothing is fed meanwhile.
+    /// Each worker passes the gate first, and takes until it finds nothing or has taken as many elements as waited;
+    /// then the taker itself takes what they left. Where nothing waits there is no worker. The answer is the same for
+    /// every number of workers. All memory is taken first: where it runs out nothing is taken, and the taker comes back
+    /// with the error. The feeder is lent, so that nothing is fed meanwhile.
     pub fn dispatch_all<R: Threads + Wait + Sync, G: Gate>(
         &self,
         rt: &R,
@@ -133,17 +137,20 @@ impl CallbackQueue {
         requires workers { (1 ≤ workers) × (workers ≤ 8) }
         ensures feeder { (feeder.new.queue ≡ feeder.old.queue) × (feeder.new.list ≡ feeder.old.list)
             × (feeder.old.count ≤ feeder.new.count) }
+        ensures bounded { feeder.new.count ≤ length feeder.old.list }
         ensures given { IfOk result (λ done. taker.list ++ done.1 ≡ numbered 1 feeder.old.list) }
         ensures taker { IfOk result (λ done. (done.0.queue ≡ taker.queue) × (done.0.share ≡ 8)
             × (done.0.list ≡ numbered 1 feeder.old.list) × (done.0.known ≡ feeder.old.list)) }
         ensures count { IfOk result (λ _. feeder.new.count ≡ length feeder.old.list) }
         ensures err { IfErr result (λ failed. (failed.0.queue ≡ taker.queue) × (failed.0.share ≡ 8)
             × (failed.0.list ≡ taker.list)) }
+        ensures known { IfErr result (λ failed. IsPrefix taker.known failed.0.known
+            × IsPrefix failed.0.known feeder.old.list) }
     {
         let mut taker = taker;
         settle(self, feeder, &mut taker);
         let waiting = self.waiting(rt, &mut taker);
-        let free = match free_memory(alloc, workers, self.capacity(), waiting) {
+        let free = match free_memory(alloc, workers, waiting) {
             Ok(free) => free,
             Err(error) => return Err((taker, error)),
         };

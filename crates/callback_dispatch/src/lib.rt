@@ -2,11 +2,11 @@
 #![tactic(auto)]
 
 mod all;
+mod buffers;
 mod gate;
 mod law;
 mod numbered;
 mod queue;
-mod rooms;
 mod rule;
 mod workers;
 

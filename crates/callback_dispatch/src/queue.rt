@@ -1,8 +1,8 @@
 //! The queue, its feeder and its takers.
-ghost use Rattle.std.specs.Prelude.{◌≡◌, suc, ◌+◌, ◌-◌, ◌^◌, ◌<◌, ◌≤◌, Some, [], ◌∷◌, ◌++◌, length, IfOk, IfErr, OnOk, IfSome, IfNone, option_to_list};
+ghost use Rattle.std.specs.Prelude.{◌≡◌, suc, ◌+◌, ◌-◌, ◌^◌, ◌<◌, ◌≤◌, Some, [], ◌∷◌, ◌++◌, length, IfOk, IfErr, OnOk, OnErr, IfSome, IfNone};
 ghost use mathlib.Core.List.{IsPrefix};
 ghost use Rattle.callback_dispatch.specs.Seen.{numbered, AllBelow, union, longer_of, IsBeginningOf, IsMade};
-ghost use Rattle.callback_dispatch.specs.Rule.{IsNext};
+ghost use Rattle.callback_dispatch.specs.Rule.{IsNext, IsOfFed};
 
 use crate::Numbered;
 use crate::rule::{Ends, FedNote, Parts, Pop, Push, Ring, TakenNote, Told, View};
@@ -123,8 +123,9 @@ impl CallbackQueue {
 
     /// Hands out the oldest element that waits. It takes no memory.
     ///
-    /// Its number is above those that this taker has taken, itself or by joining. `None` only where the queue was
-    /// empty at a moment of this call. With the share 8 it is the element that follows the taker's list, and `None`
+    /// Its number is above those that this taker has taken, itself or by joining. Where the taker knows what was fed
+    /// under that number, it is that callback. `None` only where the queue was empty at a moment of this call. With the
+    /// share 8 it is the element that follows the taker's list, and `None`
     /// comes only where that list has all of which the taker knows that it was fed.
     pub fn dispatch_one<R: Wait>(&self, rt: &R, taker: &mut Taker) -> Option<Numbered>
         requires { taker.old.queue ≡ self.now.name }
@@ -132,6 +133,7 @@ impl CallbackQueue {
             × (taker.new.known ≡ taker.old.known) }
         ensures some { IfSome result (λ x.
             (taker.new.list ≡ taker.old.list ++ x ∷ []) × AllBelow x.number taker.old.list) }
+        ensures fed { IfSome result (λ x. IsOfFed x taker.old.known) }
         ensures none { IfNone result (taker.new.list ≡ taker.old.list) }
         ensures next { taker.old.share ≡ 8 →
             IfSome result (λ x. IsNext x taker.old.list taker.old.known) }
@@ -163,12 +165,13 @@ impl CallbackQueue {
             × (taker.new.known ≡ feeder.new.list)) }
         ensures grows { (feeder.old.count ≤ feeder.new.count)
             × IsPrefix taker.old.known taker.new.known }
-        ensures bounded { OnOk result (feeder.new.count ≤ length feeder.new.list) }
+        ensures bounded { (feeder.new.count ≤ length feeder.new.list)
+            × IsPrefix taker.new.known feeder.new.list }
         ensures exact { taker.old.share ≡ 8 → OnOk result (
             (feeder.new.count ≡ length taker.new.list)
             × IsBeginningOf feeder.new.list taker.new.list) }
     {
-        self.acquaint(feeder, taker);
+        self.exchange(feeder, taker);
         Ok(())
     }
 
@@ -179,6 +182,7 @@ impl CallbackQueue {
         ensures old { (taker.new.queue ≡ taker.old.queue) × (taker.new.list ≡ taker.old.list)
             × (taker.new.known ≡ taker.old.known) }
         ensures share { OnOk result (taker.new.share + 1 ≡ taker.old.share) }
+        ensures err { OnErr result (taker.new.share ≡ taker.old.share) }
         ensures new { IfOk result (λ other. (other.queue ≡ taker.old.queue) × (other.list ≡ [])
             × (other.share ≡ 1) × (other.known ≡ taker.old.known)) }
     {
@@ -199,18 +203,8 @@ impl CallbackQueue {
         one
     }
 
-    // One attempt at `dispatch_one`, which also fails where another taker is in the way.
-    pub(crate) fn attempt(&self, taker: &mut Taker) -> Option<Numbered>
-        requires { taker.old.queue ≡ self.now.name }
-        ensures same { (taker.new.queue ≡ taker.old.queue) × (taker.new.share ≡ taker.old.share)
-            × (taker.new.known ≡ taker.old.known) }
-        ensures list { taker.new.list ≡ taker.old.list ++ option_to_list result }
-    {
-        self.ring.try_pop_as::<Pop>(&mut taker.pass)
-    }
-
     // What `meet` does, which cannot fail.
-    pub(crate) fn acquaint(&self, feeder: &mut Feeder, taker: &mut Taker)
+    pub(crate) fn exchange(&self, feeder: &mut Feeder, taker: &mut Taker)
         requires feeder { feeder.old.queue ≡ self.now.name }
         requires taker { taker.old.queue ≡ self.now.name }
         ensures feeder { (feeder.new.queue ≡ feeder.old.queue)
@@ -245,13 +239,6 @@ impl CallbackQueue {
     {
         let pass = self.ring.another::<Parts>(&mut taker.pass);
         Taker { pass }
-    }
-
-    // The number of places.
-    pub(crate) fn capacity(&self) -> usize
-        ensures { result ≡ self.now.capacity }
-    {
-        self.ring.capacity()
     }
 
     // How many elements wait at a moment of the call.

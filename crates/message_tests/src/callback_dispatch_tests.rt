@@ -211,3 +211,45 @@ fn two_workers_are_there_at_once(rt: HostRuntime) -> Result<(), Fail> {
     assert_eq!(rt; gate.missed.load(SeqCst), 0);
     Ok(())
 }
+
+// Notes each worker that passes, by a bit of its number.
+#[derive(Drop)]
+struct Noting {
+    passed: AtomicU32,
+}
+
+impl Gate for Noting {
+    fn hold(&self, worker: u32) {
+        self.passed.fetch_add(1u32.wrapping_shl(worker), SeqCst);
+    }
+}
+
+// The workers that pass where so many callbacks wait.
+fn passing<R: thread::Threads + Wait + Abort + Sync>(
+    rt: &R,
+    alloc: std::alloc::Global,
+    waiting: u32,
+    workers: u32,
+) -> Result<u32, Fail>
+    requires { (1 ≤ workers) × (workers ≤ 8) }
+{
+    let (queue, mut feeder, taker) = CallbackQueue::make(rt, alloc, 4)?;
+    feed_all(rt, &queue, &mut feeder, waiting);
+    let gate = Noting {
+        passed: AtomicU32::new(0),
+    };
+    let Ok((_, taken)) = queue.dispatch_all(rt, alloc, &mut feeder, taker, workers, &gate) else {
+        return Err(Fail::new("no memory"));
+    };
+    are_from(rt, taken, 1, waiting as usize);
+    Ok(gate.passed.load(SeqCst))
+}
+
+#[test]
+fn each_worker_passes_the_gate_where_something_waits(rt: HostRuntime) -> Result<(), Fail> {
+    let alloc = rt.alloc();
+    assert_eq!(rt; passing(&rt, alloc, 0, 8)?, 0);
+    assert_eq!(rt; passing(&rt, alloc, 1, 8)?, 255);
+    assert_eq!(rt; passing(&rt, alloc, 4, 3)?, 7);
+    Ok(())
+}

@@ -3,7 +3,7 @@ use Rattle.crossbeam_queue.specs.Passes.{view}
 use Rattle.callback_dispatch.proofs.Steps.{learns}
 use Rattle.callback_dispatch.proofs.Looks.{exactly-told}
 use Rattle.callback_dispatch.proofs.Joins.{forks-fed, forks-taken, merges-told}
-use Rattle.callback_dispatch.proofs.queue.CallbackQueue.acquaint.Goals as goal
+use Rattle.callback_dispatch.proofs.queue.CallbackQueue.exchange.Goals as goal
 
 pub another-note-requires-clause-rule : goal.another-note-requires-clause-rule
 another-note-requires-clause-rule c = forks-taken _ _
