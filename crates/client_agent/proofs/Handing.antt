@@ -7,7 +7,7 @@ use Rattle.callback_dispatch.specs.Seen.{TakerSeen, numbered as numbered_from}
 use Rattle.callback_dispatch.proofs.Elements.{numbered-append, length-numbered as length-numbered_from}
 use Rattle.cluster_facts.specs.Types.{Callback}
 use Rattle.cluster_facts.specs.Agents.{oldest, all_but_oldest}
-use Rattle.client_agent.specs.declared.waiting.WaitingCallbacks.TheInside.{Inside}
+use Rattle.client_agent.specs.declared.ring.Ring.TheInside.{Inside}
 use Rattle.client_agent.specs.Steps.{numbered}
 use Rattle.client_agent.specs.Inside.{IsOnlyTaker, HasOnlyTaker, AreEnds}
 

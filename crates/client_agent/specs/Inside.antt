@@ -7,9 +7,10 @@ use Rattle.callback_dispatch.specs.Seen.{QueueSeen, FeederSeen, TakerSeen, numbe
 use Rattle.cluster_facts.specs.Agents.{Living, Agent, can_serve, service_of, has_handle}
 use Rattle.client_agent.specs.declared.kept.Kept.{Kept}
 use Rattle.client_agent.specs.declared.living.Subscription.{Subscription}
+use Rattle.client_agent.specs.declared.ring.Ring.TheInside.{Inside as RingInside}
 use Rattle.client_agent.specs.declared.waiting.WaitingCallbacks.TheInside.{Inside as WaitingInside}
 use Rattle.client_agent.specs.declared.agent.Agent.TheInside.{Inside}
-use Rattle.client_agent.specs.Waiting.{Waiting}
+use Rattle.client_agent.specs.Waiting.{Waiting, none_waits}
 use Rattle.client_agent.specs.Seen.{Seen}
 
 abbrev pub call_kept : Kept → ℕ × Call
@@ -73,8 +74,8 @@ lack (Other call) agent = if has_handle (service_of call) agent then None else S
 
 -- The callbacks of a client are what the feeder of its queue fed. Those wait that the taker has not taken.
 
-abbrev pub waiting_inside : WaitingInside → Waiting
-waiting_inside inside = record {
+abbrev pub ring_inside : RingInside → Waiting
+ring_inside inside = record {
   places = inside.places;
   queue = reverse (drop inside.given inside.feeder.list);
   given = inside.given;
@@ -90,9 +91,21 @@ abbrev pub HasOnlyTaker : QueueSeen → FeederSeen → ℕ → Option TakerSeen 
 HasOnlyTaker queue feeder given None = ⊥
 HasOnlyTaker queue feeder given (Some taker) = IsOnlyTaker queue feeder given taker
 
-pub record AreEnds (inside : WaitingInside) : Type 0 where
+pub record AreEnds (inside : RingInside) : Type 0 where
   pub here : inside.feeder.queue ≡ inside.queue.name
   pub size : inside.places ≡ inside.queue.capacity
   pub count : inside.fed ≡ length inside.feeder.list
   pub within : inside.given ≤ length inside.feeder.list
   pub taker : HasOnlyTaker inside.queue inside.feeder inside.given inside.taker
+
+-- Where no callback came there is no queue yet.
+
+abbrev pub waiting_in : ℕ → Option Waiting → Waiting
+waiting_in places None = none_waits places
+waiting_in places (Some waiting) = waiting
+
+abbrev pub all_waiting : WaitingInside → Waiting
+all_waiting inside = waiting_in inside.places inside.ring
+
+abbrev pub HasPlaces : WaitingInside → Type 0
+HasPlaces inside = inside.places ≡ (waiting_in inside.places inside.ring).places

@@ -75,9 +75,9 @@ fn callback_of_call(kept: &VecDeque<Kept>, number: u32, reply: &Reply) -> Option
 }
 
 impl Agent {
-    /// The agent of a client that has asked for nothing, with a queue of so many callbacks, at least one. It takes the
-    /// memory of the queue, and answers want of memory too where the queue would have no place.
-    pub fn new<R>(rt: &R, alloc: Global, client: u16, callbacks: u32) -> Result<Agent, AllocError>
+    /// The agent of a client that has asked for nothing, with a queue of so many callbacks. It takes no memory: that of
+    /// the queue is taken with the first callback.
+    pub fn new<R>(_rt: &R, alloc: Global, client: u16, callbacks: u32) -> Result<Agent, AllocError>
         ensures { IfOk result (λ agent. agent ≡ seen_of client callbacks fresh) }
     {
         Ok(Agent {
@@ -87,7 +87,7 @@ impl Agent {
             ntf_handle: false,
             kept: VecDeque::new(alloc),
             living: VecDeque::new(alloc),
-            callbacks: WaitingCallbacks::new(rt, alloc, callbacks)?,
+            callbacks: WaitingCallbacks::new(callbacks),
         })
     }
 

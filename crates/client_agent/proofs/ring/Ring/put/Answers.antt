@@ -1,7 +1,7 @@
 use Rattle.std.proofs.Common.{◌<◌, length, sym, subst}
 use Rattle.client_agent.specs.Waiting.{Waiting}
 use Rattle.client_agent.proofs.Handing.{only-taker, has-room}
-use Rattle.client_agent.proofs.waiting.WaitingCallbacks.put.Goals as goal
+use Rattle.client_agent.proofs.ring.Ring.put.Goals as goal
 
 pub put_at_end-requires-clause-room : goal.put_at_end-requires-clause-room
 put_at_end-requires-clause-room g c =

@@ -2,7 +2,7 @@ use Rattle.std.proofs.Common.{ap, sym, ◌∙◌, reverse}
 use Rattle.client_agent.specs.Steps.{numbered}
 use Rattle.client_agent.specs.Waiting.{Waiting}
 use Rattle.client_agent.proofs.Handing.{only-taker, handed-all}
-use Rattle.client_agent.proofs.waiting.WaitingCallbacks.hand_out_all.Goals as goal
+use Rattle.client_agent.proofs.ring.Ring.hand_out_all.Goals as goal
 
 pub returns-in-Ok-clause-taken : goal.returns-in-Ok-clause-taken
 returns-in-Ok-clause-taken g c =

@@ -1,6 +1,6 @@
 use Rattle.std.proofs.Common.{sym, ◌∙◌, arith}
 use Rattle.callback_dispatch.proofs.Crews.{known_taken}
-use Rattle.client_agent.proofs.waiting.take_oldest.Goals as goal
+use Rattle.client_agent.proofs.ring.take_oldest.Goals as goal
 
 pub unreachable-requires : goal.unreachable-requires
 unreachable-requires g c =

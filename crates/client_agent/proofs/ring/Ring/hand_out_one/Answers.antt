@@ -6,7 +6,7 @@ use Rattle.cluster_facts.specs.Agents.{oldest}
 use Rattle.client_agent.specs.Steps.{numbered}
 use Rattle.client_agent.specs.Waiting.{Waiting, after_one}
 use Rattle.client_agent.proofs.Handing.{only-taker, length-taken, oldest-at, took-one, handed-one, one-left, one-given}
-use Rattle.client_agent.proofs.waiting.WaitingCallbacks.hand_out_one.Goals as goal
+use Rattle.client_agent.proofs.ring.Ring.hand_out_one.Goals as goal
 
 pub take_oldest-requires-clause-waits : goal.take_oldest-requires-clause-waits
 take_oldest-requires-clause-waits g c =
