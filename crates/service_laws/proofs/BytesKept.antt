@@ -1,13 +1,10 @@
--- Bytes that lie beside a write are those that lay there before; and the slots of two records of one file lie beside each other.
-use Rattle.std.proofs.Common.{◌≡◌, ◌≢◌, ℕ, ◌+◌, ◌*◌, ◌/◌, ◌%◌, ◌<◌, ◌≤◌, ◌⊎◌, inl, inr, List, length, take, drop, get_or, refl, ap, sym, ◌∙◌, arith, length-drop}
+-- Bytes that lie beside a write are those that lay there before; and the slots of two records that wrap lie beside each other.
+use Rattle.std.proofs.Common.{◌≡◌, ◌≢◌, ℕ, ◌+◌, ◌*◌, ◌/◌, ◌%◌, ◌<◌, ◌≤◌, ◌⊎◌, inl, inr, List, length, take, drop, get_or, ap, sym, ◌∙◌, arith, length-drop}
 use Rattle.std.proofs.lemmas.Bool.{cases_lt}
 use Rattle.std.proofs.lemmas.List.{length-take, ext_get_or, get_or-take, get_or-drop}
 use Rattle.std.proofs.Math.Nat.{mul-le-mul_left, mul-le-mul_right}
 use Rattle.disk_model.specs.Disk.{overwritten}
 use Rattle.disk_model.proofs.Tearing.{length-overwritten, overwritten_outside}
-use Rattle.stream_config.specs.declared.attrs.FullAction.{FullAction}
-use Rattle.stream_config.specs.declared.attrs.FullAction.TheVariants.{Wrap, Halt, Rotate}
-use Rattle.log_history.proofs.SpotLaws.{index_in}
 
 pub beside : (file bytes own : List ℕ) (at o : ℕ) → at ≤ length file → (o + length own ≤ at) ⊎ (at + length bytes ≤ o) → take (length own) (drop o (overwritten file at bytes)) ≡ own → take (length own) (drop o file) ≡ own
 beside file bytes own at o within apart is =
@@ -33,7 +30,7 @@ beside file bytes own at o within apart is =
       outside (inl front) place less = inl (omega (arith, front, less))
       outside (inr behind) place less = inr (omega (arith, behind))
 
--- slots
+-- slots of records that wrap
 
 times-apart : (size one other : ℕ) → one < other → one * size + size ≤ other * size
 times-apart size one other less =
@@ -48,14 +45,9 @@ rests-apart n k t some less near same = by_case (cases_lt (k / n) (t / n)) where
   by_case (inr down) =
       let le : n * (t / n) ≤ n * (k / n) = mul-le-mul_left n down in absurd (omega (arith, le, some, less, near, same))
 
-pub slots-apart : (action : FullAction) (n size k t : ℕ) → 0 < n → k < t → (action ≡ Wrap → t < k + n) → (action ≡ Rotate → k / n ≡ t / n) → (index_in action n k * size + size ≤ index_in action n t * size) ⊎ (index_in action n t * size + size ≤ index_in action n k * size)
-slots-apart Halt n size k t some less wraps rotates = inl (times-apart size k t less)
-slots-apart Wrap n size k t some less wraps rotates = by_case (cases_lt (k % n) (t % n)) (cases_lt (t % n) (k % n)) where
+pub slots-apart : (n size k t : ℕ) → 0 < n → k < t → t < k + n → (k % n * size + size ≤ t % n * size) ⊎ (t % n * size + size ≤ k % n * size)
+slots-apart n size k t some less near = by_case (cases_lt (k % n) (t % n)) (cases_lt (t % n) (k % n)) where
   by_case : (k % n < t % n) ⊎ (t % n ≤ k % n) → (t % n < k % n) ⊎ (k % n ≤ t % n) → (k % n * size + size ≤ t % n * size) ⊎ (t % n * size + size ≤ k % n * size)
   by_case (inl below) other = inl (times-apart size (k % n) (t % n) below)
   by_case (inr above) (inl behind) = inr (times-apart size (t % n) (k % n) behind)
-  by_case (inr above) (inr not_behind) =
-      absurd (rests-apart n k t some less (wraps refl) (omega (arith, above, not_behind)))
-slots-apart Rotate n size k t some less wraps rotates =
-    let whole : n * (k / n) ≡ n * (t / n) = ap (λ q. n * q) (rotates refl) in
-    inl (times-apart size (k % n) (t % n) (omega (arith, whole, some, less)))
+  by_case (inr above) (inr not_behind) = absurd (rests-apart n k t some less near (omega (arith, above, not_behind)))

@@ -1,13 +1,12 @@
 -- **The deeds of an entry, made again after any attempts, leave the files of the history with it.**
-use Rattle.std.proofs.Common.{◌≡◌, ℕ, ◌≤◌, Bool, true, false, ◌&&◌, cond, List, [], ◌∷◌, ◌++◌, length, refl, sym, ap, subst, ◌∙◌, arith, lt-ltb}
-use Rattle.std.specs.Prelude.{pos, int_lt, Option, Some, None, option_map, filter}
+use Rattle.std.proofs.Common.{◌≡◌, ℕ, ◌≤◌, Bool, true, false, ◌&&◌, cond, List, [], ◌∷◌, ◌++◌, length, refl, sym, ap, subst, ◌∙◌, arith}
+use Rattle.std.specs.Prelude.{pos, Option, Some, None, option_map, filter}
 use Rattle.std.specs.Option.{option_map_or}
 use Rattle.std.specs.List.{AllByRecursion, cons_option, find}
 use Rattle.std.specs.Str.{bytes_eq}
 use Rattle.std.proofs.lemmas.List.{append-nil}
 use Rattle.std.proofs.lemmas.Bool.{and_parts}
 use Rattle.disk_model.specs.Disk.{File, Files, settled_file}
-use Rattle.stream_config.specs.declared.event.Stamps.{Stamps}
 use Rattle.stream_config.specs.declared.event.StreamEvent.{StreamEvent}
 use Rattle.stream_config.specs.declared.event.StreamEvent.TheVariants as event
 use Rattle.stream_config.specs.Cfg.{cfg_of}
@@ -22,13 +21,13 @@ use Rattle.record_print.specs.declared.record.LogRecord.{LogRecord}
 use Rattle.calls.specs.declared.entry.Entry.{Entry}
 use Rattle.calls.specs.declared.entry.Entry.TheVariants.{Called, Receipted}
 use Rattle.log_history.specs.Changes.{LogChange, Began, Opened, Stored, Closed, Ended}
-use Rattle.log_history.specs.Chronicle.{LogSetup, Stream, new_stream, lives, is_living, is_due, chronicle}
+use Rattle.log_history.specs.Chronicle.{LogSetup, Stream, new_stream, lives, is_living, chronicle}
 use Rattle.log_history.specs.Deeds.{deeds_of_all, deeds_by, made_stream}
 use Rattle.log_history.specs.Files.{disk_files, records_of, log_entries_of}
 use Rattle.log_history.specs.Legal.{IsLogHistory}
 use Rattle.log_history.specs.Stamps.{IsStampUpTo, stamps_of_all, second_in, CanStamp}
-use Rattle.log_history.specs.Table.{OpenStream, open_stream, state_of, table, is_named, storing, bytes_in, ends_in, closed_streams, left_streams, without_opener, new_state, events_of}
-use Rattle.log_history.proofs.CarryLaws.{are-records}
+use Rattle.log_history.specs.Table.{OpenStream, open_stream, state_of, table, is_named, is_changing, storing, bytes_in, ends_in, closed_streams, left_streams, without_opener, new_state, events_of}
+use Rattle.log_history.proofs.BytesLaws.{are-records}
 use Rattle.log_history.proofs.EventLaws.{events-fit}
 use Rattle.log_history.proofs.FilesLaws.{Each-amid}
 use Rattle.log_history.proofs.FirstLaws.{Each}
@@ -38,7 +37,7 @@ use Rattle.log_history.proofs.Reaching.{Passes, reached}
 use Rattle.log_history.proofs.StampedLaws.{amid, stamped}
 use Rattle.log_history.proofs.SoundStreams.{sound}
 use Rattle.log_history.proofs.StampLaws.{AreTimely}
-use Rattle.log_history.proofs.StreamLaws.{IsSoundStream, fit-files, fit-stamps, up-to-lt}
+use Rattle.log_history.proofs.StreamLaws.{IsSoundStream, fit-stamps}
 use Rattle.log_history.proofs.TableLaws.{find-living}
 use Rattle.cluster_facts.specs.Storage.{Attempts}
 use Rattle.plain_service.specs.Setups.{Setup, log_setup}
@@ -82,19 +81,15 @@ stands-amid front behind stream last files low are holds name bytes is =
 -- a record is stored
 
 storing-again : (front behind : List Stream) (stream : Stream) (last second : ℕ) (rec : LogRecord) (files : Files) → last ≤ 20000000100 → AreStamps last (stamps_of_all (front ++ stream ∷ behind)) → stream.ended ≡ None → Passes stream → IsSoundStream last stream → IsFitEvent (storing last second rec (state_of stream)) → Holds (front ++ stream ∷ behind) files → IsRepeatable (calls_of_all (deeds_of (storing last second rec (state_of stream)))) files
-storing-again front behind stream last second rec files low are living passes sound_is fit holds = by_case (is_due stream) fit where
-  stamps : Stamps
-  stamps = record { closed = pos (stamp_after last second); created = pos (stamp_after (stamp_after last second) second) }
-
+storing-again front behind stream last second rec files low are living passes sound_is fit holds = by_case (is_changing (state_of stream) rec) fit where
   by_case : (due : Bool) → IsFitEvent (event.Stored (state_of stream) (bytes_in (state_of stream) rec) (cond due (Some (record { closed = pos (stamp_after last second); created = pos (stamp_after (stamp_after last second) second) })) None)) → IsRepeatable (calls_of_all (deeds_of (event.Stored (state_of stream) (bytes_in (state_of stream) rec) (cond due (Some (record { closed = pos (stamp_after last second); created = pos (stamp_after (stamp_after last second) second) })) None)))) files
   by_case false is =
-      stored-again (state_of stream) (bytes_in (state_of stream) rec) (records_of stream) files is (are-records stream passes) (stands-amid front behind stream last files low are holds)
+      stored-again (state_of stream) (bytes_in (state_of stream) rec) (records_of stream) files is (are-records stream passes sound_is.count) (stands-amid front behind stream last files low are holds)
   by_case true is =
-      let standing = fit-files last stream passes.some_rotated living sound_is in
-      changed-again (state_of stream) (bytes_in (state_of stream) rec) stamps files is
-      (rises-behind (state_of stream).files stamps standing.last_open standing.rising
-      (each-weaker (IsStampUpTo (pos last)) (λ stamp. int_lt stamp (pos (stamp_after last second)) ≡ true) (λ stamp up. up-to-lt last (stamp_after last second) stamp (omega arith) up) (stamps_of (state_of stream).files) (fit-stamps last stream passes.some_rotated living sound_is))
-      (lt-ltb (stamp_after last second) (stamp_after (stamp_after last second) second) (omega arith)))
+      let closing = stamp_after last second in
+      let created = stamp_after closing second in
+      changed-again (state_of stream) (bytes_in (state_of stream) rec) (record { closed = pos closing; created = pos created }) files is
+      (rises-behind last closing created stream (omega arith) (omega arith) passes.some_rotated living sound_is)
 
 stored-option : (past : List LogChange) (last second : ℕ) (rec : LogRecord) (test : Stream → Bool) (streams : List Stream) (found : Option Stream) (files : Files) → find (λ stream. lives stream && test stream) streams ≡ found → last ≤ 20000000100 → AreStamps last (stamps_of_all streams) → Each Passes streams → Each (IsSoundStream last) streams → AllByRecursion IsFitEvent (option_map_or (λ (stream : OpenStream). storing last second rec stream.state ∷ []) (option_map (open_stream past) found) []) → Holds streams files → IsRepeatable (calls_of_all (deeds_of_all (option_map_or (λ (stream : OpenStream). storing last second rec stream.state ∷ []) (option_map (open_stream past) found) []))) files
 stored-option past last second rec test streams None files none low are passing sound_all fit holds = nothing-again files

@@ -62,8 +62,8 @@ apart-names low one other first closed is late =
     let opened = current_open one.files is.fit.stream.standing.last_open in
     let made = (current_stamps one.files is.fit.stream.stamps (some_files one.files is.fit.stream.standing.last_open)).created in
     let current : LogFile = current_file one.files in
-    let open_one : LogFile = record { created = current.created; closed = None } in
-    let whole : open_one ≡ current = λ i. record { created = current.created; closed = sym opened i } in
+    let open_one : LogFile = record { created = current.created; closed = None; first = current.first; bytes = current.bytes } in
+    let whole : open_one ≡ current = λ i. record { created = current.created; closed = sym opened i; first = current.first; bytes = current.bytes } in
     subst (λ (file : LogFile). log_name one.attrs file ≢ to_name other closed) whole
     (last_apart one.attrs other.attrs open_one (file_closed closed (current_file other.files)) made late.fit.stamp
     (subst (λ stamp. current.created ≢ stamp) (sym late.stamp) (unlike-stamp low late.number current.created is.made late.later)))

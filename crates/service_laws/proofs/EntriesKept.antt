@@ -1,9 +1,9 @@
 -- **A record that stands before and after an entry stands at one of its two places while the entry's deeds are attempted.**
-use Rattle.std.proofs.Common.{◌≡◌, ◌≢◌, ℕ, zero, suc, ◌+◌, ◌≤◌, nat_le, nat_lt, true, false, ◌⊎◌, inl, inr, List, [], ◌∷◌, ◌++◌, length, map, refl, ap, sym, ◌∙◌, subst, arith, length-append}
+use Rattle.std.proofs.Common.{◌≡◌, ◌≢◌, ℕ, zero, suc, ◌+◌, ◌≤◌, true, ◌⊎◌, inl, inr, List, [], ◌∷◌, length, map, refl, ap, sym, ◌∙◌, subst, arith}
 use Rattle.std.specs.Prelude.{ℤ, Option, Some, None, option_map, pos, unsigned_abs, slice_get}
 use Rattle.std.specs.Option.{option_map_or}
 use Rattle.std.specs.List.{AllByRecursion, cons_option, find}
-use Rattle.std.proofs.lemmas.Bool.{and_parts, leb-true}
+use Rattle.std.proofs.lemmas.Bool.{and_parts}
 use Rattle.client_set.specs.Members.{Stands}
 use Rattle.client_set.proofs.MemberLaws.{Stands-append_right}
 use Rattle.disk_model.specs.Disk.{Files}
@@ -13,26 +13,24 @@ use Rattle.stream_config.specs.declared.event.StreamEvent.TheVariants as event
 use Rattle.stream_config.specs.declared.state.StreamState.{StreamState}
 use Rattle.stream_config.specs.Cfg.{cfg_of}
 use Rattle.stream_config.specs.Equality.{same_name}
-use Rattle.stream_config.specs.Events.{open_file, file_closed}
-use Rattle.stream_config.specs.Sizes.{records_per_file}
+use Rattle.stream_config.specs.Events.{open_file, file_closed, next_offset}
 use Rattle.stream_config.specs.Stamps.{stamp_after}
 use Rattle.stream_layout.specs.Carrying.{IsFitEvent}
 use Rattle.stream_layout.specs.Deeds.{calls_of_all, current_file, deeds_of}
 use Rattle.stream_layout.specs.Names.{log_name, cfg_name}
-use Rattle.stream_layout.specs.Spots.{spot_of}
 use Rattle.stream_layout.proofs.NameLaws.{stamp_bound}
 use Rattle.calls.specs.declared.entry.Entry.{Entry}
 use Rattle.calls.specs.declared.entry.Entry.TheVariants.{Called, Receipted}
 use Rattle.log_history.specs.AllNames.{names_of_full, names_in}
 use Rattle.log_history.specs.Changes.{LogChange, Began, Opened, Stored, Closed, Ended}
-use Rattle.log_history.specs.Chronicle.{LogSetup, Stream, new_stream, lives, is_living, is_due, is_ending, with_record, with_end, all_ended, chronicle}
+use Rattle.log_history.specs.Chronicle.{LogSetup, Stream, new_stream, lives, is_living, is_ending, with_record, with_end, all_ended, chronicle}
 use Rattle.log_history.specs.Deeds.{deeds_of_all, deeds_by, made_stream}
 use Rattle.log_history.specs.Files.{records_of, disk_files}
 use Rattle.log_history.specs.Firsts.{change_first}
 use Rattle.log_history.specs.Legal.{IsLogHistory}
-use Rattle.log_history.specs.Places.{first_in, place_of, place_in, record_in, IsAt}
+use Rattle.log_history.specs.Places.{spot_in_file, place_of, place_in, record_in, IsAt}
 use Rattle.log_history.specs.Stamps.{second_in, CanStamp}
-use Rattle.log_history.specs.Table.{OpenStream, open_stream, state_of, new_state, table, storing, bytes_in, ends_in, events_of}
+use Rattle.log_history.specs.Table.{OpenStream, open_stream, state_of, new_state, table, is_changing, storing, bytes_in, ends_in, events_of}
 use Rattle.log_history.proofs.EventLaws.{events-fit}
 use Rattle.log_history.proofs.FirstLaws.{Each, Each-find}
 use Rattle.log_history.proofs.NamedLaws.{names-once}
@@ -62,9 +60,8 @@ use Rattle.service_laws.proofs.ChangesKept.{IsKeptBy, kept-made}
 use Rattle.service_laws.proofs.EndsAgain.{IsLateEnd, late-ends}
 use Rattle.service_laws.proofs.EndsKept.{EndMoves, rise-ends, kept-ends}
 use Rattle.service_laws.proofs.LogKept.{place-name, old-name, not-new, not-cfg, beside-slot, kept-nothing, kept-alone, kept-storing}
-use Rattle.service_laws.proofs.PlacesMoved.{PlaceIs, place-is, Moved, same-place, recorded-place, ended-place, current-is, changed-at, same-stream, ended-at}
+use Rattle.service_laws.proofs.PlacesMoved.{PlaceIs, place-is, Moved, recorded-place, ended-place, current-is, changed-at, same-stream, ended-at}
 use Rattle.ais_values.proofs.Basics.{none_from}
-use Rattle.log_history.proofs.RecordLaws.{length-record}
 
 -- the stream of a place that is told
 
@@ -81,8 +78,8 @@ place-stream streams s k place is = by_case (slice_get streams s) refl is where
 
 same-places : (stream : Stream) (k : ℕ) (spot after : List ℕ × ℕ) → PlaceIs stream k spot → PlaceIs stream k after → after ≡ spot
 same-places stream k spot after is later =
-    let file : later.file ≡ is.file = cc (later.there, is.there) in
-    same-place spot after (later.name ∙ ap (log_name stream.attrs) file ∙ sym is.name) (later.offset ∙ sym is.offset)
+    let file : later.file ≡ is.file = cc (later.at, is.at) in
+    sym later.is ∙ ap (spot_in_file stream k) file ∙ is.is
 
 -- the name of a current file is one of its stream's
 current-named : (stream : Stream) → stream.ended ≡ None → Passes stream → Stands (log_name stream.attrs (current_file (state_of stream).files)) (names_in stream)
@@ -115,28 +112,25 @@ module _ (setup : LogSetup) (past : List LogChange) (legal : IsLogHistory setup 
       let passes = own.0 in
       let alive = none_from found.ended (and_parts (lives found) (same_name found.name stored) own.1).0 in
       let older = old-name last streams s x spot.0 (stamped setup past) place.there (place-name x k spot place.is) in
-      let moves : (after ≡ spot) ⊎ ((is_due found ≡ true) × Moved found (stamp_after last second) spot after) =
+      let moves : (after ≡ spot) ⊎ ((is_changing (state_of found) rec ≡ true) × Moved found (stamp_after last second) spot after) =
       elim (changed-at (is_living stored) (with_record last second rec) streams s x y place.there later.there) [
         | inl same ↦ inl (same-places x k spot after place.is (subst (λ w. PlaceIs w k after) same later.is))
         | inr both ↦
             let one : x ≡ found = cc in
             let at : PlaceIs found k spot = subst (λ w. PlaceIs w k spot) one place.is in
             let next : PlaceIs (with_record last second rec found) k after = subst (λ w. PlaceIs w k after) (both.0 ∙ ap (with_record last second rec) one) later.is in
-            recorded-place last second rec found k spot after alive at next
+            recorded-place last second rec found k spot after alive passes sound_is.count fit.stream at next
       ] in
-      let apart_is : is_due found ≡ false → spot.0 ≡ log_name found.attrs (current_file (state_of found).files) → (spot.1 + length bytes ≤ (spot_of found.attrs (length found.records)).at) ⊎ ((spot_of found.attrs (length found.records)).at + length (bytes_in (state_of found) rec) ≤ spot.1) =
-      λ stays named.
+      let apart_is : spot.0 ≡ log_name found.attrs (current_file (state_of found).files) → (spot.1 + length bytes ≤ next_offset (state_of found)) ⊎ (next_offset (state_of found) + length (bytes_in (state_of found) rec) ≤ spot.1) =
+      λ named.
       let two = same-stream (is_living stored) (with_record last second rec) streams s x found spot.0 (names-once setup past low) place.there is_found (place-name x k spot place.is)
       (subst (λ name. Stands name (names_in found)) (sym named) (current-named found alive passes)) in
       let at : PlaceIs found k spot = subst (λ w. PlaceIs w k spot) two.0 place.is in
       let became : y ≡ with_record last second rec found = cc (later.there, two.1) in
       let next : PlaceIs (with_record last second rec found) k after = subst (λ w. PlaceIs w k after) became later.is in
-      let n = records_per_file found.attrs in
-      let standing = leb-true (first_in found.attrs.action n found.attrs.rotated (length (found.records ++ rec ∷ []))) k (and_parts (nat_le (first_in found.attrs.action n found.attrs.rotated (length (found.records ++ rec ∷ []))) k) (nat_lt k (length (found.records ++ rec ∷ []))) next.stands).0 in
-      let first : first_in found.attrs.action n found.attrs.rotated (length found.records + 1) ≤ k = subst (λ count. first_in found.attrs.action n found.attrs.rotated count ≤ k) (length-append found.records (rec ∷ [])) standing in
       let mine : slice_get (records_of found) k ≡ Some bytes =
       ap (λ w. slice_get (records_of w) k) (sym two.0) ∙ sym (ap (λ one. option_map_or (λ (w : Stream). slice_get (records_of w) k) one None) place.there) ∙ record_is in
-      beside-slot last found k spot bytes (bytes_in (state_of found) rec) passes sound_is alive stays at first (length-record found k bytes passes mine) fit.size named in
+      beside-slot last second rec found k spot after bytes passes sound_is.count fit.stream at next mine named in
       kept-storing bytes spot after (disk_files setup past) new was is last second rec found passes sound_is alive fit older moves apart_is
 
   -- streams end
@@ -162,10 +156,10 @@ module _ (setup : LogSetup) (past : List LogChange) (legal : IsLogHistory setup 
         | inl same ↦ inl (same-places x k spot after place.is (subst (λ w. PlaceIs w k after) same later.is))
         | inr ends ↦
             let next : PlaceIs (with_end ends.0 x) k after = subst (λ w. PlaceIs w k after) ends.1 later.is in
-            elim (ended-place ends.0 x k spot after ends.2 place.is next) [
+            let passes = passes-at streams s x place.there (reached setup past legal).passing in
+            elim (ended-place ends.0 x k spot after passes.some_rotated ends.2 place.is next) [
               | inl same ↦ inl same
               | inr moved ↦
-                  let passes = passes-at streams s x place.there (reached setup past legal).passing in
                   let current = current-is x ends.2 passes.some_rotated in
                   inr (
                     state_of x,

@@ -89,8 +89,8 @@ end-refused : (using : Bool) → using ≡ true → (answer (end_by using) ≡ s
 end-refused true user refused = refused refl
 end-refused false user refused = cc
 
-module _ (setup : Setup) (past : Past) (client number : ℕ) (calls : List (ℕ × Call)) where
-  asked-refused : (call : Call) → (status_of setup past client call ≡ status.Ok → ⊥) → (sub : Sub) → Stands sub (subs past.ntf) → sub.client ≡ client → is_using past.ntf client ≡ true → Stands (sub.key, sub.id) (subscribed calls) → Stands (sub.key, sub.id) (subscribed ((number, call) ∷ calls))
+module _ (setup : Setup) (past : Past) (client number : ℕ) (now : ℤ) (calls : List (ℕ × Call)) where
+  asked-refused : (call : Call) → (status_of setup past client now call ≡ status.Ok → ⊥) → (sub : Sub) → Stands sub (subs past.ntf) → sub.client ≡ client → is_using past.ntf client ≡ true → Stands (sub.key, sub.id) (subscribed calls) → Stands (sub.key, sub.id) (subscribed ((number, call) ∷ calls))
   asked-refused (NtfSubscribe id filters) refused sub stands mine user asked = inr asked
   asked-refused (NtfUnsubscribe id) refused sub stands mine user asked =
       let none = unsubscribe-refused (is_using past.ntf client) (list_any (has_id client id) (subs past.ntf)) user refused in
@@ -108,11 +108,11 @@ asked-later past after number call reply calls answers sub next before user aske
   known = omega (arith, before.known);
 }
 
-own-refused : (setup : Setup) (past : Past) (client number : ℕ) (call : Call) (calls : List (ℕ × Call)) (answers : List (ℕ × Reply)) (reply : Reply) → (status_of setup past client call ≡ status.Ok → ⊥) → number ≡ suc (length calls) → AllAsked client past calls answers → AllAsked client past ((number, call) ∷ calls) ((number, reply) ∷ answers)
-own-refused setup past client number call calls answers reply refused next all sub stands mine =
+own-refused : (setup : Setup) (past : Past) (client number : ℕ) (now : ℤ) (call : Call) (calls : List (ℕ × Call)) (answers : List (ℕ × Reply)) (reply : Reply) → (status_of setup past client now call ≡ status.Ok → ⊥) → number ≡ suc (length calls) → AllAsked client past calls answers → AllAsked client past ((number, call) ∷ calls) ((number, reply) ∷ answers)
+own-refused setup past client number now call calls answers reply refused next all sub stands mine =
     let before = all sub stands mine in
     asked-later past past number call reply calls answers sub next before before.user
-    (asked-refused setup past client number calls call refused sub stands mine (ap (is_using past.ntf) (sym mine) ∙ before.user) before.asked)
+    (asked-refused setup past client number now calls call refused sub stands mine (ap (is_using past.ntf) (sym mine) ∙ before.user) before.asked)
 
 -- a subscription that is made
 new-asked : (past after : Past) (client number id : ℕ) (filters : FilterSet) (calls : List (ℕ × Call)) (answers : List (ℕ × Reply)) (sub : Sub) → sub ≡ record { client = client; key = number; id = id; filters = filters } → number ≡ suc (length calls) → AllByRecursion (λ (told : ℕ × Reply). told.0 ≤ length calls) answers → is_using after.ntf client ≡ true → IsAsked after ((number, NtfSubscribe id filters) ∷ calls) ((number, Done) ∷ answers) sub
@@ -126,7 +126,7 @@ new-asked past after client number id filters calls answers sub made next told u
           let le : number ≤ length calls = All-at (λ (answer : ℕ × Reply). answer.0 ≤ length calls) (number, Refused refusal) answers told there in absurd (omega (arith, le, next))
 
 -- a call of the client that is answered ok
-own-ok : (setup : Setup) (past : Past) (client number : ℕ) (now : ℤ) (call : Call) (calls : List (ℕ × Call)) (answers : List (ℕ × Reply)) → status_of setup past client call ≡ status.Ok → number ≡ suc (length calls) → AllByRecursion (λ (told : ℕ × Reply). told.0 ≤ length calls) answers → AllAsked client past calls answers → AllAsked client (past_after setup past client number now call status.Ok) ((number, call) ∷ calls) ((number, ok_reply setup past client call) ∷ answers)
+own-ok : (setup : Setup) (past : Past) (client number : ℕ) (now : ℤ) (call : Call) (calls : List (ℕ × Call)) (answers : List (ℕ × Reply)) → status_of setup past client now call ≡ status.Ok → number ≡ suc (length calls) → AllByRecursion (λ (told : ℕ × Reply). told.0 ≤ length calls) answers → AllAsked client past calls answers → AllAsked client (past_after setup past client number now call status.Ok) ((number, call) ∷ calls) ((number, ok_reply setup past client call) ∷ answers)
 own-ok setup past client number now NtfInit calls answers ok next told all sub stands mine =
     let before = all sub stands mine in
     asked-later past (past_after setup past client number now NtfInit status.Ok) number NtfInit Done calls answers sub next before
@@ -155,11 +155,11 @@ own-ok setup past client number now call calls answers ok next told all sub stan
     let before = all sub stands mine in
     asked-later past (past_after setup past client number now call status.Ok) number call (ok_reply setup past client call) calls answers sub next before before.user before.asked
 
-own-called : (setup : Setup) (past : Past) (client number : ℕ) (now : ℤ) (call : Call) (calls : List (ℕ × Call)) (answers : List (ℕ × Reply)) → number ≡ suc (length calls) → AllByRecursion (λ (told : ℕ × Reply). told.0 ≤ length calls) answers → AllAsked client past calls answers → (answered : Status) → status_of setup past client call ≡ answered → AllAsked client (past_after setup past client number now call answered) ((number, call) ∷ calls) ((number, reply_by answered (ok_reply setup past client call)) ∷ answers)
+own-called : (setup : Setup) (past : Past) (client number : ℕ) (now : ℤ) (call : Call) (calls : List (ℕ × Call)) (answers : List (ℕ × Reply)) → number ≡ suc (length calls) → AllByRecursion (λ (told : ℕ × Reply). told.0 ≤ length calls) answers → AllAsked client past calls answers → (answered : Status) → status_of setup past client now call ≡ answered → AllAsked client (past_after setup past client number now call answered) ((number, call) ∷ calls) ((number, reply_by answered (ok_reply setup past client call)) ∷ answers)
 own-called setup past client number now call calls answers next told all status.Ok is =
     own-ok setup past client number now call calls answers is next told all
 own-called setup past client number now call calls answers next told all refusal is =
-    own-refused setup past client number call calls answers (Refused refusal) (λ ok. let e : refusal ≡ status.Ok = sym is ∙ ok in absurd (cc)) next all
+    own-refused setup past client number now call calls answers (Refused refusal) (λ ok. let e : refusal ≡ status.Ok = sym is ∙ ok in absurd (cc)) next all
 
 -- a call of another client, and a receipt
 
@@ -200,7 +200,7 @@ answers-known setup client (Called caller number now call ∷ entries) numbered 
       told_later : AllByRecursion (λ (told : ℕ × Reply). told.0 ≤ length (calls_in client entries)) (answers_in (plain_of setup) client entries) → AllByRecursion (λ (told : ℕ × Reply). told.0 ≤ suc (length (calls_in client entries))) (answers_in (plain_of setup) client entries)
       told_later each = All-map (λ (told : ℕ × Reply). told.0 ≤ length (calls_in client entries)) (λ (told : ℕ × Reply). told.0 ≤ suc (length (calls_in client entries))) (answers_in (plain_of setup) client entries) (λ told le. omega (arith, le)) each
 
-      by_case : (b : Bool) → IsNumbered (cond b ((number, call) ∷ calls_in client entries) (calls_in client entries)) → (IsNumbered (calls_in client entries) → AllByRecursion (λ (told : ℕ × Reply). told.0 ≤ length (calls_in client entries)) (answers_in (plain_of setup) client entries)) → AllByRecursion (λ (told : ℕ × Reply). told.0 ≤ length (cond b ((number, call) ∷ calls_in client entries) (calls_in client entries))) (cond b ((number, reply_of setup entries caller call) ∷ answers_in (plain_of setup) client entries) (answers_in (plain_of setup) client entries))
+      by_case : (b : Bool) → IsNumbered (cond b ((number, call) ∷ calls_in client entries) (calls_in client entries)) → (IsNumbered (calls_in client entries) → AllByRecursion (λ (told : ℕ × Reply). told.0 ≤ length (calls_in client entries)) (answers_in (plain_of setup) client entries)) → AllByRecursion (λ (told : ℕ × Reply). told.0 ≤ length (cond b ((number, call) ∷ calls_in client entries) (calls_in client entries))) (cond b ((number, reply_of setup entries caller now call) ∷ answers_in (plain_of setup) client entries) (answers_in (plain_of setup) client entries))
       by_case true is before = (omega (arith, is.0), told_later (before is.1))
       by_case false is before = before is
 answers-known setup client (Receipted caller key through now ∷ entries) numbered = answers-known setup client entries numbered
@@ -212,17 +212,17 @@ Step setup client number now call entries caller mine =
     IsNumbered (cond mine ((number, call) ∷ calls_in client entries) (calls_in client entries))
     → AllAsked client (past_with setup (past_of setup entries) caller number now call)
     (cond mine ((number, call) ∷ calls_in client entries) (calls_in client entries))
-    (cond mine ((number, reply_of setup entries caller call) ∷ answers_in (plain_of setup) client entries) (answers_in (plain_of setup) client entries))
+    (cond mine ((number, reply_of setup entries caller now call) ∷ answers_in (plain_of setup) client entries) (answers_in (plain_of setup) client entries))
 
 own-step : (setup : Setup) (client number : ℕ) (now : ℤ) (call : Call) (entries : List Entry) → (IsNumbered (calls_in client entries) → AllAsked client (past_of setup entries) (calls_in client entries) (answers_in (plain_of setup) client entries)) → Step setup client number now call entries client true
 unfolding reply_of
 own-step setup client number now call entries before numbered =
     own-called setup (past_of setup entries) client number now call (calls_in client entries) (answers_in (plain_of setup) client entries) numbered.0 (answers-known setup client entries numbered.1) (before numbered.1)
-    (status_of setup (past_of setup entries) client call) refl
+    (status_of setup (past_of setup entries) client now call) refl
 
 beside-step : (setup : Setup) (client number : ℕ) (now : ℤ) (call : Call) (entries : List Entry) (caller : ℕ) → (caller ≡ client → ⊥) → (IsNumbered (calls_in client entries) → AllAsked client (past_of setup entries) (calls_in client entries) (answers_in (plain_of setup) client entries)) → Step setup client number now call entries caller false
 beside-step setup client number now call entries caller apart before numbered =
-    past_after-by (λ after. AllAsked client after (calls_in client entries) (answers_in (plain_of setup) client entries)) setup (past_of setup entries) caller number now call (status_of setup (past_of setup entries) caller call)
+    past_after-by (λ after. AllAsked client after (calls_in client entries) (answers_in (plain_of setup) client entries)) setup (past_of setup entries) caller number now call (status_of setup (past_of setup entries) caller now call)
     (before numbered) (λ ok. beside-ok setup (past_of setup entries) caller client number now call (calls_in client entries) (answers_in (plain_of setup) client entries) apart (before numbered))
 
 all-asked : (setup : Setup) (client : ℕ) (entries : List Entry) → IsNumbered (calls_in client entries) → AllAsked client (past_of setup entries) (calls_in client entries) (answers_in (plain_of setup) client entries)

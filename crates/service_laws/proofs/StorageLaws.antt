@@ -38,9 +38,9 @@ still setup entry past client number history before =
 abbrev Dealt : Type 0
 Dealt = ℕ × Call × Reply
 
-own-record : (setup : Setup) (caller seq : ℕ) (time : ℤ) (told : Call) (past : List Entry) (number : ℕ) (call : Call) (reply : Reply) → IsHistory setup (Called caller seq time told ∷ past) → ◌≡◌ {A = Dealt} (number, call, reply) (seq, told, reply_of setup past caller told) → is_stored call reply ≡ true → IsRecorded setup (Called caller seq time told ∷ past) caller number
+own-record : (setup : Setup) (caller seq : ℕ) (time : ℤ) (told : Call) (past : List Entry) (number : ℕ) (call : Call) (reply : Reply) → IsHistory setup (Called caller seq time told ∷ past) → ◌≡◌ {A = Dealt} (number, call, reply) (seq, told, reply_of setup past caller time told) → is_stored call reply ≡ true → IsRecorded setup (Called caller seq time told ∷ past) caller number
 own-record setup caller seq time told past number call reply history same is =
-    let stored : is_stored told (reply_of setup past caller told) ≡ true = sym (ap (λ (dealt : Dealt). is_stored dealt.1 dealt.2) same) ∙ is in
+    let stored : is_stored told (reply_of setup past caller time told) ≡ true = sym (ap (λ (dealt : Dealt). is_stored dealt.1 dealt.2) same) ∙ is in
     subst (λ n. IsRecorded setup (Called caller seq time told ∷ past) caller n) (sym (ap (λ (dealt : Dealt). dealt.0) same))
     (record-told setup caller seq time told past history stored)
 
@@ -53,7 +53,7 @@ stores setup (Called caller seq time told ∷ past) client number call reply his
     let goal : Type 0 = IsRecorded setup (Called caller seq time told ∷ past) client number in
     let behind : Stands (number, call, reply) (dealt_in (plain_of setup) client past) → goal = λ there.
     still setup (Called caller seq time told) past client number history (stores setup past client number call reply history.1 there is) in
-    let P : Bool → Type 0 = λ mine. Stands (number, call, reply) (cond mine ((seq, told, reply_of setup past caller told) ∷ dealt_in (plain_of setup) client past) (dealt_in (plain_of setup) client past)) → goal in
+    let P : Bool → Type 0 = λ mine. Stands (number, call, reply) (cond mine ((seq, told, reply_of setup past caller time told) ∷ dealt_in (plain_of setup) client past) (dealt_in (plain_of setup) client past)) → goal in
     let mine : caller ≡ client → P true = λ same. elim [
       | inl here ↦ subst (λ c. IsRecorded setup (Called caller seq time told ∷ past) c number) same (own-record setup caller seq time told past number call reply history here is)
       | inr there ↦ behind there

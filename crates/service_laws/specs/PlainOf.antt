@@ -13,11 +13,11 @@ use Rattle.plain_service.specs.Items.{items_of, made_for, through_for, lasts_for
 abbrev pub item_message : Held → Message
 item_message held = Item held.client held.key held.item
 
--- what the service of a setup does. No reply depends on the call's number or time; messages in range have one spelling exactly
+-- what the service of a setup does. No reply depends on the call's number; messages in range have one spelling exactly
 -- where they are equal
 abbrev pub plain_of : Setup → Plain
 plain_of setup = record {
-  reply = λ past client number now call. reply_of setup past client call;
+  reply = λ past client number now call. reply_of setup past client now call;
   made = made_for setup;
   through = through_for setup;
   lasts = lasts_for setup;
