@@ -1,5 +1,5 @@
 -- The first record of the alarm stream that stands never falls.
-use Rattle.std.proofs.Common.{◌≡◌, ℕ, ◌≤◌, List, [], ◌∷◌, refl, ap, sym, ◌∙◌, subst, arith}
+use Rattle.std.proofs.Common.{◌≡◌, ℕ, ◌≤◌, List, ◌∷◌, refl, ap, sym, ◌∙◌, subst, arith}
 use Rattle.std.specs.Prelude.{Option, Some, None}
 use Rattle.std.specs.Option.{option_map_or}
 use Rattle.std.specs.List.{cons_option}
@@ -10,7 +10,7 @@ use Rattle.calls.specs.declared.entry.Entry.{Entry}
 use Rattle.calls.specs.declared.entry.Entry.TheVariants.{Called, Receipted}
 use Rattle.stream_layout.proofs.FitSteps as steps
 use Rattle.log_history.specs.Changes.{LogChange, Began, Opened, Stored, Closed, Ended}
-use Rattle.log_history.specs.Chronicle.{LogSetup, Stream, with_record, chronicle}
+use Rattle.log_history.specs.Chronicle.{Stream, with_record, chronicle}
 use Rattle.log_history.specs.Legal.{IsLogHistory}
 use Rattle.log_history.specs.Places.{first_of}
 use Rattle.log_history.specs.Table.{state_of, bytes_in, due_stamps}

@@ -1,5 +1,5 @@
 -- Words of bodies alone: what an entry makes of what is kept, and what it does to streams.
-use Rattle.std.specs.Prelude.{ℕ, ◌+◌, ℤ, true, Bool, ◌==◌, if◌then◌else◌, List, [], ◌∷◌, ◌++◌, take, map, Option, Some, None, find}
+use Rattle.std.specs.Prelude.{ℕ, ◌+◌, ℤ, true, Bool, ◌==◌, if◌then◌else◌, List, [], ◌∷◌, ◌++◌, take, map, Option, Some, find}
 use Rattle.std.specs.Option.{option_map_or}
 use Rattle.ais_values.specs.declared.status.Status.{Status}
 use Rattle.ais_values.specs.declared.status.Status.TheVariants as status
