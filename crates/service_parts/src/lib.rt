@@ -5,13 +5,11 @@
 mod accepting;
 mod readers;
 mod reading;
-mod standing;
 mod told;
 mod windows;
 
 pub use accepting::{accepted, is_alarm, record_for};
 pub use readers::stop_reader;
 pub use reading::{end_reading, read_on, start_reading};
-pub use standing::first_standing;
 pub use told::Told;
 pub use windows::{answer_call, judge_call, next_call, room_for};
