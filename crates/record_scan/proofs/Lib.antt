@@ -1,3 +1,4 @@
+pub mod ClearLaws
 pub mod ContentLaws
 pub mod LengthLaws
 pub mod NumberLaws
