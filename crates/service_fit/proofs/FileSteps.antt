@@ -15,7 +15,7 @@ use Rattle.stream_config.specs.Sizes.{IsLength, has_room}
 use Rattle.stream_config.specs.Stamps.{stamp_after}
 use Rattle.stream_layout.specs.Repeating.{IsLater}
 use Rattle.stream_layout.proofs.CurrentFile.{stamps-closed}
-use Rattle.stream_layout.proofs.FitSteps.{CanStore, fit-none, fit-some}
+use Rattle.stream_layout.proofs.FitSteps.{CanStore, stamps-with, stamps-begun, fit-none, fit-some}
 use Rattle.record_print.specs.declared.record.LogRecord.{LogRecord}
 use Rattle.log_history.specs.KeptAnswers.{lacks_room_in}
 use Rattle.log_history.specs.Stamps.{IsStampUpTo}
@@ -48,15 +48,6 @@ stamps-drop : (P : ℤ → Type 0) (k : ℕ) (files : List LogFile) → AllByRec
 stamps-drop P zero files each = each
 stamps-drop P (suc k) [] each = each
 stamps-drop P (suc k) (file ∷ files) each = stamps-drop P k files (all-behind P (option_to_list file.closed) (stamps_of files) each.1)
-
-stamps-with : (at len : ℕ) (files : List LogFile) → stamps_of (last_with at len files) ≡ stamps_of files
-stamps-with at len [] = refl
-stamps-with at len (file ∷ []) = refl
-stamps-with at len (file ∷ next ∷ files) = ap (λ stamps. file.created ∷ option_to_list file.closed ++ stamps) (stamps-with at len (next ∷ files))
-
-stamps-begun : (created : ℤ) (first len : ℕ) (files : List LogFile) → stamps_of (files ++ file_begun created first len ∷ []) ≡ stamps_of (files ++ open_file created ∷ [])
-stamps-begun created first len [] = refl
-stamps-begun created first len (file ∷ files) = ap (λ stamps. file.created ∷ option_to_list file.closed ++ stamps) (stamps-begun created first len files)
 
 module _ (last second number : ℕ) (rec : LogRecord) (stream : OpenStream) (ready : IsFitState last number stream) (room : lacks_room_in stream.state rec ≡ false) where
   abbrev two : Stamps

@@ -5,12 +5,13 @@ use Rattle.std.specs.Str.{bytes_eq}
 use Rattle.std.specs.FinMap.{get, same_map}
 use Rattle.std.specs.Cmp.Lexicographic.{nat_list_cmp_total}
 use Rattle.disk_model.specs.Disk.{File, Files, settled_file, overwritten, file_written, file_synced, created, removed, renamed, written_at, synced}
-use Rattle.disk_model.specs.DeviceCalls.{DeviceCall, CallCreate, CallWrite, CallSync, CallRename, CallRemove, all_applied}
+use Rattle.disk_model.specs.DeviceCalls.{DeviceCall, CallCreate, CallWrite, CallSync, all_applied}
 use Rattle.disk_model.proofs.Changes.{get-adjusted, adjusted_twice, written_again}
 use Rattle.disk_model.proofs.Renaming.{renamed_absent}
 use Rattle.disk_model.proofs.Shelving.{names_differ}
 use Rattle.disk_model.proofs.Tearing.{length-overwritten, torn_overwritten}
 use Rattle.stream_layout.proofs.FileLaws.{same_is, itself, apart, found-created, found-removed, found-renamed, found-made, found-refilled, written_whole}
+pub use Rattle.stream_layout.proofs.RepeatLaws.{changing, rotating}
 use Rattle.stream_layout.proofs.RepeatLaws.{made_again, changed_again, rotated_again, twice}
 use Rattle.stream_layout.specs.Repeating.{AllSettled}
 use Rattle.stream_layout.proofs.Settled.{none_loose, settled-but, all-settled, settled-put, settled-removed, settled-renamed}
@@ -83,9 +84,6 @@ renamed-stays files from to name differ none = by_case (get files from) refl whe
 
 -- the file changes
 
-abbrev pub changing : (from to new bytes : List ℕ) → List DeviceCall
-changing from to new bytes = CallRename from to ∷ CallCreate new ∷ CallWrite new 0 bytes ∷ CallSync new ∷ []
-
 pub changed-repeatable : (from to new bytes : List ℕ) (old : Files) → from ≢ to → from ≢ new → IsRepeatable (changing from to new bytes) old
 changed-repeatable from to new bytes old differ unlike =
     let calls = changing from to new bytes in
@@ -106,9 +104,6 @@ changed-repeatable from to new bytes old differ unlike =
           ∙ sym (found-made (renamed files from to) new bytes q)),
     ))
     old (λ settled. settled)
-
-abbrev pub rotating : (from to new gone bytes : List ℕ) → List DeviceCall
-rotating from to new gone bytes = CallRename from to ∷ CallCreate new ∷ CallRemove gone ∷ CallWrite new 0 bytes ∷ CallSync new ∷ []
 
 pub rotated-repeatable : (from to new gone bytes : List ℕ) (old : Files) → from ≢ to → from ≢ new → from ≢ gone → new ≢ gone → IsRepeatable (rotating from to new gone bytes) old
 rotated-repeatable from to new gone bytes old differ unlike stays other =

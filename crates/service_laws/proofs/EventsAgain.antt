@@ -1,39 +1,33 @@
 -- The deeds of what happens to one stream, made again after any attempts, leave what they would have left at once.
-use Rattle.std.proofs.Common.{◌≡◌, ◌≢◌, ℕ, ◌<◌, ◌≤◌, true, ◌&&◌, List, [], ◌∷◌, ◌++◌, length, refl, sym, ap, subst, ◌∙◌, inl, inr}
+use Rattle.std.proofs.Common.{◌≡◌, ℕ, ◌<◌, ◌≤◌, true, ◌&&◌, List, [], ◌∷◌, ◌++◌, length, sym, ap, subst, ◌∙◌}
 use Rattle.std.specs.Prelude.{ℤ, pos, int_lt, Some, None}
 use Rattle.std.specs.List.{AllByRecursion}
 use Rattle.std.specs.FinMap.{get}
-use Rattle.std.proofs.lemmas.Bool.{cases_lt, and_parts, lt-ltb}
+use Rattle.std.proofs.lemmas.Bool.{and_parts, lt-ltb}
 use Rattle.disk_model.specs.Disk.{Files, settled_file}
-use Rattle.disk_model.specs.DeviceCalls.{DeviceCall}
-use Rattle.stream_config.specs.declared.attrs.StreamAttrs.{StreamAttrs}
 use Rattle.stream_config.specs.declared.event.Stamps.{Stamps}
 use Rattle.stream_config.specs.declared.event.StreamEvent.TheVariants.{Made, Stored}
 use Rattle.stream_config.specs.declared.state.LogFile.{LogFile}
 use Rattle.stream_config.specs.declared.state.StreamState.{StreamState}
 use Rattle.stream_config.specs.Cfg.{cfg_of}
 use Rattle.stream_config.specs.Events.{open_file, file_closed, last_closed, next_offset}
-use Rattle.stream_config.specs.Fit.{stamps_of, rises, is_last_open}
-use Rattle.stream_layout.specs.declared.deed.Deed.{Deed}
-use Rattle.stream_layout.specs.declared.deed.Deed.TheVariants.{Create, Write, Rename}
+use Rattle.stream_config.specs.Fit.{stamps_of, rises}
 use Rattle.stream_layout.specs.Carrying.{IsFitStored, AreRecordsOf, Stand}
 use Rattle.stream_layout.specs.Deeds.{calls_of_all, current_file, deeds_of}
 use Rattle.stream_layout.specs.Inside.{oldest_closed}
 use Rattle.stream_layout.specs.LogFiles.{log_entries}
 use Rattle.stream_layout.specs.Names.{log_name, cfg_name}
 use Rattle.stream_layout.proofs.CarryLaws.{added}
-use Rattle.stream_layout.proofs.CurrentFile.{has_current, unlike, stamps-closed}
-use Rattle.stream_layout.proofs.DeedLaws.{some_files, none_goes, oldest_goes, current_stamps}
+use Rattle.stream_layout.proofs.CurrentFile.{has_current, stamps-closed}
 use Rattle.stream_layout.proofs.EventLaws.{offset_at, stored_stands}
-use Rattle.stream_layout.proofs.NameLaws.{created_apart, closed_apart}
-use Rattle.stream_layout.proofs.RepeatOn.{current_open, oldest_shut, made_later}
+use Rattle.stream_layout.proofs.RepeatOn.{change_calls, change_names}
 use Rattle.log_history.specs.Chronicle.{Stream}
 use Rattle.log_history.specs.Stamps.{IsStampUpTo}
 use Rattle.log_history.specs.Table.{state_of}
 use Rattle.log_history.proofs.StreamLaws.{IsSoundStream, fit-stamps, up-to-lt}
 use Rattle.plain_service.proofs.ListLaws.{each-weaker}
 use Rattle.service_laws.proofs.Attempting.{IsRepeatable}
-use Rattle.service_laws.proofs.DoneAgain.{Reaches, changing, rotating, made-repeatable, changed-repeatable, rotated-repeatable, written-repeatable}
+use Rattle.service_laws.proofs.DoneAgain.{Reaches, made-repeatable, changed-repeatable, rotated-repeatable, written-repeatable}
 
 -- a stream is made
 pub made-again : (state : StreamState) (files : Files) → IsRepeatable (calls_of_all (deeds_of (Made state))) files
@@ -81,60 +75,13 @@ rises-behind last closing created stream up further some living sound =
 
 -- the file changes before a record
 
--- the calls, by what is removed
-abbrev calls_for : StreamAttrs → LogFile → Stamps → List ℕ → List Deed → List DeviceCall
-calls_for attrs current stamps bytes gone =
-    calls_of_all (Rename (log_name attrs current) (log_name attrs (file_closed stamps.closed current))
-    ∷ Create (log_name attrs (open_file stamps.created)) ∷ (gone ++ Write (log_name attrs (open_file stamps.created)) 0 bytes ∷ []))
-
--- **whatever holds of both lists of calls by which a file can change holds of that by which it does**
-pub change-calls : (P : List DeviceCall → Type 0) (state : StreamState) (bytes : List ℕ) (stamps : Stamps) → is_last_open state.files ≡ true
-    → P (changing (log_name state.attrs (current_file state.files)) (log_name state.attrs (file_closed stamps.closed (current_file state.files))) (log_name state.attrs (open_file stamps.created)) bytes)
-    → P (rotating (log_name state.attrs (current_file state.files)) (log_name state.attrs (file_closed stamps.closed (current_file state.files))) (log_name state.attrs (open_file stamps.created)) (log_name state.attrs (oldest_closed stamps.closed state.files)) bytes)
-    → P (calls_of_all (deeds_of (Stored state bytes (Some stamps))))
-unfolding deeds_of
-change-calls P state bytes stamps opened changes rotates =
-    let attrs = state.attrs in
-    let Q : List Deed → Type 0 = λ gone. P (calls_for attrs (current_file state.files) stamps bytes gone) in
-    elim (cases_lt (length state.files) attrs.rotated) [
-      | inl few ↦ subst Q (sym (none_goes attrs state.files stamps few)) changes
-      | inr full ↦ subst Q (sym (oldest_goes attrs state.files stamps (some_files state.files opened) full)) rotates
-    ]
-
--- the names in them differ
-pub record ChangeNames (state : StreamState) (stamps : Stamps) : Type 0 where
-  pub from_to : log_name state.attrs (current_file state.files) ≢ log_name state.attrs (file_closed stamps.closed (current_file state.files))
-  pub from_new : log_name state.attrs (current_file state.files) ≢ log_name state.attrs (open_file stamps.created)
-  pub from_gone : log_name state.attrs (current_file state.files) ≢ log_name state.attrs (oldest_closed stamps.closed state.files)
-  pub new_gone : log_name state.attrs (open_file stamps.created) ≢ log_name state.attrs (oldest_closed stamps.closed state.files)
-  pub to_new : log_name state.attrs (file_closed stamps.closed (current_file state.files)) ≢ log_name state.attrs (open_file stamps.created)
-
-pub change-names : (state : StreamState) (bytes : List ℕ) (stamps : Stamps) → IsFitStored state bytes (Some stamps) → rises (stamps_of (last_closed stamps.closed state.files ++ open_file stamps.created ∷ [])) ≡ true → ChangeNames state stamps
-change-names state bytes stamps fit rising =
-    let attrs = state.attrs in
-    let stands = fit.stream.standing in
-    let current = current_file state.files in
-    let shut = file_closed stamps.closed current in
-    let fresh = open_file stamps.created in
-    let oldest = oldest_closed stamps.closed state.files in
-    let opened = current_open state.files stands.last_open in
-    let closed = oldest_shut stamps.closed state.files stands.last_open in
-    let stamp = (current_stamps state.files fit.stream.stamps (some_files state.files stands.last_open)).created in
-    record {
-      from_to = λ same. closed_apart attrs shut current refl opened (sym same);
-      from_new = created_apart attrs current fresh stamp fit.new_stamps.1 (unlike current.created stamps.created (made_later state.files stamps stands.last_open rising));
-      from_gone = λ same. closed_apart attrs oldest current closed opened (sym same);
-      new_gone = λ same. closed_apart attrs oldest fresh closed refl (sym same);
-      to_new = closed_apart attrs shut fresh refl refl;
-    }
-
 pub changed-again : (state : StreamState) (bytes : List ℕ) (stamps : Stamps) (files : Files) → IsFitStored state bytes (Some stamps) → rises (stamps_of (last_closed stamps.closed state.files ++ open_file stamps.created ∷ [])) ≡ true → IsRepeatable (calls_of_all (deeds_of (Stored state bytes (Some stamps)))) files
 changed-again state bytes stamps files fit rising =
     let attrs = state.attrs in
     let from = log_name attrs (current_file state.files) in
     let to = log_name attrs (file_closed stamps.closed (current_file state.files)) in
     let fresh = log_name attrs (open_file stamps.created) in
-    let apart = change-names state bytes stamps fit rising in
-    change-calls (λ calls. IsRepeatable calls files) state bytes stamps fit.stream.standing.last_open
+    let apart = change_names state bytes stamps fit rising in
+    change_calls (λ calls. IsRepeatable calls files) state bytes stamps fit.stream.standing.last_open
     (changed-repeatable from to fresh bytes files apart.from_to apart.from_new)
     (rotated-repeatable from to fresh (log_name attrs (oldest_closed stamps.closed state.files)) bytes files apart.from_to apart.from_new apart.from_gone apart.new_gone)

@@ -29,6 +29,7 @@ use Rattle.stream_layout.proofs.CarryLaws.{added}
 use Rattle.stream_layout.proofs.CurrentFile.{has_current, current_file-append}
 use Rattle.stream_layout.proofs.EventLaws.{IsAdded, alike_all, some_records, wrap_sized}
 use Rattle.stream_layout.proofs.NameLaws.{cfg_apart, closed_apart, last_stamp, stamp_bound}
+use Rattle.stream_layout.proofs.RepeatOn.{change_calls, change_names}
 use Rattle.log_history.specs.AllNames.{names_in, names_of_all}
 use Rattle.log_history.specs.Chronicle.{Stream, files_had, with_record, all_files}
 use Rattle.log_history.specs.Deeds.{deeds_of_all}
@@ -47,7 +48,7 @@ use Rattle.log_history.proofs.StepLaws.{HasFull, record-long, length-is}
 use Rattle.log_history.proofs.StreamLaws.{IsSoundStream}
 use Rattle.service_laws.proofs.BytesKept.{slots-apart}
 use Rattle.service_laws.proofs.ChangesKept.{IsKeptBy, kept-changed, kept-rotated, kept-written}
-use Rattle.service_laws.proofs.EventsAgain.{rises-behind, change-calls, change-names}
+use Rattle.service_laws.proofs.EventsAgain.{rises-behind}
 use Rattle.service_laws.proofs.PlacesMoved.{PlaceIs, Moved, found-low, current-is}
 
 -- the name of a file that stands is old: it tells a stamp that is not behind the last one
@@ -187,7 +188,7 @@ module _ (bytes : List ℕ) (spot after : List ℕ × ℕ) (old new : Files) (wa
       let current_is = current-is stream living passes.some_rotated in
       let shut = file_closed (pos closing) current in
       let fresh = open_file (pos created) in
-      let apart = change-names state text stamps fit (rises-behind last closing created stream up further passes.some_rotated living sound) in
+      let apart = change_names state text stamps fit (rises-behind last closing created stream up further passes.some_rotated living sound) in
       let not_to = not-new last spot.0 attrs shut closing older refl up (omega (arith, further, low)) in
       let not_fresh = not-new last spot.0 attrs fresh created older refl (omega (arith, up, further)) low in
       let way : (after ≡ spot) ⊎ ((spot.0 ≡ log_name attrs current) × (after.0 ≡ log_name attrs shut) × (after.1 ≡ spot.1)) = elim moves [
@@ -198,7 +199,7 @@ module _ (bytes : List ℕ) (spot after : List ℕ × ℕ) (old new : Files) (wa
           moved.offset,
         )
       ] in
-      change-calls (IsKeptBy bytes spot after old new) state text stamps fit.stream.standing.last_open
+      change_calls (IsKeptBy bytes spot after old new) state text stamps fit.stream.standing.last_open
       (kept-changed bytes spot after old new was is (log_name attrs current) (log_name attrs shut) (log_name attrs fresh) text apart.from_to apart.from_new apart.to_new not_to not_fresh way)
       (kept-rotated bytes spot after old new was is (log_name attrs current) (log_name attrs shut) (log_name attrs fresh) (log_name attrs (oldest_closed (pos closing) state.files)) text apart.from_to apart.from_new apart.from_gone apart.new_gone apart.to_new not_to not_fresh way)
 

@@ -25,7 +25,7 @@ use Rattle.stream_layout.proofs.Rounds.{quotient, remainder}
 
 -- files and their stamps
 
-stamps-with : (at len : ℕ) (files : List LogFile) → stamps_of (last_with at len files) ≡ stamps_of files
+pub stamps-with : (at len : ℕ) (files : List LogFile) → stamps_of (last_with at len files) ≡ stamps_of files
 stamps-with at len [] = refl
 stamps-with at len (file ∷ []) = refl
 stamps-with at len (file ∷ next ∷ files) = ap (λ stamps. file.created ∷ option_to_list file.closed ++ stamps) (stamps-with at len (next ∷ files))
@@ -46,7 +46,7 @@ first-with at len taken [] = refl
 first-with at len taken (file ∷ []) = refl
 first-with at len taken (file ∷ next ∷ files) = refl
 
-stamps-begun : (created : ℤ) (first len : ℕ) (files : List LogFile) → stamps_of (files ++ file_begun created first len ∷ []) ≡ stamps_of (files ++ open_file created ∷ [])
+pub stamps-begun : (created : ℤ) (first len : ℕ) (files : List LogFile) → stamps_of (files ++ file_begun created first len ∷ []) ≡ stamps_of (files ++ open_file created ∷ [])
 stamps-begun created first len [] = refl
 stamps-begun created first len (file ∷ files) = ap (λ stamps. file.created ∷ option_to_list file.closed ++ stamps) (stamps-begun created first len files)
 

@@ -235,10 +235,15 @@ renamed_elsewhere from to name old new differ same q other =
       | false ↦ λ is. ap (cond (bytes_eq q from) None) (same q other)
     ] refl
 
+-- the calls of a change of file, without and with a file that goes
+abbrev pub changing : (from to new bytes : List ℕ) → List DeviceCall
+changing from to new bytes = CallRename from to ∷ CallCreate new ∷ CallWrite new 0 bytes ∷ CallSync new ∷ []
+
+abbrev pub rotating : (from to new gone bytes : List ℕ) → List DeviceCall
+rotating from to new gone bytes = CallRename from to ∷ CallCreate new ∷ CallRemove gone ∷ CallWrite new 0 bytes ∷ CallSync new ∷ []
+
 pub changed_again : (from to new bytes : List ℕ) (attempts : ℕ) (old left : Files) → from ≢ to → from ≢ new → AllSettled old
-    → Attempted (CallRename from to ∷ CallCreate new ∷ CallWrite new 0 bytes ∷ CallSync new ∷ []) attempts old left
-    → all_applied (CallRename from to ∷ CallCreate new ∷ CallWrite new 0 bytes ∷ CallSync new ∷ []) left
-    ≡ all_applied (CallRename from to ∷ CallCreate new ∷ CallWrite new 0 bytes ∷ CallSync new ∷ []) old
+    → Attempted (changing from to new bytes) attempts old left → all_applied (changing from to new bytes) left ≡ all_applied (changing from to new bytes) old
 changed_again from to new bytes attempts old left differ unlike settled tried =
     let loose = loose_at new in
     let free = apart from new unlike in
@@ -263,9 +268,7 @@ changed_again from to new bytes attempts old left differ unlike settled tried =
     attempts old left (settled-but loose old settled) tried
 
 pub rotated_again : (from to new gone bytes : List ℕ) (attempts : ℕ) (old left : Files) → from ≢ to → from ≢ new → from ≢ gone → new ≢ gone → AllSettled old
-    → Attempted (CallRename from to ∷ CallCreate new ∷ CallRemove gone ∷ CallWrite new 0 bytes ∷ CallSync new ∷ []) attempts old left
-    → all_applied (CallRename from to ∷ CallCreate new ∷ CallRemove gone ∷ CallWrite new 0 bytes ∷ CallSync new ∷ []) left
-    ≡ all_applied (CallRename from to ∷ CallCreate new ∷ CallRemove gone ∷ CallWrite new 0 bytes ∷ CallSync new ∷ []) old
+    → Attempted (rotating from to new gone bytes) attempts old left → all_applied (rotating from to new gone bytes) left ≡ all_applied (rotating from to new gone bytes) old
 rotated_again from to new gone bytes attempts old left differ unlike stays other settled tried =
     let loose = loose_at new in
     let free = apart from new unlike in

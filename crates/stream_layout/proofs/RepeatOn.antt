@@ -18,7 +18,7 @@ use Rattle.stream_layout.specs.declared.deed.Deed.{Deed}
 use Rattle.stream_layout.specs.declared.deed.Deed.TheVariants.{Create, Write, Rename}
 use Rattle.stream_layout.specs.Names.{log_name, cfg_name}
 use Rattle.stream_layout.specs.LogFiles.{log_entries}
-use Rattle.stream_layout.specs.Deeds.{calls_of_all, current_file, change_of_file, deeds_of}
+use Rattle.stream_layout.specs.Deeds.{calls_of_all, current_file, deeds_of}
 use Rattle.stream_layout.specs.Carrying.{IsFitStored, IsFitEvent, AreRecordsOf, Stand}
 use Rattle.stream_layout.specs.Inside.{oldest_closed}
 use Rattle.stream_layout.specs.Repeating.{AllSettled, Attempted, RepeatSafely}
@@ -28,7 +28,7 @@ use Rattle.stream_layout.proofs.CurrentFile.{has_current, unlike, current_file-a
 use Rattle.stream_layout.proofs.DeedLaws.{some_files, none_goes, oldest_goes, current_stamps}
 use Rattle.stream_layout.proofs.EventLaws.{offset_at, stored_stands}
 use Rattle.stream_layout.proofs.NameLaws.{created_apart, closed_apart}
-use Rattle.stream_layout.proofs.RepeatLaws.{made_again, ended_again, changed_again, rotated_again}
+use Rattle.stream_layout.proofs.RepeatLaws.{changing, rotating, made_again, ended_again, changed_again, rotated_again}
 use Rattle.stream_layout.proofs.WriteAgain.{written_once_more}
 use Rattle.ais_values.proofs.Basics.{none_from}
 
@@ -72,42 +72,71 @@ stored_again state bytes records files left attempts fit are stand settled tried
     let within : next_offset state ≤ length held.0 = subst (λ taken. offset_at attrs taken (current_file state.files).bytes ≤ length held.0) are.count held.2 in
     written_once_more (next_offset state) bytes held.0 within (log_name attrs (current_file state.files)) attempts files left held.1 settled tried
 
--- the calls of a change of file, by what is removed
+-- the file changes before a record
+
+-- the calls, by what is removed
 abbrev calls_for : StreamAttrs → LogFile → Stamps → List ℕ → List Deed → List DeviceCall
 calls_for attrs current stamps bytes gone =
     calls_of_all (Rename (log_name attrs current) (log_name attrs (file_closed stamps.closed current))
     ∷ Create (log_name attrs (open_file stamps.created)) ∷ (gone ++ Write (log_name attrs (open_file stamps.created)) 0 bytes ∷ []))
 
-abbrev DoneAgain : List DeviceCall → ℕ → Files → Files → Type 0
-DoneAgain calls attempts files left = AllSettled files → Attempted calls attempts files left → all_applied calls left ≡ all_applied calls files
+-- **whatever holds of both lists of calls by which a file can change holds of that by which it does**
+pub change_calls : (P : List DeviceCall → Type 0) (state : StreamState) (bytes : List ℕ) (stamps : Stamps) → is_last_open state.files ≡ true
+    → P (changing (log_name state.attrs (current_file state.files)) (log_name state.attrs (file_closed stamps.closed (current_file state.files))) (log_name state.attrs (open_file stamps.created)) bytes)
+    → P (rotating (log_name state.attrs (current_file state.files)) (log_name state.attrs (file_closed stamps.closed (current_file state.files))) (log_name state.attrs (open_file stamps.created)) (log_name state.attrs (oldest_closed stamps.closed state.files)) bytes)
+    → P (calls_of_all (deeds_of (Stored state bytes (Some stamps))))
+unfolding deeds_of
+change_calls P state bytes stamps opened changes rotates =
+    let attrs = state.attrs in
+    let Q : List Deed → Type 0 = λ gone. P (calls_for attrs (current_file state.files) stamps bytes gone) in
+    elim (cases_lt (length state.files) attrs.rotated) [
+      | inl few ↦ subst Q (sym (none_goes attrs state.files stamps few)) changes
+      | inr full ↦ subst Q (sym (oldest_goes attrs state.files stamps (some_files state.files opened) full)) rotates
+    ]
 
--- the file changes before a record
-stamped_again : (state : StreamState) (bytes : List ℕ) (stamps : Stamps) (files left : Files) (attempts : ℕ) → IsFitStored state bytes (Some stamps)
-    → rises (stamps_of (last_closed stamps.closed state.files ++ open_file stamps.created ∷ [])) ≡ true
-    → DoneAgain (calls_of_all (change_of_file state.attrs state.files (Some stamps) ++ Write (log_name state.attrs (open_file stamps.created)) 0 bytes ∷ [])) attempts files left
-stamped_again state bytes stamps files left attempts fit rising =
+-- the names in them differ
+pub record ChangeNames (state : StreamState) (stamps : Stamps) : Type 0 where
+  pub from_to : log_name state.attrs (current_file state.files) ≢ log_name state.attrs (file_closed stamps.closed (current_file state.files))
+  pub from_new : log_name state.attrs (current_file state.files) ≢ log_name state.attrs (open_file stamps.created)
+  pub from_gone : log_name state.attrs (current_file state.files) ≢ log_name state.attrs (oldest_closed stamps.closed state.files)
+  pub new_gone : log_name state.attrs (open_file stamps.created) ≢ log_name state.attrs (oldest_closed stamps.closed state.files)
+  pub to_new : log_name state.attrs (file_closed stamps.closed (current_file state.files)) ≢ log_name state.attrs (open_file stamps.created)
+
+pub change_names : (state : StreamState) (bytes : List ℕ) (stamps : Stamps) → IsFitStored state bytes (Some stamps)
+    → rises (stamps_of (last_closed stamps.closed state.files ++ open_file stamps.created ∷ [])) ≡ true → ChangeNames state stamps
+change_names state bytes stamps fit rising =
     let attrs = state.attrs in
     let stands = fit.stream.standing in
-    let some = some_files state.files stands.last_open in
     let current = current_file state.files in
     let shut = file_closed stamps.closed current in
     let fresh = open_file stamps.created in
     let oldest = oldest_closed stamps.closed state.files in
     let opened = current_open state.files stands.last_open in
     let closed = oldest_shut stamps.closed state.files stands.last_open in
-    let stamp = (current_stamps state.files fit.stream.stamps some).created in
-    let from_to : log_name attrs current ≢ log_name attrs shut = λ same. closed_apart attrs shut current refl opened (sym same) in
-    let from_new : log_name attrs current ≢ log_name attrs fresh =
-    created_apart attrs current fresh stamp fit.new_stamps.1 (unlike current.created stamps.created (made_later state.files stamps stands.last_open rising)) in
-    let from_gone : log_name attrs current ≢ log_name attrs oldest = λ same. closed_apart attrs oldest current closed opened (sym same) in
-    let new_gone : log_name attrs fresh ≢ log_name attrs oldest = λ same. closed_apart attrs oldest fresh closed refl (sym same) in
-    let P : List Deed → Type 0 = λ gone. DoneAgain (calls_for attrs current stamps bytes gone) attempts files left in
-    elim (cases_lt (length state.files) attrs.rotated) [
-      | inl few ↦ subst P (sym (none_goes attrs state.files stamps few))
-          (changed_again (log_name attrs current) (log_name attrs shut) (log_name attrs fresh) bytes attempts files left from_to from_new)
-      | inr full ↦ subst P (sym (oldest_goes attrs state.files stamps some full))
-          (rotated_again (log_name attrs current) (log_name attrs shut) (log_name attrs fresh) (log_name attrs oldest) bytes attempts files left from_to from_new from_gone new_gone)
-    ]
+    let stamp = (current_stamps state.files fit.stream.stamps (some_files state.files stands.last_open)).created in
+    record {
+      from_to = λ same. closed_apart attrs shut current refl opened (sym same);
+      from_new = created_apart attrs current fresh stamp fit.new_stamps.1 (unlike current.created stamps.created (made_later state.files stamps stands.last_open rising));
+      from_gone = λ same. closed_apart attrs oldest current closed opened (sym same);
+      new_gone = λ same. closed_apart attrs oldest fresh closed refl (sym same);
+      to_new = closed_apart attrs shut fresh refl refl;
+    }
+
+abbrev DoneAgain : List DeviceCall → ℕ → Files → Files → Type 0
+DoneAgain calls attempts files left = AllSettled files → Attempted calls attempts files left → all_applied calls left ≡ all_applied calls files
+
+stamped_again : (state : StreamState) (bytes : List ℕ) (stamps : Stamps) (files left : Files) (attempts : ℕ) → IsFitStored state bytes (Some stamps)
+    → rises (stamps_of (last_closed stamps.closed state.files ++ open_file stamps.created ∷ [])) ≡ true
+    → DoneAgain (calls_of_all (deeds_of (Stored state bytes (Some stamps)))) attempts files left
+stamped_again state bytes stamps files left attempts fit rising =
+    let attrs = state.attrs in
+    let from = log_name attrs (current_file state.files) in
+    let to = log_name attrs (file_closed stamps.closed (current_file state.files)) in
+    let fresh = log_name attrs (open_file stamps.created) in
+    let names = change_names state bytes stamps fit rising in
+    change_calls (λ calls. DoneAgain calls attempts files left) state bytes stamps fit.stream.standing.last_open
+    (changed_again from to fresh bytes attempts files left names.from_to names.from_new)
+    (rotated_again from to fresh (log_name attrs (oldest_closed stamps.closed state.files)) bytes attempts files left names.from_to names.from_new names.from_gone names.new_gone)
 
 pub repeat_on : (event : StreamEvent) → IsFitEvent event → RepeatSafely event (deeds_of event)
 unfolding deeds_of
