@@ -40,14 +40,14 @@ told-log kept client ReaderEnd alone = refl
 told-log kept client NtfFini alone = refl
 
 -- **a planned call of the log that changes nothing else**
-pub log-acted : (kept : ServiceTable) (client seq : ℕ) (moment : ℤ) (call : Call) (change : LogChange) (plan : LogPlan) (later : LogTable) (acted : Acted) → IsLogOnly call → log_change_in kept client moment call ≡ Some change → Plans kept.log (status_in kept client call) change plan → later ≡ planned plan kept.log → IsTold plan.step.status Done acted.told → acted.deeds ≡ deeds_of_all plan.step.events → HasActed kept client seq moment call (with_log kept later) acted
+pub log-acted : (kept : ServiceTable) (client seq : ℕ) (moment : ℤ) (call : Call) (change : LogChange) (plan : LogPlan) (later : LogTable) (acted : Acted) → IsLogOnly call → log_change_in kept client moment call ≡ Some change → Plans kept.log (status_in kept client moment call) change plan → later ≡ planned plan kept.log → IsTold plan.step.status Done acted.told → acted.deeds ≡ deeds_of_all plan.step.events → HasActed kept client seq moment call (with_log kept later) acted
 log-acted kept client seq moment call change plan later acted alone is plans now told has =
     let answered = plan.step.status in
     let log_is : later ≡ logged (if_ok answered (log_change_in kept client moment call)) kept.log =
     logged-by answered change kept.log later (λ e. now ∙ (plans.ok e).now) (λ n. now ∙ (plans.refused n).now) ∙ ap (λ c. logged (if_ok answered c) kept.log) (sym is) in
     let events_are : plan.step.events ≡ option_map_or (λ c. events_of c kept.log) (if_ok answered (log_change_in kept client moment call)) [] =
     events-by answered change kept.log plan.step.events (λ e. (plans.ok e).done) (λ n. (plans.refused n).done) ∙ ap (λ c. option_map_or (λ x. events_of x kept.log) (if_ok answered c) []) (sym is) in
-    let plain = ap (λ s. reply_by s Done) plans.answer ∙ ap (reply_by (status_in kept client call)) (sym (told-log kept client call alone)) in
+    let plain = ap (λ s. reply_by s Done) plans.answer ∙ ap (reply_by (status_in kept client moment call)) (sym (told-log kept client call alone)) in
     record {
       now = ap (with_log kept) log_is ∙ log-only kept client seq moment call answered alone ∙ ap (changed kept client seq moment call) plans.answer;
       told = record { reply = told.reply ∙ plain; kept = told.kept ∙ plain };

@@ -31,20 +31,20 @@ with_rest number windows kept = record {
 }
 
 module _ (number : ℕ) (windows : List ClientWindow) (kept : ServiceTable) where
-  pub same-status : (client : ℕ) (call : Call) → status_in (with_rest number windows kept) client call ≡ status_in kept client call
-  same-status client LogInit = refl
-  same-status client (LogOpen stream create) = refl
-  same-status client (LogWrite stream invocation flags time header body) = refl
-  same-status client (LogClose stream) = refl
-  same-status client LogFini = refl
-  same-status client NtfInit = refl
-  same-status client (NtfSend notification) = refl
-  same-status client (NtfSubscribe id filters) = refl
-  same-status client (NtfUnsubscribe id) = refl
-  same-status client (ReaderStart mode value filters) = refl
-  same-status client (ReaderRead direction) = refl
-  same-status client ReaderEnd = refl
-  same-status client NtfFini = refl
+  pub same-status : (client : ℕ) (moment : ℤ) (call : Call) → status_in (with_rest number windows kept) client moment call ≡ status_in kept client moment call
+  same-status client moment LogInit = refl
+  same-status client moment (LogOpen stream create) = refl
+  same-status client moment (LogWrite stream invocation flags time header body) = refl
+  same-status client moment (LogClose stream) = refl
+  same-status client moment LogFini = refl
+  same-status client moment NtfInit = refl
+  same-status client moment (NtfSend notification) = refl
+  same-status client moment (NtfSubscribe id filters) = refl
+  same-status client moment (NtfUnsubscribe id) = refl
+  same-status client moment (ReaderStart mode value filters) = refl
+  same-status client moment (ReaderRead direction) = refl
+  same-status client moment ReaderEnd = refl
+  same-status client moment NtfFini = refl
 
   pub same-told : (client : ℕ) (call : Call) → told_in (with_rest number windows kept) client call ≡ told_in kept client call
   same-told client LogInit = refl
@@ -91,16 +91,16 @@ module _ (number : ℕ) (windows : List ClientWindow) (kept : ServiceTable) wher
   same-ntf client seq moment ReaderEnd = refl
   same-ntf client seq moment NtfFini = refl
 
-  pub same-reply : (client : ℕ) (call : Call) → reply_in (with_rest number windows kept) client call ≡ reply_in kept client call
-  same-reply client call =
-      ap (λ s. reply_by s (told_in (with_rest number windows kept) client call)) (same-status client call)
-      ∙ ap (reply_by (status_in kept client call)) (same-told client call)
+  pub same-reply : (client : ℕ) (moment : ℤ) (call : Call) → reply_in (with_rest number windows kept) client moment call ≡ reply_in kept client moment call
+  same-reply client moment call =
+      ap (λ s. reply_by s (told_in (with_rest number windows kept) client call)) (same-status client moment call)
+      ∙ ap (reply_by (status_in kept client moment call)) (same-told client call)
 
   pub same-events : (client : ℕ) (moment : ℤ) (call : Call) → events_in (with_rest number windows kept) client moment call ≡ events_in kept client moment call
   same-events client moment call =
       let done = λ (change : Option LogChange). let nothing : List StreamEvent = [] in option_map_or (λ c. events_of c kept.log) change nothing in
-      ap (λ s. done (if_ok s (log_change_in (with_rest number windows kept) client moment call))) (same-status client call)
-      ∙ ap (λ change. done (if_ok (status_in kept client call) change)) (same-log client moment call)
+      ap (λ s. done (if_ok s (log_change_in (with_rest number windows kept) client moment call))) (same-status client moment call)
+      ∙ ap (λ change. done (if_ok (status_in kept client moment call) change)) (same-log client moment call)
 
   abbrev changed_parts : Option LogChange → Option NtfChange → (client : ℕ) → Call → Status → ServiceTable
   changed_parts log_change ntf_change client call answer = record {
@@ -119,15 +119,15 @@ module _ (number : ℕ) (windows : List ClientWindow) (kept : ServiceTable) wher
       ∙ ap (λ c. changed_parts (if_ok answer (log_change_in kept client moment call)) (if_ok answer c) client call answer) (same-ntf client seq moment call)
 
 -- **a service after a call**
-pub after-acted : (number : ℕ) (windows : List ClientWindow) (kept later : ServiceTable) (client seq : ℕ) (moment : ℤ) (call : Call) → later ≡ changed kept client seq moment call (status_in kept client call) → with_rest (number + 1) (answered client (reply_in kept client call) windows) later ≡ after_call (with_rest number windows kept) client seq moment call
+pub after-acted : (number : ℕ) (windows : List ClientWindow) (kept later : ServiceTable) (client seq : ℕ) (moment : ℤ) (call : Call) → later ≡ changed kept client seq moment call (status_in kept client moment call) → with_rest (number + 1) (answered client (reply_in kept client moment call) windows) later ≡ after_call (with_rest number windows kept) client seq moment call
 after-acted number windows kept later client seq moment call is =
     let whole = with_rest number windows kept in
-    let step : changed whole client seq moment call (status_in whole client call) ≡ with_rest number windows later =
-    ap (changed whole client seq moment call) (same-status number windows kept client call)
-    ∙ same-changed number windows kept client seq moment call (status_in kept client call)
+    let step : changed whole client seq moment call (status_in whole client moment call) ≡ with_rest number windows later =
+    ap (changed whole client seq moment call) (same-status number windows kept client moment call)
+    ∙ same-changed number windows kept client seq moment call (status_in kept client moment call)
     ∙ ap (with_rest number windows) (sym is) in
-    ap (λ reply. replied client reply (with_rest number windows later)) (sym (same-reply number windows kept client call))
-    ∙ ap (replied client (reply_in whole client call)) (sym step)
+    ap (λ reply. replied client reply (with_rest number windows later)) (sym (same-reply number windows kept client moment call))
+    ∙ ap (replied client (reply_in whole client moment call)) (sym step)
 
 -- what an entry makes of a service, by what its call made of the parts
 pub acted-now : (number : ℕ) (parts later : Parts) (windows given : List ClientWindow) (client seq : ℕ) (moment : ℤ) (call : Call) (acted : Acted) → HasActed (table_of parts) client seq moment call (table_of later) acted → given ≡ answered client acted.told.kept windows → table_with_parts (number + 1) later given ≡ after_call (table_with_parts number parts windows) client seq moment call

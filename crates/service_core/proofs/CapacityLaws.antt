@@ -19,7 +19,7 @@ notified-capacity (Some (Unsubscribed client id)) table = refl
 notified-capacity (Some (Sent notification record_number)) table = refl
 notified-capacity (Some (Receipted client key through)) table = refl
 
-pub changed-capacity : (old new : ServiceTable) (client seq : ℕ) (moment : ℤ) (call : Call) → new ≡ changed old client seq moment call (status_in old client call) → new.ntf.capacity ≡ old.ntf.capacity
+pub changed-capacity : (old new : ServiceTable) (client seq : ℕ) (moment : ℤ) (call : Call) → new ≡ changed old client seq moment call (status_in old client moment call) → new.ntf.capacity ≡ old.ntf.capacity
 changed-capacity old new client seq moment call is =
     ap (λ (table : ServiceTable). table.ntf.capacity) is
-    ∙ notified-capacity (if_ok (status_in old client call) (ntf_change_in old client seq moment call)) old.ntf
+    ∙ notified-capacity (if_ok (status_in old client moment call) (ntf_change_in old client seq moment call)) old.ntf

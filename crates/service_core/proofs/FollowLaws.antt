@@ -69,7 +69,7 @@ followed-call setup past client seq now call kept later effect queues history st
     applied.now ∙ ap (λ k. after_call k client seq now call) is ∙ sym (call-step setup client seq now call past (can, history)) in
     record {
       stands = table-stands setup (Called client seq now call ∷ past) later after;
-      reply = applied.reply ∙ ap (λ (k : ServiceTable). Some (reply_in k client call)) is ∙ ap (λ (r : Reply). Some r) (reply-is setup past history client call);
+      reply = applied.reply ∙ ap (λ (k : ServiceTable). Some (reply_in k client now call)) is ∙ ap (λ (r : Reply). Some r) (reply-is setup past history client now call);
       deeds = applied.deeds ∙ ap (λ k. deeds_of_all (events_in k client now call)) is ∙ deeds-is setup past history client seq now call;
     }
 

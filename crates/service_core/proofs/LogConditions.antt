@@ -33,7 +33,7 @@ planned-fit kept now change answered plan can early may plans =
 
 -- the alarm stream stands first after a record was stored, or was not
 
-first-after : (number : ℕ) (kept later : LogTable) (stream : StreamName) (rec : LogRecord) (second : ℕ) (answered : Status) → IsFitLog number kept → second ≤ 9000000000 → (answered ≡ status.Ok → is_filled kept.streams stream ≡ false) → (answered ≡ status.Ok → later ≡ table_after (Stored stream rec second) kept) → (answered ≢ status.Ok → later ≡ kept) → IsAlarmFirst later.streams
+first-after : (number : ℕ) (kept later : LogTable) (stream : StreamName) (rec : LogRecord) (second : ℕ) (answered : Status) → IsFitLog number kept → second ≤ 9000000000 → (answered ≡ status.Ok → is_filled kept.streams stream rec ≡ false) → (answered ≡ status.Ok → later ≡ table_after (Stored stream rec second) kept) → (answered ≢ status.Ok → later ≡ kept) → IsAlarmFirst later.streams
 first-after number kept later stream rec second status.Ok fit early room made left =
     let change = Stored stream rec second in
     subst (λ (l : LogTable). IsAlarmFirst l.streams) (sym (made refl))
@@ -42,7 +42,7 @@ first-after number kept later stream rec second _ fit early room made left =
     let same : later ≡ kept = left (λ e. cc) in
     subst (λ (l : LogTable). IsAlarmFirst l.streams) (sym same) (alarm-first number kept (inside number kept fit))
 
-pub planned-first : (kept : LogTable) (now : ℤ) (stream : StreamName) (rec : LogRecord) (second : ℕ) (answered : Status) (plan : LogPlan) → CanCallLog kept now → second ≤ 9000000000 → (answered ≡ status.Ok → is_filled kept.streams stream ≡ false) → Plans kept answered (Stored stream rec second) plan → IsAlarmFirst (planned plan kept).streams
+pub planned-first : (kept : LogTable) (now : ℤ) (stream : StreamName) (rec : LogRecord) (second : ℕ) (answered : Status) (plan : LogPlan) → CanCallLog kept now → second ≤ 9000000000 → (answered ≡ status.Ok → is_filled kept.streams stream rec ≡ false) → Plans kept answered (Stored stream rec second) plan → IsAlarmFirst (planned plan kept).streams
 planned-first kept now stream rec second answered plan can early room plans =
     first-after can.number kept (planned plan kept) stream rec second plan.step.status can.fit early (λ e. room (sym plans.answer ∙ e)) (λ e. (plans.ok e).now) (λ n. (plans.refused n).now)
 

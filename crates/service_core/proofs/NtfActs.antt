@@ -66,13 +66,13 @@ none-done status.Ok kept = refl
 none-done _ kept = refl
 
 no-events : (kept : ServiceTable) (client : ℕ) (moment : ℤ) (call : Call) → IsQuiet call → events_in kept client moment call ≡ []
-no-events kept client moment NtfInit quiet = none-done (status_in kept client NtfInit) kept.log
-no-events kept client moment (NtfSubscribe id filters) quiet = none-done (status_in kept client (NtfSubscribe id filters)) kept.log
-no-events kept client moment (NtfUnsubscribe id) quiet = none-done (status_in kept client (NtfUnsubscribe id)) kept.log
-no-events kept client moment NtfFini quiet = none-done (status_in kept client NtfFini) kept.log
-no-events kept client moment (ReaderStart mode value filters) quiet = none-done (status_in kept client (ReaderStart mode value filters)) kept.log
-no-events kept client moment (ReaderRead direction) quiet = none-done (status_in kept client (ReaderRead direction)) kept.log
-no-events kept client moment ReaderEnd quiet = none-done (status_in kept client ReaderEnd) kept.log
+no-events kept client moment NtfInit quiet = none-done (status_in kept client moment NtfInit) kept.log
+no-events kept client moment (NtfSubscribe id filters) quiet = none-done (status_in kept client moment (NtfSubscribe id filters)) kept.log
+no-events kept client moment (NtfUnsubscribe id) quiet = none-done (status_in kept client moment (NtfUnsubscribe id)) kept.log
+no-events kept client moment NtfFini quiet = none-done (status_in kept client moment NtfFini) kept.log
+no-events kept client moment (ReaderStart mode value filters) quiet = none-done (status_in kept client moment (ReaderStart mode value filters)) kept.log
+no-events kept client moment (ReaderRead direction) quiet = none-done (status_in kept client moment (ReaderRead direction)) kept.log
+no-events kept client moment ReaderEnd quiet = none-done (status_in kept client moment ReaderEnd) kept.log
 no-events kept client moment LogInit quiet = absurd quiet
 no-events kept client moment (LogOpen stream create) quiet = absurd quiet
 no-events kept client moment (LogWrite stream invocation flags time header body) quiet = absurd quiet
@@ -81,9 +81,9 @@ no-events kept client moment LogFini quiet = absurd quiet
 no-events kept client moment (NtfSend notification) quiet = absurd quiet
 
 -- **a call that changes no stream**
-pub quiet-acted : (kept : ServiceTable) (client seq : ℕ) (moment : ℤ) (call : Call) (answered : Status) (told : Reply) (later : NtfTable) (readers : List SavedReader) (acted : Acted) → IsQuiet call → answered ≡ status_in kept client call → told ≡ told_in kept client call → later ≡ notified (if_ok answered (ntf_change_in kept client seq moment call)) kept.ntf → readers ≡ where_ok answered (readers_after kept.alarms client call kept.readers) kept.readers → IsTold answered told acted.told → acted.deeds ≡ [] → HasActed kept client seq moment call (with_ntf kept later readers) acted
+pub quiet-acted : (kept : ServiceTable) (client seq : ℕ) (moment : ℤ) (call : Call) (answered : Status) (told : Reply) (later : NtfTable) (readers : List SavedReader) (acted : Acted) → IsQuiet call → answered ≡ status_in kept client moment call → told ≡ told_in kept client call → later ≡ notified (if_ok answered (ntf_change_in kept client seq moment call)) kept.ntf → readers ≡ where_ok answered (readers_after kept.alarms client call kept.readers) kept.readers → IsTold answered told acted.told → acted.deeds ≡ [] → HasActed kept client seq moment call (with_ntf kept later readers) acted
 quiet-acted kept client seq moment call answered told later readers acted quiet same tells ntf_is readers_are twice none =
-    let plain = ap (λ s. reply_by s told) same ∙ ap (reply_by (status_in kept client call)) tells in
+    let plain = ap (λ s. reply_by s told) same ∙ ap (reply_by (status_in kept client moment call)) tells in
     record {
       now = ap (λ n. with_ntf kept n readers) ntf_is ∙ ap (with_ntf kept (notified (if_ok answered (ntf_change_in kept client seq moment call)) kept.ntf)) readers_are ∙ quiet-changed kept client seq moment call answered quiet ∙ ap (changed kept client seq moment call) same;
       told = record { reply = twice.reply ∙ plain; kept = twice.kept ∙ plain };

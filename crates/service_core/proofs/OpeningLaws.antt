@@ -16,6 +16,7 @@ use Rattle.log_history.specs.Legal.{IsSetup}
 use Rattle.log_history.specs.Table.{LogTable, state_of, new_state, table}
 use Rattle.log_history.specs.Times.{second_of}
 use Rattle.log_history.proofs.EventLaws.{fit-making}
+use Rattle.log_history.proofs.StreamLaws.{made-is}
 use Rattle.log_service.specs.State.{BeginsWith, HasBegun as HasBegunLog, made_event}
 use Rattle.plain_service.specs.Setups.{Setup, log_setup}
 use Rattle.plain_service.specs.Storing.{opening_of}
@@ -23,7 +24,7 @@ use Rattle.plain_service.specs.Fitness.{IsFit}
 use Rattle.service_table.specs.Tables.{ServiceTable}
 use Rattle.service_table.specs.Histories.{service_of}
 use Rattle.service_table.proofs.SavedLaws.{table-stands}
-use Rattle.service_fit.proofs.HistoryFit.{new-state, history-fit}
+use Rattle.service_fit.proofs.HistoryFit.{history-fit}
 use Rattle.service_core.specs.declared.kept.Kept.{Kept}
 use Rattle.service_core.specs.Beginning.{BeginsAs, CanBeginAs}
 use Rattle.service_core.specs.Inside.{kept_table, IsKeptAs}
@@ -38,9 +39,9 @@ opening-events setup passes =
     let system = stamp_after notification setup.start in
     let made : StreamState → StreamState → StreamState → List StreamEvent =
     λ one two three. event.Made one ∷ event.Made two ∷ event.Made three ∷ [] in
-    let one = new-state name.Alarm setup.alarm alarm passes.alarm.some_rotated in
-    let two = new-state name.Notification setup.notification notification passes.notification.some_rotated in
-    let three = new-state name.System setup.system system passes.system.some_rotated in
+    let one = made-is name.Alarm setup.alarm alarm passes.alarm.some_rotated in
+    let two = made-is name.Notification setup.notification notification passes.notification.some_rotated in
+    let three = made-is name.System setup.system system passes.system.some_rotated in
     ap (λ s. made s (state_of (new_stream name.Notification setup.notification notification)) (state_of (new_stream name.System setup.system system))) one
     ∙ ap (λ s. made (new_state name.Alarm setup.alarm alarm) s (state_of (new_stream name.System setup.system system))) two
     ∙ ap (made (new_state name.Alarm setup.alarm alarm) (new_state name.Notification setup.notification notification)) three

@@ -16,7 +16,7 @@ use Rattle.alarm_view.specs.Alarms.{kept_alarm, from_record}
 use Rattle.calls.specs.declared.call.Call.TheVariants.{NtfSend}
 use Rattle.calls.specs.declared.reply.Reply.TheVariants.{Done, Sent}
 use Rattle.log_history.specs.Deeds.{deeds_of_all}
-use Rattle.log_history.specs.KeptAnswers.{is_filled, store_status}
+use Rattle.log_history.specs.KeptAnswers.{is_filled}
 use Rattle.log_history.specs.Times.{filled_time}
 use Rattle.log_history.specs.Table.{OpenStream, LogTable, table_after, events_of}
 use Rattle.ntf_history.specs.Changes.{NtfChange as ntf}
@@ -26,14 +26,14 @@ use Rattle.ntf_history.specs.Tables.{after_send}
 use Rattle.plain_service.specs.Alarms.{stream_for, record_for}
 use Rattle.plain_service.specs.Replies.{reply_by}
 use Rattle.service_table.specs.Tables.{ServiceTable}
-use Rattle.service_table.specs.Answering.{status_in}
-use Rattle.service_table.specs.Steps.{accepted_in, taken_in, standing_from, alarms_with, where_ok, changed}
+use Rattle.service_table.specs.Answering.{accepted_in, status_in}
+use Rattle.service_table.specs.Steps.{taken_in, standing_from, alarms_with, where_ok, changed}
 use Rattle.service_fit.specs.Fit.{IsAlarmFirst, alarm_count}
 use Rattle.service_fit.proofs.LogSteps.{count-is}
 use Rattle.service_parts.specs.Telling.{IsTold}
 use Rattle.service_core.specs.declared.parts.Acted.{Acted}
 use Rattle.service_core.specs.Acting.{HasActed}
-use Rattle.service_core.specs.Sending.{stored_of, sent_in, sent_events, HasSent}
+use Rattle.service_core.specs.Sending.{stored_of, sent_in, sent_events, sent_status, HasSent}
 use Rattle.log_service.proofs.WriteLemmas.{filled-time}
 
 -- times of a record that is stored
@@ -69,13 +69,13 @@ send-changed kept client seq moment notification _ first = refl
 -- **a send of a sound notification by a user**
 pub sent-acted : (kept later : ServiceTable) (client seq : ℕ) (moment : ℤ) (notification : Notification) (acted : Acted) → IsAlarmFirst kept.log.streams → has client kept.ntf.users ≡ true → is_sound notification ≡ true → HasSent kept moment (accepted_in kept.ntf moment notification) later acted → HasActed kept client seq moment (NtfSend notification) later acted
 sent-acted kept later client seq moment notification acted first using sound sent =
-    let full = is_filled kept.log.streams (stream_for notification.body) in
-    let same : store_status kept.log (stream_for notification.body) ≡ status_in kept client (NtfSend notification) =
+    let full = is_filled kept.log.streams (stream_for notification.body) (record_for moment (accepted_in kept.ntf moment notification)) in
+    let accepted = accepted_in kept.ntf moment notification in
+    let same : sent_status kept.log moment accepted ≡ status_in kept client moment (NtfSend notification) =
     sym (ap (λ b. answer (send_by b (is_sound notification) full)) using ∙ ap (λ b. answer (send_by true b full)) sound) in
     let plain = ap (λ s. reply_by s (Sent (kept.ntf.last_id + 1))) same in
-    let accepted = accepted_in kept.ntf moment notification in
     record {
-      now = sent.now ∙ send-changed kept client seq moment notification (store_status kept.log (stream_for notification.body)) first ∙ ap (changed kept client seq moment (NtfSend notification)) same;
+      now = sent.now ∙ send-changed kept client seq moment notification (sent_status kept.log moment accepted) first ∙ ap (changed kept client seq moment (NtfSend notification)) same;
       told = record { reply = sent.told.reply ∙ plain; kept = sent.told.kept ∙ plain };
       deeds = sent.deeds ∙ ap (λ s. deeds_of_all (sent_events s (stored_of moment (record_for moment accepted) accepted) kept.log)) same;
     }
@@ -94,7 +94,7 @@ where-not : (answered : Status) (after before : ServiceTable) → answered ≢ s
 where-not status.Ok after before refused = absurd (refused refl)
 where-not _ after before refused = refl
 
-pub refused-sent : (kept : ServiceTable) (moment : ℤ) (notification : Notification) (answered : Status) (acted : Acted) → answered ≡ store_status kept.log (stream_for notification.body) → answered ≢ status.Ok → IsTold answered Done acted.told → acted.deeds ≡ [] → HasSent kept moment notification kept acted
+pub refused-sent : (kept : ServiceTable) (moment : ℤ) (notification : Notification) (answered : Status) (acted : Acted) → answered ≡ sent_status kept.log moment notification → answered ≢ status.Ok → IsTold answered Done acted.told → acted.deeds ≡ [] → HasSent kept moment notification kept acted
 refused-sent kept moment notification answered acted same refused told none =
     let plain = refused-reply answered (kept.ntf.last_id + 1) refused ∙ ap (λ s. reply_by s (Sent (kept.ntf.last_id + 1))) same in
     let sent = sent_in kept moment (record_for moment notification) notification in
@@ -104,7 +104,7 @@ refused-sent kept moment notification answered acted same refused told none =
       deeds = none ∙ ap deeds_of_all (sym (refused-events kept moment notification answered refused)) ∙ ap (λ s. deeds_of_all (sent_events s (stored_of moment (record_for moment notification) notification) kept.log)) same;
     }
 
-pub done-sent : (kept later : ServiceTable) (moment : ℤ) (notification : Notification) (answered : Status) (events : List StreamEvent) (acted : Acted) → answered ≡ store_status kept.log (stream_for notification.body) → answered ≡ status.Ok → later ≡ sent_in kept moment (record_for moment notification) notification → acted.told.reply ≡ Sent (kept.ntf.last_id + 1) → acted.told.kept ≡ Sent (kept.ntf.last_id + 1) → events ≡ events_of (stored_of moment (record_for moment notification) notification) kept.log → acted.deeds ≡ deeds_of_all events → HasSent kept moment notification later acted
+pub done-sent : (kept later : ServiceTable) (moment : ℤ) (notification : Notification) (answered : Status) (events : List StreamEvent) (acted : Acted) → answered ≡ sent_status kept.log moment notification → answered ≡ status.Ok → later ≡ sent_in kept moment (record_for moment notification) notification → acted.told.reply ≡ Sent (kept.ntf.last_id + 1) → acted.told.kept ≡ Sent (kept.ntf.last_id + 1) → events ≡ events_of (stored_of moment (record_for moment notification) notification) kept.log → acted.deeds ≡ deeds_of_all events → HasSent kept moment notification later acted
 done-sent kept later moment notification answered events acted same ok is reply twice happened deeds =
     let ok_is = sym ok ∙ same in
     let told = λ (s : Status). reply_by s (Sent (kept.ntf.last_id + 1)) in

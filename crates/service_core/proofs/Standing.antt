@@ -7,9 +7,9 @@ use Rattle.ais_values.specs.declared.status.Status.TheVariants as status
 use Rattle.stream_config.specs.declared.attrs.StreamName.{StreamName}
 use Rattle.stream_config.specs.declared.attrs.StreamName.TheVariants as name
 use Rattle.stream_config.specs.declared.state.StreamState.{StreamState}
-use Rattle.stream_config.specs.Attributes.{kind_of, PassesAttrs}
+use Rattle.stream_config.specs.Attributes.{IsSized}
 use Rattle.stream_config.specs.Equality.{same_name}
-use Rattle.stream_config.specs.Sizes.{records_per_file}
+use Rattle.stream_config.specs.Fit.{first_standing}
 use Rattle.record_print.specs.declared.record.Header.{Header}
 use Rattle.alarm_view.specs.declared.alarm.KeptAlarm.{KeptAlarm}
 use Rattle.alarm_view.specs.Alarms.{from_record}
@@ -22,7 +22,6 @@ use Rattle.log_history.specs.Table.{OpenStream, LogTable, events_of}
 use Rattle.log_history.specs.KeptAnswers.{kept_stream}
 use Rattle.log_service.specs.Planning.{Plans, planned}
 use Rattle.log_service.specs.declared.plan.LogPlan.{LogPlan}
-use Rattle.plain_service.specs.Alarms.{first_in}
 use Rattle.plain_service.specs.Changing.{if_ok}
 use Rattle.plain_service.specs.Replies.{reply_by}
 use Rattle.service_table.specs.Tables.{ServiceTable}
@@ -36,22 +35,19 @@ use Rattle.service_core.specs.Acting.{HasActed}
 
 -- the first stream is the alarm stream
 
-pub first-passes : (kept : List OpenStream) (state : StreamState) → IsAlarmFirst kept → Some state ≡ option_map (λ (s : OpenStream). s.state) (slice_get kept 0) → PassesAttrs (kind_of state.name) state.attrs
-first-passes [] state first is = absurd first
-first-passes (s ∷ streams) state first is =
+pub first-sized : (kept : List OpenStream) (state : StreamState) → IsAlarmFirst kept → Some state ≡ option_map (λ (s : OpenStream). s.state) (slice_get kept 0) → IsSized state.attrs
+first-sized [] state first is = absurd first
+first-sized (s ∷ streams) state first is =
     let e : state ≡ s.state = cc in
-    subst (λ (st : StreamState). PassesAttrs (kind_of st.name) st.attrs) (sym e) first.1
+    subst (λ (st : StreamState). IsSized st.attrs) (sym e) first.1.sizes
 
-abbrev first_of_state : StreamState → ℕ
-first_of_state state = first_in state.attrs.action (records_per_file state.attrs) state.attrs.rotated state.taken
-
-pub first-stands : (kept : List OpenStream) (state : StreamState) → IsAlarmFirst kept → Some state ≡ option_map (λ (s : OpenStream). s.state) (slice_get kept 0) → first_in state.attrs.action (records_per_file state.attrs) state.attrs.rotated state.taken ≡ standing_from kept
+pub first-stands : (kept : List OpenStream) (state : StreamState) → IsAlarmFirst kept → Some state ≡ option_map (λ (s : OpenStream). s.state) (slice_get kept 0) → first_standing state ≡ standing_from kept
 first-stands [] state first is = absurd first
 first-stands (s ∷ streams) state first is =
     let e : state ≡ s.state = cc in
     let named : same_name s.state.name name.Alarm ≡ true = ap (λ n. same_name n name.Alarm) first.0 in
-    ap first_of_state e
-    ∙ sym (ap (λ b. option_map_or (λ (one : OpenStream). first_of_state one.state) (cond b (Some s) (kept_stream streams name.Alarm)) 0) named)
+    ap first_standing e
+    ∙ sym (ap (λ b. option_map_or (λ (one : OpenStream). first_standing one.state) (cond b (Some s) (kept_stream streams name.Alarm)) 0) named)
 
 pub some-first : (kept : List OpenStream) → IsAlarmFirst kept → None ≡ option_map (λ (s : OpenStream). s.state) (slice_get kept 0) → ⊥
 some-first [] first is = first
@@ -73,7 +69,7 @@ write-changed : (kept : ServiceTable) (client seq invocation flags : ℕ) (momen
 write-changed kept client seq invocation flags moment time stream header body status.Ok = refl
 write-changed kept client seq invocation flags moment time stream header body _ = refl
 
-pub write-acted : (kept : ServiceTable) (client seq invocation flags : ℕ) (moment time : ℤ) (stream : StreamName) (header : Header) (body : List ℕ) (plan : LogPlan) (answered : Status) (later : LogTable) (alarms : List KeptAlarm) (acted : Acted) → let call = LogWrite stream invocation flags time header body in Plans kept.log (status_in kept client call) (Stored stream (record_at time header body moment) (second_of moment)) plan → answered ≡ plan.step.status → later ≡ planned plan kept.log → alarms ≡ where_ok answered (from_record (standing_from later.streams) kept.alarms) kept.alarms → IsTold plan.step.status Done acted.told → acted.deeds ≡ deeds_of_all plan.step.events → HasActed kept client seq moment call (with_log_alarms kept later alarms) acted
+pub write-acted : (kept : ServiceTable) (client seq invocation flags : ℕ) (moment time : ℤ) (stream : StreamName) (header : Header) (body : List ℕ) (plan : LogPlan) (answered : Status) (later : LogTable) (alarms : List KeptAlarm) (acted : Acted) → let call = LogWrite stream invocation flags time header body in Plans kept.log (status_in kept client moment call) (Stored stream (record_at time header body moment) (second_of moment)) plan → answered ≡ plan.step.status → later ≡ planned plan kept.log → alarms ≡ where_ok answered (from_record (standing_from later.streams) kept.alarms) kept.alarms → IsTold plan.step.status Done acted.told → acted.deeds ≡ deeds_of_all plan.step.events → HasActed kept client seq moment call (with_log_alarms kept later alarms) acted
 write-acted kept client seq invocation flags moment time stream header body plan answered later alarms acted plans status_is now alarms_are told has =
     let change = Stored stream (record_at time header body moment) (second_of moment) in
     let done = plan.step.status in

@@ -45,7 +45,7 @@ call-applies client seq now call kept later effect queues applied =
     let back = sym (table-back kept queues) in
     record {
       value = ap saved_table applied.now ∙ ap (λ k. saved_table (after_call k client seq now call)) back;
-      reply = applied.reply ∙ ap (λ (k : ServiceTable). Some (reply_in k client call)) back;
+      reply = applied.reply ∙ ap (λ (k : ServiceTable). Some (reply_in k client now call)) back;
       deeds = applied.deeds ∙ ap (λ k. deeds_of_all (events_in k client now call)) back;
     }
 

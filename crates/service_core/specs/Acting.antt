@@ -27,6 +27,6 @@ table_of parts = table_with_parts 0 parts []
 
 -- a call changed the parts as it does, was told its reply, and has its deeds
 pub record HasActed (old : ServiceTable) (client seq : ℕ) (moment : ℤ) (call : Call) (new : ServiceTable) (acted : Acted) : Type 0 where
-  pub now : new ≡ changed old client seq moment call (status_in old client call)
-  pub told : IsTold (status_in old client call) (told_in old client call) acted.told
+  pub now : new ≡ changed old client seq moment call (status_in old client moment call)
+  pub told : IsTold (status_in old client moment call) (told_in old client call) acted.told
   pub deeds : acted.deeds ≡ deeds_of_all (events_in old client moment call)

@@ -12,7 +12,7 @@ use Rattle.service_core.specs.declared.effect.Effect.{Effect}
 
 -- the reply to an entry after a history: a receipt has none
 abbrev pub reply_to_entry : Setup → List Entry → Entry → Option Reply
-reply_to_entry setup past (Called client seq now call) = Some (reply_of setup past client call)
+reply_to_entry setup past (Called client seq now call) = Some (reply_of setup past client now call)
 reply_to_entry setup past (Receipted client key through now) = None
 
 -- the value stands for the history with the entry at its head, and the effect is the entry's

@@ -34,5 +34,5 @@ IsKept inside = IsKeptAs (kept_table inside.kept) inside.cap
 -- a call was applied
 pub record HasApplied (old : ServiceTable) (client seq : ℕ) (moment : ℤ) (call : Call) (new : ServiceTable) (effect : Effect) : Type 0 where
   pub now : new ≡ after_call old client seq moment call
-  pub reply : effect.reply ≡ Some (reply_in old client call)
+  pub reply : effect.reply ≡ Some (reply_in old client moment call)
   pub deeds : effect.deeds ≡ deeds_of_all (events_in old client moment call)

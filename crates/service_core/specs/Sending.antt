@@ -45,10 +45,14 @@ sent_in kept moment rec notification =
 abbrev pub sent_events : Status → LogChange → LogTable → List StreamEvent
 sent_events answered change kept = option_map_or (λ c. events_of c kept) (if_ok answered (Some change)) []
 
--- what a send came to, of a notification as it was accepted: it is refused where its stream is full
+-- a notification, as it was accepted at a moment, is refused where its record does not fit its stream
+abbrev pub sent_status : LogTable → ℤ → Notification → Status
+sent_status kept moment notification = store_status kept (stream_for notification.body) (record_for moment notification)
+
+-- what a send came to, of a notification as it was accepted
 pub record HasSent (old : ServiceTable) (moment : ℤ) (notification : Notification) (new : ServiceTable) (acted : Acted) : Type 0 where
-  pub now : new ≡ where_ok (store_status old.log (stream_for notification.body)) (sent_in old moment (record_for moment notification) notification) old
-  pub told : IsTold (store_status old.log (stream_for notification.body)) (Sent (old.ntf.last_id + 1)) acted.told
+  pub now : new ≡ where_ok (sent_status old.log moment notification) (sent_in old moment (record_for moment notification) notification) old
+  pub told : IsTold (sent_status old.log moment notification) (Sent (old.ntf.last_id + 1)) acted.told
   pub deeds :
-      acted.deeds ≡ deeds_of_all (sent_events (store_status old.log (stream_for notification.body))
+      acted.deeds ≡ deeds_of_all (sent_events (sent_status old.log moment notification)
       (stored_of moment (record_for moment notification) notification) old.log)

@@ -41,7 +41,7 @@ value_after (Receipted client key through now) saved =
 
 -- the reply to an entry, which a receipt has none of
 abbrev pub reply_by_value : Entry → Saved → Option Reply
-reply_by_value (Called client seq now call) saved = Some (reply_in (table_of_saved saved) client call)
+reply_by_value (Called client seq now call) saved = Some (reply_in (table_of_saved saved) client now call)
 reply_by_value (Receipted client key through now) saved = None
 
 -- and its deeds, in order

@@ -13,9 +13,8 @@ use ais_values::{Status, Text};
 use alarm_view::AlarmView;
 use log_service::LogState;
 use record_print::Header;
-use service_parts::first_standing;
 use std::alloc::{AllocError, Global};
-use stream_config::StreamName;
+use stream_config::{StreamName, first_standing};
 
 /// Drops the alarms whose records stand no more.
 pub(crate) fn keep_standing(alarms: &mut AlarmView, log: &LogState)

@@ -10,6 +10,7 @@ use Rattle.log_service.specs.Planning.{CanCommit, planned}
 use Rattle.log_service.specs.declared.step.Step.{Step}
 use Rattle.alarm_view.specs.Alarms.{CanAdd}
 use Rattle.ntf_history.specs.StoredAlarms.{is_alarm}
+use Rattle.plain_service.specs.Alarms.{stream_for}
 use Rattle.service_fit.specs.Conditions.{with_log}
 use Rattle.service_fit.specs.Fit.{IsAlarmFirst, alarm_count}
 use Rattle.service_fit.proofs.AlarmsFit.{can-add}
@@ -28,7 +29,10 @@ pub returns-then-ne-clause-ok : goal.returns-then-ne-clause-ok
 returns-then-ne-clause-ok c =
     let parts = c.args.parts.now in
     let refused : c.step.result.now.status ≢ status.Ok = search rules in
-    let answered = ap (λ (s : Step). s.status) c.step.ensures ∙ c.in_ok-plan.ensures.ok.answer ∙ ap (store_status parts.log.table) c.kind_for.ensures.stream in
+    let fits = c.ranges.now in
+    let written = simp to_z-of_z at c.in_ok-rec.ensures in
+    let log = parts.log.table in
+    let answered = ap (λ (s : Step). s.status) c.step.ensures ∙ c.in_ok-plan.ensures.ok.answer ∙ ap (λ s. store_status log s c.in_ok-rec.rec) c.kind_for.ensures.stream ∙ ap (store_status log (stream_for c.args.sent.now.body)) written in
     subst (λ (t : LogTable). HasSent (table_of parts) c.args.now c.args.sent.now (with_log (table_of parts) t) c.act_of.result) (sym c.in_ok-plan.ensures.table)
     (refused-sent (table_of parts) c.args.now c.args.sent.now c.step.result.now.status c.act_of.result answered refused c.act_of.ensures.told (c.act_of.ensures.deeds ∙ c.new.ensures))
 
@@ -43,7 +47,7 @@ send_stored-requires-clause-events c =
     let fits = c.ranges.now in
     let log = c.args.parts.now.log.table in
     let plans = simp to_z-of_z at c.in_ok-plan.ensures.ok in
-    planned-fit log c.args.now (Stored (stream_of_kind c.kind_for.result) c.in_ok-rec.rec (second_of c.args.now)) _ c.in_ok-plan.plan c.requires.log (second-bound c.args.now c.requires.log.moment) (λ e. room-left (is_filled log.streams _) e) plans
+    planned-fit log c.args.now (Stored (stream_of_kind c.kind_for.result) c.in_ok-rec.rec (second_of c.args.now)) _ c.in_ok-plan.plan c.requires.log (second-bound c.args.now c.requires.log.moment) (λ e. room-left (is_filled log.streams _ _) e) plans
 
 pub send_stored-requires-clause-first : goal.send_stored-requires-clause-first
 send_stored-requires-clause-first c =
@@ -55,7 +59,7 @@ send_stored-requires-clause-stands c =
     let log = c.args.parts.now.log.table in
     let plans = simp to_z-of_z at c.in_ok-plan.ensures.ok in
     subst (λ (t : LogTable). IsAlarmFirst (planned c.in_ok-plan.plan t).streams) (sym c.in_ok-plan.ensures.table)
-    (planned-first log c.args.now (stream_of_kind c.kind_for.result) c.in_ok-rec.rec (second_of c.args.now) _ c.in_ok-plan.plan c.requires.log (second-bound c.args.now c.requires.log.moment) (λ e. room-left (is_filled log.streams _) e) plans)
+    (planned-first log c.args.now (stream_of_kind c.kind_for.result) c.in_ok-rec.rec (second_of c.args.now) _ c.in_ok-plan.plan c.requires.log (second-bound c.args.now c.requires.log.moment) (λ e. room-left (is_filled log.streams _ _) e) plans)
 
 pub send_stored-requires-clause-add : goal.send_stored-requires-clause-add
 send_stored-requires-clause-add c =
@@ -81,4 +85,4 @@ returns-clause-ok c =
     let second = second_of c.args.now in
     let made = (plans.ok room).now ∙ ap (λ s. table_after (Stored s rec second) log) stream ∙ ap (λ r. table_after (stored_of c.args.now r c.args.sent.now) log) written in
     let happened = (plans.ok room).done ∙ ap (λ s. events_of (Stored s rec second) log) stream ∙ ap (λ r. events_of (stored_of c.args.now r c.args.sent.now) log) written in
-    done-sent (table_of parts) _ c.args.now c.args.sent.now plan.step.status plan.step.events c.in_ok-acted.acted (plans.answer ∙ ap (store_status log) stream) room (acted.ok ∙ ap (λ (t : LogTable). sent_with (with_log (table_of parts) t) (planned plan t) c.args.sent.now) c.in_ok-plan.ensures.table ∙ ap (λ l. sent_with (table_of parts) l c.args.sent.now) made) acted.reply acted.kept happened acted.deeds
+    done-sent (table_of parts) _ c.args.now c.args.sent.now plan.step.status plan.step.events c.in_ok-acted.acted (plans.answer ∙ ap (λ s. store_status log s rec) stream ∙ ap (store_status log (stream_for c.args.sent.now.body)) written) room (acted.ok ∙ ap (λ (t : LogTable). sent_with (with_log (table_of parts) t) (planned plan t) c.args.sent.now) c.in_ok-plan.ensures.table ∙ ap (λ l. sent_with (table_of parts) l c.args.sent.now) made) acted.reply acted.kept happened acted.deeds

@@ -49,7 +49,7 @@ returns-in-Ok-clause-ok c =
     let given = c.answer_call.ensures ∙ ap (answered c.args.client acted.told.kept) c.room_for.ensures.callers in
     record {
       now = acted-now kept.number kept.parts c.act.new.parts kept.callers.items _ c.args.client c.args.seq c.args.now c.args.call.now acted has given;
-      reply = ap (λ (r : Reply). Some r) (has.told.reply ∙ sym (same-reply kept.number kept.callers.items (table_of kept.parts) c.args.client c.args.call.now));
+      reply = ap (λ (r : Reply). Some r) (has.told.reply ∙ sym (same-reply kept.number kept.callers.items (table_of kept.parts) c.args.client c.args.now c.args.call.now));
       deeds = has.deeds ∙ ap deeds_of_all (sym (same-events kept.number kept.callers.items (table_of kept.parts) c.args.client c.args.now c.args.call.now));
     }
 

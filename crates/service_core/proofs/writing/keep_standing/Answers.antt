@@ -1,10 +1,10 @@
 use Rattle.std.proofs.Common.{ap, ◌∙◌}
 use Rattle.alarm_view.specs.Alarms.{from_record}
-use Rattle.service_core.proofs.Standing.{first-passes, first-stands, some-first}
+use Rattle.service_core.proofs.Standing.{first-sized, first-stands, some-first}
 use Rattle.service_core.proofs.writing.keep_standing.Goals as goal
 
 pub first_standing-requires : goal.first_standing-requires
-first_standing-requires c = first-passes c.args.log.now.table.streams c.in-Some.state.now c.requires c.in-Some.ensures
+first_standing-requires c = first-sized c.args.log.now.table.streams c.in-Some.state.now c.requires c.in-Some.ensures
 
 pub returns-in-Some : goal.returns-in-Some
 returns-in-Some c =
