@@ -19,7 +19,7 @@ use Rattle.plain_service.specs.Replies.{reply_of, calls_of, replies_to}
 length-calls_in : (setup : Setup) (client : ℕ) (past : List Entry) → length (calls_in client past) ≡ length (replies_to setup client past)
 length-calls_in setup client [] = refl
 length-calls_in setup client (Called caller number time call ∷ past) =
-    elim (caller == client) as (λ b. length (if b then (number, call) ∷ calls_in client past else calls_in client past) ≡ length (if b then reply_of setup past caller call ∷ replies_to setup client past else replies_to setup client past)) [
+    elim (caller == client) as (λ b. length (if b then (number, call) ∷ calls_in client past else calls_in client past) ≡ length (if b then reply_of setup past caller time call ∷ replies_to setup client past else replies_to setup client past)) [
       | true ↦ ap suc (length-calls_in setup client past)
       | false ↦ length-calls_in setup client past
     ]
@@ -28,7 +28,7 @@ length-calls_in setup client (Receipted caller key through time ∷ past) = leng
 length-calls_of : (setup : Setup) (client : ℕ) (past : List Entry) → length (calls_of client past) ≡ length (replies_to setup client past)
 length-calls_of setup client [] = refl
 length-calls_of setup client (Called caller number time call ∷ past) =
-    elim (caller == client) as (λ b. length (if b then call ∷ calls_of client past else calls_of client past) ≡ length (if b then reply_of setup past caller call ∷ replies_to setup client past else replies_to setup client past)) [
+    elim (caller == client) as (λ b. length (if b then call ∷ calls_of client past else calls_of client past) ≡ length (if b then reply_of setup past caller time call ∷ replies_to setup client past else replies_to setup client past)) [
       | true ↦ ap suc (length-calls_of setup client past)
       | false ↦ length-calls_of setup client past
     ]
@@ -94,7 +94,7 @@ pub reply-under : (setup : Setup) (client number : ℕ) (past : List Entry) → 
 reply-under setup client number [] history = refl
 reply-under setup client number (Called caller seq time call ∷ past) history =
     let rest = reply-under setup client number past history.1 in
-    let reply = reply_of setup past caller call in
+    let reply = reply_of setup past caller time call in
     let P : Bool → Type 0 = λ b. reply_at number (if b then (seq, reply) ∷ answers_in (plain_of setup) client past else answers_in (plain_of setup) client past) ≡ taken_under number (if b then reply ∷ replies_to setup client past else replies_to setup client past) in
     by_test P caller client (λ same.
     let its : seq ≡ length (replies_to setup client past) + 1 = history.0.1 ∙ ap (λ c. length (calls_of c past) + 1) same ∙ next-number setup client past in

@@ -32,7 +32,7 @@ HasService role = (role ≡ Active) ⊎ (role ≡ Standby)
 
 -- a receipt has no reply
 abbrev pub replies_owed : Setup → List Entry → Entry → List Message
-replies_owed setup past (Called client number time call) = Answer client number (reply_of setup past client call) ∷ []
+replies_owed setup past (Called client number time call) = Answer client number (reply_of setup past client time call) ∷ []
 replies_owed setup past (Receipted client key through time) = []
 
 -- what an entry asks for: its deeds, and the reply that is posted once they are done
