@@ -67,19 +67,6 @@ fn fault_of(now: Option<i64>, line: &Line) -> Option<ScriptWhy>
     }
 }
 
-/// How many lines are not skipped.
-fn shown_lines(bytes: &[u8]) -> usize {
-    let mut count = 0usize;
-    let mut at_start = true;
-    for byte in bytes {
-        if at_start && *byte != b'\n' && *byte != b'#' {
-            count = count.saturating_add(1);
-        }
-        at_start = *byte == b'\n';
-    }
-    count
-}
-
 /// Reads a line where a time is in force, or none is, and the line has this number. A line that is not skipped comes with
 /// the time in force after it.
 fn read_line(
@@ -221,7 +208,8 @@ fn judge<K: Keep>(alloc: Global, bytes: &[u8], kept: K) -> Result<K, ScriptAnswe
     reader.finish()
 }
 
-/// Reads a script of at most 4,294,967,294 bytes. It takes the room for its lines first, and then reads each line once.
+/// Reads a script of at most 4,294,967,294 bytes, each line once. It takes room for a line as the line is judged, so that
+/// a bad line costs no more than the lines before it.
 ///
 /// `Bad` comes exactly where the bytes spell no script. It names the least bad line, counted from 1 over all lines, and the
 /// first reason that holds of it: `Grammar`, then `Cluster`, then `Time`. Bytes of skipped lines alone are bad at the line
@@ -240,8 +228,7 @@ pub fn parse_script(alloc: Global, bytes: &[u8]) -> Result<Seq<Line>, ScriptAnsw
         → IsErrAnd result (λ answer. (answer ≡ ScriptAnswer.Memory)
         ⊎ (answer ≡ ScriptAnswer.Bad number why)) }
 {
-    let room = Vec::with_capacity(alloc, shown_lines(bytes))?;
-    judge(alloc, bytes, Seq::from_vec(room))
+    judge(alloc, bytes, Seq::new(alloc))
 }
 
 /// How many lines a script of at most 4,294,967,294 bytes has. It keeps one line at a time; `Bad` comes as from
