@@ -13,23 +13,23 @@ use Rattle.cluster_events.proofs.Looping.{and_then-nothing, and_then-assoc}
 
 -- What happened in both of two events happened in each.
 
-spliced-first : (middle number : ℕ) (one two : ℕ → Bool) → number ≤ middle → spliced middle one two number ≡ one number
+spliced-first : (middle number : ℕ) (one two : ℕ → ℕ) → number ≤ middle → spliced middle one two number ≡ one number
 spliced-first middle number one two within = elim (leb_tells number middle) [
   | inl below ↦ ap (λ b. if b then one number else two number) below.0
   | inr not ↦ let above = not.1 in absurd (omega arith)
 ]
 
-spliced-second : (middle number : ℕ) (one two : ℕ → Bool) → middle < number → spliced middle one two number ≡ two number
+spliced-second : (middle number : ℕ) (one two : ℕ → ℕ) → middle < number → spliced middle one two number ≡ two number
 spliced-second middle number one two above = elim (leb_tells number middle) [
   | inl below ↦ let within = below.1 in absurd (omega arith)
   | inr not ↦ ap (λ b. if b then one number else two number) not.0
 ]
 
-pub agrees-first : (before middle after : ℕ) (one two fails : ℕ → Bool) → middle ≤ after → AgreesIn before after (spliced middle one two) fails → AgreesIn before middle one fails
+pub agrees-first : (before middle after : ℕ) (one two fails : ℕ → ℕ) → middle ≤ after → AgreesIn before after (spliced middle one two) fails → AgreesIn before middle one fails
 agrees-first before middle after one two fails less agrees number above within =
     agrees number above (omega arith) ∙ spliced-first middle number one two within
 
-pub agrees-second : (before middle after : ℕ) (one two fails : ℕ → Bool) → before ≤ middle → AgreesIn before after (spliced middle one two) fails → AgreesIn middle after two fails
+pub agrees-second : (before middle after : ℕ) (one two fails : ℕ → ℕ) → before ≤ middle → AgreesIn before after (spliced middle one two) fails → AgreesIn middle after two fails
 agrees-second before middle after one two fails less agrees number above within =
     agrees number (omega arith) within ∙ spliced-second middle number one two above
 
@@ -38,9 +38,9 @@ agrees-second before middle after one two fails less agrees number above within 
 pub rose-later : (before middle after : ℕ) → before ≤ middle → Rose middle after → Rose before after
 rose-later before middle after less rose = omega arith
 
-pub caused-both : (before middle after place : ℕ) (one two : ℕ → Bool) → before ≤ middle → middle ≤ after → IsCaused before middle one → IsCaused middle after two → IsCaused before after (spliced place one two)
+pub caused-both : (before middle after place : ℕ) (one two : ℕ → ℕ) → before ≤ middle → middle ≤ after → IsCaused before middle one → IsCaused middle after two → IsCaused before after (spliced place one two)
 caused-both before middle after place one two first second early late never number =
-    elim (nat_le number place) as (λ b. (if b then one number else two number) ≡ false) [
+    elim (nat_le number place) as (λ b. (if b then one number else two number) ≡ 0) [
       | true ↦ early (λ rose. never (le_trans rose second)) number
       | false ↦ late (λ rose. never (rose-later before middle after first rose)) number
     ]
@@ -51,10 +51,10 @@ module _ {P : Type 0} where
   after_by first second fails state = and_then (first fails state) (second fails)
 
   -- an event that works nothing
-  pub comes-alone : (event : State P → Outcome (State P)) (happened : ℕ → Bool) (state : State P) → answered_in state ≤ answered_in (event state).state → ComesTo (λ fails. event) happened state (event state)
+  pub comes-alone : (event : State P → Outcome (State P)) (happened : ℕ → ℕ) (state : State P) → answered_in state ≤ answered_in (event state).state → ComesTo (λ fails. event) happened state (event state)
   comes-alone event happened state later = record { later = later; is = λ fails agrees. refl }
 
-  pub comes-both : (first second : EventBy P) (one two : ℕ → Bool) (state : State P) (middle last : Outcome (State P)) → ComesTo first one state middle → ComesTo second two middle.state last → ComesTo (after_by first second) (spliced (answered_in middle.state) one two) state (behind middle last)
+  pub comes-both : (first second : EventBy P) (one two : ℕ → ℕ) (state : State P) (middle last : Outcome (State P)) → ComesTo first one state middle → ComesTo second two middle.state last → ComesTo (after_by first second) (spliced (answered_in middle.state) one two) state (behind middle last)
   comes-both first second one two state middle last early late =
       let before = early.later in
       let after = late.later in
@@ -67,16 +67,16 @@ module _ {P : Type 0} where
       }
 
   -- the same event, said in another way
-  pub comes-as : (first second : EventBy P) (happened : ℕ → Bool) (state : State P) (outcome : Outcome (State P)) → ((fails : ℕ → Bool) → first fails state ≡ second fails state) → ComesTo first happened state outcome → ComesTo second happened state outcome
+  pub comes-as : (first second : EventBy P) (happened : ℕ → ℕ) (state : State P) (outcome : Outcome (State P)) → ((fails : ℕ → ℕ) → first fails state ≡ second fails state) → ComesTo first happened state outcome → ComesTo second happened state outcome
   comes-as first second happened state outcome same comes =
       record { later = comes.later; is = λ fails agrees. sym (same fails) ∙ comes.is fails agrees }
 
   -- what it comes to where what happened is known
-  pub comes-once : (event : EventBy P) (happened : ℕ → Bool) (state : State P) (outcome : Outcome (State P)) → ComesTo event happened state outcome → event happened state ≡ outcome
+  pub comes-once : (event : EventBy P) (happened : ℕ → ℕ) (state : State P) (outcome : Outcome (State P)) → ComesTo event happened state outcome → event happened state ≡ outcome
   comes-once event happened state outcome comes = comes.is happened (λ number above within. refl)
 
   -- what follows an event ends, and so both
-  pub ends-behind : (first : EventBy P) (Inner Outer : EndBy P) (one two : ℕ → Bool) (state : State P) (middle end : Outcome (State P)) → ((fails : ℕ → Bool) (stop : Outcome (State P)) → Inner fails (first fails state).state stop → Outer fails state (behind (first fails state) stop)) → ComesTo first one state middle → EndsOver Inner two middle.state end → EndsOver Outer (spliced (answered_in middle.state) one two) state (behind middle end)
+  pub ends-behind : (first : EventBy P) (Inner Outer : EndBy P) (one two : ℕ → ℕ) (state : State P) (middle end : Outcome (State P)) → ((fails : ℕ → ℕ) (stop : Outcome (State P)) → Inner fails (first fails state).state stop → Outer fails state (behind (first fails state) stop)) → ComesTo first one state middle → EndsOver Inner two middle.state end → EndsOver Outer (spliced (answered_in middle.state) one two) state (behind middle end)
   ends-behind first Inner Outer one two state middle end stops early late =
       let before = early.later in
       let after = late.later in

@@ -23,7 +23,7 @@ use Rattle.pair_cluster.proofs.Rows.{ready, device, write, same_spelling}
 
 -- the active server whose partner is down
 abbrev alone : Plain → Servers Peers
-alone plain = pair plain (device (λ number. false))
+alone plain = pair plain (device (λ number. 0))
 
 abbrev start : ℕ → State Peers
 start places = record {

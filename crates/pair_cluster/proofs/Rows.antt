@@ -1,5 +1,5 @@
 -- Worked rows of two servers over a service that answers every call.
-use Rattle.std.proofs.Common.{◌≡◌, ℕ, Some, None, Bool, true, false, ◌&&◌, ◌==◌, pos, [], ◌∷◌, refl, codes}
+use Rattle.std.proofs.Common.{◌≡◌, ℕ, Some, None, Bool, true, false, if◌then◌else◌, ◌&&◌, ◌==◌, pos, [], ◌∷◌, refl, codes}
 use Rattle.script_lines.specs.declared.line.Line.TheVariants as line
 use Rattle.script_lines.specs.declared.line.Server.TheVariants.{A, B}
 use Rattle.stream_config.specs.declared.attrs.StreamName.TheVariants.{System}
@@ -38,11 +38,11 @@ ready = record {
 }
 
 -- each entry's deeds make one changing call, and the disk fails in the works of these entries
-abbrev pub device : (ℕ → Bool) → Device
+abbrev pub device : (ℕ → ℕ) → Device
 device fails = record { calls = λ past entry. 1; fails = fails }
 
 abbrev calm : Servers Peers
-calm = pair ready (device (λ number. false))
+calm = pair ready (device (λ number. 0))
 
 abbrev header : Header
 header = Generic (record { vendor = 1; major = 2; minor = 3 }) (codes "safApp=web") 6
@@ -132,7 +132,7 @@ disarmed = refl
 -- The disk fails in a work: the other server takes over, and answers the call that is sent again.
 
 abbrev failing : Servers Peers
-failing = pair ready (device (λ number. number == 2))
+failing = pair ready (device (λ number. if number == 2 then 1 else 0))
 
 pub fault_tells : (round ready failing sent).told ≡ Stood B Active ∷ Stood A Down ∷ Committed 2 (Called 1 2 (pos 5) write) ∷ []
 fault_tells = refl
@@ -140,7 +140,7 @@ fault_tells = refl
 -- An entry without deeds makes no call that could fail.
 
 abbrev callless : Servers Peers
-callless = pair ready (record { calls = λ past entry. 0; fails = λ number. number == 2 })
+callless = pair ready (record { calls = λ past entry. 0; fails = λ number. if number == 2 then 1 else 0 })
 
 pub callless_tells : (round ready callless sent).told ≡ Replied 1 2 write Done ∷ Posted 4 (Answer 1 2 Done) ∷ Committed 2 (Called 1 2 (pos 5) write) ∷ []
 callless_tells = refl
@@ -220,7 +220,7 @@ module _ (notification : Notification) (filters : FilterSet) where
   }
 
   abbrev calm_telling : Servers Peers
-  calm_telling = pair telling (device (λ number. false))
+  calm_telling = pair telling (device (λ number. 0))
 
   abbrev asked_of : Ask → State Peers → Outcome (State Peers)
   asked_of asked state = in_world (ask telling 1 asked) state

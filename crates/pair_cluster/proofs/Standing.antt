@@ -1,5 +1,5 @@
 -- Where no work fails and none is armed, both servers stand.
-use Rattle.std.proofs.Common.{◌≡◌, ℕ, suc, Bool, true, false, ◌&&◌, ◌||◌, nat_le, Option, Some, None, length, refl, sym, subst}
+use Rattle.std.proofs.Common.{◌≡◌, ℕ, suc, Bool, true, false, ◌&&◌, ◌||◌, nat_le, Option, Some, None, length, refl, ap, sym, subst}
 use Rattle.std.proofs.lemmas.Bool.{and_right}
 use Rattle.disk_model.specs.Counts.{reaches, lowered}
 use Rattle.script_lines.specs.declared.line.Server.{Server}
@@ -30,7 +30,7 @@ pub lowered-none : (armed : Option ℕ) (calls : ℕ) → armed ≡ None → low
 lowered-none None calls none = refl
 lowered-none (Some left) calls none = cc
 
-module _ (plain : Plain) (device : Device) (never : (number : ℕ) → device.fails number ≡ false) (acting : Server) where
+module _ (plain : Plain) (device : Device) (never : (number : ℕ) → device.fails number ≡ 0) (acting : Server) where
   accept-stands : (linked : Bool) (entry : Entry) (state : State Peers) → BothStand acting state.peers → BothStand acting (accept_by linked entry state).state.peers
   accept-stands true entry state stands = stands
   accept-stands false entry state stands = stands
@@ -60,7 +60,7 @@ module _ (plain : Plain) (device : Device) (never : (number : ℕ) → device.fa
       let past = state.world.core.answered in
       let calls = device.calls past entry in
       let fails = device.fails (suc (length past)) in
-      let none : fails_in calls fails ≡ false = and_right (nat_le 1 calls) fails (never (suc (length past))) in
+      let none : fails_in calls fails ≡ false = and_right (nat_le 1 calls) (nat_le 1 fails) (ap (nat_le 1) (never (suc (length past)))) in
       let calm = never-falls state.peers.armed (is_standby state.peers.partner) (fails_in calls fails) calls stands.unarmed none in
       let S : Bool → Type 0 = λ fell. BothStand acting (work_as plain calls entry fell (pair_at state.peers.partner (Ready entry) state)).state.peers in
       let done : S false = record {

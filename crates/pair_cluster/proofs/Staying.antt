@@ -147,7 +147,7 @@ restart-stays server false Owed state is = record { active = refl; partner = λ 
 restart-stays server false Linking state is = record { active = refl; partner = λ up. up }
 restart-stays server false (Standby on_way) state is = record { active = refl; partner = λ up. up }
 
-module _ (plain : Plain) (is_plain : IsPlain plain) (shelf : Shelf) (device : Device) (never : (number : ℕ) → device.fails number ≡ false) where
+module _ (plain : Plain) (is_plain : IsPlain plain) (shelf : Shelf) (device : Device) (never : (number : ℕ) → device.fails number ≡ 0) where
   up-stays : (armed : Option ℕ) (next : Line) (state : State Peers) (outcome : Outcome (State Peers)) → state.peers.armed ≡ armed → IsUp state.peers.partner → IsSteady plain IsPair state → Happens plain shelf (pair plain device) next state outcome → (IsSome armed → IsSome outcome.state.peers.armed) → StayUp state.peers outcome.state.peers
   up-stays None next state outcome armed up steady happens short =
       let stands : BothStand state.peers.acting state.peers = record { active = refl; unarmed = armed; partner = up } in

@@ -69,9 +69,9 @@ abbrev pub is_standby : Partner → Bool
 is_standby (Standby on_way) = true
 is_standby _ = false
 
--- whether the disk fails in one of so many changing calls
-abbrev pub fails_in : ℕ → Bool → Bool
-fails_in calls fails = nat_le 1 calls && fails
+-- whether the disk fails in one of so many changing calls, where so many servers fall
+abbrev pub fails_in : ℕ → ℕ → Bool
+fails_in calls fails = nat_le 1 calls && nat_le 1 fails
 
 -- the work of an entry takes the active server down, and its standby takes over: the disk fails in a call of the entry's deeds, or they
 -- come to the end of the count that is armed

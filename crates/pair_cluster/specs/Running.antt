@@ -1,5 +1,5 @@
 -- Words of public clauses: what the lines of a script do where servers may fail, and whole runs. The disk's count of faults goes along.
-use Rattle.std.specs.Prelude.{◌≡◌, ℕ, ◌≤◌, Bool, List}
+use Rattle.std.specs.Prelude.{◌≡◌, ℕ, ◌≤◌, List}
 use Rattle.script_lines.specs.declared.line.Line.{Line}
 use Rattle.script_lines.specs.declared.line.Line.TheVariants as line
 use Rattle.cluster_facts.specs.Types.{Entry}
@@ -25,7 +25,7 @@ PairHappens plain shelf device next state outcome = Happens plain shelf (pair pl
 -- of an entry behind a history
 pub record PairStep (plain : Plain) (shelf : Shelf) (calls : List Entry → Entry → ℕ) (before : ℕ) (next : Line) (state : State Peers)
     (outcome : Outcome (State Peers)) (after : ℕ) : Type 0 where
-  pub fails : ℕ → Bool
+  pub fails : ℕ → ℕ
   pub happens : PairHappens plain shelf (record { calls = calls; fails = fails }) next state outcome
   pub caused : IsCaused before after fails
 

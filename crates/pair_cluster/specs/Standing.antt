@@ -26,7 +26,7 @@ pub record BothStand (acting : Server) (peers : Peers) : Type 0 where
 -- where no work fails and none is armed, both servers stand in each line that is not one on failing servers
 abbrev pub ServersStand : Type 0
 ServersStand =
-    (plain : Plain) → IsPlain plain → (shelf : Shelf) (device : Device) → ((number : ℕ) → device.fails number ≡ false)
+    (plain : Plain) → IsPlain plain → (shelf : Shelf) (device : Device) → ((number : ℕ) → device.fails number ≡ 0)
     → (acting : Server) (next : Line) (state : State Peers) (outcome : Outcome (State Peers)) → IsSteady plain IsPair state
     → BothStand acting state.peers → Happens plain shelf (pair plain device) next state outcome → BothStand acting outcome.state.peers
 
@@ -47,7 +47,7 @@ IsShort next before after = IsSome before → IsSome after
 -- where no work fails and the armed count does not come to its end, only `crash` takes a server down
 abbrev pub ServersStayUp : Type 0
 ServersStayUp =
-    (plain : Plain) → IsPlain plain → (shelf : Shelf) (device : Device) → ((number : ℕ) → device.fails number ≡ false)
+    (plain : Plain) → IsPlain plain → (shelf : Shelf) (device : Device) → ((number : ℕ) → device.fails number ≡ 0)
     → (next : Line) (state : State Peers) (outcome : Outcome (State Peers)) → IsSteady plain IsPair state → is_crash next ≡ false
     → PairHappens plain shelf device next state outcome → IsShort next state.peers.armed outcome.state.peers.armed
     → StayUp state.peers outcome.state.peers
