@@ -21,12 +21,14 @@ fn put_file_of<D: SharedDisk>(
     lines: &mut Vec<Seq<u8>>,
     name: &[u8],
 ) -> Result<(), DiskAnswer>
-    ensures added { OnOk result (AddsLine (D.files disk.old) name.now lines.old.items
+    ensures added { OnOk result (AddsLine (D.seen disk.old).files name.now lines.old.items
         lines.new.items) }
-    ensures same { D.files disk.new ≡ D.files disk.old }
-    ensures cause { RoseExactlyOn (D.faults disk.old) (D.faults disk.new) result DiskAnswer.Failed }
+    ensures same { (D.seen disk.new).files ≡ (D.seen disk.old).files }
+    ensures cause { RoseExactlyOn (D.seen disk.old).faults (D.seen disk.new).faults result
+        DiskAnswer.Failed }
     ensures never_stopped { IsErrOf result DiskAnswer.Stopped → ⊥ }
-    ensures counted { D.tally disk.new ≡ read_more 1 (D.tally disk.old) }
+    ensures stops { (D.seen disk.new).stops ≡ (D.seen disk.old).stops }
+    ensures counted { (D.seen disk.new).tally ≡ read_more 1 (D.seen disk.old).tally }
 {
     match disk.len(name) {
         Ok(Some(len)) => match put_file(alloc, lines, name, len) {
@@ -43,13 +45,15 @@ fn put_file_of<D: SharedDisk>(
 /// The disk is asked once for the names, and once for the length of each. It is only read, so it never stops.
 /// `Failed` comes exactly where its count of faults rose.
 pub fn list_files<D: SharedDisk>(alloc: Global, disk: &mut D) -> Result<Vec<Seq<u8>>, DiskAnswer>
-    ensures listed { IfOk result (λ lines. ListsFiles (D.files disk.old) lines.items) }
-    ensures same { D.files disk.new ≡ D.files disk.old }
-    ensures cause { RoseExactlyOn (D.faults disk.old) (D.faults disk.new) result DiskAnswer.Failed }
+    ensures listed { IfOk result (λ lines. ListsFiles (D.seen disk.old).files lines.items) }
+    ensures same { (D.seen disk.new).files ≡ (D.seen disk.old).files }
+    ensures cause { RoseExactlyOn (D.seen disk.old).faults (D.seen disk.new).faults result
+        DiskAnswer.Failed }
     ensures never_stopped { IsErrOf result DiskAnswer.Stopped → ⊥ }
-    ensures looks { Looks (ListCalls (D.files disk.old)) (is_ok result) (D.tally disk.old)
-        (D.tally disk.new) }
-    ensures armed { (D.tally disk.new).armed ≡ (D.tally disk.old).armed }
+    ensures stops { (D.seen disk.new).stops ≡ (D.seen disk.old).stops }
+    ensures looks { Looks (ListCalls (D.seen disk.old).files) (is_ok result) (D.seen disk.old).tally
+        (D.seen disk.new).tally }
+    ensures armed { (D.seen disk.new).tally.armed ≡ (D.seen disk.old).tally.armed }
 {
     let names = match disk.names(alloc) {
         Ok(names) => names,
@@ -73,15 +77,17 @@ fn read_front<D: SharedDisk>(
     name: &[u8],
     size: u64,
 ) -> Result<Seq<u8>, DiskAnswer>
-    ensures told { IfOk result (λ bytes. IfSome (D.files disk.old) (λ files.
+    ensures told { IfOk result (λ bytes. IfSome (D.seen disk.old).files (λ files.
         bytes ≡ bytes_at files name.now 0 size)) }
     ensures bound { IfOk result (λ bytes. length bytes ≤ size) }
     ensures unread { size ≡ 0 → disk.new ≡ disk.old }
-    ensures counted { 1 ≤ size → ReadsOnce result (D.tally disk.old) (D.tally disk.new) }
-    ensures same { D.files disk.new ≡ D.files disk.old }
-    ensures cause { RoseExactlyOn (D.faults disk.old) (D.faults disk.new) result DiskAnswer.Failed }
+    ensures counted { 1 ≤ size → ReadsOnce result (D.seen disk.old).tally (D.seen disk.new).tally }
+    ensures same { (D.seen disk.new).files ≡ (D.seen disk.old).files }
+    ensures cause { RoseExactlyOn (D.seen disk.old).faults (D.seen disk.new).faults result
+        DiskAnswer.Failed }
     ensures never_stopped { IsErrOf result DiskAnswer.Stopped → ⊥ }
-    ensures armed { (D.tally disk.new).armed ≡ (D.tally disk.old).armed }
+    ensures stops { (D.seen disk.new).stops ≡ (D.seen disk.old).stops }
+    ensures armed { (D.seen disk.new).tally.armed ≡ (D.seen disk.old).tally.armed }
 {
     if size == 0 {
         return Ok(Seq::new(alloc));
@@ -108,14 +114,16 @@ pub fn read_file<D: SharedDisk>(
     disk: &mut D,
     name: &[u8],
 ) -> Result<Option<Seq<u8>>, DiskAnswer>
-    ensures told { IfOk result (λ bytes. IfSome (D.files disk.old) (λ files.
+    ensures told { IfOk result (λ bytes. IfSome (D.seen disk.old).files (λ files.
         bytes ≡ bytes_of files name.now)) }
-    ensures same { D.files disk.new ≡ D.files disk.old }
-    ensures cause { RoseExactlyOn (D.faults disk.old) (D.faults disk.new) result DiskAnswer.Failed }
+    ensures same { (D.seen disk.new).files ≡ (D.seen disk.old).files }
+    ensures cause { RoseExactlyOn (D.seen disk.old).faults (D.seen disk.new).faults result
+        DiskAnswer.Failed }
     ensures never_stopped { IsErrOf result DiskAnswer.Stopped → ⊥ }
-    ensures looks { Looks (FileCalls name.now (D.files disk.old)) (is_ok result)
-        (D.tally disk.old) (D.tally disk.new) }
-    ensures armed { (D.tally disk.new).armed ≡ (D.tally disk.old).armed }
+    ensures stops { (D.seen disk.new).stops ≡ (D.seen disk.old).stops }
+    ensures looks { Looks (FileCalls name.now (D.seen disk.old).files) (is_ok result)
+        (D.seen disk.old).tally (D.seen disk.new).tally }
+    ensures armed { (D.seen disk.new).tally.armed ≡ (D.seen disk.old).tally.armed }
 {
     let size = match disk.len(name) {
         Ok(Some(size)) => size,
