@@ -15,7 +15,7 @@ use Rattle.plain_service.specs.Legal.{IsHistory, CanAccept, CanFollow}
 use Rattle.plain_service.specs.Replies.{replies_to}
 use Rattle.plain_service.specs.Values.{StandsFor}
 use Rattle.service_core.specs.Applying.{CanAcceptIn, next_in, is_new_in}
-use Rattle.cluster_facts.specs.History.{Judged, New, Repeat, Old, Ahead, judged_call}
+use Rattle.cluster_facts.specs.History.{Judged, Repeat, Old, Ahead, judged_call}
 use Rattle.cluster_facts.specs.Service.{is_new}
 use Rattle.service_laws.specs.PlainOf.{plain_of}
 use Rattle.mirror.specs.declared.heard.Why.TheVariants.{Old as OldRequest, Ahead as AheadRequest, Done}
