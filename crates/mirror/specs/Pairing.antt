@@ -1,8 +1,9 @@
 -- Words of public clauses: a server of a pair, and what it makes of what comes from its partner, of a partner that joins or goes down, and of the
 -- entry in hand.
-use Rattle.std.specs.Prelude.{◌≡◌, ℕ, suc, ℤ, Bool, true, false, Option, Some, None, List, [], ◌∷◌, length}
+use Rattle.std.specs.Prelude.{◌≡◌, ℕ, suc, ℤ, Bool, true, false, is_some, Option, Some, None, List, [], ◌∷◌, length}
 use Rattle.calls.specs.declared.entry.Entry.{Entry}
 use Rattle.calls.specs.declared.saved.Saved.{Saved}
+use Rattle.stream_layout.specs.declared.deed.Deed.{Deed}
 use Rattle.wire.specs.declared.message.Message.{Message}
 use Rattle.wire.specs.declared.message.Message.TheVariants.{Request, Receipt, Mirror, MirrorAck, Snapshot, JoinAck}
 use Rattle.service_core.specs.Applying.{CanApply}
@@ -26,7 +27,7 @@ use Rattle.mirror.specs.Working.{emptied}
 
 -- a server that has no partner and has applied nothing of one
 abbrev pub alone : ReplicaState → Node
-alone server = record { replica = server; waits = None; tie = Apart; promised = []; kept = [] }
+alone server = record { replica = server; waits = None; tie = Apart; promised = []; kept = None }
 
 -- a server that waits for the value of the service
 abbrev pub joining : ReplicaState
@@ -65,12 +66,25 @@ worked_out node = record node { replica = emptied node.replica; tie = tied_after
 abbrev pub with_peer : Heard → List Message → Heard
 with_peer heard messages = record heard { to_peer = messages }
 
+-- the deeds that are kept
+abbrev pub deeds_kept : Option (List Deed) → List Deed
+deeds_kept None = []
+deeds_kept (Some deeds) = deeds
+
+-- whether a standby keeps the deeds of an entry that it applied since it started or joined
+abbrev pub keeps_by : Role → Option (List Deed) → Bool
+keeps_by Standby kept = is_some kept
+keeps_by _ kept = false
+
+abbrev pub keeps_deeds : Node → Bool
+keeps_deeds node = keeps_by node.replica.role node.kept
+
 -- the standby becomes active
 abbrev pub acting : ReplicaState → ReplicaState
 acting server = record server { role = Active }
 
 abbrev pub taken_over : Node → Node
-taken_over node = record node { replica = acting node.replica; kept = [] }
+taken_over node = record node { replica = acting node.replica; kept = None }
 
 -- an accepted entry goes to the linked partner under its number, and is not committed before the partner has it
 abbrev pub mirrors : ℕ → Option Entry → List Message
@@ -108,7 +122,7 @@ abbrev pub IsFollowed : ℕ → Entry → Node → Heard → Node → Type 0
 IsFollowed number entry old heard new =
     (heard ≡ sent (MirrorAck number ∷ []) (Some entry) Applied)
     × ((setup : Setup) (past : List Entry) → IsHistory setup past → CanFollow setup entry past → old.replica ≡ started Standby (saved_of setup past) →
-    new ≡ record old { replica = started Standby (saved_of setup (entry ∷ past)); kept = deeds_of setup past entry })
+    new ≡ record old { replica = started Standby (saved_of setup (entry ∷ past)); kept = Some (deeds_of setup past entry) })
 
 -- what becomes of a message, by the server's role; one for another role changes nothing
 abbrev pub IsReceived : Role → Message → ℤ → Node → Heard → Node → Type 0

@@ -14,7 +14,7 @@ ghost use Rattle.mirror.specs.declared.heard.Outcome.TheVariants.{Changed, Joine
 ghost use Rattle.mirror.specs.Replicas.{HasService, HasRoom, down, started, number_in_hand, at_rest};
 ghost use Rattle.mirror.specs.Hearing.{CanHear};
 ghost use Rattle.mirror.specs.Working.{deeds_in, replies_in, worked};
-ghost use Rattle.mirror.specs.Pairing.{alone, joining, sent, IsJoinBegun, parted, worked_out, with_peer, taken_over, IsHeard, IsFollowed, IsReceived, CanApplyIn, CanReceive};
+ghost use Rattle.mirror.specs.Pairing.{alone, joining, sent, IsJoinBegun, parted, worked_out, with_peer, deeds_kept, keeps_deeds, taken_over, IsHeard, IsFollowed, IsReceived, CanApplyIn, CanReceive};
 
 use crate::hearing::ignore;
 use crate::pairing::{hear_linked, link, one, restored, send, send_also};
@@ -42,14 +42,15 @@ pub enum Tie {
 }
 
 /// A server of a pair: its replica of the service; the entry in hand while it waits until the partner has it; what ties it to
-/// its partner; the messages that the partner is promised; and the deeds of the last entry that it applied as standby.
+/// its partner; the messages that the partner is promised; and the deeds of the last entry that it applied as standby, where it
+/// applied one since it started or joined.
 #[derive(Drop)]
 pub struct Node {
     pub replica: Replica,
     pub waits: Option<Entry>,
     pub tie: Tie,
     pub promised: Seq<Message>,
-    pub kept: Seq<Deed>,
+    pub kept: Option<Seq<Deed>>,
 }
 
 /// A server with this replica and without partner.
@@ -61,7 +62,22 @@ fn alone(alloc: Global, replica: Replica) -> Node
         waits: None,
         tie: Tie::Apart,
         promised: Seq::new(alloc),
-        kept: Seq::new(alloc),
+        kept: None,
+    }
+}
+
+// Does the deeds that are kept, if any are.
+fn perform_kept<D: SharedDisk>(disk: &mut D, kept: &Option<Seq<Deed>>) -> Result<(), DiskAnswer>
+    ensures performs { Performs (calls_of_all (deeds_kept kept.now)) result (D.seen disk.old).files
+        (D.seen disk.new).files (D.seen disk.old).tally (D.seen disk.new).tally }
+    ensures cause { RoseExactlyOn (D.seen disk.old).faults (D.seen disk.new).faults result
+        DiskAnswer.Failed }
+    ensures stop { RoseExactlyOn (D.seen disk.old).stops (D.seen disk.new).stops result
+        DiskAnswer.Stopped }
+{
+    match kept {
+        Some(deeds) => perform(disk, deeds),
+        None => Ok(()),
     }
 }
 
@@ -93,6 +109,17 @@ impl Node {
         ensures { result ≡ self.now.replica.role }
     {
         self.replica.role()
+    }
+
+    /// Whether the server is a standby that has applied an entry since it started or received the value of the service.
+    /// It keeps that entry's deeds then, also where these are none.
+    pub fn keeps(&self) -> bool
+        ensures { result ≡ keeps_deeds self.now }
+    {
+        match self.role() {
+            Role::Standby => self.kept.is_some(),
+            _ => false,
+        }
     }
 
     /// Whether a further entry can be accepted: fewer than 4,000,000,000 were.
@@ -212,7 +239,7 @@ impl Node {
         requires { self.old.replica.role ≡ role.Standby }
         ensures done { IfOk result (λ heard. (heard ≡ sent [] None Changed)
             × (self.new ≡ taken_over self.old)) }
-        ensures performs { Performs (calls_of_all self.old.kept) result
+        ensures performs { Performs (calls_of_all (deeds_kept self.old.kept)) result
             (D.seen disk.old).files (D.seen disk.new).files
             (D.seen disk.old).tally (D.seen disk.new).tally }
         ensures memory { IsErrOf result DiskAnswer.Memory → self.new ≡ self.old }
@@ -223,10 +250,10 @@ impl Node {
         ensures stop { RoseExactlyOn (D.seen disk.old).stops (D.seen disk.new).stops result
             DiskAnswer.Stopped }
     {
-        match perform(disk, &self.kept) {
+        match perform_kept(disk, &self.kept) {
             Ok(()) => {
                 self.replica.act();
-                self.kept = Seq::new(alloc);
+                self.kept = None;
                 Ok(send(alloc, Seq::new(alloc), None, Outcome::Changed))
             }
             Err(DiskAnswer::Memory) => Err(DiskAnswer::Memory),
@@ -281,7 +308,7 @@ impl Node {
                 return Err(error);
             }
         };
-        self.kept = deeds;
+        self.kept = Some(deeds);
         Ok(send(alloc, to_peer, Some(committed), Outcome::Applied))
     }
 
