@@ -1,0 +1,15 @@
+pub mod Answering
+pub mod Sounding
+pub mod Seating
+pub mod Stepping
+pub mod Serving
+pub mod Saying
+pub mod Lines
+pub mod Running
+pub mod Ends
+pub mod Ended
+pub mod Also
+pub mod Staying
+pub mod Crashing
+pub mod Over
+pub mod Rows
