@@ -317,11 +317,13 @@ fn follows(rt: &impl Abort, alloc: Global, service: Service) -> Node {
     assert!(rt; service.next(1) == 1);
     assert!(rt; service.number() == 0);
     let mut node = Node::start(alloc, Role::Standby, service);
+    assert!(rt; !node.keeps());
     let message = Message::Mirror {
         number: 1,
         entry: first_entry(),
     };
     hears(rt, alloc, &mut node, message, APPLIED);
+    assert!(rt; node.keeps());
     node
 }
 
@@ -332,6 +334,7 @@ fn takes_over(rt: &impl Abort, alloc: Global, node: &mut Node, disk: &mut MemDis
     let told = told_by(heard.expect(rt, "a disk that serves"));
     assert!(rt; told == TAKEN_OVER);
     assert!(rt; node.role() == Role::Active);
+    assert!(rt; !node.keeps());
     asks(rt, alloc, node, 1, 1, REPEATED);
     forgets(rt, alloc, node, disk, 2);
 }
