@@ -1,6 +1,5 @@
 -- Events of agents and net, and messages that are delivered or sent again, that break off.
-use Rattle.std.proofs.Common.{◌≡◌, ℕ, ◌<◌, inl, inr, Bool, false, if◌then◌else◌, Option, Some, None, List, [], ◌∷◌, length, get_or, take, refl, sym, ◌∙◌, subst}
-use Rattle.disk_model.specs.Disk.{Files}
+use Rattle.std.proofs.Common.{◌≡◌, ℕ, ◌<◌, inl, inr, Bool, if◌then◌else◌, Option, Some, None, List, [], ◌∷◌, length, get_or, take, refl, sym, subst}
 use Rattle.plain_service.specs.Setups.{Setup}
 use Rattle.service_laws.specs.PlainOf.{plain_of}
 use Rattle.service_laws.proofs.ServiceLaws.{is_plain}
@@ -28,12 +27,11 @@ use Rattle.cluster_clients.specs.Taken.{taken_as}
 use Rattle.cluster_clients.proofs.ListSteps.{All-take}
 use Rattle.cluster_rounds.specs.Broken.{Broken, BreaksAlone, BreaksAloneIf, IsFedOf}
 use Rattle.cluster_rounds.specs.Delivered.{AllStandIn, HearsAll, again}
-use Rattle.cluster_rounds.specs.Kits.{IsKit, Kit, calm_servers, device_by}
-use Rattle.cluster_rounds.specs.Worlds.{LeavesFiles, StandsIn, TellsFiles}
+use Rattle.cluster_rounds.specs.Kits.{IsKit, Kit}
+use Rattle.cluster_rounds.specs.Worlds.{StandsIn}
+use Rattle.cluster_rounds.proofs.ArmedSteps.{hear-told}
 use Rattle.cluster_rounds.proofs.BrokenSteps.{event-broken, happened-broken, shown-broken, sound-fed, unasked-fed}
 use Rattle.cluster_rounds.proofs.ChainSteps.{again-goes, resent-by, resent-stand}
-use Rattle.cluster_rounds.proofs.FilesSteps.{files-same}
-use Rattle.cluster_rounds.proofs.HearSteps.{hear-answered}
 use Rattle.cluster_rounds.proofs.RoundSteps.{All-at}
 use Rattle.cluster_rounds.proofs.TakenSteps.{injected-kept, asked-kept, asked-moved, dispatched-moved, given-kept, taken-goes}
 
@@ -55,7 +53,7 @@ module _ {Peers Group : Type 0} (kit : Kit Peers Group) (laws : IsKit kit) where
   -- **bytes that were injected without their line, or not**
   pub injects-break : (bytes : List ℕ) (old : Cluster Group) (net : List (List ℕ)) → InjectsOrNot bytes old.net net → (BreaksAlone kit) old (record old { net = net })
   injects-break bytes old net (inl same) held setup state good shows =
-      subst (λ n. Broken setup state held held (record old { net = n })) (sym same) ((shown-broken kit laws) setup state held old good shows)
+      subst (λ n. (Broken kit) setup state held held (record old { net = n })) (sym same) ((shown-broken kit laws) setup state held old good shows)
   injects-break bytes old net (inr injects) held setup state good shows =
       let raw = injects.0 in
       let plain = plain_of setup in
@@ -113,16 +111,17 @@ module _ {Peers Group : Type 0} (kit : Kit Peers Group) (laws : IsKit kit) where
 
   -- Messages that are heard one after another.
 
-  -- the files are those of the answered history, which hearing leaves
-  again-answered : (setup : Setup) (messages : List Message) (state : State Peers) → (for_each ((again kit) setup) messages state).state.world.core.answered ≡ state.world.core.answered
-  again-answered setup [] state = refl
-  again-answered setup (message ∷ messages) state =
-      let plain = plain_of setup in
-      again-answered setup messages ((again kit) setup message state).state ∙ hear-answered plain (calm_servers kit setup) (laws.keeps plain (device_by setup (λ number. false))) (number_of plain message state.world.net) message state
+  -- hearing leaves what the disks hold
+  again-tells : (setup : Setup) (messages : List Message) (state : State Peers) (seen : kit.Seen) → kit.Tells setup state seen → kit.Tells setup (for_each ((again kit) setup) messages state).state seen
+  again-tells setup [] state seen tells = tells
+  again-tells setup (message ∷ messages) state seen tells =
+      let place = number_of (plain_of setup) message state.world.net in
+      again-tells setup messages ((again kit) setup message state).state seen ((hear-told kit laws) place message setup state seen tells)
 
-  again-files : (setup : Setup) (messages : List Message) (state : State Peers) (held : Option Files) → TellsFiles setup state held → LeavesFiles setup (for_each ((again kit) setup) messages state).state held held
-  again-files setup messages state held tells =
-      files-same setup state (for_each ((again kit) setup) messages state).state held (again-answered setup messages state) tells
+  again-files : (setup : Setup) (messages : List Message) (state : State Peers) (seen : kit.Seen) → kit.Tells setup state seen → kit.Leaves setup (for_each ((again kit) setup) messages state).state seen seen
+  again-files setup messages state seen tells =
+      let last = (for_each ((again kit) setup) messages state).state in
+      laws.left_same setup last seen (again-tells setup messages state seen tells)
 
   -- between two of them
   pub hears-stop : (messages : List Message) (count : ℕ) (old now : Cluster Group) (before after : List (List ℕ)) → (HearsAll kit) (take count messages) old now before after → (BreaksAloneIf kit) (AllStandIn messages) old now

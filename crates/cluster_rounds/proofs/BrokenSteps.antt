@@ -11,7 +11,6 @@ use Rattle.plain_service.specs.Storing.{files_of, deeds_of}
 use Rattle.service_laws.specs.PlainOf.{plain_of}
 use Rattle.service_laws.specs.Disks.{service_disk}
 use Rattle.service_laws.specs.StorageOf.{storage_of}
-use Rattle.service_laws.proofs.StorageLaws.{is_storage}
 use Rattle.cluster_facts.specs.Types.{Call, Reply, Entry}
 use Rattle.cluster_facts.specs.Lists.{Stands, EndsIn}
 use Rattle.cluster_facts.specs.Messages.{sent_by, receipts_of, calls_in, messages_in}
@@ -28,7 +27,6 @@ use Rattle.cluster_events.specs.Servers.{State}
 use Rattle.cluster_events.specs.Saying.{entries_told, deals_told, Says}
 use Rattle.cluster_events.specs.Breaking.{Tells, IsFed, Holds}
 use Rattle.cluster_events.proofs.Telling.{Says-same}
-use Rattle.cluster_events.proofs.Filed.{stand-between}
 use Rattle.cluster_events.proofs.Broken.{Says-tells, Sound-holds, Tells-both}
 use Rattle.client_agent.specs.Seen.{Seen}
 use Rattle.cluster_rounds.specs.declared.cluster.Cluster.{Cluster}
@@ -40,25 +38,19 @@ use Rattle.cluster_rounds.specs.Broken.{Broken, IsFedOf, LeavesBetween}
 use Rattle.cluster_rounds.specs.Kits.{IsKit, Kit}
 use Rattle.cluster_rounds.specs.PartlyDone.{SaysUnasked}
 use Rattle.cluster_rounds.specs.Timely.{IsTimely}
-use Rattle.cluster_rounds.specs.Worlds.{IsGood, LeavesFiles, Shows, TellsFiles}
-use Rattle.cluster_rounds.proofs.FilesSteps.{left-same, left-told}
+use Rattle.cluster_rounds.specs.Worlds.{IsGood, Shows, TellsFiles}
 use Rattle.cluster_rounds.proofs.TakenSteps.{IsMoved}
 use Rattle.cluster_rounds.proofs.UnaskedSteps.{deals-both, grown-none, timely-both, unasked-same}
 
 module _ {Peers Group : Type 0} (kit : Kit Peers Group) (laws : IsKit kit) where
-  -- Files between.
+  -- What the disks hold, between.
 
-  -- those of a whole state are
-  pub left-between : (setup : Setup) (state : State Peers) (held left : Option Files) → (IsGood kit) setup state → LeavesFiles setup state held left → LeavesBetween setup (committed state.world.core) held left
-  left-between setup state None left good leaves = leaves
-  left-between setup state (Some held) left good leaves = (
-    files_of setup state.world.core.answered,
-    leaves,
-    stand-between (plain_of setup) service_disk (storage_of setup) (is_storage setup good.begins) state.world (files_of setup state.world.core.answered) good.steady.sound good.range refl,
-  )
+  -- that of a whole state is
+  pub left-between : (setup : Setup) (state : State Peers) (held left : kit.Seen) → (IsGood kit) setup state → kit.Leaves setup state held left → kit.Between setup (committed state.world.core) held left
+  left-between setup state held left good leaves = laws.left_between setup state held left good.begins good.steady good.range leaves
 
-  pub same-between : (setup : Setup) (state : State Peers) (held : Option Files) → (IsGood kit) setup state → TellsFiles setup state held → LeavesBetween setup (committed state.world.core) held held
-  same-between setup state held good tells = left-between setup state held held good (left-same setup state held tells)
+  pub same-between : (setup : Setup) (state : State Peers) (held : kit.Seen) → (IsGood kit) setup state → kit.Tells setup state held → kit.Between setup (committed state.world.core) held held
+  same-between setup state held good tells = left-between setup state held held good (laws.left_same setup state held tells)
 
   -- an attempt that broke off after some calls
   attempt-after : (done rest : List DeviceCall) (old new : Files) → Attempt service_disk rest (all_applied done old) new → Attempt service_disk (done ++ rest) old new
@@ -105,7 +97,7 @@ module _ {Peers Group : Type 0} (kit : Kit Peers Group) (laws : IsKit kit) where
       subst F (same client) (sound-fed plain new sound client)
 
   -- some whole events happened, and what was to come did not
-  pub whole-broken : (setup : Setup) (old new : State Peers) (told : List Told) (held left : Option Files) (world : Cluster Group) → IsSound (plain_of setup) new.world → SaysUnasked (plain_of setup) old.world new.world told → AreSpelled new.world.net world.net → ShowsAgents new.world world.agents → world.history.entries ≡ committed new.world.core → world.now ≡ new.world.now → (TellsFiles setup old held → LeavesBetween setup (committed new.world.core) held left) → Broken setup old held left world
+  pub whole-broken : (setup : Setup) (old new : State Peers) (told : List Told) (held left : kit.Seen) (world : Cluster Group) → IsSound (plain_of setup) new.world → SaysUnasked (plain_of setup) old.world new.world told → AreSpelled new.world.net world.net → ShowsAgents new.world world.agents → world.history.entries ≡ committed new.world.core → world.now ≡ new.world.now → (kit.Tells setup old held → kit.Between setup (committed new.world.core) held left) → (Broken kit) setup old held left world
   whole-broken setup old new told held left world sound says net agents history now files = record {
     rest = new.world;
     unseen = told;
@@ -124,22 +116,20 @@ module _ {Peers Group : Type 0} (kit : Kit Peers Group) (laws : IsKit kit) where
   }
 
   -- nothing happened yet
-  pub nothing-broken : (setup : Setup) (state : State Peers) (held : Option Files) (world : Cluster Group) → (IsGood kit) setup state → AreSpelled state.world.net world.net → ShowsAgents state.world world.agents → world.history.entries ≡ committed state.world.core → world.now ≡ state.world.now → Broken setup state held held world
+  pub nothing-broken : (setup : Setup) (state : State Peers) (held : kit.Seen) (world : Cluster Group) → (IsGood kit) setup state → AreSpelled state.world.net world.net → ShowsAgents state.world world.agents → world.history.entries ≡ committed state.world.core → world.now ≡ state.world.now → (Broken kit) setup state held held world
   nothing-broken setup state held world good net agents history now =
       whole-broken setup state state [] held held world good.steady.sound (unasked-same (plain_of setup) state.world) net agents history now (same-between setup state held good)
 
-  pub shown-broken : (setup : Setup) (state : State Peers) (held : Option Files) (world : Cluster Group) → (IsGood kit) setup state → (Shows kit) setup state world → Broken setup state held held world
+  pub shown-broken : (setup : Setup) (state : State Peers) (held : kit.Seen) (world : Cluster Group) → (IsGood kit) setup state → (Shows kit) setup state world → (Broken kit) setup state held held world
   shown-broken setup state held world good shows = nothing-broken setup state held world good shows.net shows.agents shows.history shows.now
 
   -- one event happened, and the next broke off
-  pub files-after : (setup : Setup) (state middle : State Peers) (past : List Entry) (held between left : Option Files) → (TellsFiles setup state held → LeavesFiles setup middle held between) → (TellsFiles setup middle between → LeavesBetween setup past between left) → TellsFiles setup state held → LeavesBetween setup past held left
-  files-after setup state middle past None None left first next tells = next tt
-  files-after setup state middle past None (Some between) left first next tells = let leaves = first tells in cc
-  files-after setup state middle past (Some held) None left first next tells = let leaves = first tells in cc
-  files-after setup state middle past (Some held) (Some between) left first next tells =
-      next (left-told setup middle (Some held) (Some between) (first tells))
+  pub files-after : (setup : Setup) (state middle : State Peers) (past : List Entry) (held told left : kit.Seen) → (kit.Tells setup state held → kit.Leaves setup middle held told) → (kit.Tells setup middle told → kit.Between setup past told left) → kit.Tells setup state held → kit.Between setup past held left
+  files-after setup state middle past held told left first next tells =
+      let leaves = first tells in
+      laws.between_behind setup middle past held told left leaves (next (laws.left_told setup middle held told leaves))
 
-  pub happened-broken : (setup : Setup) (state middle : State Peers) (told : List Told) (held between left : Option Files) (world : Cluster Group) → SaysUnasked (plain_of setup) state.world middle.world told → (TellsFiles setup state held → LeavesFiles setup middle held between) → Broken setup middle between left world → Broken setup state held left world
+  pub happened-broken : (setup : Setup) (state middle : State Peers) (told : List Told) (held between left : kit.Seen) (world : Cluster Group) → SaysUnasked (plain_of setup) state.world middle.world told → (kit.Tells setup state held → kit.Leaves setup middle held between) → (Broken kit) setup middle between left world → (Broken kit) setup state held left world
   happened-broken setup state middle told held between left world says files broken = record {
     rest = broken.rest;
     unseen = broken.unseen ++ told;
@@ -197,7 +187,7 @@ module _ {Peers Group : Type 0} (kit : Kit Peers Group) (laws : IsKit kit) where
         fed = λ client. subst (F client) agents_are.same.core ((Sound-holds plain of_agents.state agents_are.sound).fed client);
       }
 
-  event-by : (setup : Setup) (state : State Peers) (of_net of_agents : Outcome World) (old : Cluster Group) (net : List (List ℕ)) (agents : List Seen) (held : Option Files) → (IsGood kit) setup state → (Shows kit) setup state old → IsOfWorld setup state.world of_net → IsOfWorld setup state.world of_agents → AreSpelled of_net.state.net net → ShowsAgents of_agents.state agents → Broken setup state held held (record old { net = net; agents = agents })
+  event-by : (setup : Setup) (state : State Peers) (of_net of_agents : Outcome World) (old : Cluster Group) (net : List (List ℕ)) (agents : List Seen) (held : kit.Seen) → (IsGood kit) setup state → (Shows kit) setup state old → IsOfWorld setup state.world of_net → IsOfWorld setup state.world of_agents → AreSpelled of_net.state.net net → ShowsAgents of_agents.state agents → (Broken kit) setup state held held (record old { net = net; agents = agents })
   event-by setup state of_net of_agents old net agents held good shows net_is agents_are spelled seen =
       let plain = plain_of setup in
       let world = state.world in
@@ -222,7 +212,7 @@ module _ {Peers Group : Type 0} (kit : Kit Peers Group) (laws : IsKit kit) where
         files = same-between setup state held good;
       }
 
-  pub event-broken : (setup : Setup) (state : State Peers) (outcome : Outcome World) (old : Cluster Group) (net : List (List ℕ)) (agents : List Seen) (held : Option Files) → (IsGood kit) setup state → (Shows kit) setup state old → IsOfWorld setup state.world outcome → PartlyShows state.world outcome.state net agents → Broken setup state held held (record old { net = net; agents = agents })
+  pub event-broken : (setup : Setup) (state : State Peers) (outcome : Outcome World) (old : Cluster Group) (net : List (List ℕ)) (agents : List Seen) (held : kit.Seen) → (IsGood kit) setup state → (Shows kit) setup state old → IsOfWorld setup state.world outcome → PartlyShows state.world outcome.state net agents → (Broken kit) setup state held held (record old { net = net; agents = agents })
   event-broken setup state outcome old net agents held good shows event partly =
       let before = quietly state.world in
       let nothing = nothing-is setup state.world good.steady.sound in

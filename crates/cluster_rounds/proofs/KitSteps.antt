@@ -1,5 +1,5 @@
 -- What is asked of servers, at a setup and its device.
-use Rattle.std.proofs.Common.{◌≡◌, ℕ, Bool, false, Option, Some, None, List, refl}
+use Rattle.std.proofs.Common.{◌≡◌, ℕ, Option, Some, None, List, refl}
 use Rattle.plain_service.specs.Setups.{Setup}
 use Rattle.service_laws.specs.PlainOf.{plain_of}
 use Rattle.service_laws.proofs.ServiceLaws.{is_plain}
@@ -12,7 +12,6 @@ use Rattle.cluster_events.specs.Servers.{State, Servers, or_else, advance}
 use Rattle.cluster_events.specs.Running.{Shelf, Happens}
 use Rattle.cluster_events.specs.Saying.{Says}
 use Rattle.cluster_events.specs.Serving.{IsSteady, IsServing, IsCarried, AreStepped}
-use Rattle.cluster_events.specs.Measure.{Spends}
 use Rattle.cluster_events.proofs.Telling.{Says-both}
 use Rattle.cluster_events.specs.Serving.{IsStepped}
 use Rattle.cluster_events.proofs.Promised.{happens-kept}
@@ -53,25 +52,22 @@ steps-by plain servers Good R stepped state outcome steady None None worked mirr
     stepped.work.steps state outcome same steady
 
 module _ {Peers Group : Type 0} (kit : Kit Peers Group) (laws : IsKit kit) where
-  pub at-serves : (setup : Setup) (fails : ℕ → Bool) → IsServing (plain_of setup) (servers_at kit setup fails) kit.Good
+  pub at-serves : (setup : Setup) (fails : ℕ → ℕ) → IsServing (plain_of setup) (servers_at kit setup fails) kit.Good
   at-serves setup fails = laws.serves (plain_of setup) (device_by setup fails) (is_plain setup)
 
-  pub at-unasked : (setup : Setup) (fails : ℕ → Bool) → IsCarried (plain_of setup) (servers_at kit setup fails) kit.Good (SaysUnasked (plain_of setup))
+  pub at-unasked : (setup : Setup) (fails : ℕ → ℕ) → IsCarried (plain_of setup) (servers_at kit setup fails) kit.Good (SaysUnasked (plain_of setup))
   at-unasked setup fails = laws.unasked (plain_of setup) (device_by setup fails) (is_plain setup)
 
-  pub at-spends : (setup : Setup) (fails : ℕ → Bool) → IsCarried (plain_of setup) (servers_at kit setup fails) kit.Good Spends
-  at-spends setup fails = laws.spends (plain_of setup) (device_by setup fails) (is_plain setup)
-
-  pub at-steps : (setup : Setup) (fails : ℕ → Bool) (state : State Peers) (outcome : Outcome (State Peers)) → IsSteady (plain_of setup) kit.Good state → advance (servers_at kit setup fails) state ≡ Some outcome → IsSteady (plain_of setup) kit.Good outcome.state × SaysUnasked (plain_of setup) state.world outcome.state.world outcome.told
+  pub at-steps : (setup : Setup) (fails : ℕ → ℕ) (state : State Peers) (outcome : Outcome (State Peers)) → IsSteady (plain_of setup) kit.Good state → advance (servers_at kit setup fails) state ≡ Some outcome → IsSteady (plain_of setup) kit.Good outcome.state × SaysUnasked (plain_of setup) state.world outcome.state.world outcome.told
   at-steps setup fails state outcome steady is =
       let servers = servers_at kit setup fails in
       steps-by (plain_of setup) servers kit.Good (SaysUnasked (plain_of setup)) (laws.stepped (plain_of setup) (device_by setup fails) (is_plain setup)) state outcome steady (servers.mirror state) (servers.ack state) (servers.work state) refl refl refl is
 
   pub calm-serves : (setup : Setup) → IsServing (plain_of setup) (calm_servers kit setup) kit.Good
-  calm-serves setup = at-serves setup (λ number. false)
+  calm-serves setup = at-serves setup (λ number. 0)
 
   pub calm-unasked : (setup : Setup) → IsCarried (plain_of setup) (calm_servers kit setup) kit.Good (SaysUnasked (plain_of setup))
-  calm-unasked setup = at-unasked setup (λ number. false)
+  calm-unasked setup = at-unasked setup (λ number. 0)
 
   pub calm-says : (setup : Setup) → IsCarried (plain_of setup) (calm_servers kit setup) kit.Good (Says (plain_of setup))
   calm-says setup = says-carried (plain_of setup) (calm_servers kit setup) kit.Good (calm-unasked setup)
@@ -81,7 +77,7 @@ module _ {Peers Group : Type 0} (kit : Kit Peers Group) (laws : IsKit kit) where
   line-kept setup shelf next state outcome steady happens =
       let plain = plain_of setup in
       let servers = calm_servers kit setup in
-      let steps = laws.stepped plain (device_by setup (λ number. false)) (is_plain setup) in
+      let steps = laws.stepped plain (device_by setup (λ number. 0)) (is_plain setup) in
       let says : AreStepped plain servers kit.Good (Says plain) = record {
         mirror = says-stepped plain kit.Good servers.mirror steps.mirror;
         ack = says-stepped plain kit.Good servers.ack steps.ack;

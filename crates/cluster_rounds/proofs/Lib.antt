@@ -9,8 +9,9 @@ pub mod ChainSteps
 mod FetchSteps
 pub mod BrokenClients
 pub mod RoundSteps
-pub mod DownSteps
 pub mod CameSteps
 mod TurnSteps
-mod MeasureSteps
 mod SettleSteps
+pub mod WildSteps
+pub mod WildClients
+pub mod CountSteps

@@ -2,7 +2,7 @@
 use Rattle.std.proofs.Common.{◌≡◌, ℕ, zero, suc, ◌+◌, ◌<◌, Bool, true, false, ◌||◌, nat_lt, if◌then◌else◌, Option, Some, None, List, [], ◌∷◌, ◌++◌, length, take, get_or, map, slice_get, refl, ap, sym, ◌∙◌, subst, arith, append_assoc, append-nil}
 use Rattle.std.specs.List.{AllByRecursion}
 use Rattle.std.proofs.lemmas.List.{take_more}
-use Rattle.disk_model.specs.Disk.{Files}
+use Rattle.disk_model.specs.Seen.{none_seen}
 use Rattle.plain_service.specs.Setups.{Setup}
 use Rattle.service_laws.specs.PlainOf.{plain_of}
 use Rattle.service_laws.proofs.ServiceLaws.{is_plain}
@@ -11,7 +11,7 @@ use Rattle.cluster_facts.specs.Lists.{Stands}
 use Rattle.cluster_facts.specs.Messages.{answers_to, messages_in}
 use Rattle.cluster_facts.specs.Service.{Plain}
 use Rattle.cluster_facts.specs.Agents.{Agent, resent}
-use Rattle.cluster_facts.specs.History.{committed, Core}
+use Rattle.cluster_facts.specs.History.{committed}
 use Rattle.cluster_facts.specs.World.{World, number_of}
 use Rattle.cluster_facts.proofs.Words.{All-map}
 use Rattle.cluster_facts.proofs.Posting.{answers_to-posted}
@@ -36,17 +36,16 @@ use Rattle.cluster_clients.proofs.ToldLines.{SameButPlace, kept-append, loud-app
 use Rattle.cluster_rounds.specs.Kits.{IsKit, Kit, calm_servers, device_by, servers_at}
 use Rattle.cluster_rounds.specs.PartlyDone.{SaysUnasked}
 use Rattle.cluster_rounds.specs.Rounds.{IsIdleWithItems, IsItem, Played, Plays, answer_taken, clients_by, drain_by, heard_so, item_taken, items_taken, message_taken, reply_taken, round_pushed, turns_by}
-use Rattle.cluster_rounds.specs.Worlds.{DoesIf, Event, Happened, HasState, HasStateOf, HasStateOn, IsGood, IsIdle, LeavesFiles, Pushes, Shows, StandsIn, TellsFiles, any_state, heard_by, pushed}
-use Rattle.cluster_rounds.proofs.ArmedSteps.{hear-keeps}
-use Rattle.cluster_rounds.proofs.FilesSteps.{files-same, left-both, left-same, left-told}
-use Rattle.cluster_rounds.proofs.HearSteps.{IsQuiet, hear-answered, hear-measured, hear-places, push-quiet, push_by-answered}
+use Rattle.cluster_rounds.specs.Worlds.{DoesIf, Event, Happened, HasState, HasStateOf, HasStateOn, IsGood, IsIdle, Pushes, Shows, StandsIn, any_state, heard_by, pushed}
+use Rattle.cluster_rounds.proofs.ArmedSteps.{hear-keeps, hear-told, pushed-told}
+use Rattle.cluster_rounds.proofs.HearSteps.{IsQuiet, hear-measured, hear-places, push-quiet}
 use Rattle.cluster_rounds.proofs.KitSteps.{at-serves, at-unasked, calm-serves, calm-unasked}
 use Rattle.cluster_rounds.proofs.TakenSteps.{good-moved, shows-moved, taken-goes, taken-moved}
 
 module _ {Peers Group : Type 0} (kit : Kit Peers Group) (laws : IsKit kit) where
   -- Events that happened are events that were played.
 
-  pub played-quiet : (setup : Setup) (state : State Peers) (outcome : Outcome (State Peers)) (new : Cluster Group) (before after : List (List ℕ)) (held left : Option Files) → (Happened kit) setup outcome new before after → IsQuiet outcome.told → (TellsFiles setup state held → LeavesFiles setup outcome.state held left) → (Played kit) setup state outcome new before after false held left
+  pub played-quiet : (setup : Setup) (state : State Peers) (outcome : Outcome (State Peers)) (new : Cluster Group) (before after : List (List ℕ)) (held left : kit.Seen) → (Happened kit) setup outcome new before after → IsQuiet outcome.told → (kit.Tells setup state held → kit.Leaves setup outcome.state held left) → (Played kit) setup state outcome new before after false held left
   played-quiet setup state outcome new before after held left happened quiet files = record {
     shows = happened.0;
     good = happened.1;
@@ -55,16 +54,16 @@ module _ {Peers Group : Type 0} (kit : Kit Peers Group) (laws : IsKit kit) where
     files = files;
   }
 
-  pub played-place : (setup : Setup) (state : State Peers) (one other : Outcome (State Peers)) (new : Cluster Group) (before after : List (List ℕ)) (loud : Bool) (held left : Option Files) → SameButPlace one other → (Played kit) setup state one new before after loud held left → (Played kit) setup state other new before after loud held left
+  pub played-place : (setup : Setup) (state : State Peers) (one other : Outcome (State Peers)) (new : Cluster Group) (before after : List (List ℕ)) (loud : Bool) (held left : kit.Seen) → SameButPlace one other → (Played kit) setup state one new before after loud held left → (Played kit) setup state other new before after loud held left
   played-place setup state one other new before after loud held left same played = record {
     shows = subst (λ (s : State Peers). (Shows kit) setup s new) same.state played.shows;
     good = subst ((IsGood kit) setup) same.state played.good;
     lines = played.lines ∙ ap (λ l. before ++ l) same.lines;
     loudness = played.loudness ∙ same.loud;
-    files = λ tells. subst (λ (s : State Peers). LeavesFiles setup s held left) same.state (played.files tells);
+    files = λ tells. subst (λ (s : State Peers). kit.Leaves setup s held left) same.state (played.files tells);
   }
 
-  pub played-both : (setup : Setup) (state : State Peers) (first : Outcome (State Peers)) (event : State Peers → Outcome (State Peers)) (middle new : Cluster Group) (before between after : List (List ℕ)) (a b : Bool) (held told left : Option Files) → (Played kit) setup state first middle before between a held told → (Played kit) setup first.state (event first.state) new between after b told left → (Played kit) setup state (and_then first event) new before after (a || b) held left
+  pub played-both : (setup : Setup) (state : State Peers) (first : Outcome (State Peers)) (event : State Peers → Outcome (State Peers)) (middle new : Cluster Group) (before between after : List (List ℕ)) (a b : Bool) (held told left : kit.Seen) → (Played kit) setup state first middle before between a held told → (Played kit) setup first.state (event first.state) new between after b told left → (Played kit) setup state (and_then first event) new before after (a || b) held left
   played-both setup state first event middle new before between after a b held told left one two =
       let second = event first.state in
       record {
@@ -77,23 +76,23 @@ module _ {Peers Group : Type 0} (kit : Kit Peers Group) (laws : IsKit kit) where
         loudness = (λ i. one.loudness i || two.loudness i) ∙ sym (loud-append second.told first.told);
         files = λ tells.
             let leaves = one.files tells in
-            left-both setup first.state second.state held told left leaves (two.files (left-told setup first.state held told leaves));
+            laws.left_both setup first.state second.state held told left leaves (two.files (laws.left_told setup first.state held told leaves));
       }
 
   -- nothing happens
-  pub played-nothing : (setup : Setup) (state : State Peers) (world : Cluster Group) (lines : List (List ℕ)) (held : Option Files) → (IsGood kit) setup state → (Shows kit) setup state world → (Played kit) setup state (quietly state) world lines lines false held held
+  pub played-nothing : (setup : Setup) (state : State Peers) (world : Cluster Group) (lines : List (List ℕ)) (held : kit.Seen) → (IsGood kit) setup state → (Shows kit) setup state world → (Played kit) setup state (quietly state) world lines lines false held held
   played-nothing setup state world lines held good shows = record {
     shows = shows;
     good = good;
     lines = sym (append-nil lines);
     loudness = refl;
-    files = left-same setup state held;
+    files = laws.left_same setup state held;
   }
 
   -- and if P is so of the state after it
   pub state-so : (P Q : State Peers → Type 0) (event : (Event kit)) (old new : Cluster Group) (before after : List (List ℕ)) (loud : Bool) → ((setup : Setup) (state : State Peers) → (IsGood kit) setup state → P state → Q (event setup state).state) → (HasStateOf kit) P old → (Plays kit) P event old new before after loud → (HasStateOf kit) Q new
   state-so P Q event old new before after loud goes has plays =
-      let played = plays None has.setup has.state has.good has.shows has.so in
+      let played = plays (kit.see none_seen none_seen) has.setup has.state has.good has.shows has.so in
       record { setup = has.setup; state = (event has.setup has.state).state; good = played.good; shows = played.shows; so = goes has.setup has.state has.good has.so }
 
   -- A message is heard.
@@ -108,7 +107,7 @@ module _ {Peers Group : Type 0} (kit : Kit Peers Group) (laws : IsKit kit) where
       let outcome = hear plain (calm_servers kit setup) 0 message state in
       let happened = does setup state good shows stands in
       let servers = calm_servers kit setup in
-      let device = device_by setup (λ number. false) in
+      let device = device_by setup (λ number. 0) in
       let measured = hear-measured plain servers kit.Good (laws.measured plain device) 0 message state good.steady.good in
       let past : length (committed state.world.core) ≡ length old.history.entries = ap length (sym shows.history) in
       let more : length (committed outcome.state.world.core) ≡ length new.history.entries = ap length (sym happened.0.history) in
@@ -128,7 +127,7 @@ module _ {Peers Group : Type 0} (kit : Kit Peers Group) (laws : IsKit kit) where
         good = happened.1;
         lines = lines;
         loudness = sym loud ∙ sym measured.loud;
-        files = files-same setup state outcome.state held (hear-answered plain servers (laws.keeps plain device) 0 message state);
+        files = λ tells. laws.left_same setup outcome.state held ((hear-told kit laws) 0 message setup state held tells);
       }
       in
       played-place setup state outcome ((heard_so kit) message setup state) new before after (nat_lt (length old.history.entries) (length new.history.entries)) held held (hear-places plain servers 0 (number_of plain message state.world.net) message state) played
@@ -164,17 +163,17 @@ module _ {Peers Group : Type 0} (kit : Kit Peers Group) (laws : IsKit kit) where
 
   -- what Carrying says of servers, at a setup
   module _ (setup : Setup) where
-    pub turns-go : (fails : ℕ → Bool) (messages : List Message) (state : State Peers) → AtRest setup state → AllByRecursion (λ message. Stands message (messages_in state.world.net)) messages → Goes (SaysUnasked (plain_of setup)) (AtRest setup) state ((turns_by kit) messages setup fails state)
+    pub turns-go : (fails : ℕ → ℕ) (messages : List Message) (state : State Peers) → AtRest setup state → AllByRecursion (λ message. Stands message (messages_in state.world.net)) messages → Goes (SaysUnasked (plain_of setup)) (AtRest setup) state ((turns_by kit) messages setup fails state)
     turns-go fails messages state rest stands =
         let plain = plain_of setup in
         let servers = servers_at kit setup fails in
         for_each-goes plain (is_plain setup) servers kit.Good ((at-serves kit laws) setup fails) (SaysUnasked plain) ((at-unasked kit laws) setup fails) (IsAtRest plain kit.Good) (λ message world. Stands message (messages_in world.net)) (turn plain servers) (turn-goes plain (is_plain setup) servers kit.Good ((at-serves kit laws) setup fails) (SaysUnasked plain) ((at-unasked kit laws) setup fails)) (λ message old new stays stands. stays.net message stands) messages state rest stands
 
-    pub clients-go : (fails : ℕ → Bool) (clients : List ℕ) (state : State Peers) → AtRest setup state → Goes (SaysUnasked (plain_of setup)) (AtRest setup) state ((clients_by kit) clients setup fails state)
+    pub clients-go : (fails : ℕ → ℕ) (clients : List ℕ) (state : State Peers) → AtRest setup state → Goes (SaysUnasked (plain_of setup)) (AtRest setup) state ((clients_by kit) clients setup fails state)
     clients-go fails clients state rest =
         all_turns-goes (plain_of setup) (is_plain setup) (servers_at kit setup fails) kit.Good ((at-serves kit laws) setup fails) (SaysUnasked (plain_of setup)) ((at-unasked kit laws) setup fails) clients state rest
 
-    pub drain-go : (fails : ℕ → Bool) (state : State Peers) → IsSteady (plain_of setup) kit.Good state → Goes (SaysUnasked (plain_of setup)) (AtRest setup) state ((drain_by kit) setup fails state)
+    pub drain-go : (fails : ℕ → ℕ) (state : State Peers) → IsSteady (plain_of setup) kit.Good state → Goes (SaysUnasked (plain_of setup)) (AtRest setup) state ((drain_by kit) setup fails state)
     drain-go fails state steady =
         drain-goes (plain_of setup) (is_plain setup) (servers_at kit setup fails) kit.Good ((at-serves kit laws) setup fails) (SaysUnasked (plain_of setup)) ((at-unasked kit laws) setup fails) state steady
 
@@ -200,23 +199,23 @@ module _ {Peers Group : Type 0} (kit : Kit Peers Group) (laws : IsKit kit) where
         push-stands plain (is_plain setup) (calm_servers kit setup) kit.Good ((calm-serves kit laws) setup) (SaysUnasked plain) ((calm-unasked kit laws) setup) state rest
 
   -- a message that is heard stands in the net afterwards
-  pub heard-ready : (message : Message) (old new : Cluster Group) (before after : List (List ℕ)) (loud : Bool) (armed : Option ℕ) → (HasStateOn kit) (StandsIn message) old armed → (Plays kit) (StandsIn message) ((heard_so kit) message) old new before after loud → (HasStateOn kit) (StandsIn message) new armed
-  heard-ready message old new before after loud armed has plays =
-      let played = plays None has.setup has.state has.good has.shows has.so in
+  pub heard-ready : (message : Message) (old new : Cluster Group) (before after : List (List ℕ)) (loud : Bool) (disks : kit.Seen) → (HasStateOn kit) (StandsIn message) old disks → (Plays kit) (StandsIn message) ((heard_so kit) message) old new before after loud → (HasStateOn kit) (StandsIn message) new disks
+  heard-ready message old new before after loud disks has plays =
+      let played = plays (kit.see none_seen none_seen) has.setup has.state has.good has.shows has.so in
       record {
         setup = has.setup;
         state = ((heard_so kit) message has.setup has.state).state;
         good = played.good;
         shows = played.shows;
-        count = (hear-keeps kit laws) message has.setup has.state armed has.count;
+        count = (hear-keeps kit laws) message has.setup has.state disks has.count;
         so = (hear-go has.setup message has.state has.good has.so).stays.net message has.so;
       }
 
   pub state-of : (P : State Peers → Type 0) (world : Cluster Group) → (HasStateOf kit) P world → (HasState kit) world
   state-of P world has = record { setup = has.setup; state = has.state; good = has.good; shows = has.shows; so = tt }
 
-  pub state-on : (P : State Peers → Type 0) (world : Cluster Group) (armed : Option ℕ) → (HasStateOn kit) P world armed → (HasStateOn kit) any_state world armed
-  state-on P world armed has = record { setup = has.setup; state = has.state; good = has.good; shows = has.shows; count = has.count; so = tt }
+  pub state-on : (P : State Peers → Type 0) (world : Cluster Group) (disks : kit.Seen) → (HasStateOn kit) P world disks → (HasStateOn kit) any_state world disks
+  state-on P world disks has = record { setup = has.setup; state = has.state; good = has.good; shows = has.shows; count = has.count; so = tt }
 
   -- Items.
 
@@ -240,8 +239,7 @@ module _ {Peers Group : Type 0} (kit : Kit Peers Group) (laws : IsKit kit) where
       let plain = plain_of setup in
       let outcome = (pushed kit) setup state in
       let made = held-made plain (is_plain setup) state.world.core.answered in
-      let same : outcome.state.world.core.answered ≡ state.world.core.answered = push_by-answered plain (calm_servers kit setup) state.world.core.hand state in
-      played-quiet setup state outcome new before after held held (pushes setup state good shows idle).0 (push-quiet plain (calm_servers kit setup) state idle made) (files-same setup state outcome.state held same)
+      played-quiet setup state outcome new before after held held (pushes setup state good shows idle).0 (push-quiet plain (calm_servers kit setup) state idle made) (λ tells. laws.left_same setup outcome.state held ((pushed-told kit laws) setup state held tells))
 
   pub pushed-items : (items : List Message) (setup : Setup) (state : State Peers) → (IsGood kit) setup state → IsIdle state → items ≡ (plain_of setup).held state.world.core.answered → IsIdleWithItems items ((pushed kit) setup state).state
   pushed-items items setup state good idle is =
@@ -326,6 +324,12 @@ module _ {Peers Group : Type 0} (kit : Kit Peers Group) (laws : IsKit kit) where
   reply-ready client number found world finds has =
       record { setup = has.setup; state = has.state; good = has.good; shows = has.shows; so = reply-stands client number found world finds has.setup has.state has.shows }
 
+  -- there is no reply to the call
+  pub reply-nothing : (client number : ℕ) (world : Cluster Group) (lines : List (List ℕ)) → FindsReply client number world.net None → (Plays kit) any_state ((reply_taken kit) client number) world world lines lines false
+  reply-nothing client number world lines finds held setup state good shows so =
+      let P : Option Reply → Type 0 = λ o. (Played kit) setup state (in_world (take_answer_by (plain_of setup) client number o) state) world lines lines false held held in
+      subst P (sym (finds state.world.net shows.net)) (played-nothing setup state world lines held good shows)
+
   -- messages other than requests have no reply
   pub answer-nothing : (message : Message) (world : Cluster Group) (lines : List (List ℕ)) → ((client number : ℕ) (call : Call) → message ≡ Request client number call → ⊥) → (Plays kit) any_state ((answer_taken kit) message) world world lines lines false
   answer-nothing (Request client number call) world lines never held setup state good shows so = absurd (never client number call refl)
@@ -346,7 +350,7 @@ module _ {Peers Group : Type 0} (kit : Kit Peers Group) (laws : IsKit kit) where
         good = (good-moved kit laws) setup state outcome.state good moved_so steady;
         lines = done.2;
         loudness = done.3;
-        files = files-same setup state (in_world (λ w. taken_as plain 0 message w) state).state held (ap (λ (c : Core). c.answered) goes.core);
+        files = λ tells. let last = (in_world (λ w. taken_as plain 0 message w) state).state in laws.left_same setup last held (laws.moves setup state last held goes.core refl tells);
       }
 
   -- an item is delivered as a message

@@ -1,5 +1,5 @@
--- Rounds one after another, that they end, and where `settle` ends.
-use Rattle.std.proofs.Common.{◌≡◌, ℕ, suc, ◌+◌, ◌<◌, ◌≤◌, Bool, true, false, if◌then◌else◌, List, [], ◌++◌, refl, ap, sym, ◌∙◌, subst, append_assoc, append-nil, arith}
+-- Rounds one after another, and where `settle` ends.
+use Rattle.std.proofs.Common.{◌≡◌, ℕ, suc, ◌+◌, Bool, true, false, List, [], ◌++◌, refl, ap, sym, ◌∙◌, subst, append_assoc, append-nil, arith}
 use Rattle.disk_model.specs.declared.answers.DiskAnswer.{DiskAnswer}
 use Rattle.disk_model.specs.declared.answers.DiskAnswer.TheVariants.{Memory, Failed, Stopped}
 use Rattle.plain_service.specs.Setups.{Setup}
@@ -7,61 +7,51 @@ use Rattle.service_laws.specs.PlainOf.{plain_of}
 use Rattle.service_laws.proofs.ServiceLaws.{is_plain}
 use Rattle.cluster_facts.specs.Lists.{without}
 use Rattle.cluster_facts.specs.History.{committed}
-use Rattle.cluster_events.specs.Lines.{Told, is_ignored}
+use Rattle.cluster_events.specs.Lines.{is_ignored}
 use Rattle.cluster_events.specs.Outcomes.{Outcome, behind}
 use Rattle.cluster_events.specs.Servers.{State}
 use Rattle.cluster_events.specs.Settling.{round, is_loud, Rounds}
 use Rattle.cluster_events.specs.Settling.Rounds.{Begun, Further}
-use Rattle.cluster_events.specs.Measure.{potential, progress, Spends}
 use Rattle.cluster_events.specs.Devices.{answered_in, spliced}
 use Rattle.cluster_events.proofs.Telling.{Says-both}
-use Rattle.cluster_events.proofs.Carrying.{round-carries, rounds-carry}
-use Rattle.cluster_events.proofs.Measuring.{loud-progress}
-use Rattle.cluster_events.proofs.Devices.{agrees-first, agrees-second, comes-once, caused-both}
+use Rattle.cluster_events.proofs.Carrying.{rounds-carry}
+use Rattle.cluster_events.proofs.Devices.{agrees-first, agrees-second}
 use Rattle.cluster_rounds.specs.declared.cluster.Cluster.{Cluster}
 use Rattle.cluster_clients.specs.Taken.{kept_lines}
 use Rattle.cluster_clients.proofs.ToldLines.{kept-append}
-use Rattle.cluster_rounds.specs.Came.{Comes, ComesOff, DiskSeen}
+use Rattle.cluster_rounds.specs.Came.{Comes, ComesOff}
 use Rattle.cluster_rounds.specs.Kits.{IsKit, Kit, servers_at}
+use Rattle.cluster_rounds.specs.Resting.Rests.{begun}
 use Rattle.cluster_rounds.specs.PartlyDone.{SaysUnasked}
 use Rattle.cluster_rounds.specs.Rounds.{EndsRound, EndsSettle, round_by}
 use Rattle.cluster_rounds.specs.Settling.{DoesSettle, SettlesSo, Settling}
 use Rattle.cluster_rounds.specs.Worlds.{HasStateOn, IsGood, any_state}
 use Rattle.cluster_rounds.proofs.BrokenSteps.{files-after, happened-broken}
-use Rattle.cluster_rounds.proofs.DownSteps.{down-both, down-kept, down-none}
-use Rattle.cluster_rounds.proofs.FilesSteps.{left-both, left-same, left-told}
-use Rattle.cluster_rounds.proofs.KitSteps.{at-serves, at-spends, at-unasked}
-use Rattle.cluster_rounds.proofs.MeasureSteps.{left, left-is}
-
-by-loud : (b : Bool) (told : List Told) {one two p q : ℕ} → b ≡ is_loud told → one ≡ p → two ≡ q → q + progress told ≤ p → two + (if b then 1 else 0) < one + 1
-by-loud true told is first second paid = let some = loud-progress told (sym is) in omega arith
-by-loud false told is first second paid = omega arith
+use Rattle.cluster_rounds.proofs.KitSteps.{at-serves, at-unasked}
 
 module _ {Peers Group : Type 0} (kit : Kit Peers Group) (laws : IsKit kit) where
-  pub settling-begins : (world : Cluster Group) (lines : List (List ℕ)) (disk : DiskSeen) → (SettlesSo kit) world world lines lines true disk disk
+  pub settling-begins : (world : Cluster Group) (lines : List (List ℕ)) (disk : kit.Seen) → (SettlesSo kit) world world lines lines true disk disk
   settling-begins world lines disk setup start good shows counted = record {
-    happened = λ number. false;
+    happened = λ number. 0;
     state = start;
     told = [];
     later = omega arith;
     rounds = λ fails agrees. Begun;
-    caused = λ never number. refl;
-    outlives = laws.stands disk.faults;
-    felled = down-none disk.faults [];
+    uses = laws.unused setup start (record { state = start; told = [] }) disk begun;
     shows = shows;
     good = good;
     count = counted;
     lines = sym (append-nil lines);
-    files = left-same setup start disk.files;
+    files = laws.left_same setup start disk;
   }
 
   -- the state for the next round
-  pub settling-on : (old now : Cluster Group) (before between : List (List ℕ)) (loud : Bool) (held told : DiskSeen) → (HasStateOn kit) any_state old held.armed → (SettlesSo kit) old now before between loud held told → (HasStateOn kit) any_state now told.armed
+  pub settling-on : (old now : Cluster Group) (before between : List (List ℕ)) (loud : Bool) (held told : kit.Seen) → (HasStateOn kit) any_state old held → (SettlesSo kit) old now before between loud held told → (HasStateOn kit) any_state now told
   settling-on old now before between loud held told has settles =
       let so_far = settles has.setup has.state has.good has.shows has.count in
       record { setup = has.setup; state = so_far.state; good = so_far.good; shows = so_far.shows; count = so_far.count; so = tt }
 
-  pub settling-next : (old now new : Cluster Group) (before between after : List (List ℕ)) (loud : Bool) (held told left : DiskSeen) → (SettlesSo kit) old now before between true held told → (Comes kit) any_state (round_by kit) now new between after loud told left → (SettlesSo kit) old new before after loud held left
+  pub settling-next : (old now new : Cluster Group) (before between after : List (List ℕ)) (loud : Bool) (held told left : kit.Seen) → (SettlesSo kit) old now before between true held told → (Comes kit) any_state (round_by kit) now new between after loud told left → (SettlesSo kit) old new before after loud held left
   settling-next old now new before between after loud held told left settles comes setup start good shows counted =
       let plain = plain_of setup in
       let so_far = settles setup start good shows counted in
@@ -82,9 +72,7 @@ module _ {Peers Group : Type 0} (kit : Kit Peers Group) (laws : IsKit kit) where
             let R : Outcome (State Peers) → Type 0 = λ o. Rounds plain servers start o.state (o.told ++ so_far.told) (is_loud o.told) in
             let further : R (round plain servers so_far.state) = Further before_it in
             subst (λ (b : Bool). Rounds plain servers start outcome.state (outcome.told ++ so_far.told) b) (sym next.loudness) (subst R same further);
-        caused = caused-both held.faults told.faults left.faults (answered_in so_far.state) so_far.happened came.happened (laws.least held.faults told.faults so_far.outlives) (laws.least told.faults left.faults came.outlives) so_far.caused came.caused;
-        outlives = laws.further held.faults told.faults left.faults so_far.outlives came.outlives;
-        felled = down-both held.faults told.faults left.faults so_far.told outcome.told (laws.least told.faults left.faults came.outlives) so_far.felled came.felled;
+        uses = laws.used_both setup so_far.happened came.happened start (record { state = so_far.state; told = so_far.told }) outcome held told left so_far.uses came.uses;
         shows = next.shows;
         good = next.good;
         count = came.count;
@@ -94,24 +82,10 @@ module _ {Peers Group : Type 0} (kit : Kit Peers Group) (laws : IsKit kit) where
             ∙ ap (λ l. before ++ l) (sym (kept-append outcome.told so_far.told));
         files = λ tells.
             let leaves = so_far.files tells in
-            left-both setup so_far.state outcome.state held.files told.files left.files leaves (next.files (left-told setup so_far.state held.files told.files leaves));
+            laws.left_both setup so_far.state outcome.state held told left leaves (next.files (laws.left_told setup so_far.state held told leaves));
       }
 
-  -- a round leaves less to do, but for the last
-  pub round-less : (old now new : Cluster Group) (before between after : List (List ℕ)) (loud : Bool) (held told last : DiskSeen) → (HasStateOn kit) any_state old held.armed → (SettlesSo kit) old now before between true held told → (Comes kit) any_state (round_by kit) now new between after loud told last → left new + (if loud then 1 else 0) < left now + 1
-  round-less old now new before between after loud held told last has settles comes =
-      let setup = has.setup in
-      let plain = plain_of setup in
-      let so_far = settles setup has.state has.good has.shows has.count in
-      let came = comes setup so_far.state so_far.good so_far.shows so_far.count tt in
-      let first = (left-is kit laws) setup so_far.state now so_far.shows in
-      let second = (left-is kit laws) setup came.outcome.state new came.played.shows in
-      let S : Outcome (State Peers) → Type 0 = λ o. potential o.state.world + progress o.told ≤ potential so_far.state.world in
-      let spent : S (round plain (servers_at kit setup came.happened) so_far.state) = (round-carries plain (is_plain setup) (servers_at kit setup came.happened) kit.Good ((at-serves kit laws) setup came.happened) Spends ((at-spends kit laws) setup came.happened) so_far.state so_far.good.steady).carried.paid in
-      let paid = subst S (comes-once ((round_by kit) setup) came.happened so_far.state came.outcome came.comes) spent in
-      by-loud loud came.outcome.told came.played.loudness first second paid
-
-  pub settling-ends : (old new : Cluster Group) (before after : List (List ℕ)) (loud : Bool) (held last : DiskSeen) → loud ≡ false → (SettlesSo kit) old new before after loud held last → (DoesSettle kit) old new before after held last
+  pub settling-ends : (old new : Cluster Group) (before after : List (List ℕ)) (loud : Bool) (held last : kit.Seen) → loud ≡ false → (SettlesSo kit) old new before after loud held last → (DoesSettle kit) old new before after held last
   settling-ends old new before after loud held last quiet settles setup state good shows counted =
       let done = settles setup state good shows counted in
       let R : Bool → Type 0 = λ b. Rounds (plain_of setup) (servers_at kit setup done.happened) state done.state done.told b in
@@ -119,9 +93,7 @@ module _ {Peers Group : Type 0} (kit : Kit Peers Group) (laws : IsKit kit) where
         happened = done.happened;
         outcome = record { state = done.state; told = without is_ignored done.told };
         settles = record { lines = done.told; rounds = subst R quiet (done.rounds done.happened (λ number above within. refl)); printed = refl };
-        caused = done.caused;
-        outlives = done.outlives;
-        felled = λ less. down-kept done.told ∙ done.felled less;
+        uses = laws.used_printed setup done.happened state (record { state = done.state; told = done.told }) held last done.uses;
         is = (done.shows, done.good, done.lines);
         count = done.count;
         files = done.files;
@@ -129,25 +101,23 @@ module _ {Peers Group : Type 0} (kit : Kit Peers Group) (laws : IsKit kit) where
 
   -- a round breaks off after rounds that were loud
 
-  settling-says : (setup : Setup) (start : State Peers) (now : Cluster Group) (before between : List (List ℕ)) (held told : DiskSeen) → (IsGood kit) setup start → (so_far : (Settling kit) setup start now before between true held told) → SaysUnasked (plain_of setup) start.world so_far.state.world so_far.told
+  settling-says : (setup : Setup) (start : State Peers) (now : Cluster Group) (before between : List (List ℕ)) (held told : kit.Seen) → (IsGood kit) setup start → (so_far : (Settling kit) setup start now before between true held told) → SaysUnasked (plain_of setup) start.world so_far.state.world so_far.told
   settling-says setup start now before between held told good so_far =
       let plain = plain_of setup in
       let rounds = so_far.rounds so_far.happened (λ number above within. refl) in
       (rounds-carry plain (is_plain setup) (servers_at kit setup so_far.happened) kit.Good ((at-serves kit laws) setup so_far.happened) (SaysUnasked plain) ((at-unasked kit laws) setup so_far.happened) start good.steady rounds).carried
 
-  pub settling-off : (answer : DiskAnswer) (old now new : Cluster Group) (before between after : List (List ℕ)) (held told left : DiskSeen) → (SettlesSo kit) old now before between true held told → (ComesOff kit) any_state (EndsRound kit) answer now new between after told left → (ComesOff kit) any_state (EndsSettle kit) answer old new before after held left
+  pub settling-off : (answer : DiskAnswer) (old now new : Cluster Group) (before between after : List (List ℕ)) (held told left : kit.Seen) → (SettlesSo kit) old now before between true held told → (ComesOff kit) any_state (EndsRound kit) answer now new between after told left → (ComesOff kit) any_state (EndsSettle kit) answer old new before after held left
   settling-off Memory old now new before between after held told left settles off setup state good shows counted so =
       let so_far = settles setup state good shows counted in
       let broken = off setup so_far.state so_far.good so_far.shows so_far.count tt in
-      ((happened-broken kit laws) setup state so_far.state so_far.told held.files told.files left.files new (settling-says setup state now before between held told good so_far) so_far.files broken.0, laws.further held.faults told.faults left.faults so_far.outlives broken.1)
+      ((happened-broken kit laws) setup state so_far.state so_far.told held told left new (settling-says setup state now before between held told good so_far) so_far.files broken.0, laws.lacks_behind setup so_far.happened state (record { state = so_far.state; told = so_far.told }) held told left so_far.uses broken.1)
   settling-off Stopped old now new before between after held told left settles off setup state good shows counted so =
       let so_far = settles setup state good shows counted in
       off setup so_far.state so_far.good so_far.shows so_far.count tt
   settling-off Failed old now new before between after held told left settles off setup state good shows counted so =
       let so_far = settles setup state good shows counted in
       let ended = off setup so_far.state so_far.good so_far.shows so_far.count tt in
-      let least = laws.least held.faults told.faults so_far.outlives in
-      let first = ended.before_it in
       let early = so_far.later in
       let late = ended.ends.later in
       let end = behind (record { state = so_far.state; told = so_far.told }) ended.end in
@@ -165,11 +135,7 @@ module _ {Peers Group : Type 0} (kit : Kit Peers Group) (laws : IsKit kit) where
             is = refl;
           };
         };
-        between = ended.between;
-        before_it = omega arith;
-        caused = caused-both held.faults told.faults ended.between (answered_in so_far.state) so_far.happened ended.happened least first so_far.caused ended.caused;
-        behind_it = ended.behind_it;
-        rose = ended.rose;
+        faults = laws.faults_behind setup so_far.happened ended.happened state (record { state = so_far.state; told = so_far.told }) ended.end held told left so_far.uses ended.faults;
         good = ended.good;
         says = Says-both (plain_of setup) state.world so_far.state.world ended.end.state.world so_far.told ended.end.told (settling-says setup state now before between held told good so_far).says ended.says;
         fell = ended.fell;
@@ -182,5 +148,5 @@ module _ {Peers Group : Type 0} (kit : Kit Peers Group) (laws : IsKit kit) where
             ended.lines ∙ ap (λ l. l ++ kept_lines ended.end.told) so_far.lines
             ∙ append_assoc before (kept_lines so_far.told) (kept_lines ended.end.told)
             ∙ ap (λ l. before ++ l) (sym (kept-append ended.end.told so_far.told));
-        files = (files-after kit laws) setup state so_far.state (committed ended.end.state.world.core) held.files told.files left.files so_far.files ended.files;
+        files = (files-after kit laws) setup state so_far.state (committed ended.end.state.world.core) held told left so_far.files ended.files;
       }

@@ -42,7 +42,7 @@ pub record IsMoved (old new : World) : Type 0 where
   pub places : new.places ≡ old.places
 
 -- each agent numbers its calls from 1
-started-from : (places : ℕ) (agents : ℕ → Agent) (clients : List ℕ) → ((client : ℕ) → 1 ≤ (agents client).next) → AllStarted (seen_all places agents clients)
+pub started-from : (places : ℕ) (agents : ℕ → Agent) (clients : List ℕ) → ((client : ℕ) → 1 ≤ (agents client).next) → AllStarted (seen_all places agents clients)
 started-from places agents [] started place one is = cc
 started-from places agents (client ∷ clients) started zero one is =
     let own : seen_of client places (agents client) ≡ one = cc in

@@ -25,15 +25,15 @@ use Rattle.cluster_clients.specs.Clients.{place_of}
 use Rattle.cluster_clients.proofs.DispatchSteps.{absent}
 use Rattle.cluster_clients.proofs.ListSteps.{All-take}
 use Rattle.cluster_rounds.specs.Broken.{BreaksAloneIf}
-use Rattle.cluster_rounds.specs.Came.{Advances, Comes, ComesOff, DiskSeen}
+use Rattle.cluster_rounds.specs.Came.{Advances, Comes, ComesOff}
 use Rattle.cluster_rounds.specs.Kits.{IsKit, Kit, calm_servers, device_by, servers_at}
+use Rattle.cluster_rounds.specs.Resting.Rests.{begun}
 use Rattle.cluster_rounds.specs.PartlyDone.{SaysUnasked}
 use Rattle.cluster_rounds.specs.Rounds.{EndsClient, EndsClients, EndsDrain, EndsEach, EndsRound, EndsStep, EndsTurn, EndsTurns, EventOver, IsIdleWithAll, IsIdleWithItems, Plays, advances_by, answer_taken, client_by, clients_by, drain_by, each_by, heard_so, items_taken, round_by, round_pushed, turn_by, turns_by}
 use Rattle.cluster_rounds.specs.Worlds.{pushed, DoesIf, HasStateOn, IsGood, IsIdle, Pushes, Shows, StandsIn, any_state, heard_by}
-use Rattle.cluster_rounds.proofs.ArmedSteps.{hear-keeps, pushes-keep, takes-keep}
+use Rattle.cluster_rounds.proofs.ArmedSteps.{hear-keeps, hear-rests, pushes-keep, pushes-rest, takes-keep, takes-rest}
 use Rattle.cluster_rounds.proofs.BrokenSteps.{happened-broken, left-between, whole-broken}
 use Rattle.cluster_rounds.proofs.CameSteps.{EndsBy, Follows, Joins, Leads, LeadsBy, alone-after, came-as, comes-after, off-after, off-as, on-after, plays-come}
-use Rattle.cluster_rounds.proofs.DownSteps.{down-none}
 use Rattle.cluster_rounds.proofs.KitSteps.{at-steps, at-unasked, calm-serves, calm-unasked}
 use Rattle.cluster_rounds.proofs.RoundSteps.{All-at, at-rest, clients-go, drain-go, for_each-more, hear-go, hear-plays, items-go, played-nothing, push-go, pushed-items, pushed-plays, turns-go}
 
@@ -53,10 +53,10 @@ each-ends {P} event Ends (first ∷ xs) (suc index) x state stop below is ends =
 
 module _ {Peers Group : Type 0} (kit : Kit Peers Group) (laws : IsKit kit) where
   -- servers hear alike whichever works fail
-  heard-alike : (message : Message) (setup : Setup) (fails : ℕ → Bool) (state : State Peers) → (heard_so kit) message setup state ≡ hear (plain_of setup) (servers_at kit setup fails) (number_of (plain_of setup) message state.world.net) message state
+  heard-alike : (message : Message) (setup : Setup) (fails : ℕ → ℕ) (state : State Peers) → (heard_so kit) message setup state ≡ hear (plain_of setup) (servers_at kit setup fails) (number_of (plain_of setup) message state.world.net) message state
   heard-alike message setup fails state =
       let plain = plain_of setup in
-      hear-same plain (calm_servers kit setup) (servers_at kit setup fails) (laws.alike plain (device_by setup (λ number. false)) (device_by setup fails)) (number_of plain message state.world.net) message state
+      hear-same plain (calm_servers kit setup) (servers_at kit setup fails) (laws.alike plain (device_by setup (λ number. 0)) (device_by setup fails)) (number_of plain message state.world.net) message state
 
   -- What events lead to.
 
@@ -126,14 +126,14 @@ module _ {Peers Group : Type 0} (kit : Kit Peers Group) (laws : IsKit kit) where
 
   -- A drain.
 
-  step-leads : (setup : Setup) (fails : ℕ → Bool) (steps : ℕ) (state : State Peers) (next : Option (Outcome (State Peers))) → advance (servers_at kit setup fails) state ≡ next → IsSteady (plain_of setup) kit.Good state → ((now : State Peers) → IsSteady (plain_of setup) kit.Good now → SaysUnasked (plain_of setup) now.world ((advances_by kit) steps setup fails now).state.world ((advances_by kit) steps setup fails now).told) → SaysUnasked (plain_of setup) state.world (after_step (advances (servers_at kit setup fails) steps) next state).state.world (after_step (advances (servers_at kit setup fails) steps) next state).told
+  step-leads : (setup : Setup) (fails : ℕ → ℕ) (steps : ℕ) (state : State Peers) (next : Option (Outcome (State Peers))) → advance (servers_at kit setup fails) state ≡ next → IsSteady (plain_of setup) kit.Good state → ((now : State Peers) → IsSteady (plain_of setup) kit.Good now → SaysUnasked (plain_of setup) now.world ((advances_by kit) steps setup fails now).state.world ((advances_by kit) steps setup fails now).told) → SaysUnasked (plain_of setup) state.world (after_step (advances (servers_at kit setup fails) steps) next state).state.world (after_step (advances (servers_at kit setup fails) steps) next state).told
   step-leads setup fails steps state None is steady deeper = ((at-unasked kit laws) setup fails).same state.world
   step-leads setup fails steps state (Some outcome) is steady deeper =
       let goes = (at-steps kit laws) setup fails state outcome steady is in
       let rest = advances (servers_at kit setup fails) steps outcome.state in
       ((at-unasked kit laws) setup fails).both state.world outcome.state.world rest.state.world outcome.told rest.told goes.1 (deeper outcome.state goes.0)
 
-  steps-say : (steps : ℕ) (setup : Setup) (fails : ℕ → Bool) (state : State Peers) → IsSteady (plain_of setup) kit.Good state → SaysUnasked (plain_of setup) state.world ((advances_by kit) steps setup fails state).state.world ((advances_by kit) steps setup fails state).told
+  steps-say : (steps : ℕ) (setup : Setup) (fails : ℕ → ℕ) (state : State Peers) → IsSteady (plain_of setup) kit.Good state → SaysUnasked (plain_of setup) state.world ((advances_by kit) steps setup fails state).state.world ((advances_by kit) steps setup fails state).told
   steps-say zero setup fails state steady = ((at-unasked kit laws) setup fails).same state.world
   steps-say (suc steps) setup fails state steady =
       step-leads setup fails steps state (advance (servers_at kit setup fails) state) refl steady (λ now so. steps-say steps setup fails now so)
@@ -142,36 +142,34 @@ module _ {Peers Group : Type 0} (kit : Kit Peers Group) (laws : IsKit kit) where
   steps-lead steps setup fails state good so = (tt, steps-say steps setup fails state good.steady)
 
   -- no step was made yet
-  pub steps-begin : (world : Cluster Group) (lines : List (List ℕ)) (disk : DiskSeen) → (Comes kit) any_state ((advances_by kit) 0) world world lines lines false disk disk
+  pub steps-begin : (world : Cluster Group) (lines : List (List ℕ)) (disk : kit.Seen) → (Comes kit) any_state ((advances_by kit) 0) world world lines lines false disk disk
   steps-begin world lines disk setup state good shows counted so = record {
-    happened = λ number. false;
+    happened = λ number. 0;
     outcome = quietly state;
-    comes = comes-alone quietly (λ number. false) state (omega arith);
-    caused = λ never number. refl;
-    outlives = laws.stands disk.faults;
-    felled = down-none disk.faults [];
-    played = (played-nothing kit laws) setup state world lines disk.files good shows;
+    comes = comes-alone quietly (λ number. 0) state (omega arith);
+    uses = laws.unused setup state (quietly state) disk begun;
+    played = (played-nothing kit laws) setup state world lines disk good shows;
     count = counted;
   }
 
   -- one more step
-  pub steps-further : (steps next : ℕ) (old now new : Cluster Group) (before between after : List (List ℕ)) (a : Bool) (held told left : DiskSeen) → next ≡ suc steps → (Comes kit) any_state ((advances_by kit) steps) old now before between a held told → (Advances kit) true now new between after told left → (Comes kit) any_state ((advances_by kit) next) old new before after (a || nat_lt (length now.history.entries) (length new.history.entries)) held left
+  pub steps-further : (steps next : ℕ) (old now new : Cluster Group) (before between after : List (List ℕ)) (a : Bool) (held told left : kit.Seen) → next ≡ suc steps → (Comes kit) any_state ((advances_by kit) steps) old now before between a held told → (Advances kit) true now new between after told left → (Comes kit) any_state ((advances_by kit) next) old new before after (a || nat_lt (length now.history.entries) (length new.history.entries)) held left
   steps-further steps next old now new before between after a held told left is so_far more =
       let joins : (Joins kit laws) any_state ((advances_by kit) steps) ((advances_by kit) 1) ((advances_by kit) next) = λ setup fails state good so. sym (ap (λ count. advances (servers_at kit setup fails) count state) is ∙ advances-more (servers_at kit setup fails) steps state) in
       (comes-after kit laws) any_state any_state ((advances_by kit) steps) ((advances_by kit) 1) ((advances_by kit) next) old now new before between after a (nat_lt (length now.history.entries) (length new.history.entries)) held told left joins (steps-lead steps) so_far more
 
   -- the state for one more
-  pub steps-on : (steps : ℕ) (old now : Cluster Group) (before between : List (List ℕ)) (a : Bool) (held told : DiskSeen) → (HasStateOn kit) any_state old held.armed → (Comes kit) any_state ((advances_by kit) steps) old now before between a held told → (HasStateOn kit) any_state now told.armed
+  pub steps-on : (steps : ℕ) (old now : Cluster Group) (before between : List (List ℕ)) (a : Bool) (held told : kit.Seen) → (HasStateOn kit) any_state old held → (Comes kit) any_state ((advances_by kit) steps) old now before between a held told → (HasStateOn kit) any_state now told
   steps-on steps old now before between a held told has comes =
       (on-after kit laws) any_state any_state ((advances_by kit) steps) old now before between a held told (steps-lead steps) has comes
 
   -- all steps are a drain
-  pub steps-drain : (steps : ℕ) (old now : Cluster Group) (before between : List (List ℕ)) (a : Bool) (held told : DiskSeen) → steps ≡ kit.steps → (Comes kit) any_state ((advances_by kit) steps) old now before between a held told → (Comes kit) any_state (drain_by kit) old now before between a held told
+  pub steps-drain : (steps : ℕ) (old now : Cluster Group) (before between : List (List ℕ)) (a : Bool) (held told : kit.Seen) → steps ≡ kit.steps → (Comes kit) any_state ((advances_by kit) steps) old now before between a held told → (Comes kit) any_state (drain_by kit) old now before between a held told
   steps-drain steps old now before between a held told is comes setup state good shows counted so =
       (came-as kit laws) setup state ((advances_by kit) steps setup) ((drain_by kit) setup) now before between a held told (λ fails. ap (λ count. advances (servers_at kit setup fails) count state) (is ∙ sym (laws.steps (plain_of setup) (device_by setup fails)))) (comes setup state good shows counted so)
 
   -- so are fewer where no step is left
-  steps-stuck : (steps : ℕ) (old now : Cluster Group) (before between : List (List ℕ)) (a : Bool) (held told : DiskSeen) → steps ≤ kit.steps → ((setup : Setup) (fails : ℕ → Bool) (state : State Peers) → (IsGood kit) setup state → (Shows kit) setup state now → advance (servers_at kit setup fails) state ≡ None) → (Comes kit) any_state ((advances_by kit) steps) old now before between a held told → (Comes kit) any_state (drain_by kit) old now before between a held told
+  steps-stuck : (steps : ℕ) (old now : Cluster Group) (before between : List (List ℕ)) (a : Bool) (held told : kit.Seen) → steps ≤ kit.steps → ((setup : Setup) (fails : ℕ → ℕ) (state : State Peers) → (IsGood kit) setup state → (Shows kit) setup state now → advance (servers_at kit setup fails) state ≡ None) → (Comes kit) any_state ((advances_by kit) steps) old now before between a held told → (Comes kit) any_state (drain_by kit) old now before between a held told
   steps-stuck steps old now before between a held told within none comes setup state good shows counted so =
       let came = comes setup state good shows counted so in
       record {
@@ -187,22 +185,20 @@ module _ {Peers Group : Type 0} (kit : Kit Peers Group) (laws : IsKit kit) where
               let count : (servers_at kit setup fails).steps ≡ steps + (kit.steps - steps) = omega arith in
               advances-stuck servers steps (servers_at kit setup fails).steps (kit.steps - steps) state count stuck ∙ same;
         };
-        caused = came.caused;
-        outlives = came.outlives;
-        felled = came.felled;
+        uses = came.uses;
         played = came.played;
         count = came.count;
       }
 
-  pub steps-over : (steps : ℕ) (old now new : Cluster Group) (before between after : List (List ℕ)) (a : Bool) (held told left : DiskSeen) → steps ≤ kit.steps → (Comes kit) any_state ((advances_by kit) steps) old now before between a held told → (Advances kit) false now new between after told left → (Comes kit) any_state (drain_by kit) old new before after a held left
+  pub steps-over : (steps : ℕ) (old now new : Cluster Group) (before between after : List (List ℕ)) (a : Bool) (held told left : kit.Seen) → steps ≤ kit.steps → (Comes kit) any_state ((advances_by kit) steps) old now before between a held told → (Advances kit) false now new between after told left → (Comes kit) any_state (drain_by kit) old new before after a held left
   steps-over steps old now new before between after a held told left within comes stuck =
-      let D : DiskSeen → Type 0 = λ disk. (Comes kit) any_state (drain_by kit) old now before between a held disk in
+      let D : kit.Seen → Type 0 = λ disk. (Comes kit) any_state (drain_by kit) old now before between a held disk in
       let L : List (List ℕ) → Type 0 = λ lines. (Comes kit) any_state (drain_by kit) old now before lines a held left in
       let W : Cluster Group → Type 0 = λ world. (Comes kit) any_state (drain_by kit) old world before after a held left in
       subst W (sym stuck.0) (subst L (sym stuck.1) (subst D (sym stuck.2) (steps-stuck steps old now before between a held told within stuck.3 comes)))
 
   -- a drain ends in the next step
-  pub steps-off : (steps : ℕ) (answer : DiskAnswer) (old now new : Cluster Group) (before between after : List (List ℕ)) (a : Bool) (held told left : DiskSeen) → steps < kit.steps → (Comes kit) any_state ((advances_by kit) steps) old now before between a held told → (ComesOff kit) any_state (EndsStep kit) answer now new between after told left → (ComesOff kit) any_state (EndsDrain kit) answer old new before after held left
+  pub steps-off : (steps : ℕ) (answer : DiskAnswer) (old now new : Cluster Group) (before between after : List (List ℕ)) (a : Bool) (held told left : kit.Seen) → steps < kit.steps → (Comes kit) any_state ((advances_by kit) steps) old now before between a held told → (ComesOff kit) any_state (EndsStep kit) answer now new between after told left → (ComesOff kit) any_state (EndsDrain kit) answer old new before after held left
   steps-off steps answer old now new before between after a held told left within comes off =
       let ends : (EndsBy kit laws) any_state ((advances_by kit) steps) (EndsStep kit) (EndsDrain kit) = λ setup fails state good so stop inner.
       let all : (servers_at kit setup fails).steps ≡ kit.steps = laws.steps (plain_of setup) (device_by setup fails) in
@@ -223,18 +219,18 @@ module _ {Peers Group : Type 0} (kit : Kit Peers Group) (laws : IsKit kit) where
       let drains = ((drain-go kit laws) setup fails heard.state hears.holds).carried in
       (tt, ((at-unasked kit laws) setup fails).both state.world heard.state.world (drain (servers_at kit setup fails) heard.state).state.world heard.told (drain (servers_at kit setup fails) heard.state).told hears.carried drains)
 
-  pub turn-comes : (message : Message) (old one two new : Cluster Group) (before first second after : List (List ℕ)) (a b c : Bool) (held left : DiskSeen) → (Plays kit) (StandsIn message) ((heard_so kit) message) old one before first a → (Comes kit) any_state (drain_by kit) one two first second b held left → (Plays kit) any_state ((answer_taken kit) message) two new second after c → (Comes kit) (StandsIn message) ((turn_by kit) message) old new before after ((a || b) || c) held left
+  pub turn-comes : (message : Message) (old one two new : Cluster Group) (before first second after : List (List ℕ)) (a b c : Bool) (held left : kit.Seen) → (Plays kit) (StandsIn message) ((heard_so kit) message) old one before first a → (Comes kit) any_state (drain_by kit) one two first second b held left → (Plays kit) any_state ((answer_taken kit) message) two new second after c → (Comes kit) (StandsIn message) ((turn_by kit) message) old new before after ((a || b) || c) held left
   turn-comes message old one two new before first second after a b c held left hears drains takes =
-      let heard = (plays-come kit laws) (StandsIn message) (StandsIn message) ((heard_so kit) message) old one before first a held (hear-leads message) ((hear-keeps kit laws) message) hears in
+      let heard = (plays-come kit laws) (StandsIn message) (StandsIn message) ((heard_so kit) message) old one before first a held (hear-leads message) ((hear-keeps kit laws) message) ((hear-rests kit laws) message) hears in
       let both = (comes-after kit laws) (StandsIn message) any_state (λ setup fails. (heard_so kit) message setup) (drain_by kit) (hear_drain message) old one two before first second a b held held left (λ setup fails state good so. refl) (λ setup fails state good so. (tt, (hear-leads message setup state good so).1)) heard drains in
-      let taken = (plays-come kit laws) any_state any_state ((answer_taken kit) message) two new second after c left (takes-lead message) ((takes-keep kit laws) message) takes in
+      let taken = (plays-come kit laws) any_state any_state ((answer_taken kit) message) two new second after c left (takes-lead message) ((takes-keep kit laws) message) ((takes-rest kit laws) message) takes in
       let joins : (Joins kit laws) (StandsIn message) (hear_drain message) (λ setup fails. (answer_taken kit) message setup) ((turn_by kit) message) = λ setup fails state good so.
       ap (λ (o : Outcome (State Peers)). and_then (and_then o (drain (servers_at kit setup fails))) (in_world (take_answer (plain_of setup) message))) (heard-alike message setup fails state)
       in
       (comes-after kit laws) (StandsIn message) any_state (hear_drain message) (λ setup fails. (answer_taken kit) message setup) ((turn_by kit) message) old two new before second after (a || b) c held left left joins (hear_drain-leads message) both taken
 
   -- the state for the drain, and for the reply
-  pub turn-on : (message : Message) (one two : Cluster Group) (first second : List (List ℕ)) (b : Bool) (held left : DiskSeen) → (HasStateOn kit) (StandsIn message) one held.armed → (Comes kit) any_state (drain_by kit) one two first second b held left → (HasStateOn kit) (StandsIn message) two left.armed
+  pub turn-on : (message : Message) (one two : Cluster Group) (first second : List (List ℕ)) (b : Bool) (held left : kit.Seen) → (HasStateOn kit) (StandsIn message) one held → (Comes kit) any_state (drain_by kit) one two first second b held left → (HasStateOn kit) (StandsIn message) two left
   turn-on message one two first second b held left has drains =
       (on-after kit laws) (StandsIn message) (StandsIn message) (drain_by kit) one two first second b held left (drain-keeps message) has (λ setup state good shows counted so. drains setup state good shows counted tt)
 
@@ -244,25 +240,25 @@ module _ {Peers Group : Type 0} (kit : Kit Peers Group) (laws : IsKit kit) where
       let own : E ((heard_so kit) message setup state) = record { last = stop; ends = inner; is = refl } in
       subst E (heard-alike message setup fails state) own
 
-  pub turn-drain-off : (message : Message) (answer : DiskAnswer) (old one new : Cluster Group) (before first after : List (List ℕ)) (a : Bool) (held left : DiskSeen) → (Plays kit) (StandsIn message) ((heard_so kit) message) old one before first a → (ComesOff kit) any_state (EndsDrain kit) answer one new first after held left → (ComesOff kit) (StandsIn message) ((EndsTurn kit) message) answer old new before after held left
+  pub turn-drain-off : (message : Message) (answer : DiskAnswer) (old one new : Cluster Group) (before first after : List (List ℕ)) (a : Bool) (held left : kit.Seen) → (Plays kit) (StandsIn message) ((heard_so kit) message) old one before first a → (ComesOff kit) any_state (EndsDrain kit) answer one new first after held left → (ComesOff kit) (StandsIn message) ((EndsTurn kit) message) answer old new before after held left
   turn-drain-off message answer old one new before first after a held left hears off =
-      (off-after kit laws) (StandsIn message) any_state (EndsDrain kit) ((EndsTurn kit) message) (λ setup fails. (heard_so kit) message setup) answer old one new before first after a held held left (turn-ends message) (λ setup fails state good so. (tt, (hear-leads message setup state good so).1)) ((plays-come kit laws) (StandsIn message) (StandsIn message) ((heard_so kit) message) old one before first a held (hear-leads message) ((hear-keeps kit laws) message) hears) off
+      (off-after kit laws) (StandsIn message) any_state (EndsDrain kit) ((EndsTurn kit) message) (λ setup fails. (heard_so kit) message setup) answer old one new before first after a held held left (turn-ends message) (λ setup fails state good so. (tt, (hear-leads message setup state good so).1)) ((plays-come kit laws) (StandsIn message) (StandsIn message) ((heard_so kit) message) old one before first a held (hear-leads message) ((hear-keeps kit laws) message) ((hear-rests kit laws) message) hears) off
 
-  pub turn-take-lacks : (message : Message) (old one two new : Cluster Group) (before first second after : List (List ℕ)) (a b : Bool) (held left : DiskSeen) → (Plays kit) (StandsIn message) ((heard_so kit) message) old one before first a → (Comes kit) any_state (drain_by kit) one two first second b held left → (BreaksAloneIf kit) any_state two new → (ComesOff kit) (StandsIn message) ((EndsTurn kit) message) Memory old new before after held left
+  pub turn-take-lacks : (message : Message) (old one two new : Cluster Group) (before first second after : List (List ℕ)) (a b : Bool) (held left : kit.Seen) → (Plays kit) (StandsIn message) ((heard_so kit) message) old one before first a → (Comes kit) any_state (drain_by kit) one two first second b held left → (BreaksAloneIf kit) any_state two new → (ComesOff kit) (StandsIn message) ((EndsTurn kit) message) Memory old new before after held left
   turn-take-lacks message old one two new before first second after a b held left hears drains breaks =
-      let heard = (plays-come kit laws) (StandsIn message) (StandsIn message) ((heard_so kit) message) old one before first a held (hear-leads message) ((hear-keeps kit laws) message) hears in
+      let heard = (plays-come kit laws) (StandsIn message) (StandsIn message) ((heard_so kit) message) old one before first a held (hear-leads message) ((hear-keeps kit laws) message) ((hear-rests kit laws) message) hears in
       let both = (comes-after kit laws) (StandsIn message) any_state (λ setup fails. (heard_so kit) message setup) (drain_by kit) (hear_drain message) old one two before first second a b held held left (λ setup fails state good so. refl) (λ setup fails state good so. (tt, (hear-leads message setup state good so).1)) heard drains in
       (alone-after kit laws) (StandsIn message) any_state ((EndsTurn kit) message) (hear_drain message) old two new before second after (a || b) held left (hear_drain-leads message) both breaks
 
   -- Loops.
 
   -- a loop over xs has come to its index, and its next turn came
-  pub loop-comes : {X : Type 0} (P : State Peers → Type 0) (Q : X → State Peers → Type 0) (event : X → (EventOver kit)) (xs : List X) (index : ℕ) (x : X) (old now new : Cluster Group) (before between after : List (List ℕ)) (a b : Bool) (held told left : DiskSeen) → (LeadsBy kit laws) P (Q x) (λ setup fails. for_each (λ y. event y setup fails) (take index xs)) → index < length xs → x ≡ get_or xs index x → (Comes kit) P (λ setup fails. for_each (λ y. event y setup fails) (take index xs)) old now before between a held told → (Comes kit) (Q x) (event x) now new between after b told left → (Comes kit) P (λ setup fails. for_each (λ y. event y setup fails) (take (index + 1) xs)) old new before after (a || b) held left
+  pub loop-comes : {X : Type 0} (P : State Peers → Type 0) (Q : X → State Peers → Type 0) (event : X → (EventOver kit)) (xs : List X) (index : ℕ) (x : X) (old now new : Cluster Group) (before between after : List (List ℕ)) (a b : Bool) (held told left : kit.Seen) → (LeadsBy kit laws) P (Q x) (λ setup fails. for_each (λ y. event y setup fails) (take index xs)) → index < length xs → x ≡ get_or xs index x → (Comes kit) P (λ setup fails. for_each (λ y. event y setup fails) (take index xs)) old now before between a held told → (Comes kit) (Q x) (event x) now new between after b told left → (Comes kit) P (λ setup fails. for_each (λ y. event y setup fails) (take (index + 1) xs)) old new before after (a || b) held left
   loop-comes P Q event xs index x old now new before between after a b held told left leads below is so_far next =
       (comes-after kit laws) P (Q x) (λ setup fails. for_each (λ y. event y setup fails) (take index xs)) (event x) (λ setup fails. for_each (λ y. event y setup fails) (take (index + 1) xs)) old now new before between after a b held told left (λ setup fails state good so. (for_each-more kit laws) (λ y. event y setup fails) xs index x state below is) leads so_far next
 
   -- nothing was played yet
-  pub loop-begins : {X : Type 0} (P : State Peers → Type 0) (event : X → (EventOver kit)) (world : Cluster Group) (lines : List (List ℕ)) (disk : DiskSeen) → (Comes kit) P (λ setup fails. for_each (λ y. event y setup fails) []) world world lines lines false disk disk
+  pub loop-begins : {X : Type 0} (P : State Peers → Type 0) (event : X → (EventOver kit)) (world : Cluster Group) (lines : List (List ℕ)) (disk : kit.Seen) → (Comes kit) P (λ setup fails. for_each (λ y. event y setup fails) []) world world lines lines false disk disk
   loop-begins P event world lines disk setup state good shows counted so = steps-begin world lines disk setup state good shows counted tt
 
   pub turns-end : (messages : List Message) (index : ℕ) (message : Message) → index < length messages → message ≡ get_or messages index message → (EndsBy kit laws) (IsIdleWithAll messages) ((turns_by kit) (take index messages)) ((EndsTurn kit) message) ((EndsTurns kit) messages)
@@ -287,22 +283,22 @@ module _ {Peers Group : Type 0} (kit : Kit Peers Group) (laws : IsKit kit) where
   client-follows client messages world are setup state good shows idle =
       (idle, subst (λ (l : List Message). AllByRecursion (λ m. Stands m (messages_in state.world.net)) l) (sym (are setup state shows)) (resent-posted (plain_of setup) client state.world good.steady.sound))
 
-  pub client-ready : (client : ℕ) (messages : List Message) (world : Cluster Group) (armed : Option ℕ) → AreResent client messages world → (HasStateOn kit) IsIdle world armed → (HasStateOn kit) (IsIdleWithAll messages) world armed
-  client-ready client messages world armed are has =
+  pub client-ready : (client : ℕ) (messages : List Message) (world : Cluster Group) (disks : kit.Seen) → AreResent client messages world → (HasStateOn kit) IsIdle world disks → (HasStateOn kit) (IsIdleWithAll messages) world disks
+  client-ready client messages world disks are has =
       record { setup = has.setup; state = has.state; good = has.good; shows = has.shows; count = has.count; so = client-follows client messages world are has.setup has.state has.good has.shows has.so }
 
-  pub client-comes : (client : ℕ) (messages : List Message) (old new : Cluster Group) (before after : List (List ℕ)) (loud : Bool) (held left : DiskSeen) → AreResent client messages old → (Comes kit) (IsIdleWithAll messages) ((turns_by kit) messages) old new before after loud held left → (Comes kit) IsIdle ((client_by kit) client) old new before after loud held left
+  pub client-comes : (client : ℕ) (messages : List Message) (old new : Cluster Group) (before after : List (List ℕ)) (loud : Bool) (held left : kit.Seen) → AreResent client messages old → (Comes kit) (IsIdleWithAll messages) ((turns_by kit) messages) old new before after loud held left → (Comes kit) IsIdle ((client_by kit) client) old new before after loud held left
   client-comes client messages old new before after loud held left are comes setup state good shows counted idle =
       (came-as kit laws) setup state ((turns_by kit) messages setup) ((client_by kit) client setup) new before after loud held left (λ fails. ap (λ l. (turns_by kit) l setup fails state) (are setup state shows)) (comes setup state good shows counted (client-follows client messages old are setup state good shows idle))
 
-  pub client-off : (client : ℕ) (messages : List Message) (answer : DiskAnswer) (old new : Cluster Group) (before after : List (List ℕ)) (held left : DiskSeen) → AreResent client messages old → (ComesOff kit) (IsIdleWithAll messages) ((EndsTurns kit) messages) answer old new before after held left → (ComesOff kit) IsIdle ((EndsClient kit) client) answer old new before after held left
+  pub client-off : (client : ℕ) (messages : List Message) (answer : DiskAnswer) (old new : Cluster Group) (before after : List (List ℕ)) (held left : kit.Seen) → AreResent client messages old → (ComesOff kit) (IsIdleWithAll messages) ((EndsTurns kit) messages) answer old new before after held left → (ComesOff kit) IsIdle ((EndsClient kit) client) answer old new before after held left
   client-off client messages answer old new before after held left are off =
       (off-as kit laws) IsIdle (IsIdleWithAll messages) ((EndsTurns kit) messages) ((EndsClient kit) client) answer old new before after held left
       (λ setup fails state shows stop ends. subst (λ (l : List Message). (EndsTurns kit) l setup fails state stop) (are setup state shows) ends)
       (client-follows client messages old are) off
 
   -- a client without an agent sends nothing again
-  pub client-absent : (client : ℕ) (world : Cluster Group) (lines : List (List ℕ)) (disk : DiskSeen) → place_of client world.agents ≡ None → (Comes kit) IsIdle ((client_by kit) client) world world lines lines false disk disk
+  pub client-absent : (client : ℕ) (world : Cluster Group) (lines : List (List ℕ)) (disk : kit.Seen) → place_of client world.agents ≡ None → (Comes kit) IsIdle ((client_by kit) client) world world lines lines false disk disk
   client-absent client world lines disk none =
       client-comes client [] world world lines lines false disk disk (λ setup state shows.
       let nowhere = absent client state.world.places state.world.agents state.world.clients (ap (place_of client) (sym shows.agents.shown) ∙ none) in
@@ -314,11 +310,11 @@ module _ {Peers Group : Type 0} (kit : Kit Peers Group) (laws : IsKit kit) where
   abbrev pub AreClients : List ℕ → Cluster Group → Type 0
   AreClients clients world = (setup : Setup) (state : State Peers) → (Shows kit) setup state world → clients ≡ state.world.clients
 
-  pub each-comes : (clients : List ℕ) (old new : Cluster Group) (before after : List (List ℕ)) (loud : Bool) (held left : DiskSeen) → AreClients clients old → (Comes kit) IsIdle ((clients_by kit) clients) old new before after loud held left → (Comes kit) IsIdle (each_by kit) old new before after loud held left
+  pub each-comes : (clients : List ℕ) (old new : Cluster Group) (before after : List (List ℕ)) (loud : Bool) (held left : kit.Seen) → AreClients clients old → (Comes kit) IsIdle ((clients_by kit) clients) old new before after loud held left → (Comes kit) IsIdle (each_by kit) old new before after loud held left
   each-comes clients old new before after loud held left are comes setup state good shows counted idle =
       (came-as kit laws) setup state ((clients_by kit) clients setup) ((each_by kit) setup) new before after loud held left (λ fails. ap (λ l. (clients_by kit) l setup fails state) (are setup state shows)) (comes setup state good shows counted idle)
 
-  pub each-off : (clients : List ℕ) (answer : DiskAnswer) (old new : Cluster Group) (before after : List (List ℕ)) (held left : DiskSeen) → AreClients clients old → (ComesOff kit) IsIdle ((EndsClients kit) clients) answer old new before after held left → (ComesOff kit) IsIdle (EndsEach kit) answer old new before after held left
+  pub each-off : (clients : List ℕ) (answer : DiskAnswer) (old new : Cluster Group) (before after : List (List ℕ)) (held left : kit.Seen) → AreClients clients old → (ComesOff kit) IsIdle ((EndsClients kit) clients) answer old new before after held left → (ComesOff kit) IsIdle (EndsEach kit) answer old new before after held left
   each-off clients answer old new before after held left are off =
       (off-as kit laws) IsIdle IsIdle ((EndsClients kit) clients) (EndsEach kit) answer old new before after held left
       (λ setup fails state shows stop ends. subst (λ (l : List ℕ). (EndsClients kit) l setup fails state stop) (are setup state shows) ends)
@@ -337,11 +333,11 @@ module _ {Peers Group : Type 0} (kit : Kit Peers Group) (laws : IsKit kit) where
       let turns = (clients-go kit laws) setup fails drained.state.world.clients drained.state drains.holds in
       (turns.holds.empty, ((at-unasked kit laws) setup fails).both state.world drained.state.world ((each_by kit) setup fails drained.state).state.world drained.told ((each_by kit) setup fails drained.state).told drains.carried turns.carried)
 
-  turned : (old one two : Cluster Group) (before first second : List (List ℕ)) (a b : Bool) (held told left : DiskSeen) → (Comes kit) any_state (drain_by kit) old one before first a held told → (Comes kit) IsIdle (each_by kit) one two first second b told left → (Comes kit) any_state drain_turn old two before second (a || b) held left
+  turned : (old one two : Cluster Group) (before first second : List (List ℕ)) (a b : Bool) (held told left : kit.Seen) → (Comes kit) any_state (drain_by kit) old one before first a held told → (Comes kit) IsIdle (each_by kit) one two first second b told left → (Comes kit) any_state drain_turn old two before second (a || b) held left
   turned old one two before first second a b held told left drains turns =
       (comes-after kit laws) any_state IsIdle (drain_by kit) (each_by kit) drain_turn old one two before first second a b held told left (λ setup fails state good so. refl) drain-leads drains turns
 
-  pub round-comes : (old one two new : Cluster Group) (before first second after : List (List ℕ)) (a b c : Bool) (held told left : DiskSeen) → (Comes kit) any_state (drain_by kit) old one before first a held told → (Comes kit) IsIdle (each_by kit) one two first second b told left → (Plays kit) IsIdle (round_pushed kit) two new second after c → (Comes kit) any_state (round_by kit) old new before after ((a || b) || c) held left
+  pub round-comes : (old one two new : Cluster Group) (before first second after : List (List ℕ)) (a b c : Bool) (held told left : kit.Seen) → (Comes kit) any_state (drain_by kit) old one before first a held told → (Comes kit) IsIdle (each_by kit) one two first second b told left → (Plays kit) IsIdle (round_pushed kit) two new second after c → (Comes kit) any_state (round_by kit) old new before after ((a || b) || c) held left
   round-comes old one two new before first second after a b c held told left drains turns pushes =
       let joins : (Joins kit laws) any_state drain_turn (λ setup fails. (round_pushed kit) setup) (round_by kit) = λ setup fails state good so.
       let plain = plain_of setup in
@@ -349,23 +345,23 @@ module _ {Peers Group : Type 0} (kit : Kit Peers Group) (laws : IsKit kit) where
       let idle : IsIdle done.state = (drain_turn-leads setup fails state good so).0 in
       ap (λ (o : Outcome (State Peers)). behind done (and_then o (for_each (λ item. in_world (take_pushed plain item)) (plain.held done.state.world.core.answered)))) (push-same plain (calm_servers kit setup) (servers_at kit setup fails) done.state idle)
       in
-      (comes-after kit laws) any_state IsIdle drain_turn (λ setup fails. (round_pushed kit) setup) (round_by kit) old two new before second after (a || b) c held left left joins drain_turn-leads (turned old one two before first second a b held told left drains turns) ((plays-come kit laws) IsIdle any_state (round_pushed kit) two new second after c left pushes-lead (pushes-keep kit laws) pushes)
+      (comes-after kit laws) any_state IsIdle drain_turn (λ setup fails. (round_pushed kit) setup) (round_by kit) old two new before second after (a || b) c held left left joins drain_turn-leads (turned old one two before first second a b held told left drains turns) ((plays-come kit laws) IsIdle any_state (round_pushed kit) two new second after c left pushes-lead (pushes-keep kit laws) (pushes-rest kit laws) pushes)
 
   -- the state for the turns, and for the push
-  pub round-on : (old one : Cluster Group) (before first : List (List ℕ)) (a : Bool) (held told : DiskSeen) → (HasStateOn kit) any_state old held.armed → (Comes kit) any_state (drain_by kit) old one before first a held told → (HasStateOn kit) IsIdle one told.armed
+  pub round-on : (old one : Cluster Group) (before first : List (List ℕ)) (a : Bool) (held told : kit.Seen) → (HasStateOn kit) any_state old held → (Comes kit) any_state (drain_by kit) old one before first a held told → (HasStateOn kit) IsIdle one told
   round-on old one before first a held told has drains = (on-after kit laws) any_state IsIdle (drain_by kit) old one before first a held told drain-leads has drains
 
-  pub round-push-on : (one two : Cluster Group) (first second : List (List ℕ)) (b : Bool) (told left : DiskSeen) → (HasStateOn kit) IsIdle one told.armed → (Comes kit) IsIdle (each_by kit) one two first second b told left → (HasStateOn kit) IsIdle two left.armed
+  pub round-push-on : (one two : Cluster Group) (first second : List (List ℕ)) (b : Bool) (told left : kit.Seen) → (HasStateOn kit) IsIdle one told → (Comes kit) IsIdle (each_by kit) one two first second b told left → (HasStateOn kit) IsIdle two left
   round-push-on one two first second b told left has turns = (on-after kit laws) IsIdle IsIdle (each_by kit) one two first second b told left each-leads has turns
 
-  pub round-start-off : (answer : DiskAnswer) (old new : Cluster Group) (before after : List (List ℕ)) (held left : DiskSeen) → (ComesOff kit) any_state (EndsDrain kit) answer old new before after held left → (ComesOff kit) any_state (EndsRound kit) answer old new before after held left
+  pub round-start-off : (answer : DiskAnswer) (old new : Cluster Group) (before after : List (List ℕ)) (held left : kit.Seen) → (ComesOff kit) any_state (EndsDrain kit) answer old new before after held left → (ComesOff kit) any_state (EndsRound kit) answer old new before after held left
   round-start-off answer old new before after held left off =
       (off-as kit laws) any_state any_state (EndsDrain kit) (EndsRound kit) answer old new before after held left (λ setup fails state shows stop ends. inl ends) (λ setup state good shows so. so) off
 
-  pub round-turn-off : (answer : DiskAnswer) (old one new : Cluster Group) (before first after : List (List ℕ)) (a : Bool) (held told left : DiskSeen) → (Comes kit) any_state (drain_by kit) old one before first a held told → (ComesOff kit) IsIdle (EndsEach kit) answer one new first after told left → (ComesOff kit) any_state (EndsRound kit) answer old new before after held left
+  pub round-turn-off : (answer : DiskAnswer) (old one new : Cluster Group) (before first after : List (List ℕ)) (a : Bool) (held told left : kit.Seen) → (Comes kit) any_state (drain_by kit) old one before first a held told → (ComesOff kit) IsIdle (EndsEach kit) answer one new first after told left → (ComesOff kit) any_state (EndsRound kit) answer old new before after held left
   round-turn-off answer old one new before first after a held told left drains off =
       (off-after kit laws) any_state IsIdle (EndsEach kit) (EndsRound kit) (drain_by kit) answer old one new before first after a held told left (λ setup fails state good so stop inner. inr (record { last = stop; ends = inner; is = refl })) drain-leads drains off
 
-  pub round-push-lacks : (old one two new : Cluster Group) (before first second after : List (List ℕ)) (a b : Bool) (held told left : DiskSeen) → (Comes kit) any_state (drain_by kit) old one before first a held told → (Comes kit) IsIdle (each_by kit) one two first second b told left → (BreaksAloneIf kit) IsIdle two new → (ComesOff kit) any_state (EndsRound kit) Memory old new before after held left
+  pub round-push-lacks : (old one two new : Cluster Group) (before first second after : List (List ℕ)) (a b : Bool) (held told left : kit.Seen) → (Comes kit) any_state (drain_by kit) old one before first a held told → (Comes kit) IsIdle (each_by kit) one two first second b told left → (BreaksAloneIf kit) IsIdle two new → (ComesOff kit) any_state (EndsRound kit) Memory old new before after held left
   round-push-lacks old one two new before first second after a b held told left drains turns breaks =
       (alone-after kit laws) any_state IsIdle (EndsRound kit) drain_turn old two new before second after (a || b) held left drain_turn-leads (turned old one two before first second a b held told left drains turns) breaks

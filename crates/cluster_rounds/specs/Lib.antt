@@ -1,5 +1,7 @@
 pub mod PartlyDone
 pub mod Measured
+pub mod Resting
+pub mod Seen
 pub mod Kits
 pub mod Scripts
 pub mod Timely
@@ -9,3 +11,5 @@ pub mod Rounds
 pub mod Came
 pub mod Settling
 pub mod Delivered
+pub mod Wild
+pub mod Counted

@@ -1,7 +1,6 @@
 -- Words of bodies alone: what the events of a round of `settle` come to. Lines on messages without effect are left out.
-use Rattle.std.specs.Prelude.{◌≡◌, ℕ, Bool, Option, List, ◌++◌}
+use Rattle.std.specs.Prelude.{◌≡◌, ℕ, Bool, List, ◌++◌}
 use Rattle.std.specs.List.{AllByRecursion}
-use Rattle.disk_model.specs.Disk.{Files}
 use Rattle.plain_service.specs.Setups.{Setup}
 use Rattle.service_laws.specs.PlainOf.{plain_of}
 use Rattle.cluster_facts.specs.Types.{Message, Delivery}
@@ -17,7 +16,7 @@ use Rattle.cluster_events.specs.Ending.{EndAt, StepEnds, DrainEnds, TurnEnds, Tu
 use Rattle.cluster_rounds.specs.declared.cluster.Cluster.{Cluster}
 use Rattle.cluster_clients.specs.Taken.{kept_lines, taken_as}
 use Rattle.cluster_rounds.specs.Kits.{Kit, calm_servers, device_by, servers_at}
-use Rattle.cluster_rounds.specs.Worlds.{Event, IsGood, IsIdle, LeavesFiles, Shows, TellsFiles}
+use Rattle.cluster_rounds.specs.Worlds.{Event, IsGood, IsIdle, Shows}
 
 -- nothing is in hand, and the messages stand in the net
 abbrev pub IsIdleWithAll : {P : Type 0} → List Message → State P → Type 0
@@ -33,19 +32,19 @@ abbrev pub IsIdleWithItems : {P : Type 0} → List Message → State P → Type 
 IsIdleWithItems items state = IsIdleWithAll items state × AllByRecursion IsItem items
 
 module _ {Peers Group : Type 0} (kit : Kit Peers Group) where
-  -- what an event of a round came to: the cluster, its lines, whether it was loud, and the files of the disk, where they are told
+  -- what an event of a round came to: the cluster, its lines, whether it was loud, and what the disks tell
   pub record Played (setup : Setup) (state : State Peers) (outcome : Outcome (State Peers)) (new : Cluster Group) (before after : List (List ℕ))
-      (loud : Bool) (held left : Option Files) : Type 0 where
+      (loud : Bool) (held left : kit.Seen) : Type 0 where
     pub shows : Shows kit setup outcome.state new
     pub good : IsGood kit setup outcome.state
     pub lines : after ≡ before ++ kept_lines outcome.told
     pub loudness : loud ≡ is_loud outcome.told
-    pub files : TellsFiles setup state held → LeavesFiles setup outcome.state held left
+    pub files : kit.Tells setup state held → kit.Leaves setup outcome.state held left
 
   -- an event that works nothing was played, over each state that the cluster stood for and of which P is so
   abbrev pub Plays : (State Peers → Type 0) → Event kit → Cluster Group → Cluster Group → List (List ℕ) → List (List ℕ) → Bool → Type 0
   Plays P event old new before after loud =
-      (held : Option Files) (setup : Setup) (state : State Peers) → IsGood kit setup state → Shows kit setup state old → P state
+      (held : kit.Seen) (setup : Setup) (state : State Peers) → IsGood kit setup state → Shows kit setup state old → P state
       → Played setup state (event setup state) new before after loud held held
 
   -- The events of a round that work nothing.
@@ -111,7 +110,7 @@ module _ {Peers Group : Type 0} (kit : Kit Peers Group) where
   abbrev pub EndOver : Type 1
   EndOver = Setup → EndBy Peers
 
-  abbrev at_work : Setup → (ℕ → Bool) → EndAt Peers
+  abbrev at_work : Setup → (ℕ → ℕ) → EndAt Peers
   at_work setup fails = kit.EndsAtWork (device_by setup fails)
 
   abbrev pub EndsStep : EndOver

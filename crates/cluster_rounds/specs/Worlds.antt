@@ -1,5 +1,5 @@
 -- Words of public clauses: how a cluster of the code is a state of the definitions, and what its events are to it, over any servers.
-use Rattle.std.specs.Prelude.{◌≡◌, ℕ, Option, IfSome, option_map, List, ◌++◌}
+use Rattle.std.specs.Prelude.{◌≡◌, ℕ, Option, option_map, List, ◌++◌}
 use Rattle.disk_model.specs.Disk.{Files}
 use Rattle.plain_service.specs.Setups.{Setup, IsMoment, CanBegin}
 use Rattle.plain_service.specs.Storing.{files_of}
@@ -18,10 +18,7 @@ use Rattle.cluster_rounds.specs.declared.cluster.Cluster.{Cluster}
 use Rattle.cluster_clients.specs.Clients.{ShowsAgents}
 use Rattle.cluster_clients.specs.Spelled.{AreSpelled}
 use Rattle.cluster_rounds.specs.Kits.{Kit, calm_servers}
-
--- where the disk tells its files, they are those of the history without the entry in hand
-abbrev pub TellsFiles : {P : Type 0} → Setup → State P → Option Files → Type 0
-TellsFiles setup state held = IfSome held (λ files. files ≡ files_of setup state.world.core.answered)
+pub use Rattle.cluster_rounds.specs.Seen.{TellsFiles}
 
 -- a disk that told its files tells those of this state, and a disk that told nothing tells nothing
 abbrev pub LeavesFiles : {P : Type 0} → Setup → State P → Option Files → Option Files → Type 0
@@ -63,13 +60,13 @@ module _ {Peers Group : Type 0} (kit : Kit Peers Group) where
     pub shows : Shows setup state world
     pub so : P state
 
-  -- the same over a disk of this armed count, of which the state tells
-  pub record HasStateOn (P : State Peers → Type 0) (world : Cluster Group) (armed : Option ℕ) : Type 0 where
+  -- the same over disks of whose armed counts the state tells
+  pub record HasStateOn (P : State Peers → Type 0) (world : Cluster Group) (seen : kit.Seen) : Type 0 where
     pub setup : Setup
     pub state : State Peers
     pub good : IsGood setup state
     pub shows : Shows setup state world
-    pub count : kit.Armed state.peers armed
+    pub count : kit.Armed state.peers seen
     pub so : P state
 
   -- for any good state

@@ -1,7 +1,8 @@
 //! What clients ask of their agents.
 ghost use Rattle.std.specs.Prelude.{OnOk, OnErr};
 ghost use Rattle.client_agent.specs.Steps.{HasWorkers};
-ghost use Rattle.cluster_rounds.specs.Worlds.{HasState, Does};
+ghost use Rattle.cluster_rounds.specs.Wild.{StandsOf, KeepsWild, always};
+ghost use Rattle.cluster_rounds.specs.Worlds.{Does, any_state};
 ghost use Rattle.cluster_rounds.specs.Broken.{BreaksAlone};
 ghost use Rattle.cluster_rounds.specs.Delivered.{IsCaller, asked_by, dispatched_by};
 
@@ -23,11 +24,12 @@ pub fn ask<R, S: Serving>(
     client: u16,
     asked: &Ask,
 ) -> Result<(), AllocError>
-    requires state { HasState S.kit world.old }
+    requires state { StandsOf S.kit any_state always world.old }
     requires caller { IsCaller client }
     ensures ok { OnOk result (Does S.kit (asked_by S.kit client asked.now) world.old world.new
         lines.old.items lines.new.items) }
     ensures err { OnErr result (BreaksAlone S.kit world.old world.new) }
+    ensures wild { OnOk result (KeepsWild S.kit always world.old world.new) }
 {
     cluster_clients::ask(
         rt,
@@ -55,6 +57,7 @@ pub fn dispatch<R: Threads + Wait + Sync, S: Serving, G: Gate>(
     ensures ok { OnOk result (Does S.kit (dispatched_by S.kit how client) world.old world.new
         lines.old.items lines.new.items) }
     ensures err { OnErr result (BreaksAlone S.kit world.old world.new) }
+    ensures wild { OnOk result (KeepsWild S.kit always world.old world.new) }
 {
     cluster_clients::dispatch(rt, alloc, &mut world.agents, lines, client, how, gate)
 }

@@ -1,7 +1,8 @@
 //! Byte strings of the net that are delivered.
 ghost use Rattle.std.specs.Prelude.{◌≡◌, true, Some, IfOk, OnOk, OnErr};
 ghost use Rattle.wire.specs.MessageSpelling.{MessageFits};
-ghost use Rattle.cluster_rounds.specs.Worlds.{DoesIf, HasState, StandsIn};
+ghost use Rattle.cluster_rounds.specs.Wild.{StandsOf, KeepsWild, Posted, always};
+ghost use Rattle.cluster_rounds.specs.Worlds.{DoesIf, StandsIn, any_state};
 ghost use Rattle.cluster_rounds.specs.Delivered.{Delivers, delivered_by, is_for_agent, is_for_server};
 ghost use Rattle.cluster_rounds.specs.Broken.{BreaksAlone, BreaksAloneIf};
 ghost use Rattle.cluster_clients.specs.Spelled.{IsFetched};
@@ -44,6 +45,7 @@ fn deliver_to_agent<R: Wait, S: Serving>(
     ensures ok { OnOk result (DoesIf S.kit (StandsIn message.now) (delivered_by S.kit place
         message.now) world.old world.new lines.old.items lines.new.items) }
     ensures err { OnErr result (BreaksAloneIf S.kit (StandsIn message.now) world.old world.new) }
+    ensures wild { OnOk result (KeepsWild S.kit (Posted message.now) world.old world.new) }
 {
     match take(
         rt,
@@ -68,11 +70,12 @@ fn deliver_message<R: Wait, S: Serving>(
     place: u64,
     message: &Message,
 ) -> Result<(), AllocError>
-    requires state { HasState S.kit world.old }
+    requires state { StandsOf S.kit any_state always world.old }
     requires fits { MessageFits message.now }
     ensures ok { OnOk result (DoesIf S.kit (StandsIn message.now) (delivered_by S.kit place
         message.now) world.old world.new lines.old.items lines.new.items) }
     ensures err { OnErr result (BreaksAloneIf S.kit (StandsIn message.now) world.old world.new) }
+    ensures wild { OnOk result (KeepsWild S.kit (Posted message.now) world.old world.new) }
 {
     if is_for_agent(message) {
         return deliver_to_agent(rt, alloc, world, lines, place, message);
@@ -93,11 +96,12 @@ fn deliver_fetched<R: Wait, S: Serving>(
     place: u64,
     fetched: Fetched,
 ) -> Result<(), AllocError>
-    requires state { HasState S.kit world.old }
+    requires state { StandsOf S.kit any_state always world.old }
     requires fetched { IsFetched place world.old.net (Some fetched) }
     ensures ok { OnOk result (Delivers S.kit place true world.old world.new lines.old.items
         lines.new.items) }
     ensures err { OnErr result (BreaksAlone S.kit world.old world.new) }
+    ensures wild { OnOk result (KeepsWild S.kit always world.old world.new) }
 {
     match fetched {
         Fetched::Whole { message } => {
@@ -118,11 +122,12 @@ fn deliver_found<R: Wait, S: Serving>(
     place: u64,
     found: Option<Fetched>,
 ) -> Result<bool, AllocError>
-    requires state { HasState S.kit world.old }
+    requires state { StandsOf S.kit any_state always world.old }
     requires fetched { IsFetched place world.old.net found }
     ensures ok { IfOk result (λ done. Delivers S.kit place done world.old world.new lines.old.items
         lines.new.items) }
     ensures err { OnErr result (BreaksAlone S.kit world.old world.new) }
+    ensures wild { OnOk result (KeepsWild S.kit always world.old world.new) }
 {
     match found {
         None => Ok(false),
@@ -141,10 +146,11 @@ pub fn deliver<R: Wait, S: Serving>(
     lines: &mut Vec<Seq<u8>>,
     place: u64,
 ) -> Result<bool, AllocError>
-    requires { HasState S.kit world.old }
+    requires { StandsOf S.kit any_state always world.old }
     ensures ok { IfOk result (λ done. Delivers S.kit place done world.old world.new lines.old.items
         lines.new.items) }
     ensures err { OnErr result (BreaksAlone S.kit world.old world.new) }
+    ensures wild { OnOk result (KeepsWild S.kit always world.old world.new) }
 {
     match fetch(alloc, &world.net, place) {
         Ok(found) => deliver_found(rt, alloc, world, lines, place, found),

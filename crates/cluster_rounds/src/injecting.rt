@@ -1,5 +1,6 @@
 //! Byte strings that are put into the net.
-ghost use Rattle.std.specs.Prelude.{IfOk, OnErr};
+ghost use Rattle.std.specs.Prelude.{IfOk, OnOk, OnErr};
+ghost use Rattle.cluster_rounds.specs.Wild.{KeepsWild, always};
 ghost use Rattle.cluster_rounds.specs.Delivered.{Injects};
 ghost use Rattle.cluster_rounds.specs.Broken.{BreaksAlone};
 
@@ -18,6 +19,7 @@ pub fn inject<S: Serving>(
     ensures ok { IfOk result (λ done. Injects S.kit bytes.now done world.old world.new
         lines.old.items lines.new.items) }
     ensures err { OnErr result (BreaksAlone S.kit world.old world.new) }
+    ensures wild { OnOk result (KeepsWild S.kit always world.old world.new) }
 {
     cluster_clients::inject(alloc, &mut world.net, lines, bytes)
 }

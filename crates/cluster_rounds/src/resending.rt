@@ -1,6 +1,7 @@
 //! Messages that agents send again.
 ghost use Rattle.std.specs.Prelude.{OnOk, OnErr};
-ghost use Rattle.cluster_rounds.specs.Worlds.{Does, HasState, HasStateOf};
+ghost use Rattle.cluster_rounds.specs.Wild.{StandsOf, KeepsWild, always, AllPosted};
+ghost use Rattle.cluster_rounds.specs.Worlds.{Does, any_state};
 ghost use Rattle.cluster_rounds.specs.Delivered.{AllStandIn, HearsAll, resent_by};
 ghost use Rattle.cluster_rounds.specs.Broken.{BreaksAlone, BreaksAloneIf};
 
@@ -18,10 +19,11 @@ fn hear_all<S: Serving>(
     lines: &mut Vec<Seq<u8>>,
     messages: &[Message],
 ) -> Result<(), AllocError>
-    requires { HasStateOf S.kit (AllStandIn messages.now) world.old }
+    requires { StandsOf S.kit (AllStandIn messages.now) (AllPosted messages.now) world.old }
     ensures ok { OnOk result (HearsAll S.kit messages.now world.old world.new lines.old.items
         lines.new.items) }
     ensures err { OnErr result (BreaksAloneIf S.kit (AllStandIn messages.now) world.old world.new) }
+    ensures wild { OnOk result (KeepsWild S.kit (AllPosted messages.now) world.old world.new) }
 {
     for message in messages {
         let place = number_in(alloc, &world.net, message)?;
@@ -40,10 +42,11 @@ pub fn resend<S: Serving>(
     lines: &mut Vec<Seq<u8>>,
     client: u16,
 ) -> Result<(), AllocError>
-    requires { HasState S.kit world.old }
+    requires { StandsOf S.kit any_state always world.old }
     ensures ok { OnOk result (Does S.kit (resent_by S.kit client) world.old world.new
         lines.old.items lines.new.items) }
     ensures err { OnErr result (BreaksAlone S.kit world.old world.new) }
+    ensures wild { OnOk result (KeepsWild S.kit always world.old world.new) }
 {
     let at = match place_of(world.agents.as_slice(), client) {
         Some(at) => at,

@@ -4,10 +4,12 @@ ghost use Rattle.disk_model.specs.declared.answers.DiskAnswer.{DiskAnswer};
 ghost use Rattle.wire.specs.MessageSpelling.{MessageInRange};
 ghost use Rattle.cluster_rounds.specs.Kits.{Kit, IsKit};
 ghost use Rattle.cluster_rounds.specs.Scripts.{Script};
-ghost use Rattle.cluster_rounds.specs.Worlds.{HasState, HasStateOf, HasStateOn, IsIdle, StandsIn, DoesIf, heard_by, Pushes, any_state};
+ghost use Rattle.cluster_rounds.specs.Counted.{Counted};
+ghost use Rattle.cluster_rounds.specs.Wild.{StandsOf, StandsOn, KeepsWild, PushesWild, GoesWild, Posted, always};
+ghost use Rattle.cluster_rounds.specs.Worlds.{IsIdle, StandsIn, DoesIf, heard_by, Pushes, any_state};
 ghost use Rattle.cluster_rounds.specs.Broken.{BreaksAloneIf};
 ghost use Rattle.cluster_rounds.specs.Rounds.{EndsStep};
-ghost use Rattle.cluster_rounds.specs.Came.{seen_by, Advances, ComesOff};
+ghost use Rattle.cluster_rounds.specs.Came.{Advances, ComesOff};
 
 use crate::Cluster;
 use ais_values::Seq;
@@ -24,7 +26,7 @@ pub trait Serving {
     ghost kit: { Kit Peers Self };
 
     /// What is told of the lines of a script over them.
-    ghost script: { Script Peers };
+    ghost script: { Script Peers kit.Seen };
 
     /// Delivers a request or a receipt of this place in the net to the active server.
     fn hear(
@@ -34,11 +36,12 @@ pub trait Serving {
         place: u64,
         message: &Message,
     ) -> Result<(), AllocError>
-        requires state { HasState kit world.old }
+        requires state { StandsOf kit any_state always world.old }
         requires range { MessageInRange message.now }
         ensures ok { OnOk result (DoesIf kit (StandsIn message.now) (heard_by kit place message.now)
             world.old world.new lines.old.items lines.new.items) }
-        ensures err { OnErr result (BreaksAloneIf kit (StandsIn message.now) world.old world.new) };
+        ensures err { OnErr result (BreaksAloneIf kit (StandsIn message.now) world.old world.new) }
+        ensures wild { OnOk result (KeepsWild kit (Posted message.now) world.old world.new) };
 
     /// Posts all items without receipt, by client, key and number, and answers with them. Nothing may be in hand.
     fn push(
@@ -46,10 +49,11 @@ pub trait Serving {
         world: &mut Cluster<Self>,
         lines: &mut Vec<Seq<u8>>,
     ) -> Result<Seq<Message>, AllocError>
-        requires { HasStateOf kit IsIdle world.old }
+        requires { StandsOf kit IsIdle always world.old }
         ensures ok { IfOk result (λ items. Pushes kit items world.old world.new lines.old.items
             lines.new.items) }
-        ensures err { OnErr result (BreaksAloneIf kit IsIdle world.old world.new) };
+        ensures err { OnErr result (BreaksAloneIf kit IsIdle world.old world.new) }
+        ensures wild { IfOk result (λ items. PushesWild kit items world.old world.new) };
 
     /// With so many steps a drain is done.
     fn steps() -> u64
@@ -60,19 +64,26 @@ pub trait Serving {
     ///
     /// `Failed` comes where the disk had a fault that no server survives; its count of faults rose then. `Memory` comes where memory
     /// ran out. `Stopped` never comes: servers that are not armed meet no stop, and of those that are another one takes over.
-    fn advance<D: SharedDisk>(
+    fn advance<D: SharedDisk, J: SharedDisk>(
         alloc: Global,
         world: &mut Cluster<Self>,
         lines: &mut Vec<Seq<u8>>,
         disk: &mut D,
+        beside: &mut J,
     ) -> Result<bool, DiskAnswer>
-        requires { HasStateOn kit any_state world.old (D.tally disk.old).armed }
+        requires { StandsOn kit any_state always world.old (kit.see (D.seen disk.old) (J.seen
+            beside.old)) }
         ensures ok { IfOk result (λ went. Advances kit went world.old world.new lines.old.items
-            lines.new.items (seen_by D.files D.tally D.faults disk.old)
-            (seen_by D.files D.tally D.faults disk.new)) }
+            lines.new.items (kit.see (D.seen disk.old) (J.seen beside.old))
+            (kit.see (D.seen disk.new) (J.seen beside.new))) }
         ensures err { IfErr result (λ answer. ComesOff kit any_state (EndsStep kit) answer world.old
-            world.new lines.old.items lines.new.items (seen_by D.files D.tally D.faults disk.old)
-            (seen_by D.files D.tally D.faults disk.new)) };
+            world.new lines.old.items lines.new.items (kit.see (D.seen disk.old) (J.seen
+            beside.old)) (kit.see (D.seen disk.new) (J.seen beside.new))) }
+        ensures wild { GoesWild kit always result world.old world.new
+            (kit.see (D.seen disk.old) (J.seen beside.old))
+            (kit.see (D.seen disk.new) (J.seen beside.new)) }
+        ensures counts { Counted kit (kit.see (D.seen disk.old) (J.seen beside.old))
+            (kit.see (D.seen disk.new) (J.seen beside.new)) result };
 
     /// What is asked of them holds.
     ghost laws: { IsKit kit };

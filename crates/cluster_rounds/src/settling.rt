@@ -1,9 +1,10 @@
 //! `settle`: rounds up to the first in which nothing goes on.
-ghost use Rattle.std.specs.Prelude.{IfErr, IsErrOf, OnOk};
-ghost use Rattle.disk_model.specs.declared.answers.DiskAnswer.{DiskAnswer};
-ghost use Rattle.cluster_rounds.specs.Worlds.{HasStateOn, any_state};
+ghost use Rattle.std.specs.Prelude.{IfErr, OnOk};
+ghost use Rattle.cluster_rounds.specs.Counted.{Counted};
+ghost use Rattle.cluster_rounds.specs.Wild.{StandsOn, GoesWild, always};
+ghost use Rattle.cluster_rounds.specs.Worlds.{any_state};
 ghost use Rattle.cluster_rounds.specs.Rounds.{EndsSettle};
-ghost use Rattle.cluster_rounds.specs.Came.{seen_by, ComesOff};
+ghost use Rattle.cluster_rounds.specs.Came.{ComesOff};
 ghost use Rattle.cluster_rounds.specs.Settling.{DoesSettle};
 
 use crate::rounds::round;
@@ -16,29 +17,39 @@ use std::sync::Wait;
 /// Plays rounds up to the first that is not loud, and adds the lines of all of them, but for those on messages without effect.
 ///
 /// `Failed` comes where the disk had a fault that no server survives: its count of faults rose, and the lines are those of all that
-/// was done until then. `Memory` comes where memory ran out; some of it was done. `Stopped` never comes: the servers answer for a
-/// disk that stops.
-pub fn settle<R: Wait, S: Serving, D: SharedDisk>(
+/// was done until then. `Memory` comes where memory ran out, or the greatest `u64` of rounds were played and all of them were loud;
+/// some of it was done. `Stopped` never comes of servers that stand for a history: they answer for a disk that stops.
+pub fn settle<R: Wait, S: Serving, D: SharedDisk, J: SharedDisk>(
     rt: &R,
     alloc: Global,
     world: &mut Cluster<S>,
     lines: &mut Vec<Seq<u8>>,
     disk: &mut D,
+    beside: &mut J,
 ) -> Result<(), DiskAnswer>
-    requires { HasStateOn S.kit any_state world.old (D.tally disk.old).armed }
+    requires { StandsOn S.kit any_state always world.old (S.kit.see (D.seen disk.old) (J.seen
+        beside.old)) }
     ensures ok { OnOk result (DoesSettle S.kit world.old world.new lines.old.items lines.new.items
-        (seen_by D.files D.tally D.faults disk.old) (seen_by D.files D.tally D.faults disk.new)) }
+        (S.kit.see (D.seen disk.old) (J.seen beside.old)) (S.kit.see (D.seen disk.new) (J.seen
+        beside.new))) }
     ensures err { IfErr result (λ answer. ComesOff S.kit any_state (EndsSettle S.kit) answer
-        world.old world.new lines.old.items lines.new.items
-        (seen_by D.files D.tally D.faults disk.old) (seen_by D.files D.tally D.faults disk.new)) }
-    ensures never_stopped { IsErrOf result DiskAnswer.Stopped → ⊥ }
+        world.old world.new lines.old.items lines.new.items (S.kit.see (D.seen disk.old) (J.seen
+        beside.old)) (S.kit.see (D.seen disk.new) (J.seen beside.new))) }
+    ensures wild { GoesWild S.kit always result world.old world.new
+        (S.kit.see (D.seen disk.old) (J.seen beside.old))
+        (S.kit.see (D.seen disk.new) (J.seen beside.new)) }
+    ensures counts { Counted S.kit (S.kit.see (D.seen disk.old) (J.seen beside.old))
+        (S.kit.see (D.seen disk.new) (J.seen beside.new)) result }
 {
-    let mut loud = true;
-    while loud {
-        match round(rt, alloc, world, lines, disk) {
-            Ok(more) => loud = more,
+    for _round in 0..u64::MAX {
+        match round(rt, alloc, world, lines, disk, beside) {
+            Ok(loud) => {
+                if !loud {
+                    return Ok(());
+                }
+            }
             Err(answer) => return Err(answer),
         }
     }
-    Ok(())
+    Err(DiskAnswer::Memory)
 }

@@ -6,6 +6,9 @@ use Rattle.cluster_clients.proofs.DispatchSteps.{on-err}
 use Rattle.cluster_rounds.proofs.BrokenClients.{delivery-breaks, same-breaks}
 use Rattle.cluster_rounds.proofs.FetchSteps.{delivers-fetched}
 use Rattle.cluster_rounds.proofs.delivering.deliver_fetched.Goals as goal
+use Rattle.cluster_rounds.specs.Wild.{KeepsWild, Posted}
+use Rattle.cluster_rounds.proofs.WildSteps.{on-ok, wild-same}
+use Rattle.cluster_rounds.proofs.WildClients.{fetched-posted}
 
 pub returns-in-Whole-clause-ok : goal.returns-in-Whole-clause-ok
 returns-in-Whole-clause-ok g c =
@@ -19,3 +22,11 @@ returns-in-Whole-clause-err g c =
 
 pub returns-in-Bad-clause-err : goal.returns-in-Bad-clause-err
 returns-in-Bad-clause-err g c = on-err c.put_ignored.result ((same-breaks g.S.Serving.kit g.met.S.Serving.laws) c.args.world.now)
+
+pub returns-in-Whole-clause-wild : goal.returns-in-Whole-clause-wild
+returns-in-Whole-clause-wild g c =
+    let F : Fetched → Type 0 = λ fetched. IsFetched c.args.place c.args.world.now.net (Some fetched) in
+    on_ok_weaker c.deliver_message-done.result (λ (keeps : (KeepsWild g.S.Serving.kit) (Posted c.in-Whole.message) c.args.world.now c.deliver_message-done.new.world). (λ disks seen wild so. keeps disks seen wild (fetched-posted c.args.place c.in-Whole.message c.args.world.now seen (subst F c.in-Whole.is c.requires.fetched) wild.shows))) c.deliver_message-done.ensures.wild
+
+pub returns-in-Bad-clause-wild : goal.returns-in-Bad-clause-wild
+returns-in-Bad-clause-wild g c = on-ok c.put_ignored.result (λ disks seen wild so. (wild-same g.S.Serving.kit) seen c.args.world.now disks wild)

@@ -2,6 +2,7 @@ use Rattle.std.proofs.Common.{sym}
 use Rattle.std.proofs.lemmas.Result.{on_ok_weaker}
 use Rattle.cluster_rounds.proofs.delivering.deliver_message.Goals as goal
 use Rattle.cluster_rounds.proofs.FetchSteps.{delivers-none, delivers-server, fits-server}
+use Rattle.cluster_rounds.proofs.WildSteps.{wild-same}
 
 pub hear-requires : goal.hear-requires
 hear-requires g c = record {
@@ -19,3 +20,6 @@ returns-then-is_for_server-clause-ok g c =
 pub returns-clause-ok : goal.returns-clause-ok
 returns-clause-ok g c =
     (delivers-none g.S.Serving.kit g.met.S.Serving.laws) c.args.place c.args.message.now c.args.world.now c.args.lines.now.items c.args.lines.now.items (sym c.if-is_for_agent.ensures) (sym c.if-is_for_server.ensures)
+
+pub returns-clause-wild : goal.returns-clause-wild
+returns-clause-wild g c = λ disks seen wild so. (wild-same g.S.Serving.kit) seen c.args.world.now disks wild

@@ -1,14 +1,17 @@
 use Rattle.std.proofs.Common.{◌≡◌, Some, List, get_or, ap, sym, ◌∙◌, subst}
 use Rattle.std.proofs.lemmas.Result.{on_ok_weaker, on_err_weaker}
+use Rattle.std.specs.Prelude.{OnOk}
 use Rattle.wire.specs.declared.message.Message.{Message}
 use Rattle.client_agent.specs.Seen.{Seen}
 use Rattle.cluster_rounds.proofs.resending.resend.Goals as goal
 use Rattle.cluster_clients.specs.Clients.{place_of}
 use Rattle.cluster_rounds.specs.Broken.{BreaksAloneIf}
 use Rattle.cluster_rounds.specs.Delivered.{AllStandIn, HearsAll}
-use Rattle.cluster_rounds.specs.Worlds.{HasStateOf}
 use Rattle.cluster_rounds.proofs.BrokenClients.{resends-break, same-breaks}
 use Rattle.cluster_rounds.proofs.ChainSteps.{resends, resends-nothing, resent-standing}
+use Rattle.cluster_rounds.specs.Wild.{AllPosted, KeepsWild, StandsOf, always}
+use Rattle.cluster_rounds.proofs.WildSteps.{asks-from, wild-same}
+use Rattle.cluster_rounds.proofs.WildClients.{resent-at}
 
 pub returns-in-None-clause-ok : goal.returns-in-None-clause-ok
 returns-in-None-clause-ok g c =
@@ -20,8 +23,11 @@ hear_all-heard-requires g c =
     let agent = c.index-as_slice-at.result in
     let found : place_of c.args.client old.agents ≡ Some c.in-Some.at = ap (place_of c.args.client) (sym c.as_slice.ensures) ∙ sym c.in-Some.ensures in
     let is : agent ≡ get_or old.agents c.in-Some.at agent = c.index-as_slice-at.is ∙ ap (λ (s : List Seen). get_or s c.in-Some.at agent) c.as_slice-2.ensures in
-    let S : List Message → Type 0 = λ messages. (HasStateOf g.S.Serving.kit) (AllStandIn messages) old in
-    subst S (sym c.as_slice-in-Ok.ensures) ((resent-standing g.S.Serving.kit g.met.S.Serving.laws) c.args.client c.in-Some.at old agent c.in-Ok.messages c.requires found is c.in-Ok.ensures)
+    let S : List Message → Type 0 = λ messages. (StandsOf g.S.Serving.kit) (AllStandIn messages) (AllPosted messages) old in
+    subst S (sym c.as_slice-in-Ok.ensures)
+    ((asks-from g.S.Serving.kit) always (AllPosted c.in-Ok.messages) old old c.requires
+    (λ has. (resent-standing g.S.Serving.kit g.met.S.Serving.laws) c.args.client c.in-Some.at old agent c.in-Ok.messages has found is c.in-Ok.ensures)
+    (λ disks seen wild so. ((wild-same g.S.Serving.kit) seen old disks wild, resent-at c.args.client c.in-Some.at old agent c.in-Ok.messages seen found is c.in-Ok.ensures wild.clients wild.shows)))
 
 pub returns-in-Ok-clause-ok : goal.returns-in-Ok-clause-ok
 returns-in-Ok-clause-ok g c =
@@ -45,3 +51,17 @@ returns-in-Ok-clause-err g c =
 
 pub returns-in-Err-clause-err : goal.returns-in-Err-clause-err
 returns-in-Err-clause-err g c = (same-breaks g.S.Serving.kit g.met.S.Serving.laws) c.args.world.now
+
+pub returns-in-None-clause-wild : goal.returns-in-None-clause-wild
+returns-in-None-clause-wild g c = λ disks seen wild so. (wild-same g.S.Serving.kit) seen c.args.world.now disks wild
+
+pub returns-in-Ok-clause-wild : goal.returns-in-Ok-clause-wild
+returns-in-Ok-clause-wild g c =
+    let old = c.args.world.now in
+    let new = c.hear_all-heard.new.world in
+    let agent = c.index-as_slice-at.result in
+    let found : place_of c.args.client old.agents ≡ Some c.in-Some.at = ap (place_of c.args.client) (sym c.as_slice.ensures) ∙ sym c.in-Some.ensures in
+    let is : agent ≡ get_or old.agents c.in-Some.at agent = c.index-as_slice-at.is ∙ ap (λ (s : List Seen). get_or s c.in-Some.at agent) c.as_slice-2.ensures in
+    let W : List Message → Type 0 = λ messages. OnOk c.hear_all-heard.result ((KeepsWild g.S.Serving.kit) (AllPosted messages) old new) in
+    on_ok_weaker c.hear_all-heard.result (λ (keeps : (KeepsWild g.S.Serving.kit) (AllPosted c.in-Ok.messages) old new). (λ disks seen wild so. keeps disks seen wild (resent-at c.args.client c.in-Some.at old agent c.in-Ok.messages seen found is c.in-Ok.ensures wild.clients wild.shows)))
+    (subst W c.as_slice-in-Ok.ensures c.hear_all-heard.ensures.wild)

@@ -1,17 +1,22 @@
-use Rattle.std.proofs.Common.{◌≡◌, Bool, ◌||◌, nat_lt, if◌then◌else◌, List, ℕ, [], ◌++◌, length, ap, sym, ◌∙◌, subst}
+use Rattle.std.proofs.Common.{◌≡◌, Bool, ◌||◌, nat_lt, if◌then◌else◌, List, ℕ, [], ◌++◌, length, ap, sym, ◌∙◌, subst, inl, inr, ⊎_elim}
 use Rattle.cluster_rounds.proofs.rounds.hear_so.Goals as goal
 use Rattle.cluster_rounds.specs.Rounds.{Plays, heard_so}
 use Rattle.cluster_rounds.specs.Worlds.{DoesIf, StandsIn, heard_by}
 use Rattle.cluster_rounds.proofs.ChainSteps.{standing-range}
 use Rattle.cluster_rounds.proofs.RoundSteps.{hear-plays, state-of}
 use Rattle.cluster_rounds.proofs.TurnSteps.{hear-untold}
+use Rattle.cluster_rounds.proofs.WildSteps.{posted-range}
 
 pub hear-requires-clause-state : goal.hear-requires-clause-state
-hear-requires-clause-state g c = (state-of g.S.Serving.kit g.met.S.Serving.laws) (StandsIn c.args.message.now) c.args.world.now c.requires
+hear-requires-clause-state g c =
+    ⊎_elim (λ has. inl ((state-of g.S.Serving.kit g.met.S.Serving.laws) (StandsIn c.args.message.now) c.args.world.now has)) (λ wild. inr (wild.0, record { seen = wild.1.seen; wild = wild.1.wild; so = tt })) c.requires
 
 pub hear-requires-clause-range : goal.hear-requires-clause-range
 hear-requires-clause-range g c =
-    (standing-range g.S.Serving.kit g.met.S.Serving.laws) c.requires.setup c.requires.state c.args.world.now c.args.message.now c.requires.good c.requires.shows c.requires.so
+    ⊎_elim
+    (λ has. (standing-range g.S.Serving.kit g.met.S.Serving.laws) has.setup has.state c.args.world.now c.args.message.now has.good has.shows has.so)
+    (λ wild. posted-range wild.1.seen c.args.world.now c.args.message.now wild.1.wild.clients wild.1.wild.shows wild.1.so)
+    c.requires
 
 pub returns-in-Ok-keep_lines-clause-ok : goal.returns-in-Ok-keep_lines-clause-ok
 returns-in-Ok-keep_lines-clause-ok g c =

@@ -1,11 +1,11 @@
-use Rattle.std.proofs.Common.{◌+◌, if◌then◌else◌}
+use Rattle.std.proofs.Common.{true}
 use Rattle.cluster_rounds.proofs.settling.settle.Given as goal
-use Rattle.cluster_rounds.specs.Came.{seen}
 use Rattle.cluster_rounds.specs.Settling.{SettlesSo}
-use Rattle.cluster_rounds.proofs.MeasureSteps.{left}
+use Rattle.cluster_facts.specs.World.{World}
+use Rattle.cluster_rounds.specs.Wild.{IsWild, WildOn}
 
-abbrev pub invariant-loop-loud : goal.invariant-loop-loud
-invariant-loop-loud g l = (SettlesSo g.S.Serving.kit) l.fn.world l.world l.fn.lines.items l.lines.items l.loud (seen (g.D.SharedDisk.files l.fn.disk) (g.D.SharedDisk.tally l.fn.disk) (g.D.SharedDisk.faults l.fn.disk)) (seen (g.D.SharedDisk.files l.disk) (g.D.SharedDisk.tally l.disk) (g.D.SharedDisk.faults l.disk))
-
-abbrev pub decreases-loop-loud : goal.decreases-loop-loud
-decreases-loop-loud g l = left l.world + (if l.loud then 1 else 0)
+abbrev pub invariant-loop-round : goal.invariant-loop-round
+invariant-loop-round g l =
+    (SettlesSo g.S.Serving.kit) l.fn.world l.world l.fn.lines.items l.lines.items true (g.S.Serving.kit.see (g.D.SharedDisk.seen l.fn.disk) (g.J.SharedDisk.seen l.fn.beside)) (g.S.Serving.kit.see (g.D.SharedDisk.seen l.disk) (g.J.SharedDisk.seen l.beside))
+    × ((seen : World) → (IsWild g.S.Serving.kit) seen l.fn.world (g.S.Serving.kit.see (g.D.SharedDisk.seen l.fn.disk) (g.J.SharedDisk.seen l.fn.beside)) → (WildOn g.S.Serving.kit) seen l.world (g.S.Serving.kit.see (g.D.SharedDisk.seen l.disk) (g.J.SharedDisk.seen l.beside)))
+    × g.S.Serving.kit.Outlives (g.S.Serving.kit.see (g.D.SharedDisk.seen l.fn.disk) (g.J.SharedDisk.seen l.fn.beside)) (g.S.Serving.kit.see (g.D.SharedDisk.seen l.disk) (g.J.SharedDisk.seen l.beside))
