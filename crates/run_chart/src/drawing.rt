@@ -37,8 +37,8 @@ impl From<AllocError> for DrawError {
 /// The picture of a run that printed these lines, as SVG: the title of each of them, its number and its text, stands
 /// in it, in order.
 ///
-/// `Unknown` comes where a line is none that a run prints, and names a line; that this is the first such line is
-/// tested alone.
+/// `Unknown` comes where a line is none that a run prints, as each behind a fault of the disk, and names a line; that
+/// this is the first such line is tested alone.
 pub fn draw(alloc: Global, lines: &[Vec<u8>]) -> Result<Vec<u8>, DrawError>
     ensures drawn { IfOk result (λ picture. Draws (map items_of lines.now) picture.items) }
     ensures told { IfErr result (Tells (length lines.now)) }
@@ -60,8 +60,8 @@ fn read_run(alloc: Global, lines: &[Vec<u8>]) -> Result<Run, DrawError>
     let mut run = Run::new(alloc);
     for (index, line) in lines.iter().enumerate() {
         match read_event(alloc, line.as_slice()) {
-            Ok(Some(event)) => run.add(event)?,
-            Ok(None) => return Err(DrawError::Unknown { line: index + 1 }),
+            Ok(Some(event)) if !run.has_failed() => run.add(event)?,
+            Ok(_) => return Err(DrawError::Unknown { line: index + 1 }),
             Err(AllocError) => return Err(DrawError::Memory),
         }
     }

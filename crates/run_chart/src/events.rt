@@ -108,9 +108,11 @@ pub(crate) enum Event {
     Ignored { number: u64 },
     /// A line of the script is refused.
     Refused,
-    /// A server's role.
-    Changed { server: Server, role: Role },
+    /// A server's role, where it changes or as it stands.
+    Stands { server: Server, role: Role },
     /// A file, or a line of one.
     File,
     Text,
+    /// The disk failed, and the run ended.
+    Failed,
 }

@@ -2,8 +2,8 @@
 use crate::events::{Event, Kind, Role, Server};
 use crate::frame::{Frame, PANEL_HEIGHT, PANEL_ROWS, bottom};
 use crate::marks::{
-    put_agent_mark, put_callback_mark, put_entry_mark, put_file_mark, put_light_arrow,
-    put_refusal_mark, put_ring,
+    put_agent_mark, put_callback_mark, put_entry_mark, put_fault_mark, put_file_mark,
+    put_light_arrow, put_refusal_mark, put_ring,
 };
 use crate::panels::put_role;
 use crate::pen::{At, Pen};
@@ -30,7 +30,7 @@ path{fill:none;stroke-width:1.3}\
 .rcpt.head{fill:#00795a}.lost.head{fill:#999}\
 .ring{fill:#fff;stroke:#000;stroke-width:1.2}.cross{stroke:#666;stroke-width:1.5}\
 .commit{stroke:#888;stroke-width:.8}.life{stroke:#bbb;stroke-width:1}.rule{stroke:#e4e4e4;stroke-width:1}\
-.quote{stroke:#888;stroke-width:2}.change{stroke:#000;stroke-width:1.5}\
+.quote{stroke:#888;stroke-width:2}.fault{stroke:#c00;stroke-width:2.5}.change{stroke:#000;stroke-width:1.5}\
 .entry{fill:#333}.told{fill:#fff;stroke:#000;stroke-width:1.3}.callback{fill:#cc79a7;stroke:#000;stroke-width:.8}\
 .file{fill:#fff;stroke:#666}.refused{fill:#f0e442;stroke:#000;stroke-width:.8}\
 .net{fill:#f4f4f4}.paper{fill:#fff}\
@@ -135,16 +135,18 @@ fn put_marks(pen: &mut Pen) -> Result<(), AllocError> {
     let y = 80;
     put_entry_mark(pen, At(20, y), 7)?;
     pen.label("plain", At(36, y).down(3), b"entry, committed", 60)?;
-    put_callback_mark(pen, At(169, y))?;
-    pen.label("plain", At(184, y).down(3), b"callback", 60)?;
-    put_agent_mark(pen, At(319, y))?;
-    pen.label("plain", At(334, y).down(3), b"the agent's answer", 60)?;
-    put_ring(pen, At(469, y))?;
-    pen.label("plain", At(484, y).down(3), b"in the net still", 60)?;
-    put_refusal_mark(pen, At(619, y))?;
-    pen.label("plain", At(634, y).down(3), b"refused line", 60)?;
-    put_file_mark(pen, At(769, y))?;
-    pen.label("plain", At(784, y).down(3), b"file, with its length", 60)
+    put_callback_mark(pen, At(149, y))?;
+    pen.label("plain", At(164, y).down(3), b"callback", 60)?;
+    put_agent_mark(pen, At(249, y))?;
+    pen.label("plain", At(264, y).down(3), b"the agent's answer", 60)?;
+    put_ring(pen, At(389, y))?;
+    pen.label("plain", At(404, y).down(3), b"in the net still", 60)?;
+    put_refusal_mark(pen, At(519, y))?;
+    pen.label("plain", At(534, y).down(3), b"refused line", 60)?;
+    put_file_mark(pen, At(629, y))?;
+    pen.label("plain", At(644, y).down(3), b"file, with its length", 60)?;
+    put_fault_mark(pen, At(789, y))?;
+    pen.label("plain", At(804, y).down(3), b"fault of the disk", 60)
 }
 
 // What the lines do not tell.

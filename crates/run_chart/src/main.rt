@@ -2,6 +2,7 @@
 #![tactic(auto)]
 
 mod drawing;
+mod ending;
 mod escape;
 mod events;
 mod frame;
@@ -17,10 +18,11 @@ mod spelled;
 mod words;
 
 pub use drawing::{DrawError, draw};
+use ending::{Ending, read_ending};
 use spelled::read_event;
 use std::alloc::Global;
 use std::io;
-use std::io::{BufRead, BufReader, Read, Write};
+use std::io::{BufRead, BufReader, Write};
 use std::process::ExitCode;
 
 // The next line without its line feed; none at the end of the input.
@@ -53,25 +55,36 @@ fn lines_of<R: BufRead>(alloc: Global, reader: &mut R) -> io::Result<Vec<Vec<u8>
     Ok(lines)
 }
 
-fn write_picture<R: Input + Print + Eprint + AllocGlobal>(rt: &R) -> io::Result<ExitCode> {
-    let mut reader = BufReader::new(rt.alloc(), rt.reader())?;
-    let lines = lines_of(rt.alloc(), &mut reader)?;
-    match draw(rt.alloc(), lines.as_slice()) {
-        Ok(picture) => {
-            io::writer(rt).write_all(picture.as_slice())?;
-            Ok(ExitCode::SUCCESS)
-        }
-        Err(DrawError::Unknown { line }) => {
-            eprintln!(rt; "line {line} is none that a run prints")?;
-            Ok(ExitCode::from(1))
-        }
-        Err(DrawError::Memory) => {
-            eprintln!(rt; "out of memory")?;
-            Ok(ExitCode::from(3))
-        }
+fn read_lines<R: Input + AllocGlobal>(rt: &R) -> Result<Vec<Vec<u8>>, Ending> {
+    let mut reader = match BufReader::new(rt.alloc(), rt.reader()) {
+        Ok(reader) => reader,
+        Err(error) => return Err(read_ending(&error)),
+    };
+    match lines_of(rt.alloc(), &mut reader) {
+        Ok(lines) => Ok(lines),
+        Err(error) => Err(read_ending(&error)),
     }
 }
 
-fn main(rt: HostRuntime) -> io::Result<ExitCode> {
-    write_picture(&rt)
+fn write_picture<R: Input + Print + AllocGlobal>(rt: &R) -> Result<(), Ending> {
+    let lines = read_lines(rt)?;
+    match draw(rt.alloc(), lines.as_slice()) {
+        Ok(picture) => match io::writer(rt).write_all(picture.as_slice()) {
+            Ok(()) => Ok(()),
+            Err(_) => Err(Ending::Unwritten),
+        },
+        Err(DrawError::Unknown { line }) => Err(Ending::Unknown { line }),
+        Err(DrawError::Memory) => Err(Ending::Memory),
+    }
+}
+
+fn main(rt: HostRuntime) -> ExitCode {
+    match write_picture(&rt) {
+        Ok(()) => ExitCode::SUCCESS,
+        Err(ending) => {
+            // Where this cannot be told, the status says it.
+            let _ = ending.tell(&rt);
+            ExitCode::from(ending.code())
+        }
+    }
 }

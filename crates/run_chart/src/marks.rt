@@ -39,6 +39,13 @@ pub(crate) fn put_file_mark(pen: &mut Pen, middle: At) -> Result<(), AllocError>
     pen.area("file", middle.left(4).up(5), At(8, 10))
 }
 
+/// The mark of a fault of the disk.
+pub(crate) fn put_fault_mark(pen: &mut Pen, middle: At) -> Result<(), AllocError> {
+    let At(x, y) = middle;
+    let way = format!(in pen.alloc(); "M{x} {y}m-5 -5l10 10m0 -10l-10 10")?;
+    pen.path("fault", way.as_str())
+}
+
 /// The mark of a message that had no effect.
 pub(crate) fn put_cross(pen: &mut Pen, middle: At) -> Result<(), AllocError> {
     let At(x, y) = middle;

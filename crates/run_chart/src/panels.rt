@@ -2,7 +2,7 @@
 use crate::events::{Kind, Role, Server};
 use crate::frame::{BAR, Frame, HEAD, PANEL_HEIGHT, PANEL_ROWS, bottom, middle, top};
 use crate::pen::{At, Pen};
-use crate::run::{Message, Roles, Row, Run};
+use crate::run::{Message, Run};
 use std::alloc::AllocError;
 
 /// The rows of a panel: from one to before the other.
@@ -96,13 +96,6 @@ fn put_names(pen: &mut Pen, frame: &Frame) -> Result<(), AllocError> {
     pen.label("name", At(frame.history(), y).left(8), b"history", 20)
 }
 
-fn role_in(roles: Roles, server: Server) -> Role {
-    match server {
-        Server::First => roles.first,
-        Server::Second => roles.second,
-    }
-}
-
 // The roles of a server, from one line that changes it to the next.
 fn put_bar(
     pen: &mut Pen,
@@ -132,7 +125,7 @@ fn put_bar(
 
 fn role_at(run: &Run, row: usize, server: Server) -> Role {
     match run.rows.get(row) {
-        Some(row) => role_in(row.roles, server),
+        Some(row) => row.roles.of(server),
         None => Role::Untold,
     }
 }

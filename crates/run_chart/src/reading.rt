@@ -24,7 +24,8 @@ pub(crate) fn event_of(line: &[u8]) -> Option<Event> {
         b"reply" => replied(words),
         b"callback" => called_back(words),
         b"file" => file(words.rest()?),
-        b"server" => changed(words),
+        b"server" => stands(words),
+        b"disk" => failed(words),
         b"ignored" => ignored(words),
         b"refused" => {
             refused_line(words.rest()?)?;
@@ -258,14 +259,21 @@ fn role_of(word: &[u8]) -> Option<Role> {
     }
 }
 
-fn changed(mut words: Words) -> Option<Event> {
+fn stands(mut words: Words) -> Option<Event> {
     let server = match words.word()? {
         b"a" => Server::First,
         b"b" => Server::Second,
         _ => return None,
     };
     let role = role_of(words.word()?)?;
-    at_end(words, Event::Changed { server, role })
+    at_end(words, Event::Stands { server, role })
+}
+
+fn failed(mut words: Words) -> Option<Event> {
+    match words.word()? {
+        b"fault" => at_end(words, Event::Failed),
+        _ => None,
+    }
 }
 
 fn ignored(mut words: Words) -> Option<Event> {

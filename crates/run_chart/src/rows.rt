@@ -2,8 +2,8 @@
 use crate::events::{Event, Kind, Naming, Server};
 use crate::frame::{Frame, middle};
 use crate::marks::{
-    put_agent_mark, put_callback_mark, put_cross, put_entry_mark, put_file_mark, put_light_arrow,
-    put_refusal_mark, put_ring,
+    put_agent_mark, put_callback_mark, put_cross, put_entry_mark, put_fault_mark, put_file_mark,
+    put_light_arrow, put_refusal_mark, put_ring,
 };
 use crate::pen::{At, Pen};
 use crate::run::{Message, Row, Run};
@@ -49,9 +49,10 @@ pub(crate) fn put_row(
         Event::CalledBack { client } => put_callback(pen, &place, client, line),
         Event::Ignored { .. } => put_ignored(pen, &place, line),
         Event::Refused => put_refused(pen, &place, line),
-        Event::Changed { server, .. } => put_change(pen, &place, server, line),
+        Event::Stands { server, .. } => put_role_line(pen, &place, server, line),
         Event::File => put_file(pen, &place, line),
         Event::Text => put_text(pen, &place, line),
+        Event::Failed => put_failure(pen, &place, line),
     }
 }
 
@@ -251,13 +252,31 @@ fn put_refused(pen: &mut Pen, place: &Place, line: &[u8]) -> Result<(), AllocErr
     pen.label("light", at.right(12).down(3), line, HISTORY_LABEL)
 }
 
-fn put_change(pen: &mut Pen, place: &Place, server: Server, line: &[u8]) -> Result<(), AllocError> {
+// A server's role: a rule across its bar and darker words where it changed, and else lighter words alone.
+fn put_role_line(
+    pen: &mut Pen,
+    place: &Place,
+    server: Server,
+    line: &[u8],
+) -> Result<(), AllocError> {
     let frame = place.frame;
+    let words = At(frame.server(Server::First), place.y).left(6);
+    if !place.row.is_change {
+        return pen.label("light end", words.down(3), line, SERVER_LABEL);
+    }
     let from = At(frame.server(server), place.y).left(4).up(8);
     let to = At(frame.server_end(server), place.y).right(4).up(8);
     pen.stroke("change", from, to)?;
-    let at = At(frame.server(Server::First), place.y);
-    pen.label("role end", at.left(6).down(1), line, SERVER_LABEL)
+    pen.label("role end", words.down(1), line, SERVER_LABEL)
+}
+
+// The disk failed: a rule across both servers up to the history, where the run ends.
+fn put_failure(pen: &mut Pen, place: &Place, line: &[u8]) -> Result<(), AllocError> {
+    let from = At(place.frame.server(Server::First), place.y).left(4);
+    let to = At(place.frame.history(), place.y);
+    pen.stroke("fault", from, to)?;
+    put_fault_mark(pen, to)?;
+    pen.label("role", to.right(12).down(3), line, HISTORY_LABEL)
 }
 
 fn put_file(pen: &mut Pen, place: &Place, line: &[u8]) -> Result<(), AllocError> {

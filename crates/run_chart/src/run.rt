@@ -26,6 +26,16 @@ pub(crate) struct Roles {
     pub(crate) second: Role,
 }
 
+impl Roles {
+    /// The role of a server.
+    pub(crate) fn of(self, server: Server) -> Role {
+        match server {
+            Server::First => self.first,
+            Server::Second => self.second,
+        }
+    }
+}
+
 /// A line of the run.
 #[derive(Clone, Copy)]
 pub(crate) struct Row {
@@ -34,6 +44,8 @@ pub(crate) struct Row {
     pub(crate) active: Server,
     /// The roles behind the line.
     pub(crate) roles: Roles,
+    /// Whether the line tells that a role changed.
+    pub(crate) is_change: bool,
     /// The place of the message that came out of the net, and of the one that was posted.
     pub(crate) arrival: Option<usize>,
     pub(crate) posted: Option<usize>,
@@ -77,6 +89,14 @@ impl Run {
         self.messages.get(place?).copied()
     }
 
+    /// Whether the last line tells that the run ended by a fault of the disk: no run prints a line behind it.
+    pub(crate) fn has_failed(&self) -> bool {
+        match self.rows.last() {
+            Some(row) => matches!(row.event, Event::Failed),
+            None => false,
+        }
+    }
+
     /// Adds what the next line tells.
     pub(crate) fn add(&mut self, event: Event) -> Result<(), AllocError> {
         let arrival = match event {
@@ -84,8 +104,11 @@ impl Run {
             Event::Committed { name, .. } => self.arrive(name),
             Event::Answered { name } => self.arrive(name),
             Event::Ignored { number } => self.miss(number),
-            Event::Changed { server, role } => self.change(server, role),
             _ => None,
+        };
+        let is_change = match event {
+            Event::Stands { server, role } => self.stand(server, role),
+            _ => false,
         };
         let posted = match event {
             Event::Posted { number, name } => Some(self.post(number, name)?),
@@ -101,6 +124,7 @@ impl Run {
             event,
             active,
             roles,
+            is_change,
             arrival,
             posted,
             time,
@@ -170,7 +194,9 @@ impl Run {
         Some(place)
     }
 
-    fn change(&mut self, server: Server, role: Role) -> Option<usize> {
+    // A server's role is told. Answers whether it changed.
+    fn stand(&mut self, server: Server, role: Role) -> bool {
+        let known = self.roles.of(server);
         match server {
             Server::First => self.roles.first = role,
             Server::Second => self.roles.second = role,
@@ -178,7 +204,17 @@ impl Run {
         if role.answers() {
             self.active = server;
         }
-        None
+        is_change(known, role)
+    }
+}
+
+// Whether a line of this role tells of a change. `servers` tells the role that a server has, which no line may have told yet where it
+// is standby; and it alone tells whether an active one is armed.
+fn is_change(known: Role, role: Role) -> bool {
+    match known {
+        Role::Untold => role != Role::Standby,
+        Role::Active | Role::Armed => !role.answers(),
+        _ => known != role,
     }
 }
 
