@@ -4,3 +4,4 @@ pub mod LineBroken
 pub mod LineSpelled
 pub mod OwnLines
 mod ShowSteps
+mod WildLines

@@ -1,101 +1,94 @@
 -- What a line left that was not done, and how the disk's count of faults went in a line.
-use Rattle.std.proofs.Common.{◌≡◌, ℕ, le_trans, inl, inr, Bool, Option, List, refl, sym, subst}
-use Rattle.std.proofs.lemmas.Result.{on_ok_weaker}
+use Rattle.std.proofs.Common.{◌≡◌, ℕ, inl, inr, Bool, true, List, [], refl, ap, sym, subst, is_ok}
 use Rattle.std.specs.Prelude.{Result, Ok, Err, OnOk, OnErr, IfErr, IsErrOf}
 use Rattle.ais_values.specs.Causes.{RoseExactlyOn}
-use Rattle.disk_model.specs.Disk.{Files}
+use Rattle.disk_model.specs.Seen.{DiskSeen}
 use Rattle.disk_model.specs.declared.answers.DiskAnswer.{DiskAnswer}
 use Rattle.disk_model.specs.declared.answers.DiskAnswer.TheVariants.{Memory, Failed, Stopped}
 use Rattle.script_lines.specs.declared.line.Line.{Line}
 use Rattle.script_lines.specs.declared.line.Line.TheVariants as line
 use Rattle.plain_service.specs.Setups.{Setup}
 use Rattle.service_laws.specs.PlainOf.{plain_of}
+use Rattle.disk_model.specs.declared.tally.Tally.{Tally}
 use Rattle.cluster_facts.specs.Lists.{without}
+use Rattle.cluster_facts.specs.History.{committed}
+use Rattle.cluster_clients.specs.Looks.{Looks}
 use Rattle.cluster_events.specs.Lines.{is_ignored}
 use Rattle.cluster_events.specs.Outcomes.{Outcome}
 use Rattle.cluster_events.specs.Servers.{State}
-use Rattle.cluster_events.proofs.Devices.{rose-later}
 use Rattle.cluster_events.proofs.Promised.{Says-printed}
 use Rattle.cluster_rounds.specs.declared.cluster.Cluster.{Cluster}
 use Rattle.cluster_rounds.specs.Kits.{IsKit, Kit, device_by}
 use Rattle.cluster_rounds.specs.Scripts.{Script}
-use Rattle.cluster_rounds.specs.Worlds.{HasStateOn, any_state}
-use Rattle.cluster_rounds.specs.Broken.{BreaksOn, BreaksAlone}
+use Rattle.cluster_rounds.specs.Worlds.{HasStateOn, IsGood, Shows, any_state}
+use Rattle.cluster_rounds.specs.Broken.{Broken, BreaksAlone}
+use Rattle.cluster_rounds.proofs.BrokenSteps.{left-between, whole-broken}
+use Rattle.cluster_rounds.proofs.UnaskedSteps.{unasked-same}
 use Rattle.cluster_rounds.specs.Rounds.{EndOver, EndsSettle}
-use Rattle.cluster_rounds.specs.Came.{ComesOff, DiskSeen, Ended}
-use Rattle.cluster_rounds.specs.Settling.{DoesSettle}
+use Rattle.cluster_rounds.specs.Came.{ComesOff, Ended}
+use Rattle.cluster_rounds.specs.Counted.{Counted}
+use Rattle.cluster_rounds.specs.Seen.{IsRead}
 use Rattle.cluster_rounds.proofs.BrokenClients.{same-breaks}
-use Rattle.cluster_lines.specs.Playing.{BreaksOff, EndsLine, GoesOn, LineEnded}
+use Rattle.cluster_lines.specs.Playing.{BreaksOff, EndsLine, FaultLeaves, LineEnded, ShowFails}
 use Rattle.cluster_lines.specs.Following.{IsScript}
 use Rattle.cluster_lines.specs.Answers.{EndsAs}
 
--- what two looks at a disk tell is the same
-pub same-seen : (one other : DiskSeen) → one.files ≡ other.files → one.armed ≡ other.armed → one.faults ≡ other.faults → one ≡ other
-same-seen one other files armed faults = λ i. record { files = files i; armed = armed i; faults = faults i }
+-- a disk that was looked at was only read
+pub looked-read : (one two : DiskSeen) (Due : ℕ → Type 0) (done : Bool) → two.files ≡ one.files → two.stops ≡ one.stops → Looks Due done one.tally two.tally → IsRead one two
+looked-read one two Due done files stops looks = record {
+  files = files;
+  changing = ap (λ (t : Tally). t.changing) looks.counted;
+  armed = ap (λ (t : Tally). t.armed) looks.counted;
+  stops = stops;
+}
 
 module _ {Peers Group : Type 0} (kit : Kit Peers Group) (laws : IsKit kit) where
   pub alone-as : (old new : Cluster Group) → new ≡ old → (BreaksAlone kit) old new
   alone-as old new same = subst ((BreaksAlone kit) old) (sym same) ((same-breaks kit laws) old)
 
-  -- How the count of faults went.
+  -- How the counts went.
 
-  stood : (before after : ℕ) → after ≡ before → kit.Outlives before after
-  stood before after same = subst (λ (count : ℕ). kit.Outlives before count) (sym same) (laws.stands before)
+  -- a cluster over a disk that was only read
+  pub read-stands : (world : Cluster Group) (one two beside : DiskSeen) → IsRead one two → (HasStateOn kit) any_state world (kit.see one beside) → (HasStateOn kit) any_state world (kit.see two beside)
+  read-stands world one two beside read has =
+      record { setup = has.setup; state = has.state; good = has.good; shows = has.shows; count = laws.read_armed has.state.peers one two beside read has.count; so = tt }
 
-  pub ends-counts : {T E : Type 0} (r : Result T E) (s : Result T DiskAnswer) (faults : ℕ) → EndsAs r s → GoesOn kit.Outlives faults faults s
-  ends-counts (Ok x) (Ok y) faults same = laws.stands faults
-  ends-counts (Ok x) (Err f) faults same = elim same [ ]
-  ends-counts (Err e) (Ok y) faults same = elim same [ ]
-  ends-counts {T = T} (Err e) (Err f) faults same = subst (λ (answer : DiskAnswer). GoesOn {T = T} kit.Outlives faults faults (Err answer)) (sym same) (laws.stands faults)
+  pub ends-counts : {T E : Type 0} (r : Result T E) (s : Result T DiskAnswer) (seen : kit.Seen) → EndsAs r s → Counted kit seen seen s
+  ends-counts (Ok x) (Ok y) seen same = laws.stands seen
+  ends-counts (Ok x) (Err f) seen same = elim same [ ]
+  ends-counts (Err e) (Ok y) seen same = elim same [ ]
+  ends-counts {T = T} (Err e) (Err f) seen same = subst (λ (answer : DiskAnswer). Counted {T = T} kit seen seen (Err answer)) (sym same) (laws.stands seen)
 
-  pub shown-counts : {T : Type 0} (r : Result T DiskAnswer) (before after : ℕ) → RoseExactlyOn before after r Failed → (IsErrOf r Stopped → ⊥) → GoesOn kit.Outlives before after r
-  shown-counts (Ok x) before after cause never = stood before after cause.stands
-  shown-counts (Err Memory) before after cause never = elim cause.stands [
+  pub shown-counts : {T : Type 0} (r : Result T DiskAnswer) (one two beside : DiskSeen) → IsRead one two → RoseExactlyOn one.faults two.faults r Failed → (IsErrOf r Stopped → ⊥) → Counted kit (kit.see one beside) (kit.see two beside) r
+  shown-counts (Ok x) one two beside read cause never = laws.read_outlives one two beside read cause.stands
+  shown-counts (Err Memory) one two beside read cause never = elim cause.stands [
     | inl is ↦ cc
-    | inr same ↦ stood before after same
+    | inr same ↦ laws.read_outlives one two beside read same
   ]
-  shown-counts (Err Failed) before after cause never = (cause.later, cause.rose refl)
-  shown-counts (Err Stopped) before after cause never = never refl
+  shown-counts (Err Failed) one two beside read cause never = laws.read_rises one two beside read cause.later (cause.rose refl)
+  shown-counts (Err Stopped) one two beside read cause never = absurd (never refl)
 
   -- what is so of a disk that only was read is so of it now
-  pub shown-ok : {T Q : Type 0} (P : DiskSeen → Type 0) (r : Result T DiskAnswer) (held left : DiskSeen) → left.files ≡ held.files → left.armed ≡ held.armed → RoseExactlyOn held.faults left.faults r Failed → ((d : DiskSeen) → d ≡ held → Q → P d) → OnOk r Q → OnOk r (P left)
-  shown-ok P (Ok x) held left files armed cause step holds = step left (same-seen left held files armed cause.stands) holds
-  shown-ok P (Err answer) held left files armed cause step holds = tt
+  pub shown-ok : {T Q P : Type 0} (r : Result T DiskAnswer) (one two : DiskSeen) → RoseExactlyOn one.faults two.faults r Failed → (is_ok r ≡ true → two.faults ≡ one.faults → Q → P) → OnOk r Q → OnOk r P
+  shown-ok (Ok x) one two cause step holds = step refl cause.stands holds
+  shown-ok (Err answer) one two cause step holds = tt
 
-  -- **an event that came, or ended, goes on as its line does**
-  pub off-counts : {T : Type 0} (r : Result T DiskAnswer) (Ends : (EndOver kit)) (old new : Cluster Group) (before after : List (List ℕ)) (held left : DiskSeen) → (HasStateOn kit) any_state old held.armed → OnOk r (kit.Outlives held.faults left.faults) → IfErr r (λ answer. (ComesOff kit) any_state Ends answer old new before after held left) → GoesOn kit.Outlives held.faults left.faults r
-  off-counts (Ok x) Ends old new before after held left has done off = done
-  off-counts (Err Memory) Ends old new before after held left has done off = (off has.setup has.state has.good has.shows has.count tt).1
-  off-counts (Err Stopped) Ends old new before after held left has done off = off has.setup has.state has.good has.shows has.count tt
-  off-counts (Err Failed) Ends old new before after held left has done off =
-      let ended = off has.setup has.state has.good has.shows has.count tt in
-      (le_trans ended.before_it ended.behind_it, rose-later held.faults ended.between left.faults ended.before_it ended.rose)
-
-  pub settle-counts : {T : Type 0} (r : Result T DiskAnswer) (old new : Cluster Group) (before after : List (List ℕ)) (held left : DiskSeen) → (HasStateOn kit) any_state old held.armed → OnOk r ((DoesSettle kit) old new before after held left) → IfErr r (λ answer. (ComesOff kit) any_state (EndsSettle kit) answer old new before after held left) → GoesOn kit.Outlives held.faults left.faults r
-  settle-counts r old new before after held left has done off =
-      off-counts r (EndsSettle kit) old new before after held left has
-      (on_ok_weaker r (λ (does : (DoesSettle kit) old new before after held left). (does has.setup has.state has.good has.shows has.count).outlives) done) off
-
-module _ {Peers Group : Type 0} (kit : Kit Peers Group) (laws : IsKit kit) (script : Script Peers) (follows : IsScript kit script) where
+module _ {Peers Group : Type 0} (kit : Kit Peers Group) (laws : IsKit kit) (script : Script Peers kit.Seen) (follows : IsScript kit script) where
   -- a line that leaves the disk alone
-  pub ends-broken : {T E : Type 0} (r : Result T E) (s : Result T DiskAnswer) (next : Line) (old new : Cluster Group) (before after : List (List ℕ)) (held : DiskSeen) → EndsAs r s → OnErr r ((BreaksAlone kit) old new) → IfErr s (λ answer. (BreaksOff kit script) answer next old new before after held held)
+  pub ends-broken : {T E : Type 0} (r : Result T E) (s : Result T DiskAnswer) (next : Line) (old new : Cluster Group) (before after : List (List ℕ)) (held : kit.Seen) → EndsAs r s → OnErr r ((BreaksAlone kit) old new) → IfErr s (λ answer. (BreaksOff kit script) answer next old new before after held held)
   ends-broken (Ok x) (Ok y) next old new before after held same breaks = tt
   ends-broken (Ok x) (Err f) next old new before after held same breaks = elim same [ ]
   ends-broken (Err e) (Ok y) next old new before after held same breaks = elim same [ ]
   ends-broken (Err e) (Err f) next old new before after held same breaks =
-      subst (λ answer. (BreaksOff kit script) answer next old new before after held held) (sym same) (λ setup state good shows count. breaks held.files setup state good shows)
+      subst (λ answer. (BreaksOff kit script) answer next old new before after held held) (sym same) (λ setup state good shows count. (breaks held setup state good shows, laws.lacks_same setup state held))
 
   -- **an event that ended is its line's end, with its lines on messages without effect left out**
-  pub ended-line : (next : Line) (Ends : (EndOver kit)) (setup : Setup) (state : State Peers) (new : Cluster Group) (before after : List (List ℕ)) (held left : DiskSeen) → ((fails : ℕ → Bool) (end : Outcome (State Peers)) → Ends setup fails state end → (EndsLine kit script) next setup fails state (record { state = end.state; told = without is_ignored end.told })) → (Ended kit) setup state (Ends setup) new before after held left → (LineEnded kit script) setup state next new before after held left
-  ended-line next Ends setup state new before after held left as_line ended = record {
+  pub ended-line : (next : Line) (Ends : (EndOver kit)) (setup : Setup) (state : State Peers) (new : Cluster Group) (before after : List (List ℕ)) (held left : kit.Seen) → ((fails : ℕ → ℕ) (end : Outcome (State Peers)) → Ends setup fails state end → (EndsLine kit script) next setup fails state (record { state = end.state; told = without is_ignored end.told })) → ((happened : ℕ → ℕ) (end : Outcome (State Peers)) → kit.Faults setup happened state end held left → script.Faults next setup happened state (record { state = end.state; told = without is_ignored end.told }) held left) → (Ended kit) setup state (Ends setup) new before after held left → (LineEnded kit script) setup state next new before after held left
+  ended-line next Ends setup state new before after held left as_line as_fault ended = record {
     happened = ended.happened;
     end = record { state = ended.end.state; told = without is_ignored ended.end.told };
     ends = record { later = ended.ends.later; is = λ fails agrees. as_line fails ended.end (ended.ends.is fails agrees) };
-    between = ended.between;
-    before_it = ended.before_it;
-    caused = ended.caused;
-    behind_it = ended.behind_it;
-    rose = ended.rose;
+    faults = as_fault ended.happened ended.end ended.faults;
     good = ended.good;
     says = Says-printed (plain_of setup) state.world ended.end.state.world ended.end.told ended.says;
     fell = ended.fell;
@@ -108,32 +101,42 @@ module _ {Peers Group : Type 0} (kit : Kit Peers Group) (laws : IsKit kit) (scri
     files = ended.files;
   }
 
-  settle-off : (answer : DiskAnswer) (old new : Cluster Group) (before after : List (List ℕ)) (held left : DiskSeen) → (HasStateOn kit) any_state old held.armed → (ComesOff kit) any_state (EndsSettle kit) answer old new before after held left → (BreaksOff kit script) answer line.Settle old new before after held left
-  settle-off Memory old new before after held left has off = λ setup state good shows count. (off setup state good shows count tt).0
-  settle-off Stopped old new before after held left has off = off has.setup has.state has.good has.shows has.count tt
-  settle-off Failed old new before after held left has off = λ setup state good shows count.
+  settle-off : (answer : DiskAnswer) (old new : Cluster Group) (before after : List (List ℕ)) (held left : kit.Seen) → (ComesOff kit) any_state (EndsSettle kit) answer old new before after held left → (BreaksOff kit script) answer line.Settle old new before after held left
+  settle-off Memory old new before after held left off = λ setup state good shows count. off setup state good shows count tt
+  settle-off Stopped old new before after held left off = λ setup state good shows count. off setup state good shows count tt
+  settle-off Failed old new before after held left off = λ setup state good shows count.
       ended-line line.Settle (EndsSettle kit) setup state new before after held left
-      (λ fails end ends. follows.settles (plain_of setup) (device_by setup fails) state end ends) (off setup state good shows count tt)
+      (λ fails end ends. follows.settles (plain_of setup) (device_by setup fails) state end ends) (λ happened end faults. follows.settle_faults setup happened state end held left faults) (off setup state good shows count tt)
 
-  pub settle-broken : {T : Type 0} (r : Result T DiskAnswer) (next : Line) (old new : Cluster Group) (before after : List (List ℕ)) (held left : DiskSeen) → next ≡ line.Settle → (HasStateOn kit) any_state old held.armed → IfErr r (λ answer. (ComesOff kit) any_state (EndsSettle kit) answer old new before after held left) → IfErr r (λ answer. (BreaksOff kit script) answer next old new before after held left)
-  settle-broken (Ok x) next old new before after held left is has breaks = tt
-  settle-broken (Err answer) next old new before after held left is has breaks =
-      subst (λ n. (BreaksOff kit script) answer n old new before after held left) (sym is) (settle-off answer old new before after held left has breaks)
+  pub settle-broken : {T : Type 0} (r : Result T DiskAnswer) (next : Line) (old new : Cluster Group) (before after : List (List ℕ)) (held left : kit.Seen) → next ≡ line.Settle → IfErr r (λ answer. (ComesOff kit) any_state (EndsSettle kit) answer old new before after held left) → IfErr r (λ answer. (BreaksOff kit script) answer next old new before after held left)
+  settle-broken (Ok x) next old new before after held left is breaks = tt
+  settle-broken (Err answer) next old new before after held left is breaks =
+      subst (λ n. (BreaksOff kit script) answer n old new before after held left) (sym is) (settle-off answer old new before after held left breaks)
 
   -- files were to be shown
-  memory-same : (old : Cluster Group) (held left : Option Files) → left ≡ held → (BreaksOn kit) old old held left
-  memory-same old held left same = subst ((BreaksOn kit) old old held) (sym same) ((same-breaks kit laws) old held)
+  read-lacks : (one two beside : DiskSeen) → IsRead one two → two.faults ≡ one.faults → (setup : Setup) (state : State Peers) (world : Cluster Group) → (IsGood kit) setup state → (Shows kit) setup state world → (Broken kit) setup state (kit.see one beside) (kit.see two beside) world × kit.Lacks setup state (kit.see one beside) (kit.see two beside)
+  read-lacks one two beside read faults setup state world good shows =
+      let nothing = unasked-same (plain_of setup) state.world in
+      let left : kit.Tells setup state (kit.see one beside) → kit.Between setup (committed state.world.core) (kit.see one beside) (kit.see two beside) = λ tells. (left-between kit laws) setup state (kit.see one beside) (kit.see two beside) good (laws.read_left setup state one two beside read tells) in
+      ((whole-broken kit laws) setup state state [] (kit.see one beside) (kit.see two beside) world good.steady.sound nothing shows.net shows.agents shows.history shows.now left, laws.read_lacks setup state one two beside read faults)
 
-  pub files-broken : {T : Type 0} (r : Result T DiskAnswer) (next : Line) (old : Cluster Group) (before after : List (List ℕ)) (held left : DiskSeen) → next ≡ line.Files → left.files ≡ held.files → left.armed ≡ held.armed → (IsErrOf r Failed → after ≡ before) → (IsErrOf r Stopped → ⊥) → IfErr r (λ answer. (BreaksOff kit script) answer next old old before after held left)
-  files-broken (Ok x) next old before after held left is same armed stays never = tt
-  files-broken (Err Memory) next old before after held left is same armed stays never = λ setup state good shows count. memory-same old held.files left.files same setup state good shows
-  files-broken (Err Stopped) next old before after held left is same armed stays never = never refl
-  files-broken (Err Failed) next old before after held left is same armed stays never =
-      subst (λ n. (BreaksOff kit script) Failed n old old before after held left) (sym is) (refl, stays refl, same, armed)
+  pub show-broken : {T : Type 0} (r : Result T DiskAnswer) (next : Line) (old : Cluster Group) (before after : List (List ℕ)) (one two beside : DiskSeen) → (FaultLeaves kit script) next old old before before (kit.see one beside) (kit.see two beside) → IsRead one two → RoseExactlyOn one.faults two.faults r Failed → (IsErrOf r Failed → after ≡ before) → (IsErrOf r Stopped → ⊥) → IfErr r (λ answer. (BreaksOff kit script) answer next old old before after (kit.see one beside) (kit.see two beside))
+  show-broken (Ok x) next old before after one two beside leaves read cause stays never = tt
+  show-broken (Err Memory) next old before after one two beside leaves read cause stays never = λ setup state good shows count. elim cause.stands [
+    | inl is ↦ cc
+    | inr same ↦ read-lacks one two beside read same setup state old good shows
+  ]
+  show-broken (Err Stopped) next old before after one two beside leaves read cause stays never = absurd (never refl)
+  show-broken (Err Failed) next old before after one two beside leaves read cause stays never =
+      subst (λ (lines : List (List ℕ)). (FaultLeaves kit script) next old old before lines (kit.see one beside) (kit.see two beside)) (sym (stays refl)) leaves
 
-  pub cat-broken : {T : Type 0} (r : Result T DiskAnswer) (next : Line) (name : List ℕ) (old : Cluster Group) (before after : List (List ℕ)) (held left : DiskSeen) → next ≡ line.Cat name → left.files ≡ held.files → left.armed ≡ held.armed → (IsErrOf r Failed → after ≡ before) → (IsErrOf r Stopped → ⊥) → IfErr r (λ answer. (BreaksOff kit script) answer next old old before after held left)
-  cat-broken (Ok x) next name old before after held left is same armed stays never = tt
-  cat-broken (Err Memory) next name old before after held left is same armed stays never = λ setup state good shows count. memory-same old held.files left.files same setup state good shows
-  cat-broken (Err Stopped) next name old before after held left is same armed stays never = never refl
-  cat-broken (Err Failed) next name old before after held left is same armed stays never =
-      subst (λ n. (BreaksOff kit script) Failed n old old before after held left) (sym is) (refl, stays refl, same, armed)
+  pub show-fails : (one two beside : DiskSeen) → IsRead one two → (ShowFails kit script) (kit.see one beside) (kit.see two beside)
+  show-fails one two beside read = record { one = one; two = two; beside = beside; held_is = refl; left_is = refl; read = read }
+
+  pub files-broken : {T : Type 0} (r : Result T DiskAnswer) (next : Line) (old : Cluster Group) (before after : List (List ℕ)) (one two beside : DiskSeen) → next ≡ line.Files → IsRead one two → RoseExactlyOn one.faults two.faults r Failed → (IsErrOf r Failed → after ≡ before) → (IsErrOf r Stopped → ⊥) → IfErr r (λ answer. (BreaksOff kit script) answer next old old before after (kit.see one beside) (kit.see two beside))
+  files-broken r next old before after one two beside is read cause stays never =
+      show-broken r next old before after one two beside (subst (λ (n : Line). (FaultLeaves kit script) n old old before before (kit.see one beside) (kit.see two beside)) (sym is) (refl, refl, show-fails one two beside read)) read cause stays never
+
+  pub cat-broken : {T : Type 0} (r : Result T DiskAnswer) (next : Line) (name : List ℕ) (old : Cluster Group) (before after : List (List ℕ)) (one two beside : DiskSeen) → next ≡ line.Cat name → IsRead one two → RoseExactlyOn one.faults two.faults r Failed → (IsErrOf r Failed → after ≡ before) → (IsErrOf r Stopped → ⊥) → IfErr r (λ answer. (BreaksOff kit script) answer next old old before after (kit.see one beside) (kit.see two beside))
+  cat-broken r next name old before after one two beside is read cause stays never =
+      show-broken r next old before after one two beside (subst (λ (n : Line). (FaultLeaves kit script) n old old before before (kit.see one beside) (kit.see two beside)) (sym is) (refl, refl, show-fails one two beside read)) read cause stays never

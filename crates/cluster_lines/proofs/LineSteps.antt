@@ -7,6 +7,7 @@ use mir.Syntax.{w64}
 use mir.Val.{to_z, of_z}
 use Rattle.ais_values.proofs.Basics.{true_from_T}
 use Rattle.disk_model.specs.Disk.{Files}
+use Rattle.disk_model.specs.Seen.{DiskSeen}
 use Rattle.disk_model.specs.declared.answers.DiskAnswer.{DiskAnswer}
 use Rattle.disk_model.specs.declared.tally.Tally.{Tally}
 use Rattle.script_lines.specs.declared.line.Line.{Line}
@@ -33,19 +34,20 @@ use Rattle.cluster_rounds.specs.Scripts.{Script}
 use Rattle.cluster_rounds.specs.Worlds.{Event, Shows, IsGood, HasState, HasStateOf, HasStateOn, IsIdle, Does, Happened, pushed, Pushes, any_state}
 use Rattle.cluster_rounds.specs.Broken.{BreaksAlone, BreaksAloneIf}
 use Rattle.cluster_rounds.specs.Rounds.{EventOver}
-use Rattle.cluster_rounds.specs.Came.{Comes, DiskSeen}
+use Rattle.cluster_rounds.specs.Resting.Rests.{begun, moved}
+use Rattle.cluster_rounds.specs.Seen.{IsRead, TellsFiles}
+use Rattle.cluster_rounds.specs.Came.{Comes}
 use Rattle.cluster_rounds.specs.Settling.{DoesSettle}
 use Rattle.cluster_rounds.specs.Delivered.{asked_by, dispatched_by, resent_by, Delivers, Injects}
-use Rattle.cluster_rounds.proofs.FilesSteps.{files-same}
 use Rattle.cluster_rounds.proofs.KitSteps.{line-kept}
 use Rattle.cluster_lines.specs.Shelves.{shelf_of}
 use Rattle.cluster_lines.specs.Lines.{CanPlay, IsOwn, is_own}
 use Rattle.cluster_lines.specs.Showing.{StandsAs, refused, servers_listed}
-use Rattle.cluster_lines.specs.Playing.{LooksBy, Plays, works_entries}
+use Rattle.cluster_lines.specs.Playing.{LooksBy, Plays}
 use Rattle.cluster_lines.specs.Following.{IsInHand, IsScript}
 use Rattle.cluster_lines.specs.Answers.{EndsAs}
 use Rattle.cluster_lines.specs.Steps.{PlaysAlone, ShowsOn, deliver_at, file_shown, files_listed}
-use Rattle.cluster_lines.proofs.KeepSteps.{Keeps, asked-keeps, deliver-keeps, dispatched-keeps, push-keeps, resend-keeps, shows-keep}
+use Rattle.cluster_lines.proofs.KeepSteps.{Keeps, asked-keeps, deliver-keeps, dispatched-keeps, push-keeps, resend-keeps, shows-keep, stays-put}
 
 -- the shelf of the disk's files
 pub own-shelf : (setup : Setup) (held : Option Files) → IfSome held (λ files. shelf_of setup ≡ shelf_of setup)
@@ -59,11 +61,6 @@ ends-ok (Ok x) (Ok y) same step holds = step holds
 ends-ok (Ok x) (Err f) same step holds = elim same [ ]
 ends-ok (Err e) (Ok y) same step holds = elim same [ ]
 ends-ok (Err e) (Err f) same step holds = tt
-
--- what is so whatever the result
-pub ok-so : {T E A : Type 0} (r : Result T E) → A → OnOk r A
-ok-so (Ok x) so = so
-ok-so (Err e) so = tt
 
 -- a line that leaves the disk alone makes no call, and of the servers' own nothing is said
 pub looks-alone : (next : Line) (held : Option Files) (done : Bool) (tally : Tally) → (next ≡ line.Files → ⊥) → ((name : List ℕ) → next ≡ line.Cat name → ⊥) → LooksBy next held done tally tally
@@ -84,7 +81,7 @@ moment-same (pos n) moment = let to = leb-true n 9000000000000000000 (true_from_
 moment-same (negsuc n) moment = absurd moment.from.le
 
 -- a line of the servers' own that can be played is one that they play
-pub owns : {P : Type 0} (script : Script P) (now : ℤ) (next : Line) → is_own next ≡ true → CanPlay script now next → IsOwn script next
+pub owns : {P V : Type 0} (script : Script P V) (now : ℤ) (next : Line) → is_own next ≡ true → CanPlay script now next → IsOwn script next
 owns script now line.Mirror own can = tt
 owns script now line.Ack own can = tt
 owns script now line.Work own can = tt
@@ -107,13 +104,14 @@ idle-by (Some number) hand none known = cc
 module _ {Peers Group : Type 0} (kit : Kit Peers Group) (laws : IsKit kit) where
   -- An event that happened is what a line does.
 
-  plays-does : (next : Line) (event : (Event kit)) (old new : Cluster Group) (before after : List (List ℕ)) → ((setup : Setup) (state : State Peers) (shelf : Shelf) → Happens (plain_of setup) shelf (calm_servers kit setup) next state (event setup state)) → ((setup : Setup) (state : State Peers) → (Keeps kit laws) state (event setup state)) → (Does kit) event old new before after → (PlaysAlone kit) next old new before after
+  plays-does : (next : Line) (event : (Event kit)) (old new : Cluster Group) (before after : List (List ℕ)) → ((setup : Setup) (state : State Peers) (shelf : Shelf) → Happens (plain_of setup) shelf (calm_servers kit setup) next state (event setup state)) → ((setup : Setup) (state : State Peers) → (Keeps kit laws) setup state (event setup state)) → (Does kit) event old new before after → (PlaysAlone kit) next old new before after
   plays-does next event old new before after happens keeps does setup state good shows = record {
     outcome = event setup state;
     happens = happens setup state;
     is = does setup state good shows;
-    answered = (keeps setup state).answered;
+    rests = (keeps setup state).rests;
     armed = (keeps setup state).armed;
+    tells = (keeps setup state).tells;
   }
 
   pub plays-as : (one other : Line) (old new : Cluster Group) (before after : List (List ℕ)) → other ≡ one → (PlaysAlone kit) one old new before after → (PlaysAlone kit) other old new before after
@@ -143,7 +141,7 @@ module _ {Peers Group : Type 0} (kit : Kit Peers Group) (laws : IsKit kit) where
 
   pub plays-servers : (old new : Cluster Group) (before after : List (List ℕ)) → (Does kit) (servers_listed kit) old new before after → (PlaysAlone kit) line.Servers old new before after
   plays-servers old new before after =
-      plays-does line.Servers (servers_listed kit) old new before after (λ setup state shelf. refl) (λ setup state. record { answered = refl; armed = λ count armed. armed })
+      plays-does line.Servers (servers_listed kit) old new before after (λ setup state shelf. refl) (λ setup state. (stays-put kit laws) setup state _ refl refl)
 
   -- **a refusal is what a line does of which it is so over each good state**
   pub plays-refused : (next : Line) (old : Cluster Group) (before after : List (List ℕ)) → ((setup : Setup) (state : State Peers) (shelf : Shelf) → (IsGood kit) setup state → (Shows kit) setup state old → Happens (plain_of setup) shelf (calm_servers kit setup) next state ((refused kit) next setup state)) → (Does kit) ((refused kit) next) old old before after → (PlaysAlone kit) next old old before after
@@ -151,23 +149,24 @@ module _ {Peers Group : Type 0} (kit : Kit Peers Group) (laws : IsKit kit) where
     outcome = (refused kit) next setup state;
     happens = λ shelf. happens setup state shelf good shows;
     is = does setup state good shows;
-    answered = refl;
-    armed = λ count armed. armed;
+    rests = begun;
+    armed = λ seen armed. armed;
+    tells = λ seen tells. tells;
   }
 
   -- After a line that is done the cluster stands for a good state that tells of the disk's armed count.
 
-  pub alone-stands : (next : Line) (old new : Cluster Group) (before after : List (List ℕ)) (armed : Option ℕ) → (HasStateOn kit) any_state old armed → (PlaysAlone kit) next old new before after → (HasStateOn kit) any_state new armed
-  alone-stands next old new before after armed has plays =
+  pub alone-stands : (next : Line) (old new : Cluster Group) (before after : List (List ℕ)) (seen : kit.Seen) → (HasStateOn kit) any_state old seen → (PlaysAlone kit) next old new before after → (HasStateOn kit) any_state new seen
+  alone-stands next old new before after seen has plays =
       let done = plays has.setup has.state has.good has.shows in
-      record { setup = has.setup; state = done.outcome.state; good = done.is.1; shows = done.is.0; count = done.armed armed has.count; so = tt }
+      record { setup = has.setup; state = done.outcome.state; good = done.is.1; shows = done.is.0; count = done.armed seen has.count; so = tt }
 
-  pub settle-stands : (old new : Cluster Group) (before after : List (List ℕ)) (held left : DiskSeen) → (HasStateOn kit) any_state old held.armed → (DoesSettle kit) old new before after held left → (HasStateOn kit) any_state new left.armed
+  pub settle-stands : (old new : Cluster Group) (before after : List (List ℕ)) (held left : kit.Seen) → (HasStateOn kit) any_state old held → (DoesSettle kit) old new before after held left → (HasStateOn kit) any_state new left
   settle-stands old new before after held left has does =
       let done = does has.setup has.state has.good has.shows has.count in
       record { setup = has.setup; state = done.outcome.state; good = done.is.1; shows = done.is.0; count = done.count; so = tt }
 
-  pub came-stands : (event : (EventOver kit)) (old new : Cluster Group) (before after : List (List ℕ)) (loud : Bool) (held left : DiskSeen) → (HasStateOn kit) any_state old held.armed → (Comes kit) any_state event old new before after loud held left → (HasStateOn kit) any_state new left.armed
+  pub came-stands : (event : (EventOver kit)) (old new : Cluster Group) (before after : List (List ℕ)) (loud : Bool) (held left : kit.Seen) → (HasStateOn kit) any_state old held → (Comes kit) any_state event old new before after loud held left → (HasStateOn kit) any_state new left
   came-stands event old new before after loud held left has comes =
       let came = comes has.setup has.state has.good has.shows has.count tt in
       record { setup = has.setup; state = came.outcome.state; good = came.played.good; shows = came.played.shows; count = came.count; so = tt }
@@ -181,8 +180,9 @@ module _ {Peers Group : Type 0} (kit : Kit Peers Group) (laws : IsKit kit) where
         outcome = in_world (inject bytes raw.front raw.why) state;
         happens = λ shelf. inr (record { front = raw.front; why = raw.why; refused = raw.refused; is = refl });
         is = injects.1 setup state good shows;
-        answered = refl;
-        armed = λ count armed. armed;
+        rests = moved begun (in_world (inject bytes raw.front raw.why) state).state refl refl;
+        armed = λ seen armed. armed;
+        tells = λ seen tells. laws.moves setup state (in_world (inject bytes raw.front raw.why) state).state seen refl refl tells;
       }
 
   pub plays-spelling : (bytes : List ℕ) (next : Line) (old new : Cluster Group) (before between after : List (List ℕ)) → next ≡ line.Inject bytes → (Injects kit) bytes false old new before between → (Does kit) ((refused kit) next) new new between after → (PlaysAlone kit) (line.Inject bytes) old new before after
@@ -217,8 +217,9 @@ module _ {Peers Group : Type 0} (kit : Kit Peers Group) (laws : IsKit kit) where
           record { begins = good.begins; steady = steady.0; range = good.range; moment = moment },
           sym (Rattle.std.proofs.Common.append-nil before),
         );
-        answered = refl;
-        armed = λ count armed. armed;
+        rests = moved begun outcome.state refl refl;
+        armed = λ seen armed. armed;
+        tells = λ seen tells. laws.moves setup state outcome.state seen refl refl tells;
       }
 
   -- A delivery that is refused: the net has nothing of that number.
@@ -238,12 +239,12 @@ module _ {Peers Group : Type 0} (kit : Kit Peers Group) (laws : IsKit kit) where
       let there = delivers-refused place old before after none.2 (subst three none.1 (subst two none.0 (subst one is refuses))) in
       subst (λ w. (Does kit) ((deliver_at kit) place) old w before after) (sym none.0) there
 
-module _ {Peers Group : Type 0} (kit : Kit Peers Group) (laws : IsKit kit) (script : Script Peers) (follows : IsScript kit script) where
+module _ {Peers Group : Type 0} (kit : Kit Peers Group) (laws : IsKit kit) (script : Script Peers kit.Seen) (follows : IsScript kit script) where
   -- A push, by whether an entry is in hand.
 
   known : (old : Cluster Group) (standing : Standing) → (StandsAs kit) old standing → (setup : Setup) (state : State Peers) → (IsGood kit) setup state → (Shows kit) setup state old → IsInHand standing.in_hand state.world.core.hand
   known old standing stands setup state good shows =
-      subst (λ (s : Standing). IsInHand s.in_hand state.world.core.hand) (sym (stands setup state good shows)) (follows.in_hand (plain_of setup) (device_by setup (λ number. false)) state)
+      subst (λ (s : Standing). IsInHand s.in_hand state.world.core.hand) (sym (stands setup state good shows)) (follows.in_hand (plain_of setup) (device_by setup (λ number. 0)) state)
 
   push-busy-by : (setup : Setup) (state : State Peers) (hand : Hand) → (hand ≡ Empty → ⊥) → push_by (plain_of setup) (calm_servers kit setup) hand state ≡ refuse (calm_servers kit setup) line.Push state
   push-busy-by setup state Empty busy = absurd (busy refl)
@@ -280,27 +281,26 @@ module _ {Peers Group : Type 0} (kit : Kit Peers Group) (laws : IsKit kit) (scri
       breaks held setup state good shows (idle-known old standing stands none setup state good shows)
 
   -- **where the disk is left alone its files are those of the history, as they were**
-  pub plays-alone : (next : Line) (old new : Cluster Group) (before after : List (List ℕ)) (held : DiskSeen) → (PlaysAlone kit) next old new before after → (Plays kit script) next old new before after held held
-  plays-alone next old new before after held plays setup state good shows count tells =
+  pub plays-alone : (next : Line) (old new : Cluster Group) (before after : List (List ℕ)) (held : kit.Seen) → is_own next ≡ false → (PlaysAlone kit) next old new before after → (Plays kit script) next old new before after held held
+  plays-alone next old new before after held shared plays setup state good shows count tells =
       let done = plays setup state good shows in
       record {
         shelf = shelf_of setup;
-        shelf_is = own-shelf setup held.files;
-        happened = λ number. false;
+        shelf_is = own-shelf setup (kit.files held);
+        happened = λ number. 0;
         outcome = done.outcome;
-        leads = follows.shares (plain_of setup) (shelf_of setup) (device_by setup (λ number. false)) next state done.outcome (done.happens (shelf_of setup));
-        caused = λ never number. refl;
-        felled = λ less. absurd (omega arith);
+        leads = follows.shares (plain_of setup) (shelf_of setup) (device_by setup (λ number. 0)) next state done.outcome (done.happens (shelf_of setup));
+        uses = follows.unused next setup state done.outcome held shared done.rests;
         is = done.is;
-        count = done.armed held.armed count;
-        files = files-same setup state done.outcome.state held.files done.answered tells;
+        count = done.armed held count;
+        files = laws.left_same setup done.outcome.state held (done.tells held tells);
       }
 
   -- **an event that came to an outcome is what its line leads to, where that works entries and all its lines are printed**
-  pub plays-came : (next : Line) (event : (EventOver kit)) (old new : Cluster Group) (before after : List (List ℕ)) (loud : Bool) (held left : DiskSeen)
-      → works_entries next ≡ true
-      → ((setup : Setup) (fails : ℕ → Bool) (state : State Peers) → (IsGood kit) setup state → (Shows kit) setup state old → kit.Armed state.peers held.armed → script.Leads (plain_of setup) (shelf_of setup) (device_by setup fails) next state (event setup fails state))
-      → ((setup : Setup) (fails : ℕ → Bool) (state : State Peers) → (IsGood kit) setup state → (Shows kit) setup state old → kept_lines (event setup fails state).told ≡ printed (event setup fails state).told)
+  pub plays-came : (next : Line) (event : (EventOver kit)) (old new : Cluster Group) (before after : List (List ℕ)) (loud : Bool) (held left : kit.Seen)
+      → ((setup : Setup) (happened : ℕ → ℕ) (state : State Peers) (outcome : Outcome (State Peers)) → kit.Uses setup happened state outcome held left → script.Uses next setup happened state outcome held left)
+      → ((setup : Setup) (fails : ℕ → ℕ) (state : State Peers) → (IsGood kit) setup state → (Shows kit) setup state old → kit.Armed state.peers held → script.Leads (plain_of setup) (shelf_of setup) (device_by setup fails) next state (event setup fails state))
+      → ((setup : Setup) (fails : ℕ → ℕ) (state : State Peers) → (IsGood kit) setup state → (Shows kit) setup state old → kept_lines (event setup fails state).told ≡ printed (event setup fails state).told)
       → (Comes kit) any_state event old new before after loud held left → (Plays kit script) next old new before after held left
   plays-came next event old new before after loud held left works leads quiet comes setup state good shows count tells =
       let came = comes setup state good shows count tt in
@@ -309,28 +309,26 @@ module _ {Peers Group : Type 0} (kit : Kit Peers Group) (laws : IsKit kit) (scri
       let Q : Outcome (State Peers) → Type 0 = λ o. kept_lines o.told ≡ printed o.told in
       record {
         shelf = shelf_of setup;
-        shelf_is = own-shelf setup held.files;
+        shelf_is = own-shelf setup (kit.files held);
         happened = came.happened;
         outcome = came.outcome;
         leads = subst L is (leads setup came.happened state good shows count);
-        caused = came.caused;
-        felled = λ rose. (works, came.felled rose);
+        uses = works setup came.happened state came.outcome came.uses;
         is = (came.played.shows, came.played.good, came.played.lines ∙ ap (λ lines. before ++ lines) (subst Q is (quiet setup came.happened state good shows)));
         count = came.count;
         files = came.played.files tells;
       }
 
-  pub plays-settle : (old new : Cluster Group) (before after : List (List ℕ)) (held left : DiskSeen) → (DoesSettle kit) old new before after held left → (Plays kit script) line.Settle old new before after held left
+  pub plays-settle : (old new : Cluster Group) (before after : List (List ℕ)) (held left : kit.Seen) → (DoesSettle kit) old new before after held left → (Plays kit script) line.Settle old new before after held left
   plays-settle old new before after held left does setup state good shows count tells =
       let done = does setup state good shows count in
       record {
         shelf = shelf_of setup;
-        shelf_is = own-shelf setup held.files;
+        shelf_is = own-shelf setup (kit.files held);
         happened = done.happened;
         outcome = done.outcome;
         leads = follows.shares (plain_of setup) (shelf_of setup) (device_by setup done.happened) line.Settle state done.outcome done.settles;
-        caused = done.caused;
-        felled = λ rose. (refl, done.felled rose);
+        uses = follows.settled setup done.happened state done.outcome held left done.uses;
         is = done.is;
         count = done.count;
         files = done.files tells;
@@ -338,33 +336,33 @@ module _ {Peers Group : Type 0} (kit : Kit Peers Group) (laws : IsKit kit) (scri
 
   -- The lines `files` and `cat`.
 
-  plays-shown : (next : Line) (event : Setup → Shelf → State Peers → Outcome (State Peers)) (old : Cluster Group) (before after : List (List ℕ)) (held left : DiskSeen) → ((setup : Setup) (shelf : Shelf) (state : State Peers) → Happens (plain_of setup) shelf (calm_servers kit setup) next state (event setup shelf state)) → ((setup : Setup) (shelf : Shelf) (state : State Peers) → (Keeps kit laws) state (event setup shelf state)) → left ≡ held → (ShowsOn kit) event old before after held.files → (Plays kit script) next old old before after held left
-  plays-shown next event old before after held left happens keeps same does =
-      subst (λ (d : DiskSeen). (Plays kit script) next old old before after held d) (sym same)
-      (λ setup state good shows count tells.
-      let done = does setup state good shows tells in
+  plays-shown : (next : Line) (event : Setup → Shelf → State Peers → Outcome (State Peers)) (old : Cluster Group) (before after : List (List ℕ)) (one two beside : DiskSeen) → is_own next ≡ false → (next ≡ line.Settle → ⊥) → ((setup : Setup) (shelf : Shelf) (state : State Peers) → Happens (plain_of setup) shelf (calm_servers kit setup) next state (event setup shelf state)) → ((setup : Setup) (shelf : Shelf) (state : State Peers) → (Keeps kit laws) setup state (event setup shelf state)) → LooksBy next one.files true one.tally two.tally → IsRead one two → two.faults ≡ one.faults → (ShowsOn kit) event old before after one.files → (Plays kit script) next old old before after (kit.see one beside) (kit.see two beside)
+  plays-shown next event old before after one two beside shared unsettled happens keeps looks read faults does setup state good shows count tells =
+      let T : Option Files → Type 0 = λ held. TellsFiles setup state held in
+      let files = laws.shown one beside in
+      let done = does setup state good shows (subst T files (laws.told setup state (kit.see one beside) tells)) in
       let kept = keeps setup done.0 state in
+      let last = (event setup done.0 state).state in
       record {
         shelf = done.0;
-        shelf_is = done.1;
-        happened = λ number. false;
+        shelf_is = subst (λ (held : Option Files). IfSome held (λ _. done.0 ≡ shelf_of setup)) (sym files) done.1;
+        happened = λ number. 0;
         outcome = event setup done.0 state;
-        leads = follows.shares (plain_of setup) done.0 (device_by setup (λ number. false)) next state (event setup done.0 state) (happens setup done.0 state);
-        caused = λ never number. refl;
-        felled = λ less. absurd (omega arith);
+        leads = follows.shares (plain_of setup) done.0 (device_by setup (λ number. 0)) next state (event setup done.0 state) (happens setup done.0 state);
+        uses = follows.read next setup state (event setup done.0 state) one two beside looks shared unsettled read faults kept.rests;
         is = done.2;
-        count = kept.armed held.armed count;
-        files = files-same setup state (event setup done.0 state).state held.files kept.answered tells;
-      })
+        count = laws.read_armed last.peers one two beside read (kept.armed (kit.see one beside) count);
+        files = laws.read_left setup last one two beside read (kept.tells (kit.see one beside) tells);
+      }
 
-  pub plays-files : (old : Cluster Group) (before after : List (List ℕ)) (held left : DiskSeen) → left ≡ held → (ShowsOn kit) (files_listed kit) old before after held.files → (Plays kit script) line.Files old old before after held left
-  plays-files old before after held left = plays-shown line.Files (files_listed kit) old before after held left (λ setup shelf state. refl) (λ setup shelf state. record { answered = refl; armed = λ count armed. armed })
+  pub plays-files : (old : Cluster Group) (before after : List (List ℕ)) (one two beside : DiskSeen) → LooksBy line.Files one.files true one.tally two.tally → IsRead one two → two.faults ≡ one.faults → (ShowsOn kit) (files_listed kit) old before after one.files → (Plays kit script) line.Files old old before after (kit.see one beside) (kit.see two beside)
+  plays-files old before after one two beside = plays-shown line.Files (files_listed kit) old before after one two beside refl (λ is. cc) (λ setup shelf state. refl) (λ setup shelf state. (stays-put kit laws) setup state _ refl refl)
 
-  pub plays-cat : (name : List ℕ) (old : Cluster Group) (before after : List (List ℕ)) (held left : DiskSeen) → left ≡ held → (ShowsOn kit) ((file_shown kit) name) old before after held.files → (Plays kit script) (line.Cat name) old old before after held left
-  plays-cat name old before after held left = plays-shown (line.Cat name) ((file_shown kit) name) old before after held left (λ setup shelf state. refl) (λ setup shelf state. (shows-keep kit laws) setup name shelf state)
+  pub plays-cat : (name : List ℕ) (old : Cluster Group) (before after : List (List ℕ)) (one two beside : DiskSeen) → LooksBy (line.Cat name) one.files true one.tally two.tally → IsRead one two → two.faults ≡ one.faults → (ShowsOn kit) ((file_shown kit) name) old before after one.files → (Plays kit script) (line.Cat name) old old before after (kit.see one beside) (kit.see two beside)
+  plays-cat name old before after one two beside = plays-shown (line.Cat name) ((file_shown kit) name) old before after one two beside refl (λ is. cc) (λ setup shelf state. refl) (λ setup shelf state. (shows-keep kit laws) setup name shelf state)
 
   -- One line for another.
 
-  pub played-as : (one other : Line) (old new : Cluster Group) (before after : List (List ℕ)) (held left : DiskSeen) → other ≡ one → (Plays kit script) one old new before after held left → (Plays kit script) other old new before after held left
+  pub played-as : (one other : Line) (old new : Cluster Group) (before after : List (List ℕ)) (held left : kit.Seen) → other ≡ one → (Plays kit script) one old new before after held left → (Plays kit script) other old new before after held left
   played-as one other old new before after held left same plays =
       subst (λ next. (Plays kit script) next old new before after held left) (sym same) plays

@@ -28,7 +28,7 @@ is_own line.Disarm = true
 is_own (line.Restart server) = true
 is_own _ = false
 
-abbrev pub IsOwn : {P : Type 0} → Script P → Line → Type 0
+abbrev pub IsOwn : {P V : Type 0} → Script P V → Line → Type 0
 IsOwn script line.Mirror = Unit {0}
 IsOwn script line.Ack = Unit {0}
 IsOwn script line.Work = Unit {0}
@@ -39,7 +39,7 @@ IsOwn script (line.Restart server) = script.Allows (line.Restart server)
 IsOwn script _ = ⊥
 
 -- a line that can be played: no cluster line, no time below that in force, and of the lines on failing servers those that are allowed
-abbrev pub CanPlay : {P : Type 0} → Script P → ℤ → Line → Type 0
+abbrev pub CanPlay : {P V : Type 0} → Script P V → ℤ → Line → Type 0
 CanPlay script now (line.Cluster start queue callbacks alarm ntf sys) = ⊥
 CanPlay script now (line.Time later) = now ≤ℤ later
 CanPlay script now (line.Crash server) = script.Allows (line.Crash server)

@@ -11,6 +11,7 @@ use Rattle.cluster_events.specs.Running.{Shelf, Happens, list_files, show_file}
 use Rattle.event_text.specs.Texts.{file_text_lines, shown_lines}
 use Rattle.cluster_rounds.specs.declared.cluster.Cluster.{Cluster}
 use Rattle.cluster_rounds.specs.Kits.{Kit, calm_servers}
+use Rattle.cluster_rounds.specs.Resting.{Rests}
 use Rattle.cluster_rounds.specs.Worlds.{Does, Event, Happened, IsGood, Shows, TellsFiles}
 use Rattle.cluster_lines.specs.Shelves.{shelf_of}
 use Rattle.cluster_lines.specs.Showing.{refused}
@@ -25,8 +26,9 @@ module _ {Peers Group : Type 0} (kit : Kit Peers Group) where
     pub outcome : Outcome (State Peers)
     pub happens : (shelf : Shelf) → Happens (plain_of setup) shelf (calm_servers kit setup) next state outcome
     pub is : Happened kit setup outcome new before after
-    pub answered : outcome.state.world.core.answered ≡ state.world.core.answered
-    pub armed : (count : Option ℕ) → kit.Armed state.peers count → kit.Armed outcome.state.peers count
+    pub rests : Rests (calm_servers kit setup) state outcome.state
+    pub armed : (seen : kit.Seen) → kit.Armed state.peers seen → kit.Armed outcome.state.peers seen
+    pub tells : (seen : kit.Seen) → kit.Tells setup state seen → kit.Tells setup outcome.state seen
 
   abbrev pub PlaysAlone : Line → Cluster Group → Cluster Group → List (List ℕ) → List (List ℕ) → Type 0
   PlaysAlone next old new before after =

@@ -1,12 +1,13 @@
 //! What each line of a script does to a cluster.
-ghost use Rattle.std.specs.Prelude.{◌≡◌, OnOk, OnErr, IfErr};
+ghost use Rattle.std.specs.Prelude.{◌≡◌, false, OnOk, OnErr, IfErr};
 ghost use Rattle.std.specs.Result.{is_ok};
 ghost use Rattle.script_lines.specs.declared.line.Line.TheVariants.{Deliver, Push, Inject};
-ghost use Rattle.cluster_rounds.specs.Worlds.{HasState, HasStateOn, Does, any_state, pushed};
+ghost use Rattle.cluster_rounds.specs.Counted.{Counted};
+ghost use Rattle.cluster_rounds.specs.Wild.{StandsOf, StandsOn, KeepsWild, GoesWild, always};
+ghost use Rattle.cluster_rounds.specs.Worlds.{HasStateOn, Does, any_state, pushed};
 ghost use Rattle.cluster_rounds.specs.Broken.{BreaksAlone};
-ghost use Rattle.cluster_rounds.specs.Came.{seen_by};
 ghost use Rattle.cluster_lines.specs.Lines.{IsInRange, CanPlay, is_own};
-ghost use Rattle.cluster_lines.specs.Playing.{Plays, BreaksOff, GoesOn, LooksBy};
+ghost use Rattle.cluster_lines.specs.Playing.{Plays, BreaksOff, LooksBy};
 ghost use Rattle.cluster_lines.specs.Answers.{EndsAs};
 ghost use Rattle.cluster_lines.specs.Steps.{deliver_at, PlaysAlone};
 
@@ -32,11 +33,12 @@ fn deliver_line<R: Wait, S: Scripted>(
     line: &Line,
     place: u64,
 ) -> Result<(), AllocError>
-    requires state { HasState S.kit world.old }
+    requires state { StandsOf S.kit any_state always world.old }
     requires line { line.now ≡ Deliver place }
     ensures ok { OnOk result (Does S.kit (deliver_at S.kit place) world.old world.new
         lines.old.items lines.new.items) }
     ensures err { OnErr result (BreaksAlone S.kit world.old world.new) }
+    ensures wild { OnOk result (KeepsWild S.kit always world.old world.new) }
 {
     match deliver(rt, alloc, world, lines, place) {
         Ok(done) => {
@@ -56,11 +58,12 @@ fn push_line<S: Scripted>(
     lines: &mut Vec<Seq<u8>>,
     line: &Line,
 ) -> Result<(), AllocError>
-    requires state { HasState S.kit world.old }
+    requires state { StandsOf S.kit any_state always world.old }
     requires line { line.now ≡ Push }
     ensures ok { OnOk result (Does S.kit (pushed S.kit) world.old world.new lines.old.items
         lines.new.items) }
     ensures err { OnErr result (BreaksAlone S.kit world.old world.new) }
+    ensures wild { OnOk result (KeepsWild S.kit always world.old world.new) }
 {
     if S::standing(world).in_hand.is_some() {
         return refused(alloc, world, lines, line);
@@ -86,6 +89,7 @@ fn inject_line<S: Scripted>(
     ensures ok { OnOk result (PlaysAlone S.kit line.now world.old world.new lines.old.items
         lines.new.items) }
     ensures err { OnErr result (BreaksAlone S.kit world.old world.new) }
+    ensures wild { OnOk result (KeepsWild S.kit always world.old world.new) }
 {
     match inject(alloc, world, lines, bytes.as_slice()) {
         Ok(done) => {
@@ -107,12 +111,13 @@ fn play_alone<R: Threads + Wait + Sync, S: Scripted, G: Gate>(
     line: &Line,
     gate: &G,
 ) -> Result<(), AllocError>
-    requires state { HasState S.kit world.old }
+    requires state { StandsOf S.kit any_state always world.old }
     requires range { IsInRange line.now }
     requires can { CanPlay S.script world.old.now line.now }
     ensures ok { OnOk result (PlaysAlone S.kit line.now world.old world.new lines.old.items
         lines.new.items) }
     ensures err { OnErr result (BreaksAlone S.kit world.old world.new) }
+    ensures wild { OnOk result (KeepsWild S.kit always world.old world.new) }
 {
     match line {
         Line::Time { now } => {
@@ -162,31 +167,40 @@ fn is_own(line: &Line) -> bool
 }
 
 /// What a line does that is not the servers' own.
-fn play_shared<R: Threads + Wait + Sync, S: Scripted, D: SharedDisk, G: Gate>(
+fn play_shared<R: Threads + Wait + Sync, S: Scripted, D: SharedDisk, J: SharedDisk, G: Gate>(
     rt: &R,
     alloc: Global,
     world: &mut Cluster<S>,
     lines: &mut Vec<Seq<u8>>,
     line: &Line,
     disk: &mut D,
+    beside: &mut J,
     gate: &G,
 ) -> Result<(), DiskAnswer>
-    requires state { HasStateOn S.kit any_state world.old (D.tally disk.old).armed }
+    requires state { StandsOn S.kit any_state always world.old
+        (S.kit.see (D.seen disk.old) (J.seen beside.old)) }
     requires range { IsInRange line.now }
     requires can { CanPlay S.script world.old.now line.now }
+    requires shared { is_own line.now ≡ false }
     ensures ok { OnOk result (Plays S.kit S.script line.now world.old world.new lines.old.items
-        lines.new.items (seen_by D.files D.tally D.faults disk.old)
-        (seen_by D.files D.tally D.faults disk.new)) }
-    ensures stands { OnOk result (HasStateOn S.kit any_state world.new (D.tally disk.new).armed) }
+        lines.new.items (S.kit.see (D.seen disk.old) (J.seen beside.old))
+        (S.kit.see (D.seen disk.new) (J.seen beside.new))) }
+    ensures stands { HasStateOn S.kit any_state world.old
+        (S.kit.see (D.seen disk.old) (J.seen beside.old)) → OnOk result (HasStateOn S.kit any_state
+        world.new (S.kit.see (D.seen disk.new) (J.seen beside.new))) }
     ensures broken { IfErr result (λ answer. BreaksOff S.kit S.script answer line.now world.old
-        world.new lines.old.items lines.new.items (seen_by D.files D.tally D.faults disk.old)
-        (seen_by D.files D.tally D.faults disk.new)) }
-    ensures counts { GoesOn S.kit.Outlives (D.faults disk.old) (D.faults disk.new) result }
-    ensures looks { LooksBy line.now (D.files disk.old) (is_ok result) (D.tally disk.old)
-        (D.tally disk.new) }
+        world.new lines.old.items lines.new.items (S.kit.see (D.seen disk.old) (J.seen beside.old))
+        (S.kit.see (D.seen disk.new) (J.seen beside.new))) }
+    ensures wild { GoesWild S.kit always result world.old world.new
+        (S.kit.see (D.seen disk.old) (J.seen beside.old))
+        (S.kit.see (D.seen disk.new) (J.seen beside.new)) }
+    ensures counts { Counted S.kit (S.kit.see (D.seen disk.old) (J.seen beside.old))
+        (S.kit.see (D.seen disk.new) (J.seen beside.new)) result }
+    ensures looks { LooksBy line.now (D.seen disk.old).files (is_ok result) (D.seen disk.old).tally
+        (D.seen disk.new).tally }
 {
     match line {
-        Line::Settle => settle(rt, alloc, world, lines, disk),
+        Line::Settle => settle(rt, alloc, world, lines, disk, beside),
         Line::Files => show_files(alloc, world, lines, disk),
         Line::Cat { name } => show_file(alloc, world, lines, disk, line, name),
         _ => as_answer(play_alone(rt, alloc, world, lines, line, gate)),
@@ -199,32 +213,41 @@ fn play_shared<R: Threads + Wait + Sync, S: Scripted, D: SharedDisk, G: Gate>(
 /// leaves all as it was then. Any other ended at an entry that was worked, and its lines are those of all that was done until then.
 /// `files` asks the disk once for the names and once for the length of each, `cat` once for the length and once for the bytes where
 /// there are any; another line that is not the servers' own, and not `settle`, asks it nothing.
-/// `Memory` comes where memory ran out; some of the line was done. `Stopped` never comes.
-pub fn play<R: Threads + Wait + Sync, S: Scripted, D: SharedDisk, G: Gate>(
+/// `Memory` comes where memory ran out; some of the line was done. `Stopped` never comes where the cluster stands for a history.
+/// Where it may stand for none nothing is said of what servers answer; behind a line that was done it can go on.
+pub fn play<R: Threads + Wait + Sync, S: Scripted, D: SharedDisk, J: SharedDisk, G: Gate>(
     rt: &R,
     alloc: Global,
     world: &mut Cluster<S>,
     lines: &mut Vec<Seq<u8>>,
     line: &Line,
     disk: &mut D,
+    beside: &mut J,
     gate: &G,
 ) -> Result<(), DiskAnswer>
-    requires state { HasStateOn S.kit any_state world.old (D.tally disk.old).armed }
+    requires state { StandsOn S.kit any_state always world.old
+        (S.kit.see (D.seen disk.old) (J.seen beside.old)) }
     requires range { IsInRange line.now }
     requires can { CanPlay S.script world.old.now line.now }
     ensures ok { OnOk result (Plays S.kit S.script line.now world.old world.new lines.old.items
-        lines.new.items (seen_by D.files D.tally D.faults disk.old)
-        (seen_by D.files D.tally D.faults disk.new)) }
-    ensures stands { OnOk result (HasStateOn S.kit any_state world.new (D.tally disk.new).armed) }
+        lines.new.items (S.kit.see (D.seen disk.old) (J.seen beside.old))
+        (S.kit.see (D.seen disk.new) (J.seen beside.new))) }
+    ensures stands { HasStateOn S.kit any_state world.old
+        (S.kit.see (D.seen disk.old) (J.seen beside.old)) → OnOk result (HasStateOn S.kit any_state
+        world.new (S.kit.see (D.seen disk.new) (J.seen beside.new))) }
     ensures broken { IfErr result (λ answer. BreaksOff S.kit S.script answer line.now world.old
-        world.new lines.old.items lines.new.items (seen_by D.files D.tally D.faults disk.old)
-        (seen_by D.files D.tally D.faults disk.new)) }
-    ensures counts { GoesOn S.kit.Outlives (D.faults disk.old) (D.faults disk.new) result }
-    ensures looks { LooksBy line.now (D.files disk.old) (is_ok result) (D.tally disk.old)
-        (D.tally disk.new) }
+        world.new lines.old.items lines.new.items (S.kit.see (D.seen disk.old) (J.seen beside.old))
+        (S.kit.see (D.seen disk.new) (J.seen beside.new))) }
+    ensures wild { GoesWild S.kit always result world.old world.new
+        (S.kit.see (D.seen disk.old) (J.seen beside.old))
+        (S.kit.see (D.seen disk.new) (J.seen beside.new)) }
+    ensures counts { Counted S.kit (S.kit.see (D.seen disk.old) (J.seen beside.old))
+        (S.kit.see (D.seen disk.new) (J.seen beside.new)) result }
+    ensures looks { LooksBy line.now (D.seen disk.old).files (is_ok result) (D.seen disk.old).tally
+        (D.seen disk.new).tally }
 {
     if is_own(line) {
-        return S::play_own(alloc, world, lines, line, disk);
+        return S::play_own(alloc, world, lines, line, disk, beside);
     }
-    play_shared(rt, alloc, world, lines, line, disk, gate)
+    play_shared(rt, alloc, world, lines, line, disk, beside, gate)
 }

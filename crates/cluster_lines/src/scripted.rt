@@ -1,10 +1,11 @@
 //! What the lines of a script ask of servers.
 ghost use Rattle.std.specs.Prelude.{OnOk, IfErr};
+ghost use Rattle.cluster_rounds.specs.Counted.{Counted};
+ghost use Rattle.cluster_rounds.specs.Wild.{StandsOn, GoesWild, always};
 ghost use Rattle.cluster_rounds.specs.Worlds.{HasStateOn, any_state};
-ghost use Rattle.cluster_rounds.specs.Came.{seen_by};
 ghost use Rattle.cluster_lines.specs.Lines.{IsInRange, IsOwn};
 ghost use Rattle.cluster_lines.specs.Showing.{StandsAs};
-ghost use Rattle.cluster_lines.specs.Playing.{Plays, BreaksOff, GoesOn};
+ghost use Rattle.cluster_lines.specs.Playing.{Plays, BreaksOff};
 ghost use Rattle.cluster_lines.specs.Following.{IsScript};
 
 use ais_values::Seq;
@@ -23,26 +24,34 @@ pub trait Scripted: Serving {
     /// Does what a line asks of the servers alone: `mirror`, `ack`, `work`, and of the lines on failing servers those that they allow.
     ///
     /// `Failed` comes where the disk had a fault that no server survives: its count of faults rose, and the lines are those of all
-    /// that was done until then. `Memory` comes where memory ran out; some of the line was done. `Stopped` never comes.
-    fn play_own<D: SharedDisk>(
+    /// that was done until then. `Memory` comes where memory ran out; some of the line was done. `Stopped` never comes where the cluster
+    /// stands for a history.
+    fn play_own<D: SharedDisk, J: SharedDisk>(
         alloc: Global,
         world: &mut Cluster<Self>,
         lines: &mut Vec<Seq<u8>>,
         line: &Line,
         disk: &mut D,
+        beside: &mut J,
     ) -> Result<(), DiskAnswer>
-        requires state { HasStateOn Self.kit any_state world.old (D.tally disk.old).armed }
+        requires state { StandsOn Self.kit any_state always world.old
+            (Self.kit.see (D.seen disk.old) (J.seen beside.old)) }
         requires range { IsInRange line.now }
         requires own { IsOwn Self.script line.now }
         ensures ok { OnOk result (Plays Self.kit Self.script line.now world.old world.new
-            lines.old.items lines.new.items (seen_by D.files D.tally D.faults disk.old)
-            (seen_by D.files D.tally D.faults disk.new)) }
-        ensures stands { OnOk result (HasStateOn Self.kit any_state world.new
-            (D.tally disk.new).armed) }
+            lines.old.items lines.new.items (Self.kit.see (D.seen disk.old) (J.seen beside.old))
+            (Self.kit.see (D.seen disk.new) (J.seen beside.new))) }
+        ensures stands { HasStateOn Self.kit any_state world.old
+            (Self.kit.see (D.seen disk.old) (J.seen beside.old)) → OnOk result (HasStateOn Self.kit
+            any_state world.new (Self.kit.see (D.seen disk.new) (J.seen beside.new))) }
         ensures broken { IfErr result (λ answer. BreaksOff Self.kit Self.script answer line.now
-            world.old world.new lines.old.items lines.new.items (seen_by D.files D.tally D.faults
-            disk.old) (seen_by D.files D.tally D.faults disk.new)) }
-        ensures counts { GoesOn Self.kit.Outlives (D.faults disk.old) (D.faults disk.new) result };
+            world.old world.new lines.old.items lines.new.items (Self.kit.see (D.seen disk.old)
+            (J.seen beside.old)) (Self.kit.see (D.seen disk.new) (J.seen beside.new))) }
+        ensures wild { GoesWild Self.kit always result world.old world.new
+            (Self.kit.see (D.seen disk.old) (J.seen beside.old))
+            (Self.kit.see (D.seen disk.new) (J.seen beside.new)) }
+        ensures counts { Counted Self.kit (Self.kit.see (D.seen disk.old) (J.seen beside.old))
+            (Self.kit.see (D.seen disk.new) (J.seen beside.new)) result };
 
     /// What is asked of their lines holds.
     ghost follows: { IsScript Self.kit Self.script };

@@ -72,14 +72,16 @@ pub(crate) fn show_files<S: Scripted, D: SharedDisk>(
     disk: &mut D,
 ) -> Result<(), DiskAnswer>
     ensures ok { OnOk result (ShowsOn S.kit (files_listed S.kit) world.entry.now lines.old.items
-        lines.new.items (D.files disk.old)) }
+        lines.new.items (D.seen disk.old).files) }
     ensures stays { IsErrOf result DiskAnswer.Failed → lines.new.items ≡ lines.old.items }
-    ensures same { D.files disk.new ≡ D.files disk.old }
-    ensures cause { RoseExactlyOn (D.faults disk.old) (D.faults disk.new) result DiskAnswer.Failed }
+    ensures same { (D.seen disk.new).files ≡ (D.seen disk.old).files }
+    ensures cause { RoseExactlyOn (D.seen disk.old).faults (D.seen disk.new).faults result
+        DiskAnswer.Failed }
     ensures never_stopped { IsErrOf result DiskAnswer.Stopped → ⊥ }
-    ensures looks { Looks (ListCalls (D.files disk.old)) (is_ok result) (D.tally disk.old)
-        (D.tally disk.new) }
-    ensures armed { (D.tally disk.new).armed ≡ (D.tally disk.old).armed }
+    ensures stops { (D.seen disk.new).stops ≡ (D.seen disk.old).stops }
+    ensures looks { Looks (ListCalls (D.seen disk.old).files) (is_ok result) (D.seen disk.old).tally
+        (D.seen disk.new).tally }
+    ensures armed { (D.seen disk.new).tally.armed ≡ (D.seen disk.old).tally.armed }
 {
     let mut listed = match list_files(alloc, disk) {
         Ok(listed) => listed,
@@ -120,14 +122,16 @@ pub(crate) fn show_file<S: Scripted, D: SharedDisk>(
 ) -> Result<(), DiskAnswer>
     requires { line.now ≡ Cat name.now }
     ensures ok { OnOk result (ShowsOn S.kit (file_shown S.kit name.now) world.entry.now
-        lines.old.items lines.new.items (D.files disk.old)) }
+        lines.old.items lines.new.items (D.seen disk.old).files) }
     ensures stays { IsErrOf result DiskAnswer.Failed → lines.new.items ≡ lines.old.items }
-    ensures same { D.files disk.new ≡ D.files disk.old }
-    ensures cause { RoseExactlyOn (D.faults disk.old) (D.faults disk.new) result DiskAnswer.Failed }
+    ensures same { (D.seen disk.new).files ≡ (D.seen disk.old).files }
+    ensures cause { RoseExactlyOn (D.seen disk.old).faults (D.seen disk.new).faults result
+        DiskAnswer.Failed }
     ensures never_stopped { IsErrOf result DiskAnswer.Stopped → ⊥ }
-    ensures looks { Looks (FileCalls name.now (D.files disk.old)) (is_ok result)
-        (D.tally disk.old) (D.tally disk.new) }
-    ensures armed { (D.tally disk.new).armed ≡ (D.tally disk.old).armed }
+    ensures stops { (D.seen disk.new).stops ≡ (D.seen disk.old).stops }
+    ensures looks { Looks (FileCalls name.now (D.seen disk.old).files) (is_ok result)
+        (D.seen disk.old).tally (D.seen disk.new).tally }
+    ensures armed { (D.seen disk.new).tally.armed ≡ (D.seen disk.old).tally.armed }
 {
     let read = match read_file(alloc, disk, name.as_slice()) {
         Ok(read) => read,

@@ -5,6 +5,7 @@ use Rattle.cluster_rounds.specs.Delivered.{Injects}
 use Rattle.cluster_clients.proofs.DispatchSteps.{on-err}
 use Rattle.cluster_lines.proofs.LineBroken.{alone-as}
 use Rattle.cluster_lines.proofs.LineSteps.{plays-as, plays-injected, plays-spelling}
+use Rattle.cluster_rounds.proofs.WildSteps.{on-ok}
 use Rattle.cluster_lines.proofs.playing.inject_line.Goals as goal
 
 pub returns-else-not-done-clause-ok : goal.returns-else-not-done-clause-ok
@@ -38,3 +39,9 @@ returns-then-not-done-clause-err g c =
     let D : Bool → Type 0 = λ done. (Injects g.S.Serving.kit) c.args.bytes.now done old new c.args.lines.now.items c.inject.new.lines.items in
     let none = subst D c.if-not-done.true (subst B c.as_slice.ensures.bytes c.in-Ok.ensures.ok) in
     on-err c.refused.result ((alone-as g.S.Serving.kit g.met.S.Serving.laws) old new none.1)
+
+pub returns-then-not-done-clause-wild : goal.returns-then-not-done-clause-wild
+returns-then-not-done-clause-wild g c = on-ok c.refused.result c.in-Ok.ensures.wild
+
+pub returns-else-not-done-clause-wild : goal.returns-else-not-done-clause-wild
+returns-else-not-done-clause-wild g c = c.in-Ok.ensures.wild

@@ -12,4 +12,4 @@ play_own-requires g c = record {
 
 pub returns-then-is_own-clause-looks : goal.returns-then-is_own-clause-looks
 returns-then-is_own-clause-looks g c =
-    looks-own c.args.line.now (g.D.SharedDisk.files c.args.disk.now) (is_ok c.play_own.result) (g.D.SharedDisk.tally c.args.disk.now) (g.D.SharedDisk.tally c.play_own.new.disk) (sym c.if-is_own.ensures)
+    looks-own c.args.line.now (g.D.SharedDisk.seen c.args.disk.now).files (is_ok c.play_own.result) (g.D.SharedDisk.seen c.args.disk.now).tally (g.D.SharedDisk.seen c.play_own.new.disk).tally (sym c.if-is_own.ensures)

@@ -4,8 +4,10 @@ use Rattle.script_lines.specs.declared.line.Line.TheVariants as line
 use Rattle.cluster_lines.specs.Lines.{IsInRange, CanPlay}
 use Rattle.cluster_lines.specs.Steps.{PlaysAlone}
 use Rattle.cluster_clients.proofs.DispatchSteps.{on-err}
-use Rattle.cluster_lines.proofs.LineSteps.{moment-same}
-use Rattle.cluster_lines.proofs.LineSteps.{plays-as, plays-time, plays-log, plays-ntf, plays-deliver, plays-resend, plays-push, plays-one, plays-all, plays-servers}
+use Rattle.cluster_lines.proofs.LineSteps.{moment-same, plays-as, plays-time, plays-log, plays-ntf, plays-deliver, plays-resend, plays-push, plays-one, plays-all, plays-servers}
+use Rattle.cluster_rounds.specs.Wild.{KeepsWild, always}
+use Rattle.cluster_rounds.proofs.WildSteps.{on-ok}
+use Rattle.cluster_lines.proofs.WildLines.{same-wild, time-wild}
 use Rattle.cluster_lines.proofs.playing.play_alone.Goals as goal
 use Rattle.cluster_rounds.proofs.BrokenClients.{same-breaks}
 
@@ -136,3 +138,38 @@ returns-in-Servers-clause-err g c = on-err c.show_servers.result ((same-breaks g
 
 pub returns-in_default-clause-err : goal.returns-in_default-clause-err
 returns-in_default-clause-err g c = (same-breaks g.S.Serving.kit g.met.S.Serving.laws) c.args.world.now
+
+pub returns-in-Time-clause-wild : goal.returns-in-Time-clause-wild
+returns-in-Time-clause-wild g c =
+    let now = c.in-Time.now in
+    let old = c.args.world.now in
+    let moment = subst IsInRange c.in-Time.is c.requires.range in
+    let K : ℤ → Type 0 = λ at. (KeepsWild g.S.Serving.kit) always old (record old { now = at }) in
+    subst K (sym (moment-same now moment)) ((time-wild g.S.Serving.kit g.met.S.Serving.laws) now old moment)
+
+pub returns-in-Servers-clause-wild : goal.returns-in-Servers-clause-wild
+returns-in-Servers-clause-wild g c = on-ok c.show_servers.result ((same-wild g.S.Serving.kit g.met.S.Serving.laws) c.args.world.now)
+
+pub returns-in-Log-clause-wild : goal.returns-in-Log-clause-wild
+returns-in-Log-clause-wild g c = c.ask.ensures.wild
+
+pub returns-in-Ntf-clause-wild : goal.returns-in-Ntf-clause-wild
+returns-in-Ntf-clause-wild g c = c.ask-in-Ntf.ensures.wild
+
+pub returns-in-Deliver-clause-wild : goal.returns-in-Deliver-clause-wild
+returns-in-Deliver-clause-wild g c = c.deliver_line.ensures.wild
+
+pub returns-in-Resend-clause-wild : goal.returns-in-Resend-clause-wild
+returns-in-Resend-clause-wild g c = c.resend.ensures.wild
+
+pub returns-in-Push-clause-wild : goal.returns-in-Push-clause-wild
+returns-in-Push-clause-wild g c = c.push_line.ensures.wild
+
+pub returns-in-Inject-clause-wild : goal.returns-in-Inject-clause-wild
+returns-in-Inject-clause-wild g c = c.inject_line.ensures.wild
+
+pub returns-in-DispatchOne-clause-wild : goal.returns-in-DispatchOne-clause-wild
+returns-in-DispatchOne-clause-wild g c = c.dispatch.ensures.wild
+
+pub returns-in-DispatchAll-clause-wild : goal.returns-in-DispatchAll-clause-wild
+returns-in-DispatchAll-clause-wild g c = c.dispatch-in-DispatchAll.ensures.wild

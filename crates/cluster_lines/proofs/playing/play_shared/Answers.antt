@@ -1,14 +1,17 @@
-use Rattle.std.proofs.Common.{ℕ, Option, sym, subst}
+use Rattle.std.proofs.Common.{◌≡◌, Bool, true, sym, subst}
 use Rattle.std.specs.Result.{is_ok}
 use Rattle.std.proofs.lemmas.Result.{on_ok_weaker}
 use Rattle.script_lines.specs.declared.line.Line.{Line}
 use Rattle.script_lines.specs.declared.line.Line.TheVariants as line
-use Rattle.cluster_rounds.specs.Came.{DiskSeen, seen}
-use Rattle.cluster_rounds.specs.Worlds.{HasStateOn, any_state}
+use Rattle.cluster_clients.specs.Looks.{FileCalls, ListCalls}
+use Rattle.cluster_rounds.specs.Worlds.{any_state}
 use Rattle.cluster_rounds.proofs.ArmedSteps.{state-told}
 use Rattle.cluster_lines.specs.Playing.{LooksBy, Plays}
-use Rattle.cluster_lines.proofs.LineBroken.{cat-broken, ends-broken, ends-counts, files-broken, settle-broken, settle-counts, shown-counts, shown-ok}
-use Rattle.cluster_lines.proofs.LineSteps.{alone-stands, ends-ok, looks-alone, ok-so, played-as, plays-alone, plays-cat, plays-files, plays-settle, settle-stands}
+use Rattle.cluster_lines.proofs.LineBroken.{cat-broken, ends-broken, ends-counts, files-broken, looked-read, read-stands, settle-broken, shown-counts, shown-ok}
+use Rattle.cluster_lines.proofs.LineSteps.{alone-stands, ends-ok, looks-alone, played-as, plays-alone, plays-cat, plays-files, plays-settle, settle-stands}
+use Rattle.cluster_rounds.specs.Wild.{always}
+use Rattle.cluster_rounds.proofs.WildSteps.{asks-of, on-ok, wild-same}
+use Rattle.cluster_lines.proofs.WildLines.{ends-wild, shown-wild}
 use Rattle.cluster_lines.proofs.playing.play_shared.Goals as goal
 
 pub show_file-requires : goal.show_file-requires
@@ -16,7 +19,10 @@ show_file-requires g c = c.in-Cat.is
 
 pub play_alone-requires-clause-state : goal.play_alone-requires-clause-state
 play_alone-requires-clause-state g c κs within =
-    (state-told g.S.Serving.kit g.met.S.Serving.laws) any_state c.args.world.now (g.D.SharedDisk.tally c.args.disk.now).armed c.requires.state
+    let held = g.S.Serving.kit.see (g.D.SharedDisk.seen c.args.disk.now) (g.J.SharedDisk.seen c.args.beside.now) in
+    (asks-of g.S.Serving.kit) always always c.args.world.now c.args.world.now held held c.requires.state
+    (λ has. (state-told g.S.Serving.kit g.met.S.Serving.laws) any_state c.args.world.now held has)
+    (λ seen wild so. ((wild-same g.S.Serving.kit) seen c.args.world.now held wild, tt))
 
 pub play_alone-requires-clause-range : goal.play_alone-requires-clause-range
 play_alone-requires-clause-range g c κs within = c.requires.range
@@ -32,31 +38,31 @@ returns-in-Settle-clause-ok g c =
     let new = c.settle.new.world in
     let before = c.args.lines.now.items in
     let after = c.settle.new.lines.items in
-    let held = seen (g.D.SharedDisk.files c.args.disk.now) (g.D.SharedDisk.tally c.args.disk.now) (g.D.SharedDisk.faults c.args.disk.now) in
-    let left = seen (g.D.SharedDisk.files c.settle.new.disk) (g.D.SharedDisk.tally c.settle.new.disk) (g.D.SharedDisk.faults c.settle.new.disk) in
+    let held = g.S.Serving.kit.see (g.D.SharedDisk.seen c.args.disk.now) (g.J.SharedDisk.seen c.args.beside.now) in
+    let left = g.S.Serving.kit.see (g.D.SharedDisk.seen c.settle.new.disk) (g.J.SharedDisk.seen c.settle.new.beside) in
     on_ok_weaker c.settle.result (λ does. (played-as g.S.Serving.kit g.met.S.Serving.laws g.S.Serving.script g.met.S.Scripted.follows) line.Settle c.args.line.now old new before after held left c.in-Settle.is ((plays-settle g.S.Serving.kit g.met.S.Serving.laws g.S.Serving.script g.met.S.Scripted.follows) old new before after held left does)) c.settle.ensures.ok
 
 pub returns-in-Settle-clause-stands : goal.returns-in-Settle-clause-stands
 returns-in-Settle-clause-stands g c =
-    let held = seen (g.D.SharedDisk.files c.args.disk.now) (g.D.SharedDisk.tally c.args.disk.now) (g.D.SharedDisk.faults c.args.disk.now) in
-    let left = seen (g.D.SharedDisk.files c.settle.new.disk) (g.D.SharedDisk.tally c.settle.new.disk) (g.D.SharedDisk.faults c.settle.new.disk) in
-    on_ok_weaker c.settle.result (λ does. (settle-stands g.S.Serving.kit g.met.S.Serving.laws) c.args.world.now c.settle.new.world c.args.lines.now.items c.settle.new.lines.items held left c.requires.state does) c.settle.ensures.ok
+    let held = g.S.Serving.kit.see (g.D.SharedDisk.seen c.args.disk.now) (g.J.SharedDisk.seen c.args.beside.now) in
+    let left = g.S.Serving.kit.see (g.D.SharedDisk.seen c.settle.new.disk) (g.J.SharedDisk.seen c.settle.new.beside) in
+    λ has. on_ok_weaker c.settle.result (λ does. (settle-stands g.S.Serving.kit g.met.S.Serving.laws) c.args.world.now c.settle.new.world c.args.lines.now.items c.settle.new.lines.items held left has does) c.settle.ensures.ok
 
 pub returns-in-Settle-clause-broken : goal.returns-in-Settle-clause-broken
 returns-in-Settle-clause-broken g c =
-    let held = seen (g.D.SharedDisk.files c.args.disk.now) (g.D.SharedDisk.tally c.args.disk.now) (g.D.SharedDisk.faults c.args.disk.now) in
-    let left = seen (g.D.SharedDisk.files c.settle.new.disk) (g.D.SharedDisk.tally c.settle.new.disk) (g.D.SharedDisk.faults c.settle.new.disk) in
-    (settle-broken g.S.Serving.kit g.met.S.Serving.laws g.S.Serving.script g.met.S.Scripted.follows) c.settle.result c.args.line.now c.args.world.now c.settle.new.world c.args.lines.now.items c.settle.new.lines.items held left c.in-Settle.is c.requires.state c.settle.ensures.err
+    let held = g.S.Serving.kit.see (g.D.SharedDisk.seen c.args.disk.now) (g.J.SharedDisk.seen c.args.beside.now) in
+    let left = g.S.Serving.kit.see (g.D.SharedDisk.seen c.settle.new.disk) (g.J.SharedDisk.seen c.settle.new.beside) in
+    (settle-broken g.S.Serving.kit g.met.S.Serving.laws g.S.Serving.script g.met.S.Scripted.follows) c.settle.result c.args.line.now c.args.world.now c.settle.new.world c.args.lines.now.items c.settle.new.lines.items held left c.in-Settle.is c.settle.ensures.err
 
 pub returns-in-Settle-clause-counts : goal.returns-in-Settle-clause-counts
-returns-in-Settle-clause-counts g c =
-    let held = seen (g.D.SharedDisk.files c.args.disk.now) (g.D.SharedDisk.tally c.args.disk.now) (g.D.SharedDisk.faults c.args.disk.now) in
-    let left = seen (g.D.SharedDisk.files c.settle.new.disk) (g.D.SharedDisk.tally c.settle.new.disk) (g.D.SharedDisk.faults c.settle.new.disk) in
-    (settle-counts g.S.Serving.kit g.met.S.Serving.laws) c.settle.result c.args.world.now c.settle.new.world c.args.lines.now.items c.settle.new.lines.items held left c.requires.state c.settle.ensures.ok c.settle.ensures.err
+returns-in-Settle-clause-counts g c = c.settle.ensures.counts
+
+pub returns-in-Settle-clause-wild : goal.returns-in-Settle-clause-wild
+returns-in-Settle-clause-wild g c = c.settle.ensures.wild
 
 pub returns-in-Settle-clause-looks : goal.returns-in-Settle-clause-looks
 returns-in-Settle-clause-looks g c =
-    subst (λ (next : Line). LooksBy next (g.D.SharedDisk.files c.args.disk.now) (is_ok c.settle.result) (g.D.SharedDisk.tally c.args.disk.now) (g.D.SharedDisk.tally c.settle.new.disk)) (sym c.in-Settle.is) tt
+    subst (λ (next : Line). LooksBy next (g.D.SharedDisk.seen c.args.disk.now).files (is_ok c.settle.result) (g.D.SharedDisk.seen c.args.disk.now).tally (g.D.SharedDisk.seen c.settle.new.disk).tally) (sym c.in-Settle.is) tt
 
 -- `files`
 
@@ -65,28 +71,58 @@ returns-in-Files-clause-ok g c =
     let old = c.args.world.now in
     let before = c.args.lines.now.items in
     let after = c.show_files.new.lines.items in
-    let held = seen (g.D.SharedDisk.files c.args.disk.now) (g.D.SharedDisk.tally c.args.disk.now) (g.D.SharedDisk.faults c.args.disk.now) in
-    let left = seen (g.D.SharedDisk.files c.show_files.new.disk) (g.D.SharedDisk.tally c.show_files.new.disk) (g.D.SharedDisk.faults c.show_files.new.disk) in
-    (shown-ok g.S.Serving.kit g.met.S.Serving.laws) (λ (d : DiskSeen). (Plays g.S.Serving.kit g.S.Serving.script) c.args.line.now old old before after held d) c.show_files.result held left c.show_files.ensures.same c.show_files.ensures.armed c.show_files.ensures.cause
-    (λ (d : DiskSeen) same shows. (played-as g.S.Serving.kit g.met.S.Serving.laws g.S.Serving.script g.met.S.Scripted.follows) line.Files c.args.line.now old old before after held d c.in-Files.is ((plays-files g.S.Serving.kit g.met.S.Serving.laws g.S.Serving.script g.met.S.Scripted.follows) old before after held d same shows)) c.show_files.ensures.ok
+    let one = g.D.SharedDisk.seen c.args.disk.now in
+    let two = g.D.SharedDisk.seen c.show_files.new.disk in
+    let beside = g.J.SharedDisk.seen c.args.beside.now in
+    let read = looked-read one two (ListCalls one.files) (is_ok c.show_files.result) c.show_files.ensures.same c.show_files.ensures.stops c.show_files.ensures.looks in
+    let looks : is_ok c.show_files.result ≡ true → LooksBy line.Files one.files true one.tally two.tally = λ done. subst (λ (b : Bool). LooksBy line.Files one.files b one.tally two.tally) done c.show_files.ensures.looks in
+    (shown-ok g.S.Serving.kit g.met.S.Serving.laws) {P = (Plays g.S.Serving.kit g.S.Serving.script) c.args.line.now old old before after (g.S.Serving.kit.see one beside) (g.S.Serving.kit.see two beside)} c.show_files.result one two c.show_files.ensures.cause
+    (λ done faults shows. (played-as g.S.Serving.kit g.met.S.Serving.laws g.S.Serving.script g.met.S.Scripted.follows) line.Files c.args.line.now old old before after (g.S.Serving.kit.see one beside) (g.S.Serving.kit.see two beside) c.in-Files.is ((plays-files g.S.Serving.kit g.met.S.Serving.laws g.S.Serving.script g.met.S.Scripted.follows) old before after one two beside (looks done) read faults shows)) c.show_files.ensures.ok
 
 pub returns-in-Files-clause-stands : goal.returns-in-Files-clause-stands
 returns-in-Files-clause-stands g c =
-    ok-so c.show_files.result (subst (λ (armed : Option ℕ). (HasStateOn g.S.Serving.kit) any_state c.args.world.now armed) (sym c.show_files.ensures.armed) c.requires.state)
+    let old = c.args.world.now in
+    let before = c.args.lines.now.items in
+    let after = c.show_files.new.lines.items in
+    let one = g.D.SharedDisk.seen c.args.disk.now in
+    let two = g.D.SharedDisk.seen c.show_files.new.disk in
+    let beside = g.J.SharedDisk.seen c.args.beside.now in
+    let read = looked-read one two (ListCalls one.files) (is_ok c.show_files.result) c.show_files.ensures.same c.show_files.ensures.stops c.show_files.ensures.looks in
+    λ has. on-ok c.show_files.result ((read-stands g.S.Serving.kit g.met.S.Serving.laws) old one two beside read has)
 
 pub returns-in-Files-clause-broken : goal.returns-in-Files-clause-broken
 returns-in-Files-clause-broken g c =
-    let held = seen (g.D.SharedDisk.files c.args.disk.now) (g.D.SharedDisk.tally c.args.disk.now) (g.D.SharedDisk.faults c.args.disk.now) in
-    let left = seen (g.D.SharedDisk.files c.show_files.new.disk) (g.D.SharedDisk.tally c.show_files.new.disk) (g.D.SharedDisk.faults c.show_files.new.disk) in
-    (files-broken g.S.Serving.kit g.met.S.Serving.laws g.S.Serving.script g.met.S.Scripted.follows) c.show_files.result c.args.line.now c.args.world.now c.args.lines.now.items c.show_files.new.lines.items held left c.in-Files.is c.show_files.ensures.same c.show_files.ensures.armed c.show_files.ensures.stays c.show_files.ensures.never_stopped
+    let old = c.args.world.now in
+    let before = c.args.lines.now.items in
+    let after = c.show_files.new.lines.items in
+    let one = g.D.SharedDisk.seen c.args.disk.now in
+    let two = g.D.SharedDisk.seen c.show_files.new.disk in
+    let beside = g.J.SharedDisk.seen c.args.beside.now in
+    let read = looked-read one two (ListCalls one.files) (is_ok c.show_files.result) c.show_files.ensures.same c.show_files.ensures.stops c.show_files.ensures.looks in
+    (files-broken g.S.Serving.kit g.met.S.Serving.laws g.S.Serving.script g.met.S.Scripted.follows) c.show_files.result c.args.line.now old before after one two beside c.in-Files.is read c.show_files.ensures.cause c.show_files.ensures.stays c.show_files.ensures.never_stopped
 
 pub returns-in-Files-clause-counts : goal.returns-in-Files-clause-counts
 returns-in-Files-clause-counts g c =
-    (shown-counts g.S.Serving.kit g.met.S.Serving.laws) c.show_files.result (g.D.SharedDisk.faults c.args.disk.now) (g.D.SharedDisk.faults c.show_files.new.disk) c.show_files.ensures.cause c.show_files.ensures.never_stopped
+    let old = c.args.world.now in
+    let before = c.args.lines.now.items in
+    let after = c.show_files.new.lines.items in
+    let one = g.D.SharedDisk.seen c.args.disk.now in
+    let two = g.D.SharedDisk.seen c.show_files.new.disk in
+    let beside = g.J.SharedDisk.seen c.args.beside.now in
+    let read = looked-read one two (ListCalls one.files) (is_ok c.show_files.result) c.show_files.ensures.same c.show_files.ensures.stops c.show_files.ensures.looks in
+    (shown-counts g.S.Serving.kit g.met.S.Serving.laws) c.show_files.result one two beside read c.show_files.ensures.cause c.show_files.ensures.never_stopped
+
+pub returns-in-Files-clause-wild : goal.returns-in-Files-clause-wild
+returns-in-Files-clause-wild g c =
+    let one = g.D.SharedDisk.seen c.args.disk.now in
+    let two = g.D.SharedDisk.seen c.show_files.new.disk in
+    let beside = g.J.SharedDisk.seen c.args.beside.now in
+    let read = looked-read one two (ListCalls one.files) (is_ok c.show_files.result) c.show_files.ensures.same c.show_files.ensures.stops c.show_files.ensures.looks in
+    (shown-wild g.S.Serving.kit g.met.S.Serving.laws) c.show_files.result c.args.world.now one two beside read
 
 pub returns-in-Files-clause-looks : goal.returns-in-Files-clause-looks
 returns-in-Files-clause-looks g c =
-    subst (λ (next : Line). LooksBy next (g.D.SharedDisk.files c.args.disk.now) (is_ok c.show_files.result) (g.D.SharedDisk.tally c.args.disk.now) (g.D.SharedDisk.tally c.show_files.new.disk)) (sym c.in-Files.is) c.show_files.ensures.looks
+    subst (λ (next : Line). LooksBy next (g.D.SharedDisk.seen c.args.disk.now).files (is_ok c.show_files.result) (g.D.SharedDisk.seen c.args.disk.now).tally (g.D.SharedDisk.seen c.show_files.new.disk).tally) (sym c.in-Files.is) c.show_files.ensures.looks
 
 -- `cat`
 
@@ -95,34 +131,64 @@ returns-in-Cat-clause-ok g c =
     let old = c.args.world.now in
     let before = c.args.lines.now.items in
     let after = c.show_file.new.lines.items in
-    let held = seen (g.D.SharedDisk.files c.args.disk.now) (g.D.SharedDisk.tally c.args.disk.now) (g.D.SharedDisk.faults c.args.disk.now) in
-    let left = seen (g.D.SharedDisk.files c.show_file.new.disk) (g.D.SharedDisk.tally c.show_file.new.disk) (g.D.SharedDisk.faults c.show_file.new.disk) in
-    (shown-ok g.S.Serving.kit g.met.S.Serving.laws) (λ (d : DiskSeen). (Plays g.S.Serving.kit g.S.Serving.script) c.args.line.now old old before after held d) c.show_file.result held left c.show_file.ensures.same c.show_file.ensures.armed c.show_file.ensures.cause
-    (λ (d : DiskSeen) same shows. (played-as g.S.Serving.kit g.met.S.Serving.laws g.S.Serving.script g.met.S.Scripted.follows) (line.Cat c.in-Cat.name) c.args.line.now old old before after held d c.in-Cat.is ((plays-cat g.S.Serving.kit g.met.S.Serving.laws g.S.Serving.script g.met.S.Scripted.follows) c.in-Cat.name old before after held d same shows)) c.show_file.ensures.ok
+    let one = g.D.SharedDisk.seen c.args.disk.now in
+    let two = g.D.SharedDisk.seen c.show_file.new.disk in
+    let beside = g.J.SharedDisk.seen c.args.beside.now in
+    let read = looked-read one two (FileCalls c.in-Cat.name one.files) (is_ok c.show_file.result) c.show_file.ensures.same c.show_file.ensures.stops c.show_file.ensures.looks in
+    let looks : is_ok c.show_file.result ≡ true → LooksBy (line.Cat c.in-Cat.name) one.files true one.tally two.tally = λ done. subst (λ (b : Bool). LooksBy (line.Cat c.in-Cat.name) one.files b one.tally two.tally) done c.show_file.ensures.looks in
+    (shown-ok g.S.Serving.kit g.met.S.Serving.laws) {P = (Plays g.S.Serving.kit g.S.Serving.script) c.args.line.now old old before after (g.S.Serving.kit.see one beside) (g.S.Serving.kit.see two beside)} c.show_file.result one two c.show_file.ensures.cause
+    (λ done faults shows. (played-as g.S.Serving.kit g.met.S.Serving.laws g.S.Serving.script g.met.S.Scripted.follows) (line.Cat c.in-Cat.name) c.args.line.now old old before after (g.S.Serving.kit.see one beside) (g.S.Serving.kit.see two beside) c.in-Cat.is ((plays-cat g.S.Serving.kit g.met.S.Serving.laws g.S.Serving.script g.met.S.Scripted.follows) c.in-Cat.name old before after one two beside (looks done) read faults shows)) c.show_file.ensures.ok
 
 pub returns-in-Cat-clause-stands : goal.returns-in-Cat-clause-stands
 returns-in-Cat-clause-stands g c =
-    ok-so c.show_file.result (subst (λ (armed : Option ℕ). (HasStateOn g.S.Serving.kit) any_state c.args.world.now armed) (sym c.show_file.ensures.armed) c.requires.state)
+    let old = c.args.world.now in
+    let before = c.args.lines.now.items in
+    let after = c.show_file.new.lines.items in
+    let one = g.D.SharedDisk.seen c.args.disk.now in
+    let two = g.D.SharedDisk.seen c.show_file.new.disk in
+    let beside = g.J.SharedDisk.seen c.args.beside.now in
+    let read = looked-read one two (FileCalls c.in-Cat.name one.files) (is_ok c.show_file.result) c.show_file.ensures.same c.show_file.ensures.stops c.show_file.ensures.looks in
+    λ has. on-ok c.show_file.result ((read-stands g.S.Serving.kit g.met.S.Serving.laws) old one two beside read has)
 
 pub returns-in-Cat-clause-broken : goal.returns-in-Cat-clause-broken
 returns-in-Cat-clause-broken g c =
-    let held = seen (g.D.SharedDisk.files c.args.disk.now) (g.D.SharedDisk.tally c.args.disk.now) (g.D.SharedDisk.faults c.args.disk.now) in
-    let left = seen (g.D.SharedDisk.files c.show_file.new.disk) (g.D.SharedDisk.tally c.show_file.new.disk) (g.D.SharedDisk.faults c.show_file.new.disk) in
-    (cat-broken g.S.Serving.kit g.met.S.Serving.laws g.S.Serving.script g.met.S.Scripted.follows) c.show_file.result c.args.line.now c.in-Cat.name c.args.world.now c.args.lines.now.items c.show_file.new.lines.items held left c.in-Cat.is c.show_file.ensures.same c.show_file.ensures.armed c.show_file.ensures.stays c.show_file.ensures.never_stopped
+    let old = c.args.world.now in
+    let before = c.args.lines.now.items in
+    let after = c.show_file.new.lines.items in
+    let one = g.D.SharedDisk.seen c.args.disk.now in
+    let two = g.D.SharedDisk.seen c.show_file.new.disk in
+    let beside = g.J.SharedDisk.seen c.args.beside.now in
+    let read = looked-read one two (FileCalls c.in-Cat.name one.files) (is_ok c.show_file.result) c.show_file.ensures.same c.show_file.ensures.stops c.show_file.ensures.looks in
+    (cat-broken g.S.Serving.kit g.met.S.Serving.laws g.S.Serving.script g.met.S.Scripted.follows) c.show_file.result c.args.line.now c.in-Cat.name old before after one two beside c.in-Cat.is read c.show_file.ensures.cause c.show_file.ensures.stays c.show_file.ensures.never_stopped
 
 pub returns-in-Cat-clause-counts : goal.returns-in-Cat-clause-counts
 returns-in-Cat-clause-counts g c =
-    (shown-counts g.S.Serving.kit g.met.S.Serving.laws) c.show_file.result (g.D.SharedDisk.faults c.args.disk.now) (g.D.SharedDisk.faults c.show_file.new.disk) c.show_file.ensures.cause c.show_file.ensures.never_stopped
+    let old = c.args.world.now in
+    let before = c.args.lines.now.items in
+    let after = c.show_file.new.lines.items in
+    let one = g.D.SharedDisk.seen c.args.disk.now in
+    let two = g.D.SharedDisk.seen c.show_file.new.disk in
+    let beside = g.J.SharedDisk.seen c.args.beside.now in
+    let read = looked-read one two (FileCalls c.in-Cat.name one.files) (is_ok c.show_file.result) c.show_file.ensures.same c.show_file.ensures.stops c.show_file.ensures.looks in
+    (shown-counts g.S.Serving.kit g.met.S.Serving.laws) c.show_file.result one two beside read c.show_file.ensures.cause c.show_file.ensures.never_stopped
+
+pub returns-in-Cat-clause-wild : goal.returns-in-Cat-clause-wild
+returns-in-Cat-clause-wild g c =
+    let one = g.D.SharedDisk.seen c.args.disk.now in
+    let two = g.D.SharedDisk.seen c.show_file.new.disk in
+    let beside = g.J.SharedDisk.seen c.args.beside.now in
+    let read = looked-read one two (FileCalls c.in-Cat.name one.files) (is_ok c.show_file.result) c.show_file.ensures.same c.show_file.ensures.stops c.show_file.ensures.looks in
+    (shown-wild g.S.Serving.kit g.met.S.Serving.laws) c.show_file.result c.args.world.now one two beside read
 
 pub returns-in-Cat-clause-looks : goal.returns-in-Cat-clause-looks
 returns-in-Cat-clause-looks g c =
-    subst (λ (next : Line). LooksBy next (g.D.SharedDisk.files c.args.disk.now) (is_ok c.show_file.result) (g.D.SharedDisk.tally c.args.disk.now) (g.D.SharedDisk.tally c.show_file.new.disk)) (sym c.in-Cat.is) c.show_file.ensures.looks
+    subst (λ (next : Line). LooksBy next (g.D.SharedDisk.seen c.args.disk.now).files (is_ok c.show_file.result) (g.D.SharedDisk.seen c.args.disk.now).tally (g.D.SharedDisk.seen c.show_file.new.disk).tally) (sym c.in-Cat.is) c.show_file.ensures.looks
 
 -- all others leave the disk alone
 
 pub returns-in_default-clause-looks : goal.returns-in_default-clause-looks
 returns-in_default-clause-looks g c =
-    looks-alone c.args.line.now (g.D.SharedDisk.files c.args.disk.now) (is_ok c.as_answer.result) (g.D.SharedDisk.tally c.args.disk.now) c.in_default.not-Files c.in_default.not-Cat
+    looks-alone c.args.line.now (g.D.SharedDisk.seen c.args.disk.now).files (is_ok c.as_answer.result) (g.D.SharedDisk.seen c.args.disk.now).tally c.in_default.not-Files c.in_default.not-Cat
 
 pub returns-in_default-clause-ok : goal.returns-in_default-clause-ok
 returns-in_default-clause-ok g c =
@@ -130,18 +196,22 @@ returns-in_default-clause-ok g c =
     let new = c.play_alone.new.world in
     let before = c.args.lines.now.items in
     let after = c.play_alone.new.lines.items in
-    let held = seen (g.D.SharedDisk.files c.args.disk.now) (g.D.SharedDisk.tally c.args.disk.now) (g.D.SharedDisk.faults c.args.disk.now) in
-    ends-ok c.play_alone.result c.as_answer.result c.as_answer.ensures (λ plays. (plays-alone g.S.Serving.kit g.met.S.Serving.laws g.S.Serving.script g.met.S.Scripted.follows) c.args.line.now old new before after held plays) c.play_alone.ensures.ok
+    let held = g.S.Serving.kit.see (g.D.SharedDisk.seen c.args.disk.now) (g.J.SharedDisk.seen c.args.beside.now) in
+    ends-ok c.play_alone.result c.as_answer.result c.as_answer.ensures (λ plays. (plays-alone g.S.Serving.kit g.met.S.Serving.laws g.S.Serving.script g.met.S.Scripted.follows) c.args.line.now old new before after held c.requires.shared plays) c.play_alone.ensures.ok
 
 pub returns-in_default-clause-stands : goal.returns-in_default-clause-stands
 returns-in_default-clause-stands g c =
-    ends-ok c.play_alone.result c.as_answer.result c.as_answer.ensures (λ plays. (alone-stands g.S.Serving.kit g.met.S.Serving.laws) c.args.line.now c.args.world.now c.play_alone.new.world c.args.lines.now.items c.play_alone.new.lines.items (g.D.SharedDisk.tally c.args.disk.now).armed c.requires.state plays) c.play_alone.ensures.ok
+    λ has. ends-ok c.play_alone.result c.as_answer.result c.as_answer.ensures (λ plays. (alone-stands g.S.Serving.kit g.met.S.Serving.laws) c.args.line.now c.args.world.now c.play_alone.new.world c.args.lines.now.items c.play_alone.new.lines.items (g.S.Serving.kit.see (g.D.SharedDisk.seen c.args.disk.now) (g.J.SharedDisk.seen c.args.beside.now)) has plays) c.play_alone.ensures.ok
 
 pub returns-in_default-clause-broken : goal.returns-in_default-clause-broken
 returns-in_default-clause-broken g c =
-    let held = seen (g.D.SharedDisk.files c.args.disk.now) (g.D.SharedDisk.tally c.args.disk.now) (g.D.SharedDisk.faults c.args.disk.now) in
+    let held = g.S.Serving.kit.see (g.D.SharedDisk.seen c.args.disk.now) (g.J.SharedDisk.seen c.args.beside.now) in
     (ends-broken g.S.Serving.kit g.met.S.Serving.laws g.S.Serving.script g.met.S.Scripted.follows) c.play_alone.result c.as_answer.result c.args.line.now c.args.world.now c.play_alone.new.world c.args.lines.now.items c.play_alone.new.lines.items held c.as_answer.ensures c.play_alone.ensures.err
 
 pub returns-in_default-clause-counts : goal.returns-in_default-clause-counts
 returns-in_default-clause-counts g c =
-    (ends-counts g.S.Serving.kit g.met.S.Serving.laws) c.play_alone.result c.as_answer.result (g.D.SharedDisk.faults c.args.disk.now) c.as_answer.ensures
+    (ends-counts g.S.Serving.kit g.met.S.Serving.laws) c.play_alone.result c.as_answer.result (g.S.Serving.kit.see (g.D.SharedDisk.seen c.args.disk.now) (g.J.SharedDisk.seen c.args.beside.now)) c.as_answer.ensures
+
+pub returns-in_default-clause-wild : goal.returns-in_default-clause-wild
+returns-in_default-clause-wild g c =
+    (ends-wild g.S.Serving.kit g.met.S.Serving.laws) c.play_alone.result c.as_answer.result c.args.world.now c.play_alone.new.world (g.S.Serving.kit.see (g.D.SharedDisk.seen c.args.disk.now) (g.J.SharedDisk.seen c.args.beside.now)) c.as_answer.ensures c.play_alone.ensures.wild

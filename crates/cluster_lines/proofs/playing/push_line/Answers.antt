@@ -6,11 +6,17 @@ use Rattle.cluster_rounds.proofs.BrokenClients.{same-breaks}
 use Rattle.cluster_clients.proofs.DispatchSteps.{on-err}
 use Rattle.cluster_lines.specs.Showing.{refused}
 use Rattle.cluster_lines.proofs.LineSteps.{stands-idle, pushes-busy, pushes-does, idle-breaks}
+use Rattle.cluster_rounds.specs.Wild.{always}
+use Rattle.cluster_rounds.proofs.WildSteps.{asks-from, on-ok, wild-same}
+use Rattle.cluster_lines.proofs.WildLines.{pushed-wild, same-wild}
 use Rattle.cluster_lines.proofs.playing.push_line.Goals as goal
 
 pub push-requires : goal.push-requires
 push-requires g c =
-    (stands-idle g.S.Serving.kit g.met.S.Serving.laws g.S.Serving.script g.met.S.Scripted.follows) c.args.world.now c.standing.result c.standing.ensures (sym c.if-is_some.false ∙ c.is_some.ensures) c.requires.state
+    let world = c.args.world.now in
+    (asks-from g.S.Serving.kit) always always world world c.requires.state
+    (λ has. (stands-idle g.S.Serving.kit g.met.S.Serving.laws g.S.Serving.script g.met.S.Scripted.follows) world c.standing.result c.standing.ensures (sym c.if-is_some.false ∙ c.is_some.ensures) has)
+    (λ disks seen wild so. ((wild-same g.S.Serving.kit) seen world disks wild, tt))
 
 pub returns-then-is_some-clause-ok : goal.returns-then-is_some-clause-ok
 returns-then-is_some-clause-ok g c =
@@ -27,3 +33,9 @@ returns-then-is_some-clause-err g c = on-err c.refused.result ((same-breaks g.S.
 pub returns-in-Err-clause-err : goal.returns-in-Err-clause-err
 returns-in-Err-clause-err g c =
     (idle-breaks g.S.Serving.kit g.met.S.Serving.laws g.S.Serving.script g.met.S.Scripted.follows) c.args.world.now c.push.new.world c.standing.result c.standing.ensures (sym c.if-is_some.false ∙ c.is_some.ensures) c.in-Err.ensures.err
+
+pub returns-then-is_some-clause-wild : goal.returns-then-is_some-clause-wild
+returns-then-is_some-clause-wild g c = on-ok c.refused.result ((same-wild g.S.Serving.kit g.met.S.Serving.laws) c.args.world.now)
+
+pub returns-in-Ok-clause-wild : goal.returns-in-Ok-clause-wild
+returns-in-Ok-clause-wild g c = (pushed-wild g.S.Serving.kit g.met.S.Serving.laws) c.in-Ok.items c.args.world.now c.push.new.world c.in-Ok.ensures.wild
