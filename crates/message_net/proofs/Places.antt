@@ -141,16 +141,20 @@ pub posted-new : (bytes : List ℕ) (net : List (List ℕ)) → knows bytes net 
 posted-new bytes net new = sym (ap (λ (b : Bool). if b then net else bytes ∷ net) new)
 
 -- one string more
-more_strings : (strings : List (Vec ℕ)) (string : Vec ℕ) (net : List (List ℕ)) → reverse_aux (bytes_of (strings ++ string ∷ [])) net ≡ string.items ∷ reverse_aux (bytes_of strings) net
+pub more_strings : (strings : List (Vec ℕ)) (string : Vec ℕ) (net : List (List ℕ)) → reverse_aux (bytes_of (strings ++ string ∷ [])) net ≡ string.items ∷ reverse_aux (bytes_of strings) net
 more_strings [] string net = refl
 more_strings (first ∷ strings) string net = more_strings strings string (first.items ∷ net)
 
--- a string whose bytes are not known joins as the newest
+-- a string whose bytes are not known joins behind all others
+pub keys-pushed : (bytes : List ℕ) (old new : List (Vec ℕ)) (string : Vec ℕ) → string.items ≡ bytes → knows bytes (reverse_aux (bytes_of old) []) ≡ false → new ≡ insert_key (λ (one other : Vec ℕ). bytes_eq one.items other.items) old string → new ≡ old ++ string ∷ []
+keys-pushed bytes old new string is unknown joins =
+    let absent : list_any (is_of string.items) old ≡ false = ap (λ (b : List ℕ). list_any (is_of b) old) is ∙ sym (knows-strings bytes old) ∙ unknown in
+    joins ∙ ap (λ (b : Bool). if b then old else old ++ string ∷ []) absent
+
+-- and in the net as the newest
 pub strings-pushed : (bytes : List ℕ) (old new : List (Vec ℕ)) (string : Vec ℕ) → string.items ≡ bytes → knows bytes (reverse_aux (bytes_of old) []) ≡ false → new ≡ insert_key (λ (one other : Vec ℕ). bytes_eq one.items other.items) old string → reverse_aux (bytes_of new) [] ≡ bytes ∷ reverse_aux (bytes_of old) []
 strings-pushed bytes old new string is unknown joins =
-    let absent : list_any (is_of string.items) old ≡ false = ap (λ (b : List ℕ). list_any (is_of b) old) is ∙ sym (knows-strings bytes old) ∙ unknown in
-    let longer : new ≡ old ++ string ∷ [] = joins ∙ ap (λ (b : Bool). if b then old else old ++ string ∷ []) absent in
-    ap (λ (strings : List (Vec ℕ)). reverse_aux (bytes_of strings) []) longer ∙ more_strings old string [] ∙ ap (λ (b : List ℕ). b ∷ reverse_aux (bytes_of old) []) is
+    ap (λ (strings : List (Vec ℕ)). reverse_aux (bytes_of strings) []) (keys-pushed bytes old new string is unknown joins) ∙ more_strings old string [] ∙ ap (λ (b : List ℕ). b ∷ reverse_aux (bytes_of old) []) is
 
 -- the place of bytes that were posted anew
 pub place-pushed : (bytes : List ℕ) (net new : List (List ℕ)) (count : ℕ) → new ≡ bytes ∷ net → count ≡ length new → place_of bytes new ≡ Some count

@@ -1,11 +1,13 @@
 //! The byte strings that were posted.
-ghost use Rattle.std.specs.Prelude.{◌≡◌, [], length, not, IsTrue, IsOk, IfOk, OnOk, OnErr, Some};
+ghost use Rattle.std.specs.Prelude.{◌≡◌, ℕ, List, [], length, not, IsTrue, IsOk, IfOk, OnOk, OnErr, Some, ◌≤◌};
 ghost use Rattle.std.specs.Option.{option_copied};
-ghost use Rattle.message_net.specs.Nets.{knows, posted, bytes_at, place_of};
+ghost use Rattle.message_net.specs.Nets.{knows, posted, bytes_at, place_of, front_of, newest_with, net_before};
 
+use crate::fronts::{front_of, join, newest_in, reserve};
 use ais_values::Duplicate;
 use indexmap::IndexSet;
 use std::alloc::{AllocError, Global};
+use std::collections::HashMap;
 use std::marker::Model;
 
 /// What became of bytes that were posted: the place where they stand, from 1, and whether they came by this posting.
@@ -25,6 +27,9 @@ impl Duplicate for Posted {
 #[derive(Drop)]
 pub struct Net {
     strings: IndexSet<Vec<u8>>,
+    // The place of the newest string of each front, and for each string that of the newest one before it of its front.
+    newest: HashMap<u64, u64>,
+    older: Vec<Option<u64>>,
 }
 
 impl Model for Net {
@@ -32,9 +37,11 @@ impl Model for Net {
 
     ghost Value = { List (List ℕ) };
 
-    ghost use Rattle.message_net.specs.Inside.{net_of};
+    ghost use Rattle.message_net.specs.Inside.{net_of, IsFound};
 
     ghost view = { net_of };
+
+    ghost invariant = { IsFound };
 }
 
 impl Net {
@@ -44,6 +51,8 @@ impl Net {
     {
         Net {
             strings: IndexSet::new(alloc),
+            newest: HashMap::new(alloc),
+            older: Vec::new(alloc),
         }
     }
 
@@ -94,9 +103,28 @@ impl Net {
         if let Some(place) = self.place_of(bytes) {
             return Ok(Posted { place, new: false });
         }
+        reserve(&mut self.newest, &mut self.older)?;
         let string = Vec::from_slice(alloc, bytes)?;
         self.strings.insert(string)?;
-        let place = self.len();
+        let place = self.strings.len() as u64;
+        join(&mut self.newest, &mut self.older, front_of(bytes), place);
         Ok(Posted { place, new: true })
+    }
+
+    /// The place of the newest string of this front, `None` exactly where none has it.
+    pub fn newest_with(&self, front: u64) -> Option<u64>
+        ensures { result ≡ newest_with front self.now }
+    {
+        newest_in(&self.newest, front)
+    }
+
+    /// The place of the newest string that has the front of the one at this place and came before it, `None` exactly where
+    /// none did.
+    pub fn older_with(&self, place: u64) -> Option<u64>
+        requires { (1 ≤ place) × (place ≤ length self.now) }
+        ensures { (bytes : List ℕ) → bytes_at place self.now ≡ Some bytes
+            → result ≡ newest_with (front_of bytes) (net_before place self.now) }
+    {
+        self.older[(place - 1) as usize]
     }
 }
