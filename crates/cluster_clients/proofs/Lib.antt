@@ -10,3 +10,4 @@ pub mod DeliverySteps
 pub mod AskSteps
 pub mod TakingSteps
 pub mod ReplySteps
+pub mod FrontSteps

@@ -35,12 +35,6 @@ oldest-all (bytes ∷ net) =
     let P : Bool → Type 0 = λ b. (if b then bytes ∷ net else oldest (suc (length net)) net) ≡ bytes ∷ net in
     by_test P (suc (length net)) (suc (length net)) (λ same. refl) (λ different. absurd (different refl))
 
-pub oldest-none : (net : List (List ℕ)) → oldest 0 net ≡ []
-oldest-none [] = refl
-oldest-none (bytes ∷ net) =
-    let P : Bool → Type 0 = λ b. (if b then bytes ∷ net else oldest 0 net) ≡ [] in
-    by_test P 0 (suc (length net)) (λ same. absurd (omega arith)) (λ different. oldest-none net)
-
 bytes_at-bound : (place : ℕ) (net : List (List ℕ)) (bytes : List ℕ) → bytes_at place net ≡ Some bytes → place ≤ length net
 bytes_at-bound place [] bytes found = cc
 bytes_at-bound place (known ∷ net) bytes found =
@@ -53,7 +47,7 @@ bytes_at-within place (known ∷ net) within =
     let P : Bool → Type 0 = λ b. (bytes : List ℕ) × ((if b then Some known else bytes_at (suc place) net) ≡ Some bytes) in
     by_test P (suc place) (suc (length net)) (λ same. (known, refl)) (λ different. bytes_at-within place net (omega arith))
 
-older : (place : ℕ) (bytes : List ℕ) (net : List (List ℕ)) → place ≤ length net → oldest place (bytes ∷ net) ≡ oldest place net
+pub older : (place : ℕ) (bytes : List ℕ) (net : List (List ℕ)) → place ≤ length net → oldest place (bytes ∷ net) ≡ oldest place net
 older place bytes net within =
     let P : Bool → Type 0 = λ b. (if b then bytes ∷ net else oldest place net) ≡ oldest place net in
     by_test P place (suc (length net)) (λ same. absurd (omega arith)) (λ different. refl)
@@ -78,10 +72,6 @@ oldest-next place (known ∷ net) bytes found =
 abbrev pub FindsBelow : List ℕ → ℕ → List (List ℕ) → Type 0
 FindsBelow front place net = (found : Option Message) → FindsFirst front (oldest place net) found → FindsFirst front net found
 
-pub finds-start : (front : List ℕ) (net : List (List ℕ)) (place : ℕ) → place ≡ length net → FindsBelow front place net
-finds-start front net place all found finds =
-    subst (λ n. FindsFirst front n found) (ap (λ p. oldest p net) all ∙ oldest-all net) finds
-
 pub finds-passed : (front : List ℕ) (place : ℕ) (net : List (List ℕ)) (bytes : List ℕ) → 0 < place → bytes_at place net ≡ Some bytes → IsReplyIn front bytes None → FindsBelow front place net → FindsBelow front (place - 1) net
 finds-passed front zero net bytes some there none so_far found finds = absurd (omega arith)
 finds-passed front (suc place) net bytes some there none so_far found finds =
@@ -93,10 +83,6 @@ pub finds-here : (front : List ℕ) (place : ℕ) (net : List (List ℕ)) (bytes
 finds-here front zero net bytes message some there is so_far = absurd (omega arith)
 finds-here front (suc place) net bytes message some there is so_far =
     so_far (Some message) (subst (λ n. FindsFirst front n (Some message)) (sym (oldest-next place net bytes there)) (Here bytes message is))
-
-pub finds-nothing : (front : List ℕ) (place : ℕ) (net : List (List ℕ)) → place ≡ 0 → FindsBelow front place net → FindsFirst front net None
-finds-nothing front place net done so_far =
-    so_far None (subst (λ n. FindsFirst front n None) (sym (ap (λ p. oldest p net) done ∙ oldest-none net)) Nothing)
 
 pub first-there : (place : ℕ) (net : List (List ℕ)) → 0 < place → place ≤ length net → bytes_at place net ≡ None → ⊥
 first-there zero net some within none = absurd (omega arith)
@@ -124,7 +110,7 @@ front-same client number receiver other one two three four same =
     let numbers = number-same 4 number other [] [] (count-number number two) (count-number other four) padded in
     (clients.0, numbers.0)
 
-front-length : (client number : ℕ) → length (reply_front client number) ≡ 7
+pub front-length : (client number : ℕ) → length (reply_front client number) ≡ 7
 front-length client number =
     let one = length-number_text 2 client in
     let two = length-number_text 4 number in

@@ -1,11 +1,11 @@
 //! Replies in the net, by the calls that they answer.
-ghost use Rattle.std.specs.Prelude.{◌≡◌, IfOk};
+ghost use Rattle.std.specs.Prelude.{◌≡◌, length, IfOk};
 ghost use Rattle.wire_code.specs.Spelling.{IsClient, IsCount};
 ghost use Rattle.cluster_clients.specs.Replies.{reply_front, IsReplyIn, FindsFirst, FindsReply};
 
 use crate::fetching::{Fetched, read_string};
 use calls::Reply;
-use message_net::Net;
+use message_net::{Net, front_of};
 use std::alloc::{AllocError, Global};
 use std::mem;
 use wire::{Message, encode};
@@ -50,12 +50,13 @@ fn reply_in(alloc: Global, bytes: &[u8], front: &[u8]) -> Result<Option<Message>
     }
 }
 
-/// The newest message of the net whose spelling begins so.
+/// The newest message of the net whose spelling begins so: it is one of the strings that have the front of these bytes.
 fn first_with(alloc: Global, net: &Net, front: &[u8]) -> Result<Option<Message>, AllocError>
+    requires { length front.now ≡ 7 }
     ensures { IfOk result (λ found. FindsFirst front.now net.now found) }
 {
-    let mut place = net.len();
-    while place > 0 {
+    let mut next = net.newest_with(front_of(front));
+    while let Some(place) = next {
         match net.at(place) {
             Some(bytes) => match reply_in(alloc, bytes, front) {
                 Ok(Some(message)) => return Ok(Some(message)),
@@ -64,7 +65,7 @@ fn first_with(alloc: Global, net: &Net, front: &[u8]) -> Result<Option<Message>,
             },
             None => return Ok(None),
         }
-        place -= 1;
+        next = net.older_with(place);
     }
     Ok(None)
 }

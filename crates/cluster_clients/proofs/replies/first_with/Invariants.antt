@@ -1,12 +1,9 @@
-use Rattle.std.proofs.Common.{◌≤◌, length}
-use Rattle.cluster_clients.proofs.ReplySteps.{FindsBelow}
+use Rattle.std.specs.Prelude.{unwrap_or}
+use Rattle.cluster_clients.proofs.FrontSteps.{Searches}
 use Rattle.cluster_clients.proofs.replies.first_with.Given as goal
 
-abbrev pub invariant-loop-place : goal.invariant-loop-place
-invariant-loop-place l = record {
-  bound : l.place ≤ length l.net;
-  below : FindsBelow l.front l.place l.net;
-}
+abbrev pub invariant-loop-next : goal.invariant-loop-next
+invariant-loop-next l = Searches l.front l.net l.next
 
-abbrev pub decreases-loop-place : goal.decreases-loop-place
-decreases-loop-place l = l.place
+abbrev pub decreases-loop-next : goal.decreases-loop-next
+decreases-loop-next l = unwrap_or l.next 0
