@@ -1,6 +1,7 @@
 -- What a step of a drain comes to.
-use Rattle.std.proofs.Common.{◌≡◌, ℕ, Bool, true, false, Option, Some, None, List, ◌++◌, refl, ap, sym, ◌∙◌, subst}
+use Rattle.std.proofs.Common.{◌≡◌, ℕ, true, false, Option, Some, None, List, ◌++◌, refl, ap, sym, ◌∙◌, subst}
 use Rattle.std.specs.Prelude.{IsSome}
+use Rattle.disk_model.specs.Seen.{DiskSeen}
 use Rattle.disk_model.specs.declared.answers.DiskAnswer.{DiskAnswer}
 use Rattle.disk_model.specs.declared.answers.DiskAnswer.TheVariants.{Memory, Failed, Stopped}
 use Rattle.plain_service.specs.Setups.{Setup}
@@ -14,7 +15,7 @@ use Rattle.pair_cluster.specs.Peers.{Partner, Linking, Standby, Peers}
 use Rattle.pair_cluster.specs.Pair.{mirror_by, mirror_pair, ack_by, ack_pair, work_by, pair}
 use Rattle.pair_cluster.proofs.Stepping.{pair_at}
 use Rattle.cluster_rounds.specs.declared.cluster.Cluster.{Cluster}
-use Rattle.cluster_rounds.specs.Came.{Advances, Comes, ComesOff, DiskSeen}
+use Rattle.cluster_rounds.specs.Came.{Advances, Comes, ComesOff}
 use Rattle.cluster_rounds.specs.Kits.{device_by}
 use Rattle.cluster_rounds.specs.Rounds.{EndsStep, advances_by}
 use Rattle.cluster_rounds.specs.Worlds.{HasState, HasStateOn, IsGood, Shows, any_state}
@@ -80,8 +81,8 @@ no-message old between last first before after mirrors acks setup state good sho
 pub state-after : (old new : Cluster Pair) → new ≡ old → HasState pair_kit old → HasState pair_kit new
 state-after old new is has = subst (HasState pair_kit) (sym is) has
 
-pub state-on : (old new : Cluster Pair) (armed : Option ℕ) → new ≡ old → HasStateOn pair_kit any_state old armed → HasStateOn pair_kit any_state new armed
-state-on old new armed is has = subst (λ (world : Cluster Pair). HasStateOn pair_kit any_state world armed) (sym is) has
+pub state-on : (old new : Cluster Pair) (seen : DiskSeen) → new ≡ old → HasStateOn pair_kit any_state old seen → HasStateOn pair_kit any_state new seen
+state-on old new seen is has = subst (λ (world : Cluster Pair). HasStateOn pair_kit any_state world seen) (sym is) has
 
 -- The entry in hand is worked.
 
@@ -104,11 +105,7 @@ work-off Failed old new before after held left none comes setup state good shows
       happened = ended.happened;
       end = ended.end;
       ends = record { later = ended.ends.later; is = λ fails agrees. drain-ends setup state no.0 no.1 fails ended.end (ended.ends.is fails agrees) };
-      between = ended.between;
-      before_it = ended.before_it;
-      caused = ended.caused;
-      behind_it = ended.behind_it;
-      rose = ended.rose;
+      faults = ended.faults;
       good = ended.good;
       says = ended.says;
       fell = ended.fell;
@@ -122,7 +119,7 @@ work-off Failed old new before after held left none comes setup state good shows
     }
 
 -- there is none in hand that is ready
-idle-by : (setup : Setup) (state : State Peers) (hand : Hand) (active : Node) (fails : ℕ → Bool) → active ≡ active_by setup state.world.core.answered hand state.peers.partner → (IsSome active.replica.owed × (active.waits ≡ None) → ⊥) → work_by (plain_of setup) (device_by setup fails) hand (pair_at state.peers.partner hand state) ≡ None
+idle-by : (setup : Setup) (state : State Peers) (hand : Hand) (active : Node) (fails : ℕ → ℕ) → active ≡ active_by setup state.world.core.answered hand state.peers.partner → (IsSome active.replica.owed × (active.waits ≡ None) → ⊥) → work_by (plain_of setup) (device_by setup fails) hand (pair_at state.peers.partner hand state) ≡ None
 idle-by setup state Empty active fails is not = refl
 idle-by setup state (Waiting entry) active fails is not = refl
 idle-by setup state (Applied entry) active fails is not = refl
@@ -130,7 +127,7 @@ idle-by setup state (Ready entry) active fails is not =
     let R : Node → Type 0 = λ node. IsSome node.replica.owed × (node.waits ≡ None) in
     absurd (not (subst R (sym is) (refl, refl)))
 
-pub advances-none : (old : Cluster Pair) → NoMessage old → (IsSome old.servers.active.replica.owed × (old.servers.active.waits ≡ None) → ⊥) → (setup : Setup) (fails : ℕ → Bool) (state : State Peers) → IsGood pair_kit setup state → Shows pair_kit setup state old → advance (pair (plain_of setup) (device_by setup fails)) state ≡ None
+pub advances-none : (old : Cluster Pair) → NoMessage old → (IsSome old.servers.active.replica.owed × (old.servers.active.waits ≡ None) → ⊥) → (setup : Setup) (fails : ℕ → ℕ) (state : State Peers) → IsGood pair_kit setup state → Shows pair_kit setup state old → advance (pair (plain_of setup) (device_by setup fails)) state ≡ None
 advances-none old none not setup fails state good shows =
     let no = none setup state good shows in
     let idle = idle-by setup state state.world.core.hand old.servers.active fails (ap (λ (servers : Pair). servers.active) shows.own) not in

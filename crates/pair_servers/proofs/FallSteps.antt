@@ -6,6 +6,7 @@ use Rattle.calls.specs.History.{Pushed}
 use Rattle.disk_model.specs.declared.answers.DiskAnswer.{DiskAnswer}
 use Rattle.disk_model.specs.declared.answers.DiskAnswer.TheVariants.{Memory, Failed, Stopped}
 use Rattle.disk_model.specs.DeviceCalls.{BreaksOff, LeftOn, all_applied}
+use Rattle.disk_model.specs.Seen.{DiskSeen}
 use Rattle.script_lines.specs.declared.line.Line.TheVariants as line
 use Rattle.script_lines.specs.declared.line.Server.{Server}
 use Rattle.script_lines.specs.declared.line.Server.TheVariants.{A, B}
@@ -32,7 +33,7 @@ use Rattle.cluster_clients.proofs.DispatchSteps.{agents-as}
 use Rattle.cluster_rounds.specs.declared.cluster.Cluster.{Cluster}
 use Rattle.cluster_rounds.specs.Kits.{device_by}
 use Rattle.cluster_rounds.specs.Broken.{BreaksAlone}
-use Rattle.cluster_rounds.specs.Came.{DiskSeen, ComesOff, Ended}
+use Rattle.cluster_rounds.specs.Came.{ComesOff, Ended}
 use Rattle.cluster_rounds.specs.Rounds.{EndOver}
 use Rattle.cluster_rounds.proofs.CameSteps.{alone-off}
 use Rattle.cluster_rounds.specs.Worlds.{Shows, Happened, Does, LeavesFiles, any_state}
@@ -41,7 +42,8 @@ use Rattle.cluster_lines.specs.Answers.{EndsAs}
 use Rattle.cluster_lines.specs.Own.{DoesOn}
 use Rattle.pair_servers.specs.declared.pair.Pair.{Pair}
 use Rattle.pair_servers.specs.Falls.{TakesOver, stands_by, stays_down, waiting_in, waiting_lines, waiting_entries}
-use Rattle.pair_servers.specs.PairKit.{pair_kit}
+use Rattle.pair_servers.specs.PairKit.{pair_kit, pair_script}
+use Rattle.pair_servers.specs.PairScript.{calm-uses}
 use Rattle.pair_servers.specs.PairLaws.{pair_laws}
 use Rattle.pair_servers.specs.PairNodes.{active_by, partner_by, servers_of, waits_by}
 use Rattle.pair_servers.specs.Steps.{crashed_by, armed_by, disarmed_by, restarted_by, EndsCrashed, refused_by}
@@ -126,15 +128,15 @@ restart-refused server false (Standby number) state is = refl
 abbrev HappenedAs : Setup → Cluster Pair → List (List ℕ) → List (List ℕ) → Outcome (State Peers) → Type 0
 HappenedAs setup new before after outcome = Happened pair_kit setup outcome new before after
 
-pub crash-refuses : (server : Server) (world : Cluster Pair) (before after : List (List ℕ)) (disk : DiskSeen) → (same_server server world.servers.acting && stands_by world.servers.partner.replica.role) ≡ false → (not (same_server server world.servers.acting) && (not world.servers.armed && not (stays_down world.servers.partner.replica.role))) ≡ false → Does pair_kit (refused_by (line.Crash server)) world world before after → DoesOn pair_kit (crashed_by server) world world before after disk disk
+pub crash-refuses : (server : Server) (world : Cluster Pair) (before after : List (List ℕ)) (disk : DiskSeen) → (same_server server world.servers.acting && stands_by world.servers.partner.replica.role) ≡ false → (not (same_server server world.servers.acting) && (not world.servers.armed && not (stays_down world.servers.partner.replica.role))) ≡ false → Does pair_kit (refused_by (line.Crash server)) world world before after → DoesOn pair_kit pair_script (line.Crash server) (crashed_by server) world world before after disk disk
 crash-refuses server world before after disk leads follows does setup state good shows armed =
     let is = crash-refused server (same_server server state.peers.acting) state (sym (leads-shown setup state world shows server) ∙ leads) (sym (follows-shown setup state world shows server) ∙ follows) in
-    (subst (HappenedAs setup world before after) (sym is) (does setup state good shows), subst (λ (o : Outcome (State Peers)). disk.armed ≡ o.state.peers.armed) (sym is) armed, λ tells. subst (λ (o : Outcome (State Peers)). LeavesFiles setup o.state disk.files disk.files) (sym is) (left-same setup state disk.files tells), refl)
+    (subst (HappenedAs setup world before after) (sym is) (does setup state good shows), subst (λ (o : Outcome (State Peers)). disk.tally.armed ≡ o.state.peers.armed) (sym is) armed, λ tells. subst (λ (o : Outcome (State Peers)). LeavesFiles setup o.state disk.files disk.files) (sym is) (left-same setup state disk.files tells), calm-uses (line.Crash server) _ disk disk refl)
 
-pub arm-refuses : (server : Server) (count : ℕ) (world : Cluster Pair) (before after : List (List ℕ)) (disk : DiskSeen) → (same_server server world.servers.acting && stands_by world.servers.partner.replica.role) ≡ false → Does pair_kit (refused_by (line.Arm server count)) world world before after → DoesOn pair_kit (armed_by server count) world world before after disk disk
+pub arm-refuses : (server : Server) (count : ℕ) (world : Cluster Pair) (before after : List (List ℕ)) (disk : DiskSeen) → (same_server server world.servers.acting && stands_by world.servers.partner.replica.role) ≡ false → Does pair_kit (refused_by (line.Arm server count)) world world before after → DoesOn pair_kit pair_script (line.Arm server count) (armed_by server count) world world before after disk disk
 arm-refuses server count world before after disk leads does setup state good shows armed =
     let is = arm-refused server count (same_server server state.peers.acting) state.peers.partner state (sym (leads-shown setup state world shows server) ∙ leads) in
-    (subst (HappenedAs setup world before after) (sym is) (does setup state good shows), subst (λ (o : Outcome (State Peers)). disk.armed ≡ o.state.peers.armed) (sym is) armed, λ tells. subst (λ (o : Outcome (State Peers)). LeavesFiles setup o.state disk.files disk.files) (sym is) (left-same setup state disk.files tells), refl)
+    (subst (HappenedAs setup world before after) (sym is) (does setup state good shows), subst (λ (o : Outcome (State Peers)). disk.tally.armed ≡ o.state.peers.armed) (sym is) armed, λ tells. subst (λ (o : Outcome (State Peers)). LeavesFiles setup o.state disk.files disk.files) (sym is) (left-same setup state disk.files tells), calm-uses (line.Arm server count) _ disk disk refl)
 
 pub restart-refuses : (server : Server) (world : Cluster Pair) (before after : List (List ℕ)) → (not (same_server server world.servers.acting) && stays_down world.servers.partner.replica.role) ≡ false → Does pair_kit (refused_by (line.Restart server)) world world before after → Does pair_kit (restarted_by server) world world before after
 restart-refuses server world before after rests does setup state good shows =
@@ -180,7 +182,7 @@ leads-in setup state old server shows leads =
     }
 
 module _ (server : Server) (old : Cluster Pair) (new : Pair) (before after : List (List ℕ)) (held left : DiskSeen) (leads : (same_server server old.servers.acting && stands_by old.servers.partner.replica.role) ≡ true) where
-  pub crash-does : (result : Result (Unit {0}) DiskAnswer) → TakesOver result (fell old.servers) new before after held left → OnOk result (DoesOn pair_kit (crashed_by server) old (with_servers old new) before after held left)
+  pub crash-does : (result : Result (Unit {0}) DiskAnswer) → TakesOver result (fell old.servers) new before after held left → OnOk result (DoesOn pair_kit pair_script (line.Crash server) (crashed_by server) old (with_servers old new) before after held left)
   crash-does (Ok done) takes = λ setup state good shows armed.
       let found = leads-in setup state old server shows leads in
       let files = takes.2 ∙ ap (λ c. option_map (all_applied c) held.files) (kept-shown setup state found.number old shows found.standby) in
@@ -188,9 +190,9 @@ module _ (server : Server) (old : Cluster Pair) (new : Pair) (before after : Lis
       (over-shows setup state found.number old new shows found.standby takes.0, over-good setup state good, over-told setup state old before after shows takes.1)
       in (
         subst (HappenedAs setup (with_servers old new) before after) (sym found.is) does,
-        subst (λ (o : Outcome (State Peers)). left.armed ≡ o.state.peers.armed) (sym found.is) takes.3,
+        subst (λ (o : Outcome (State Peers)). left.tally.armed ≡ o.state.peers.armed) (sym found.is) takes.3,
         λ tells. subst (λ (o : Outcome (State Peers)). LeavesFiles setup o.state held.files left.files) (sym found.is) (takeover-done setup state found.number held.files held.files left.files good found.standby (rest-goes-on setup state held.files tells) files),
-        takes.4,
+        calm-uses (line.Crash server) _ held left takes.4,
       )
   crash-does (Err answer) takes = tt
 
@@ -199,7 +201,7 @@ module _ (server : Server) (old : Cluster Pair) (new : Pair) (before after : Lis
   crash-off (Err Memory) takes = λ setup state good shows armed so.
       let found = leads-in setup state old server shows leads in
       let again = subst (λ c. BreaksOff (LeftOn Memory) c takes.0 held.files left.files) (kept-shown setup state found.number old shows found.standby) takes.1 in (
-        lacks setup state held.files left.files old (with_servers old new) good shows refl refl refl refl
+        lacks setup state held left old (with_servers old new) good shows refl refl refl refl
             (λ tells. takeover-breaks setup state found.number Memory takes.0 held.files held.files left.files good found.standby (rest-goes-on setup state held.files tells) again),
         subst (λ n. held.faults ≤ n) (sym takes.2) (le_refl held.faults),
       )
@@ -209,7 +211,7 @@ module _ (server : Server) (old : Cluster Pair) (new : Pair) (before after : Lis
       let C : Server → Type 0 = λ s. Ended pair_kit setup state (λ fails. EndsCrash (device_by setup fails) s) (with_servers old new) before after held left in
       subst C (sym (same-is server state.peers.acting found.same))
       (crash-ended setup state old (with_servers old new) before after held left good shows found.number takes.2 found.standby again takes.5 takes.6
-      (fallen-fell setup state found.number old new left.armed shows found.standby takes.0 takes.4) refl refl refl refl refl
+      (fallen-fell setup state found.number old new left.tally.armed shows found.standby takes.0 takes.4) refl refl refl refl refl
       (fallen-told setup state found.number old before after shows found.standby takes.1))
   crash-off (Err Stopped) takes = absurd takes
 
@@ -342,13 +344,13 @@ none-is None is = refl
 none-is (Some left) is = cc
 
 -- the disk is left alone
-pub crash-on : (server : Server) (old new : Cluster Pair) (before after : List (List ℕ)) (disk : DiskSeen) → (not (same_server server old.servers.acting) && (not old.servers.armed && not (stays_down old.servers.partner.replica.role))) ≡ true → Does pair_kit (crashed_by server) old new before after → DoesOn pair_kit (crashed_by server) old new before after disk disk
+pub crash-on : (server : Server) (old new : Cluster Pair) (before after : List (List ℕ)) (disk : DiskSeen) → (not (same_server server old.servers.acting) && (not old.servers.armed && not (stays_down old.servers.partner.replica.role))) ≡ true → Does pair_kit (crashed_by server) old new before after → DoesOn pair_kit pair_script (line.Crash server) (crashed_by server) old new before after disk disk
 crash-on server old new before after disk follows does setup state good shows armed =
     let found = follows-in setup state old server shows follows in (
       does setup state good shows,
-      subst (λ (o : Outcome (State Peers)). disk.armed ≡ o.state.peers.armed) (sym found.is) (armed ∙ none-is state.peers.armed found.unarmed),
+      subst (λ (o : Outcome (State Peers)). disk.tally.armed ≡ o.state.peers.armed) (sym found.is) (armed ∙ none-is state.peers.armed found.unarmed),
       λ tells. subst (λ (o : Outcome (State Peers)). LeavesFiles setup o.state disk.files disk.files) (sym found.is) (left-same setup state disk.files tells),
-      refl,
+      calm-uses (line.Crash server) _ disk disk refl,
     )
 
 -- the same, as a disk's answer
@@ -386,7 +388,7 @@ armed-shows setup state armed old shows = record {
   callbacks = shows.callbacks;
 }
 
-pub arms : (server : Server) (count : ℕ) (old : Cluster Pair) (lines : List (List ℕ)) (held left : DiskSeen) → (same_server server old.servers.acting && stands_by old.servers.partner.replica.role) ≡ true → 1 ≤ count → left.files ≡ held.files → left.armed ≡ Some count → left.faults ≡ held.faults → DoesOn pair_kit (armed_by server count) old (with_servers old (record old.servers { armed = true })) lines lines held left
+pub arms : (server : Server) (count : ℕ) (old : Cluster Pair) (lines : List (List ℕ)) (held left : DiskSeen) → (same_server server old.servers.acting && stands_by old.servers.partner.replica.role) ≡ true → 1 ≤ count → left.files ≡ held.files → left.tally.armed ≡ Some count → left.faults ≡ held.faults → DoesOn pair_kit pair_script (line.Arm server count) (armed_by server count) old (with_servers old (record old.servers { armed = true })) lines lines held left
 arms server count old lines held left leads some files armed faults setup state good shows count_is =
     let both = both-true (same_server server state.peers.acting) (is_standby state.peers.partner) (sym (leads-shown setup state old shows server) ∙ leads) in
     let is = arm-is server count (same_server server state.peers.acting) state.peers.partner state both.0 both.1 in
@@ -395,14 +397,14 @@ arms server count old lines held left leads some files armed faults setup state 
     (armed-shows setup state (Some count) old shows, armed-good setup state good (Some count) (may-arm count state.peers.partner both.1 some), sym (append-nil lines))
     in (
       subst (HappenedAs setup new lines lines) (sym is) does,
-      subst (λ (o : Outcome (State Peers)). left.armed ≡ o.state.peers.armed) (sym is) armed,
+      subst (λ (o : Outcome (State Peers)). left.tally.armed ≡ o.state.peers.armed) (sym is) armed,
       λ tells. subst (λ (o : Outcome (State Peers)). LeavesFiles setup o.state held.files left.files) (sym is) (files ∙ left-same setup state held.files tells),
-      faults,
+      calm-uses (line.Arm server count) _ held left faults,
     )
 
-pub disarms : (old : Cluster Pair) (lines : List (List ℕ)) (held left : DiskSeen) → left.files ≡ held.files → left.armed ≡ None → left.faults ≡ held.faults → DoesOn pair_kit disarmed_by old (with_servers old (record old.servers { armed = false })) lines lines held left
+pub disarms : (old : Cluster Pair) (lines : List (List ℕ)) (held left : DiskSeen) → left.files ≡ held.files → left.tally.armed ≡ None → left.faults ≡ held.faults → DoesOn pair_kit pair_script line.Disarm disarmed_by old (with_servers old (record old.servers { armed = false })) lines lines held left
 disarms old lines held left files armed faults setup state good shows count_is =
-    ((armed-shows setup state None old shows, armed-good setup state good None tt, sym (append-nil lines)), armed, λ tells. files ∙ left-same setup state held.files tells, faults)
+    ((armed-shows setup state None old shows, armed-good setup state good None tt, sym (append-nil lines)), armed, λ tells. files ∙ left-same setup state held.files tells, calm-uses line.Disarm _ held left faults)
 
 -- `restart`.
 

@@ -1,5 +1,5 @@
 -- What holds of a good state of two servers, and the conditions of what its nodes are called with.
-use Rattle.std.proofs.Common.{◌≡◌, ℕ, false, ℤ, List, refl, ap, sym, ◌∙◌, subst, arith}
+use Rattle.std.proofs.Common.{◌≡◌, ℕ, ℤ, List, refl, ap, sym, ◌∙◌, subst, arith}
 use Rattle.std.specs.Prelude.{Result, Ok, Err, IfOk, OnErr}
 use mir.Syntax.{w64}
 use mir.Val.{to_z, of_z}
@@ -90,7 +90,7 @@ GoesSo setup state outcome = Goes (SaysUnasked (plain_of setup)) (IsSteady (plai
 pub heard-goes : (setup : Setup) (place : ℕ) (message : Message) (state : State Peers) → IsGood pair_kit setup state → Stands message (messages_in state.world.net) → GoesSo setup state (heard_by pair_kit place message setup state)
 heard-goes setup place message state good stands =
     let plain = plain_of setup in
-    hear-goes plain (is_plain setup) (servers_at pair_kit setup (λ number. false)) IsPair ((calm-serves pair_kit pair_laws) setup) (SaysUnasked plain) ((calm-unasked pair_kit pair_laws) setup) place message state stands good.steady
+    hear-goes plain (is_plain setup) (servers_at pair_kit setup (λ number. 0)) IsPair ((calm-serves pair_kit pair_laws) setup) (SaysUnasked plain) ((calm-unasked pair_kit pair_laws) setup) place message state stands good.steady
 
 -- what the active server answered at that moment
 pub heard-then : (world : Cluster Pair) (message : Message) (heard : Heard) (new : Node) → HasState pair_kit world → IsHeard message (to_z w64 (of_z w64 world.now)) world.servers.active heard new → IsHeard message world.now world.servers.active heard new

@@ -1,8 +1,8 @@
 -- What a message that the active server heard posts, and what hearing leaves where memory runs out.
 use Rattle.std.proofs.Common.{◌≡◌, ℕ, zero, suc, ◌<◌, ◌⊎◌, inl, inr, Bool, true, false, ℤ, Option, List, [], ◌∷◌, length, take, refl, ap, sym, ◌∙◌, subst, arith}
 use Rattle.std.specs.List.{AllByRecursion}
+use Rattle.disk_model.specs.Seen.{DiskSeen}
 use Rattle.calls.specs.History.{Pushed}
-use Rattle.disk_model.specs.Disk.{Files}
 use Rattle.wire.specs.MessageSpelling.{MessageInRange}
 use Rattle.plain_service.specs.Setups.{Setup}
 use Rattle.plain_service.specs.Legal.{IsHistory}
@@ -121,9 +121,9 @@ posts-one setup message net old new posts spelled =
 
 -- Where memory runs out the history stays, and a reply was posted again or not.
 
-module _ (setup : Setup) (state : State Peers) (old : Cluster Pair) (active : Node) (link : List Message) (net : List (List ℕ)) (history : Pushed) (held : Option Files) (good : IsGood pair_kit setup state) (shows : Shows pair_kit setup state old) (same : history.entries ≡ old.history.entries) where
+module _ (setup : Setup) (state : State Peers) (old : Cluster Pair) (active : Node) (link : List Message) (net : List (List ℕ)) (history : Pushed) (held : DiskSeen) (good : IsGood pair_kit setup state) (shows : Shows pair_kit setup state old) (same : history.entries ≡ old.history.entries) where
   abbrev Breaks : Type 0
-  Breaks = Broken setup state held held (left_as old active link net history)
+  Breaks = (Broken pair_kit) setup state held held (left_as old active link net history)
 
   quiet-breaks : PostsSome [] old.net net → Breaks
   quiet-breaks posts =
@@ -163,7 +163,7 @@ module _ (setup : Setup) (state : State Peers) (old : Cluster Pair) (active : No
   rest-breaks plain node place (Receipt client key through) is posts goes = receipt-breaks plain node client key through (is_new (plain_of setup) state.world.core.answered client key through) is posts
   rest-breaks plain node place _ is posts goes = quiet-breaks (subst Posts is.0 posts)
 
-hears-break-by : (setup : Setup) (state : State Peers) (hand : Hand) (old : Cluster Pair) (active : Node) (link : List Message) (net : List (List ℕ)) (history : Pushed) (heard : Heard) (place : ℕ) (message : Message) (held : Option Files) (new : Node) → IsGood pair_kit setup (pair_at state.peers.partner hand state) → Shows pair_kit setup (pair_at state.peers.partner hand state) old → Stands message (messages_in state.world.net) → IsHeard message old.now old.servers.active heard active → PostsSome heard.to_net old.net net → history.entries ≡ old.history.entries → Broken setup (pair_at state.peers.partner hand state) held held (left_as old new link net history)
+hears-break-by : (setup : Setup) (state : State Peers) (hand : Hand) (old : Cluster Pair) (active : Node) (link : List Message) (net : List (List ℕ)) (history : Pushed) (heard : Heard) (place : ℕ) (message : Message) (held : DiskSeen) (new : Node) → IsGood pair_kit setup (pair_at state.peers.partner hand state) → Shows pair_kit setup (pair_at state.peers.partner hand state) old → Stands message (messages_in state.world.net) → IsHeard message old.now old.servers.active heard active → PostsSome heard.to_net old.net net → history.entries ≡ old.history.entries → (Broken pair_kit) setup (pair_at state.peers.partner hand state) held held (left_as old new link net history)
 hears-break-by setup state Empty old active link net history heard place message held new good shows stands hears posts same =
     let tied = hears-at setup state state.peers.partner old message heard active good shows hears in
     let now = pair_at state.peers.partner Empty state in
@@ -178,12 +178,12 @@ hears-break-by setup state (Ready entry) old active link net history heard place
     quiet-breaks setup (pair_at state.peers.partner (Ready entry) state) old new link net history held good shows same (subst (λ (h : Heard). PostsSome h.to_net old.net net) (busy-at setup state (Ready entry) entry old message heard active refl shows hears).0 posts)
 
 -- **what a message is left as that was heard, and told in part**
-pub hears-break : (setup : Setup) (state : State Peers) (old : Cluster Pair) (active : Node) (link : List Message) (net : List (List ℕ)) (history : Pushed) (heard : Heard) (place : ℕ) (message : Message) (held : Option Files) → IsGood pair_kit setup state → Shows pair_kit setup state old → Stands message (messages_in state.world.net) → IsHeard message old.now old.servers.active heard active → PostsSome heard.to_net old.net net → history.entries ≡ old.history.entries → Broken setup state held held (left_as old active link net history)
+pub hears-break : (setup : Setup) (state : State Peers) (old : Cluster Pair) (active : Node) (link : List Message) (net : List (List ℕ)) (history : Pushed) (heard : Heard) (place : ℕ) (message : Message) (held : DiskSeen) → IsGood pair_kit setup state → Shows pair_kit setup state old → Stands message (messages_in state.world.net) → IsHeard message old.now old.servers.active heard active → PostsSome heard.to_net old.net net → history.entries ≡ old.history.entries → (Broken pair_kit) setup state held held (left_as old active link net history)
 hears-break setup state old active link net history heard place message held good shows stands hears posts same =
     hears-break-by setup state state.world.core.hand old active link net history heard place message held active good shows stands hears posts same
 
 -- **nothing but servers and lines changed, and room for an entry was taken**
-pub untold-breaks : (setup : Setup) (state : State Peers) (held : Option Files) (old new : Cluster Pair) → IsGood pair_kit setup state → Shows pair_kit setup state old → new.net ≡ old.net → new.agents ≡ old.agents → new.history.entries ≡ old.history.entries → new.now ≡ old.now → Broken setup state held held new
+pub untold-breaks : (setup : Setup) (state : State Peers) (held : DiskSeen) (old new : Cluster Pair) → IsGood pair_kit setup state → Shows pair_kit setup state old → new.net ≡ old.net → new.agents ≡ old.agents → new.history.entries ≡ old.history.entries → new.now ≡ old.now → (Broken pair_kit) setup state held held new
 untold-breaks setup state held old new good shows net agents history now =
     (nothing-broken pair_kit pair_laws) setup state held new good
     (subst (λ n. AreSpelled state.world.net n) (sym net) shows.net)

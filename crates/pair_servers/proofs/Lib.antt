@@ -18,3 +18,4 @@ pub mod AdvanceSteps
 pub mod EndLines
 pub mod TakeoverSteps
 mod OwnSteps
+mod CountSteps

@@ -1,5 +1,5 @@
 -- A standby that takes over: what the servers are then, and what is printed.
-use Rattle.std.proofs.Common.{◌≡◌, ℕ, true, false, Option, None, List, ◌++◌, refl, ap, ◌∙◌}
+use Rattle.std.proofs.Common.{◌≡◌, ℕ, true, false, if◌then◌else◌, Option, Some, None, List, [], ◌++◌, refl, ap, ◌∙◌}
 use Rattle.stream_layout.specs.Deeds.{calls_of_all}
 use Rattle.plain_service.specs.Setups.{Setup}
 use Rattle.cluster_facts.specs.History.{committed}
@@ -8,7 +8,7 @@ use Rattle.event_text.specs.Texts.{printed}
 use Rattle.mirror.specs.declared.heard.Role.{Role}
 use Rattle.mirror.specs.declared.heard.Role.TheVariants.{Active, Standby as StandsBy, Joining, Down as GoesDown}
 use Rattle.mirror.specs.Replicas.{down}
-use Rattle.mirror.specs.Pairing.{alone}
+use Rattle.mirror.specs.Pairing.{alone, deeds_kept}
 use Rattle.pair_cluster.specs.Peers.{Partner, Down, Owed, Linking, Standby, Peers}
 use Rattle.pair_cluster.specs.Falling.{taken_over}
 use Rattle.pair_cluster.specs.Ended.{ended}
@@ -20,7 +20,7 @@ use Rattle.cluster_rounds.specs.Worlds.{Shows}
 use Rattle.pair_servers.specs.declared.pair.Pair.{Pair}
 use Rattle.pair_servers.specs.Falls.{over, fallen, over_lines, fallen_lines, stands_by}
 use Rattle.pair_servers.specs.PairKit.{FellPair, pair_kit}
-use Rattle.pair_servers.specs.PairNodes.{partner_by, servers_of}
+use Rattle.pair_servers.specs.PairNodes.{last_deeds, partner_by, servers_of}
 use Rattle.pair_servers.proofs.PairFiles.{kept_calls}
 
 -- the servers where the active one went down
@@ -43,15 +43,16 @@ pub standby-shown : (setup : Setup) (state : State Peers) (old : Cluster Pair) �
 standby-shown setup state old shows = ap (λ (servers : Pair). stands_by servers.partner.replica.role) shows.own ∙ role-tells setup state state.peers.partner
 
 -- the deeds that it keeps
-kept-by : (setup : Setup) (state : State Peers) (number : Option ℕ) (partner : Partner) → partner ≡ Standby number → calls_of_all (partner_by setup (committed state.world.core) state.peers.keeps partner).kept ≡ kept_calls setup state
-kept-by setup state number (Standby on_way) is = refl
+kept-by : (setup : Setup) (state : State Peers) (number : Option ℕ) (partner : Partner) → partner ≡ Standby number → calls_of_all (deeds_kept (partner_by setup (committed state.world.core) state.peers.keeps partner).kept) ≡ kept_calls setup state
+kept-by setup state number (Standby on_way) is =
+    elim state.peers.keeps as (λ b. calls_of_all (deeds_kept (if b then Some (last_deeds setup (committed state.world.core)) else None)) ≡ calls_of_all (if b then last_deeds setup (committed state.world.core) else [])) [ true ↦ refl | false ↦ refl ]
 kept-by setup state number Down is = cc
 kept-by setup state number Owed is = cc
 kept-by setup state number Linking is = cc
 
-pub kept-shown : (setup : Setup) (state : State Peers) (number : Option ℕ) (old : Cluster Pair) → Shows pair_kit setup state old → state.peers.partner ≡ Standby number → calls_of_all old.servers.partner.kept ≡ kept_calls setup state
+pub kept-shown : (setup : Setup) (state : State Peers) (number : Option ℕ) (old : Cluster Pair) → Shows pair_kit setup state old → state.peers.partner ≡ Standby number → calls_of_all (deeds_kept old.servers.partner.kept) ≡ kept_calls setup state
 kept-shown setup state number old shows standby =
-    ap (λ (servers : Pair). calls_of_all servers.partner.kept) shows.own ∙ kept-by setup state number state.peers.partner standby
+    ap (λ (servers : Pair). calls_of_all (deeds_kept servers.partner.kept)) shows.own ∙ kept-by setup state number state.peers.partner standby
 
 -- Once it took over.
 

@@ -1,5 +1,5 @@
 -- The files of two servers as an entry is worked and a standby takes over, and the disk's armed count.
-use Rattle.std.proofs.Common.{◌≡◌, ℕ, suc, ◌+◌, ◌<◌, ◌≤◌, inl, inr, Bool, true, false, ◌&&◌, ◌||◌, nat_le, if◌then◌else◌, Option, Some, None, List, [], ◌∷◌, ◌++◌, length, refl, ap, sym, ◌∙◌, subst, arith}
+use Rattle.std.proofs.Common.{◌≡◌, ℕ, suc, ◌<◌, ◌≤◌, inl, inr, Bool, true, false, ◌&&◌, ◌||◌, nat_le, if◌then◌else◌, Option, Some, None, List, [], ◌∷◌, ◌++◌, length, refl, ap, sym, ◌∙◌, subst, arith}
 use Rattle.std.proofs.lemmas.Bool.{and_right, or_right}
 use Rattle.std.specs.Prelude.{option_map}
 use Rattle.std.proofs.lemmas.List.{length-append}
@@ -53,7 +53,7 @@ kept-are : (setup : Setup) (state : State Peers) → kept_calls setup state ≡ 
 kept-are setup state = kept-by setup state.peers.keeps (committed state.world.core)
 
 -- so many are they
-kept-count : (setup : Setup) (fails : ℕ → Bool) (keeps : Bool) (past : List Entry) → length (calls_of_all (if keeps then last_deeds setup past else [])) ≡ calls_kept (device_by setup fails) keeps past
+kept-count : (setup : Setup) (fails : ℕ → ℕ) (keeps : Bool) (past : List Entry) → length (calls_of_all (if keeps then last_deeds setup past else [])) ≡ calls_kept (device_by setup fails) keeps past
 kept-count setup fails true [] = refl
 kept-count setup fails true (entry ∷ past) = refl
 kept-count setup fails false past = refl
@@ -61,7 +61,7 @@ kept-count setup fails false past = refl
 pub some-of : (count calls : ℕ) → count < calls → 1 ≤ calls
 some-of count calls within = omega arith
 
-pub some-kept : (setup : Setup) (fails : ℕ → Bool) (state : State Peers) (count : ℕ) → count < length (kept_calls setup state) → 1 ≤ calls_kept (device_by setup fails) state.peers.keeps (committed state.world.core)
+pub some-kept : (setup : Setup) (fails : ℕ → ℕ) (state : State Peers) (count : ℕ) → count < length (kept_calls setup state) → 1 ≤ calls_kept (device_by setup fails) state.peers.keeps (committed state.world.core)
 some-kept setup fails state count within =
     subst (λ (calls : ℕ). 1 ≤ calls) (kept-count setup fails state.peers.keeps (committed state.world.core)) (some-of count (length (kept_calls setup state)) within)
 
@@ -188,10 +188,10 @@ not-reached left calls some short = elim (leb_tells left calls) [
 ]
 
 -- **a work that is done does not take the server down**
-pub done-stands : (partner : Partner) (armed : Option ℕ) (calls : ℕ) (fails : Bool) → fails ≡ false → IsArmed armed partner → counts.IsShort calls armed → (is_standby partner && (fails_in calls fails || counts.reaches calls armed)) ≡ false
-done-stands (Standby number) None calls fails not is short = ap (λ b. b || false) (and_right (nat_le 1 calls) fails not)
+pub done-stands : (partner : Partner) (armed : Option ℕ) (calls fails : ℕ) → fails ≡ 0 → IsArmed armed partner → counts.IsShort calls armed → (is_standby partner && (fails_in calls fails || counts.reaches calls armed)) ≡ false
+done-stands (Standby number) None calls fails not is short = ap (λ b. b || false) (and_right (nat_le 1 calls) (nat_le 1 fails) (ap (nat_le 1) not))
 done-stands (Standby number) (Some left) calls fails not is short =
-    let none = and_right (nat_le 1 calls) fails not in
+    let none = and_right (nat_le 1 calls) (nat_le 1 fails) (ap (nat_le 1) not) in
     (λ i. none i || not-reached left calls is short i)
 done-stands Down armed calls fails not is short = refl
 done-stands Owed armed calls fails not is short = refl
@@ -211,7 +211,7 @@ pub stop-standby : (partner : Partner) (armed : Option ℕ) (count : ℕ) → Is
 stop-standby partner None count is reached = cc
 stop-standby partner (Some left) count is reached = armed-standby partner left is
 
-pub stop-falls : (partner : Partner) (armed : Option ℕ) (count calls : ℕ) (fails : Bool) → IsArmed armed partner → counts.reaches (suc count) armed ≡ true → count < calls → (is_standby partner && (fails_in calls fails || counts.reaches calls armed)) ≡ true
+pub stop-falls : (partner : Partner) (armed : Option ℕ) (count calls fails : ℕ) → IsArmed armed partner → counts.reaches (suc count) armed ≡ true → count < calls → (is_standby partner && (fails_in calls fails || counts.reaches calls armed)) ≡ true
 stop-falls partner None count calls fails is reached within = cc
 stop-falls (Standby number) (Some left) count calls fails is reached within = or_right (fails_in calls fails) (nat_le left calls) (reached-more left count calls reached within)
 stop-falls Down (Some left) count calls fails is reached within = elim is [ ]
@@ -225,7 +225,7 @@ some-calls count calls within = elim (leb_tells 1 calls) [
 ]
 
 -- **one in which a call fails does where there is a standby**
-pub fault-falls : (partner : Partner) (number : Option ℕ) (armed : Option ℕ) (count calls : ℕ) (fails : Bool) → count < calls → partner ≡ Standby number → fails ≡ true → (is_standby partner && (fails_in calls fails || counts.reaches calls armed)) ≡ true
+pub fault-falls : (partner : Partner) (number : Option ℕ) (armed : Option ℕ) (count calls fails : ℕ) → count < calls → partner ≡ Standby number → fails ≡ 1 → (is_standby partner && (fails_in calls fails || counts.reaches calls armed)) ≡ true
 fault-falls partner number armed count calls fails within standby is =
     let some = some-calls count calls within in
-    λ i. is_standby (standby i) && ((some i && is i) || counts.reaches calls armed)
+    λ i. is_standby (standby i) && ((some i && nat_le 1 (is i)) || counts.reaches calls armed)

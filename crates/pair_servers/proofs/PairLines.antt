@@ -1,5 +1,5 @@
 -- What the lines on failing servers leave of what holds at all times.
-use Rattle.std.proofs.Common.{◌≡◌, ℕ, false, Option, List, subst}
+use Rattle.std.proofs.Common.{◌≡◌, ℕ, Option, List, subst}
 use Rattle.plain_service.specs.Setups.{Setup}
 use Rattle.service_laws.specs.PlainOf.{plain_of}
 use Rattle.service_laws.proofs.ServiceLaws.{is_plain}
@@ -34,7 +34,7 @@ module _ (setup : Setup) (state : State Peers) (good : IsGood pair_kit setup sta
 
   over-kept : Keeps (taken_over state)
   over-kept =
-      over-keeps (plain_of setup) (is_plain setup) (device_by setup (λ number. false)) (SaysUnasked (plain_of setup)) (unasked-borne (plain_of setup)) state good.steady
+      over-keeps (plain_of setup) (is_plain setup) (device_by setup (λ number. 0)) (SaysUnasked (plain_of setup)) (unasked-borne (plain_of setup)) state good.steady
 
   -- **the standby took over**
   pub over-good : IsGood pair_kit setup (taken_over state).state
@@ -47,7 +47,7 @@ module _ (setup : Setup) (state : State Peers) (good : IsGood pair_kit setup sta
 
   down-kept : Keeps (partner_down state)
   down-kept =
-      down-keeps (plain_of setup) (is_plain setup) (device_by setup (λ number. false)) (SaysUnasked (plain_of setup)) (unasked-borne (plain_of setup)) state good.steady
+      down-keeps (plain_of setup) (is_plain setup) (device_by setup (λ number. 0)) (SaysUnasked (plain_of setup)) (unasked-borne (plain_of setup)) state good.steady
 
   -- **the partner went down**
   pub down-good : IsGood pair_kit setup (partner_down state).state

@@ -98,7 +98,7 @@ module _ (setup : Setup) where
   LeavesIf device state found = Leaves (plain_of setup) (is_plain setup) device (SaysUnasked (plain_of setup)) (unasked-borne (plain_of setup)) state found
 
   abbrev calm : Device
-  calm = device_by setup (λ number. false)
+  calm = device_by setup (λ number. 0)
 
   -- **a message of the link comes, and one of the way back**
   pub mirror-step : (state : State Peers) (outcome : Outcome (State Peers)) → IsGood pair_kit setup state → mirror_pair state ≡ Some outcome → IsStep setup state outcome
@@ -114,19 +114,19 @@ module _ (setup : Setup) where
   -- The work of the entry in hand.
 
   abbrev pub calls_for : List Entry → Entry → ℕ
-  calls_for past entry = (device_by setup (λ number. false)).calls past entry
+  calls_for past entry = (device_by setup (λ number. 0)).calls past entry
 
   -- whether it takes the active server down, by the works that fail
-  abbrev pub falls_by : (ℕ → Bool) → Entry → State Peers → Bool
+  abbrev pub falls_by : (ℕ → ℕ) → Entry → State Peers → Bool
   falls_by fails entry state = falls (device_by setup fails) state.world.core.answered entry state.peers
 
   abbrev pub work_so : Entry → Bool → State Peers → Outcome (State Peers)
   work_so entry fell state = work_as (plain_of setup) (calls_for state.world.core.answered entry) entry fell state
 
-  work-is : (fails : ℕ → Bool) (state : State Peers) (entry : Entry) → state.world.core.hand ≡ Ready entry → work_pair (plain_of setup) (device_by setup fails) state ≡ Some (work_so entry (falls_by fails entry state) state)
+  work-is : (fails : ℕ → ℕ) (state : State Peers) (entry : Entry) → state.world.core.hand ≡ Ready entry → work_pair (plain_of setup) (device_by setup fails) state ≡ Some (work_so entry (falls_by fails entry state) state)
   work-is fails state entry ready = ap (λ hand. work_by (plain_of setup) (device_by setup fails) hand state) ready
 
-  work-near : (fails : ℕ → Bool) (state : State Peers) (entry : Entry) → IsGood pair_kit setup state → state.world.core.hand ≡ Ready entry → Near state (work_so entry (falls_by fails entry state) state)
+  work-near : (fails : ℕ → ℕ) (state : State Peers) (entry : Entry) → IsGood pair_kit setup state → state.world.core.hand ≡ Ready entry → Near state (work_so entry (falls_by fails entry state) state)
   work-near fails state entry good ready =
       let device = device_by setup fails in
       subst (LeavesIf device state) (work-is fails state entry ready) (work-steps (plain_of setup) (is_plain setup) device (SaysUnasked (plain_of setup)) (unasked-borne (plain_of setup)) state good.steady)
@@ -136,37 +136,37 @@ module _ (setup : Setup) where
   work-told entry false state ready = done-tells (plain_of setup) (calls_for state.world.core.answered entry) entry state ready
 
   -- **it is worked, or takes the active server down**
-  pub work-step : (fails : ℕ → Bool) (state : State Peers) (entry : Entry) (fell : Bool) → IsGood pair_kit setup state → state.world.core.hand ≡ Ready entry → falls_by fails entry state ≡ fell → IsStep setup state (work_so entry fell state)
+  pub work-step : (fails : ℕ → ℕ) (state : State Peers) (entry : Entry) (fell : Bool) → IsGood pair_kit setup state → state.world.core.hand ≡ Ready entry → falls_by fails entry state ≡ fell → IsStep setup state (work_so entry fell state)
   work-step fails state entry fell good ready is =
       let near = subst (λ (b : Bool). Near state (work_so entry b state)) is (work-near fails state entry good ready) in
       near-step state (work_so entry fell state) good near (work-told entry fell state ready)
 
   -- What these are as one step of a drain.
 
-  one-step : (fails : ℕ → Bool) (state : State Peers) (outcome : Outcome (State Peers)) → advance (pair (plain_of setup) (device_by setup fails)) state ≡ Some outcome → advances_by pair_kit 1 setup fails state ≡ outcome
+  one-step : (fails : ℕ → ℕ) (state : State Peers) (outcome : Outcome (State Peers)) → advance (pair (plain_of setup) (device_by setup fails)) state ≡ Some outcome → advances_by pair_kit 1 setup fails state ≡ outcome
   one-step fails state outcome is =
       let servers = pair (plain_of setup) (device_by setup fails) in
       ap (λ next. after_step (advances servers zero) next state) is
 
-  mirror-first : (fails : ℕ → Bool) (state : State Peers) (outcome : Outcome (State Peers)) → mirror_pair state ≡ Some outcome → advances_by pair_kit 1 setup fails state ≡ outcome
+  mirror-first : (fails : ℕ → ℕ) (state : State Peers) (outcome : Outcome (State Peers)) → mirror_pair state ≡ Some outcome → advances_by pair_kit 1 setup fails state ≡ outcome
   mirror-first fails state outcome is =
       one-step fails state outcome (ap (λ found. or_else found (or_else (ack_pair state) (work_pair (plain_of setup) (device_by setup fails) state))) is)
 
-  ack-next : (fails : ℕ → Bool) (state : State Peers) (outcome : Outcome (State Peers)) → mirror_pair state ≡ None → ack_pair state ≡ Some outcome → advances_by pair_kit 1 setup fails state ≡ outcome
+  ack-next : (fails : ℕ → ℕ) (state : State Peers) (outcome : Outcome (State Peers)) → mirror_pair state ≡ None → ack_pair state ≡ Some outcome → advances_by pair_kit 1 setup fails state ≡ outcome
   ack-next fails state outcome none is =
       one-step fails state outcome (λ i. or_else (none i) (or_else (is i) (work_pair (plain_of setup) (device_by setup fails) state)))
 
   -- **a message of the link, or of the way back, is a step of a drain**
-  pub mirror-comes : (state : State Peers) (outcome : Outcome (State Peers)) → IsGood pair_kit setup state → mirror_pair state ≡ Some outcome → ComesTo (advances_by pair_kit 1 setup) (λ number. false) state outcome
+  pub mirror-comes : (state : State Peers) (outcome : Outcome (State Peers)) → IsGood pair_kit setup state → mirror_pair state ≡ Some outcome → ComesTo (advances_by pair_kit 1 setup) (λ number. 0) state outcome
   mirror-comes state outcome good is = record { later = (mirror-step state outcome good is).later; is = λ fails agrees. mirror-first fails state outcome is }
 
-  pub ack-comes : (state : State Peers) (outcome : Outcome (State Peers)) → IsGood pair_kit setup state → mirror_pair state ≡ None → ack_pair state ≡ Some outcome → ComesTo (advances_by pair_kit 1 setup) (λ number. false) state outcome
+  pub ack-comes : (state : State Peers) (outcome : Outcome (State Peers)) → IsGood pair_kit setup state → mirror_pair state ≡ None → ack_pair state ≡ Some outcome → ComesTo (advances_by pair_kit 1 setup) (λ number. 0) state outcome
   ack-comes state outcome good none is = record { later = (ack-step state outcome good is).later; is = λ fails agrees. ack-next fails state outcome none is }
 
   -- An event that works the entry in hand of a state: a step of a drain, or the line `work`.
 
   abbrev pub IsWork : EventBy Peers → Entry → State Peers → Type 0
-  IsWork event entry state = (fails : ℕ → Bool) → event fails state ≡ work_so entry (falls_by fails entry state) state
+  IsWork event entry state = (fails : ℕ → ℕ) → event fails state ≡ work_so entry (falls_by fails entry state) state
 
   pub drain-works : (state : State Peers) (entry : Entry) → mirror_pair state ≡ None → ack_pair state ≡ None → state.world.core.hand ≡ Ready entry → IsWork (advances_by pair_kit 1 setup) entry state
   drain-works state entry no_mirror no_ack ready fails =
@@ -182,13 +182,13 @@ module _ (setup : Setup) where
   work-later entry false state ready = refl
   work-later entry true state ready = λ i. length (committed_by state.world.core.answered (ready i))
 
-  pub same-falls : (one other : ℕ → Bool) (entry : Entry) (state : State Peers) → one (suc (answered_in state)) ≡ other (suc (answered_in state)) → falls_by one entry state ≡ falls_by other entry state
+  pub same-falls : (one other : ℕ → ℕ) (entry : Entry) (state : State Peers) → one (suc (answered_in state)) ≡ other (suc (answered_in state)) → falls_by one entry state ≡ falls_by other entry state
   same-falls one other entry state same =
       let past = state.world.core.answered in
       λ i. falls (record { calls = (device_by setup one).calls; fails = λ number. same i }) past entry state.peers
 
   -- **it comes to what the works that failed make of it**
-  pub work-comes : (event : EventBy Peers) (happened : ℕ → Bool) (state : State Peers) (entry : Entry) (fell : Bool) → IsWork event entry state → state.world.core.hand ≡ Ready entry → falls_by happened entry state ≡ fell → ComesTo event happened state (work_so entry fell state)
+  pub work-comes : (event : EventBy Peers) (happened : ℕ → ℕ) (state : State Peers) (entry : Entry) (fell : Bool) → IsWork event entry state → state.world.core.hand ≡ Ready entry → falls_by happened entry state ≡ fell → ComesTo event happened state (work_so entry fell state)
   work-comes event happened state entry fell works ready is =
       let more = work-later entry fell state ready in
       record {

@@ -1,7 +1,7 @@
 -- What a push comes to, and what it leaves where memory runs out.
-use Rattle.std.proofs.Common.{◌≡◌, ℕ, Option, None, List, [], ◌∷◌, ◌++◌, take, refl, ap, sym, ◌∙◌, subst}
+use Rattle.std.proofs.Common.{◌≡◌, ℕ, None, List, [], ◌∷◌, ◌++◌, take, refl, ap, sym, ◌∙◌, subst}
 use Rattle.std.specs.List.{AllByRecursion}
-use Rattle.disk_model.specs.Disk.{Files}
+use Rattle.disk_model.specs.Seen.{DiskSeen}
 use Rattle.wire.specs.MessageSpelling.{MessageInRange}
 use Rattle.plain_service.specs.Setups.{Setup}
 use Rattle.service_laws.specs.PlainOf.{plain_of}
@@ -120,7 +120,7 @@ pushes setup state old net items before after good shows idle are posts =
     (pushes-by setup state state.world.core.hand old net items before after idle good shows is posts, is)
 
 -- **what a push is left as of which some items were posted**
-pub push-breaks : (setup : Setup) (state : State Peers) (old : Cluster Pair) (net : List (List ℕ)) (items : List Message) (held : Option Files) → IsGood pair_kit setup state → Shows pair_kit setup state old → IsIdle state → PushesItems old items → PostsSome items old.net net → Broken setup state held held (record old { net = net })
+pub push-breaks : (setup : Setup) (state : State Peers) (old : Cluster Pair) (net : List (List ℕ)) (items : List Message) (held : DiskSeen) → IsGood pair_kit setup state → Shows pair_kit setup state old → IsIdle state → PushesItems old items → PostsSome items old.net net → (Broken pair_kit) setup state held held (record old { net = net })
 push-breaks setup state old net items held good shows idle are posts =
     let plain = plain_of setup in
     let past = state.world.core.answered in

@@ -8,6 +8,7 @@ use Rattle.disk_model.specs.Counts as counts
 use Rattle.disk_model.specs.declared.answers.DiskAnswer.{DiskAnswer}
 use Rattle.disk_model.specs.declared.answers.DiskAnswer.TheVariants.{Memory, Failed, Stopped}
 use Rattle.disk_model.specs.DeviceCalls.{all_applied, BreaksOff, LeftOn}
+use Rattle.disk_model.specs.Seen.{DiskSeen}
 use Rattle.stream_layout.specs.Deeds.{calls_of_all}
 use Rattle.wire.specs.MessageSpelling.{MessageInRange}
 use Rattle.plain_service.specs.Setups.{Setup}
@@ -38,7 +39,7 @@ use Rattle.cluster_clients.specs.Posted.{PostsAll, PostsSome}
 use Rattle.cluster_clients.proofs.DispatchSteps.{agents-as}
 use Rattle.cluster_rounds.specs.declared.cluster.Cluster.{Cluster}
 use Rattle.cluster_rounds.specs.Broken.{Broken, LeavesBetween}
-use Rattle.cluster_rounds.specs.Came.{Came, DiskSeen, Comes, ComesOff, Ended}
+use Rattle.cluster_rounds.specs.Came.{Came, Comes, ComesOff, Ended}
 use Rattle.cluster_rounds.specs.Worlds.{Shows, IsGood, HasState, HasStateOn, TellsFiles, any_state}
 use Rattle.pair_servers.specs.declared.pair.Pair.{Pair}
 use Rattle.pair_servers.specs.Falls.{IsToldWorked, TakesOver, stands_by}
@@ -130,21 +131,21 @@ done-shows setup state entry old active link net heard before after calls good s
 owed-calls : (setup : Setup) (state : State Peers) (entry : Entry) (old : Cluster Pair) → Shows pair_kit setup (pair_at state.peers.partner (Ready entry) state) old → calls_of_all (deeds_in old.servers.active.replica.owed) ≡ calls_of_all (deeds_of setup state.world.core.answered entry)
 owed-calls setup state entry old shows = ap (λ (servers : Pair). calls_of_all (deeds_in servers.active.replica.owed)) shows.own
 
-works-by : (setup : Setup) (state : State Peers) (hand : Hand) (entry : Entry) (old : Cluster Pair) (active : Node) (link : List Message) (net : List (List ℕ)) (heard : Heard) (before after : List (List ℕ)) (held left : DiskSeen) → hand ≡ Ready entry → IsGood pair_kit setup (pair_at state.peers.partner hand state) → Shows pair_kit setup (pair_at state.peers.partner hand state) old → held.armed ≡ state.peers.armed → IsWorked old.servers.active heard active → IsToldWorked heard old.net net old.servers.link link before after → left.files ≡ option_map (all_applied (calls_of_all (deeds_in old.servers.active.replica.owed))) held.files → counts.IsShort (length (calls_of_all (deeds_in old.servers.active.replica.owed))) held.armed → left.armed ≡ counts.lowered (length (calls_of_all (deeds_in old.servers.active.replica.owed))) held.armed → left.faults ≡ held.faults → Came pair_kit setup (pair_at state.peers.partner hand state) (worked_by setup) (worked_as old active link net) before after (grew old (worked_as old active link net)) held left
+works-by : (setup : Setup) (state : State Peers) (hand : Hand) (entry : Entry) (old : Cluster Pair) (active : Node) (link : List Message) (net : List (List ℕ)) (heard : Heard) (before after : List (List ℕ)) (held left : DiskSeen) → hand ≡ Ready entry → IsGood pair_kit setup (pair_at state.peers.partner hand state) → Shows pair_kit setup (pair_at state.peers.partner hand state) old → held.tally.armed ≡ state.peers.armed → IsWorked old.servers.active heard active → IsToldWorked heard old.net net old.servers.link link before after → left.files ≡ option_map (all_applied (calls_of_all (deeds_in old.servers.active.replica.owed))) held.files → counts.IsShort (length (calls_of_all (deeds_in old.servers.active.replica.owed))) held.tally.armed → left.tally.armed ≡ counts.lowered (length (calls_of_all (deeds_in old.servers.active.replica.owed))) held.tally.armed → left.faults ≡ held.faults → Came pair_kit setup (pair_at state.peers.partner hand state) (worked_by setup) (worked_as old active link net) before after (grew old (worked_as old active link net)) held left
 works-by setup state (Ready other) entry old active link net heard before after held left is good shows count worked told files short armed faults =
     let now = pair_at state.peers.partner (Ready other) state in
     let calls = owed-calls setup state other old shows in
     let done = done-shows setup state other old active link net heard before after (calls_for setup state.world.core.answered other) good shows worked told in
     done-came setup now old (worked_as old active link net) before after good shows (worked_by setup) other (line-works setup now other refl) refl held left count
     (files ∙ ap (λ c. option_map (all_applied c) held.files) calls)
-    (subst (λ c. counts.IsShort (length c) held.armed) calls short)
-    (armed ∙ ap (λ c. counts.lowered (length c) held.armed) calls) faults done.0 done.1
+    (subst (λ c. counts.IsShort (length c) held.tally.armed) calls short)
+    (armed ∙ ap (λ c. counts.lowered (length c) held.tally.armed) calls) faults done.0 done.1
 works-by setup state Empty entry old active link net heard before after held left is good shows count worked told files short armed faults = cc
 works-by setup state (Waiting other) entry old active link net heard before after held left is good shows count worked told files short armed faults = cc
 works-by setup state (Applied other) entry old active link net heard before after held left is good shows count worked told files short armed faults = cc
 
 -- **the deeds of the entry in hand are done**
-pub works : (old : Cluster Pair) (active : Node) (link : List Message) (net : List (List ℕ)) (heard : Heard) (before after : List (List ℕ)) (held left : DiskSeen) → IsSome old.servers.active.replica.owed → old.servers.active.waits ≡ None → IsWorked old.servers.active heard active → IsToldWorked heard old.net net old.servers.link link before after → left.files ≡ option_map (all_applied (calls_of_all (deeds_in old.servers.active.replica.owed))) held.files → counts.IsShort (length (calls_of_all (deeds_in old.servers.active.replica.owed))) held.armed → left.armed ≡ counts.lowered (length (calls_of_all (deeds_in old.servers.active.replica.owed))) held.armed → left.faults ≡ held.faults → Comes pair_kit any_state worked_by old (worked_as old active link net) before after (grew old (worked_as old active link net)) held left
+pub works : (old : Cluster Pair) (active : Node) (link : List Message) (net : List (List ℕ)) (heard : Heard) (before after : List (List ℕ)) (held left : DiskSeen) → IsSome old.servers.active.replica.owed → old.servers.active.waits ≡ None → IsWorked old.servers.active heard active → IsToldWorked heard old.net net old.servers.link link before after → left.files ≡ option_map (all_applied (calls_of_all (deeds_in old.servers.active.replica.owed))) held.files → counts.IsShort (length (calls_of_all (deeds_in old.servers.active.replica.owed))) held.tally.armed → left.tally.armed ≡ counts.lowered (length (calls_of_all (deeds_in old.servers.active.replica.owed))) held.tally.armed → left.faults ≡ held.faults → Comes pair_kit any_state worked_by old (worked_as old active link net) before after (grew old (worked_as old active link net)) held left
 works old active link net heard before after held left some none worked told files short armed faults setup state good shows count so =
     let found = ready-for setup state old shows some none in
     works-by setup state state.world.core.hand found.entry old active link net heard before after held left found.ready good shows count worked told files short armed faults
@@ -169,7 +170,7 @@ module _ (old : Cluster Pair) (new : Pair) (before after : List (List ℕ)) (hel
   Breaks answer = ComesOff pair_kit any_state EndsWork answer old now before after held left
 
   -- the disk stopped in the work
-  module _ (count : ℕ) (broke : BreaksOff (LeftOn Stopped) (calls_of_all (deeds_in old.servers.active.replica.owed)) count held.files mid.files) (reached : counts.reaches (suc count) held.armed ≡ true) (stands : mid.faults ≡ held.faults) where
+  module _ (count : ℕ) (broke : BreaksOff (LeftOn Stopped) (calls_of_all (deeds_in old.servers.active.replica.owed)) count held.files mid.files) (reached : counts.reaches (suc count) held.tally.armed ≡ true) (stands : mid.faults ≡ held.faults) where
     pub stopped-over : (result : Result (Unit {0}) DiskAnswer) → TakesOver result (fell old.servers) new before after mid left → OnOk result Works
     stopped-over (Ok done) takes = λ setup state good shows armed so.
         let found = ready-for setup state old shows some none in
@@ -188,7 +189,7 @@ module _ (old : Cluster Pair) (new : Pair) (before after : List (List ℕ)) (hel
         let kept = kept-shown setup state standby.0 old shows standby.1 in
         let again = subst (λ c. BreaksOff (LeftOn Memory) c takes.0 mid.files left.files) kept takes.1 in
         let same = takes.2 in (
-          lacks setup state held.files left.files old now good shows refl refl refl refl
+          lacks setup state held left old now good shows refl refl refl refl
               (λ tells. takeover-breaks setup state standby.0 Memory takes.0 held.files mid.files left.files good standby.1
               (work-breaks setup state found.entry Stopped count held.files mid.files found.ready (broke-shown setup state Stopped old found.entry count held.files mid.files shows found.ready broke) tells) again),
           omega (arith, same, stands),
@@ -201,7 +202,7 @@ module _ (old : Cluster Pair) (new : Pair) (before after : List (List ℕ)) (hel
         stop-ended setup state old now before after held left good shows (EndsWork setup) found.entry (λ fails end ends. ends) found.ready standby.0 count takes.2 mid.files armed standby.1
         (broke-shown setup state Stopped old found.entry count held.files mid.files shows found.ready broke) reached again
         (subst (λ n. n ≤ left.faults) stands takes.5) (subst (λ n. Rose n left.faults) stands takes.6)
-        (fallen-fell setup state standby.0 old new left.armed shows standby.1 takes.0 takes.4) refl refl refl refl refl
+        (fallen-fell setup state standby.0 old new left.tally.armed shows standby.1 takes.0 takes.4) refl refl refl refl refl
         (fallen-told setup state standby.0 old before after shows standby.1 takes.1)
     stopped-off (Err Stopped) takes = absurd takes
 
@@ -228,7 +229,7 @@ module _ (old : Cluster Pair) (new : Pair) (before after : List (List ℕ)) (hel
         let standby = found-standby setup state shows in
         let kept = kept-shown setup state standby.0 old shows standby.1 in
         let again = subst (λ c. BreaksOff (LeftOn Memory) c takes.0 mid.files left.files) kept takes.1 in (
-          lacks setup state held.files left.files old now good shows refl refl refl refl
+          lacks setup state held left old now good shows refl refl refl refl
               (λ tells. takeover-breaks setup state standby.0 Memory takes.0 held.files mid.files left.files good standby.1
               (work-breaks setup state found.entry Failed count held.files mid.files found.ready (broke-shown setup state Failed old found.entry count held.files mid.files shows found.ready broke) tells) again),
           subst (λ n. held.faults ≤ n) (sym takes.2) later,
@@ -240,7 +241,7 @@ module _ (old : Cluster Pair) (new : Pair) (before after : List (List ℕ)) (hel
         let again = subst (λ c. BreaksOff (LeftOn Failed) c takes.2 mid.files left.files) kept takes.3 in
         fault-ended setup state old now before after held left good shows (EndsWork setup) found.entry (λ fails end ends. ends) found.ready standby.0 count takes.2 mid.faults mid.files standby.1
         (broke-shown setup state Failed old found.entry count held.files mid.files shows found.ready broke) later rose again takes.5 takes.6
-        (fallen-fell setup state standby.0 old new left.armed shows standby.1 takes.0 takes.4) refl refl refl refl refl
+        (fallen-fell setup state standby.0 old new left.tally.armed shows standby.1 takes.0 takes.4) refl refl refl refl refl
         (fallen-told setup state standby.0 old before after shows standby.1 takes.1)
     failed-off (Err Stopped) takes = absurd takes
 
@@ -270,13 +271,13 @@ alone-fell setup state entry Owed armed count is agree unarmed none = record { a
 alone-fell setup state entry Linking armed count is agree unarmed none = elim agree [ ]
 alone-fell setup state entry (Standby number) armed count is agree unarmed none = cc
 
-alone-by : (setup : Setup) (state : State Peers) (hand : Hand) (entry : Entry) (old : Cluster Pair) (before after : List (List ℕ)) (count : ℕ) (held left : DiskSeen) → hand ≡ Ready entry → IsGood pair_kit setup (pair_at state.peers.partner hand state) → Shows pair_kit setup (pair_at state.peers.partner hand state) old → is_standby state.peers.partner ≡ false → held.armed ≡ state.peers.armed → left.armed ≡ counts.lowered (suc count) held.armed → BreaksOff (LeftOn Failed) (calls_of_all (deeds_in old.servers.active.replica.owed)) count held.files left.files → held.faults ≤ left.faults → Rose held.faults left.faults → after ≡ before ++ server_line old.servers.acting role.Down ∷ [] → Ended pair_kit setup (pair_at state.peers.partner hand state) (EndsWork setup) (with_servers old (fell old.servers)) before after held left
+alone-by : (setup : Setup) (state : State Peers) (hand : Hand) (entry : Entry) (old : Cluster Pair) (before after : List (List ℕ)) (count : ℕ) (held left : DiskSeen) → hand ≡ Ready entry → IsGood pair_kit setup (pair_at state.peers.partner hand state) → Shows pair_kit setup (pair_at state.peers.partner hand state) old → is_standby state.peers.partner ≡ false → held.tally.armed ≡ state.peers.armed → left.tally.armed ≡ counts.lowered (suc count) held.tally.armed → BreaksOff (LeftOn Failed) (calls_of_all (deeds_in old.servers.active.replica.owed)) count held.files left.files → held.faults ≤ left.faults → Rose held.faults left.faults → after ≡ before ++ server_line old.servers.acting role.Down ∷ [] → Ended pair_kit setup (pair_at state.peers.partner hand state) (EndsWork setup) (with_servers old (fell old.servers)) before after held left
 alone-by setup state (Ready other) entry old before after count held left is good shows alone armed lowered broke later rose told =
     let partner = state.peers.partner in
     let now = pair_at partner (Ready other) state in
-    let unarmed : left.armed ≡ None = lowered ∙ ap (counts.lowered (suc count)) (armed ∙ none-armed state.peers.armed partner alone good.steady.good.armed) in
-    let left_so = alone-fell setup state other partner state.peers.armed left.armed alone good.steady.good.agree good.steady.good.armed unarmed in
-    let F : Pair → Type 0 = λ servers. FellPair setup (ended now).state (fell servers) left.armed in
+    let unarmed : left.tally.armed ≡ None = lowered ∙ ap (counts.lowered (suc count)) (armed ∙ none-armed state.peers.armed partner alone good.steady.good.armed) in
+    let left_so = alone-fell setup state other partner state.peers.armed left.tally.armed alone good.steady.good.agree good.steady.good.armed unarmed in
+    let F : Pair → Type 0 = λ servers. FellPair setup (ended now).state (fell servers) left.tally.armed in
     alone-ended setup now old (with_servers old (fell old.servers)) before after held left good shows (EndsWork setup) other (λ fails end ends. ends) refl count alone
     (broke-shown setup now Failed old other count held.files left.files shows refl broke) later rose (subst F (sym shows.own) left_so) refl refl refl refl refl
     (told ∙ ap (λ acting. before ++ server_line acting role.Down ∷ []) (ap (λ (servers : Pair). servers.acting) shows.own) ∙ ap (λ lines. before ++ lines) (alone-told setup now partner alone))
@@ -284,7 +285,7 @@ alone-by setup state Empty entry old before after count held left is good shows 
 alone-by setup state (Waiting other) entry old before after count held left is good shows alone armed lowered broke later rose told = cc
 alone-by setup state (Applied other) entry old before after count held left is good shows alone armed lowered broke later rose told = cc
 
-pub failed-alone : (old : Cluster Pair) (before after : List (List ℕ)) (count : ℕ) (held left : DiskSeen) → IsSome old.servers.active.replica.owed → old.servers.active.waits ≡ None → stands_by old.servers.partner.replica.role ≡ false → left.armed ≡ counts.lowered (suc count) held.armed → BreaksOff (LeftOn Failed) (calls_of_all (deeds_in old.servers.active.replica.owed)) count held.files left.files → held.faults ≤ left.faults → Rose held.faults left.faults → after ≡ before ++ server_line old.servers.acting role.Down ∷ [] → ComesOff pair_kit any_state EndsWork Failed old (with_servers old (fell old.servers)) before after held left
+pub failed-alone : (old : Cluster Pair) (before after : List (List ℕ)) (count : ℕ) (held left : DiskSeen) → IsSome old.servers.active.replica.owed → old.servers.active.waits ≡ None → stands_by old.servers.partner.replica.role ≡ false → left.tally.armed ≡ counts.lowered (suc count) held.tally.armed → BreaksOff (LeftOn Failed) (calls_of_all (deeds_in old.servers.active.replica.owed)) count held.files left.files → held.faults ≤ left.faults → Rose held.faults left.faults → after ≡ before ++ server_line old.servers.acting role.Down ∷ [] → ComesOff pair_kit any_state EndsWork Failed old (with_servers old (fell old.servers)) before after held left
 failed-alone old before after count held left some none alone lowered broke later rose told setup state good shows armed so =
     let found = ready-for setup state old shows some none in
     alone-by setup state state.world.core.hand found.entry old before after count held left found.ready good shows (sym (standby-shown setup state old shows) ∙ alone) armed lowered broke later rose told
@@ -296,7 +297,7 @@ work-lacks old active before after count held left some none broke stands setup 
     let found = ready-for setup state old shows some none in
     let whole = broke-shown setup state Memory old found.entry count held.files left.files shows found.ready broke in
     let C : Hand → Type 0 = λ hand. LeavesBetween setup (committed_by state.world.core.answered hand) held.files left.files in (
-      lacks setup state held.files left.files old (with_servers old (record old.servers { active = active })) good shows refl refl refl refl
+      lacks setup state held left old (with_servers old (record old.servers { active = active })) good shows refl refl refl refl
           (λ tells. subst C (sym found.ready) ((broken-between pair_kit pair_laws) setup state found.entry Memory count held.files left.files whole tells)),
       subst (λ n. held.faults ≤ n) (sym stands) (le_refl held.faults),
     )
@@ -307,26 +308,26 @@ answer-breaks setup past (Called client number time call) net old new posts spel
     posts-one setup (Answer client number ((plain_of setup).reply past client number time call)) net old new posts spelled
 answer-breaks setup past (Receipted client key through time) net old new posts spelled = inl (posts-none setup net old new posts spelled)
 
-untold-by : (setup : Setup) (state : State Peers) (hand : Hand) (entry : Entry) (old new : Cluster Pair) (heard : Heard) (active : Node) (held left : DiskSeen) → hand ≡ Ready entry → IsGood pair_kit setup (pair_at state.peers.partner hand state) → Shows pair_kit setup (pair_at state.peers.partner hand state) old → held.armed ≡ state.peers.armed → IsWorked old.servers.active heard active → PostsSome heard.to_net old.net new.net → left.files ≡ option_map (all_applied (calls_of_all (deeds_in old.servers.active.replica.owed))) held.files → counts.IsShort (length (calls_of_all (deeds_in old.servers.active.replica.owed))) held.armed → new.agents ≡ old.agents → new.history.entries ≡ old.history.entries → new.now ≡ old.now → Broken setup (pair_at state.peers.partner hand state) held.files left.files new
+untold-by : (setup : Setup) (state : State Peers) (hand : Hand) (entry : Entry) (old new : Cluster Pair) (heard : Heard) (active : Node) (held left : DiskSeen) → hand ≡ Ready entry → IsGood pair_kit setup (pair_at state.peers.partner hand state) → Shows pair_kit setup (pair_at state.peers.partner hand state) old → held.tally.armed ≡ state.peers.armed → IsWorked old.servers.active heard active → PostsSome heard.to_net old.net new.net → left.files ≡ option_map (all_applied (calls_of_all (deeds_in old.servers.active.replica.owed))) held.files → counts.IsShort (length (calls_of_all (deeds_in old.servers.active.replica.owed))) held.tally.armed → new.agents ≡ old.agents → new.history.entries ≡ old.history.entries → new.now ≡ old.now → (Broken pair_kit) setup (pair_at state.peers.partner hand state) held left new
 untold-by setup state (Ready other) entry old new heard active held left is good shows armed worked posts files short agents history now =
     let past = state.world.core.answered in
     let before = pair_at state.peers.partner (Ready other) state in
     let calls = owed-calls setup state other old shows in
     let count = calls_for setup past other in
-    let happened : ℕ → Bool = λ number. false in
-    let short_so : counts.IsShort count state.peers.armed = subst (counts.IsShort count) armed (subst (λ c. counts.IsShort (length c) held.armed) calls short) in
-    let stands = done-stands state.peers.partner state.peers.armed count false refl good.steady.good.armed short_so in
+    let happened : ℕ → ℕ = λ number. 0 in
+    let short_so : counts.IsShort count state.peers.armed = subst (counts.IsShort count) armed (subst (λ c. counts.IsShort (length c) held.tally.armed) calls short) in
+    let stands = done-stands state.peers.partner state.peers.armed count 0 refl good.steady.good.armed short_so in
     let step = work-step setup happened before other false good refl stands in
     let after = work_done (plain_of setup) count other before in
     let P : Node → Type 0 = λ node. PostsSome (replies_in node.replica.owed) old.net new.net in
     let owed = subst (λ (servers : Pair). P servers.active) shows.own (subst (λ (h : Heard). PostsSome h.to_net old.net new.net) worked.heard_is posts) in
     let between : TellsFiles setup before held.files → LeavesBetween setup (other ∷ past) held.files left.files =
-    λ tells. (left-between pair_kit pair_laws) setup after.state held.files left.files step.good (work-files setup before other held.files left.files good refl (files ∙ ap (λ c. option_map (all_applied c) held.files) calls) tells)
+    λ tells. (left-between pair_kit pair_laws) setup after.state held left step.good (work-files setup before other held.files left.files good refl (files ∙ ap (λ c. option_map (all_applied c) held.files) calls) tells)
     in
     let seen = subst (λ a. ShowsAgents before.world a) (sym agents) shows.agents in
     elim (answer-breaks setup past other state.world.net old.net new.net owed shows.net) [
-      | inl spelled ↦ (whole-broken pair_kit pair_laws) setup before before [] held.files left.files new good.steady.sound (unasked-same (plain_of setup) before.world) spelled seen (history ∙ shows.history) (now ∙ shows.now) between
-      | inr spelled ↦ (whole-broken pair_kit pair_laws) setup before after.state after.told held.files left.files new step.good.steady.sound step.unasked spelled
+      | inl spelled ↦ (whole-broken pair_kit pair_laws) setup before before [] held left new good.steady.sound (unasked-same (plain_of setup) before.world) spelled seen (history ∙ shows.history) (now ∙ shows.now) between
+      | inr spelled ↦ (whole-broken pair_kit pair_laws) setup before after.state after.told held left new step.good.steady.sound step.unasked spelled
           (agents-as before.world after.state.world new.agents refl refl refl seen)
           (history ∙ shows.history) (now ∙ shows.now) between
     ]
@@ -334,7 +335,7 @@ untold-by setup state Empty entry old new heard active held left is good shows a
 untold-by setup state (Waiting other) entry old new heard active held left is good shows armed worked posts files short agents history now = cc
 untold-by setup state (Applied other) entry old new heard active held left is good shows armed worked posts files short agents history now = cc
 
-pub work-untold : (old new : Cluster Pair) (heard : Heard) (active : Node) (before after : List (List ℕ)) (held left : DiskSeen) → IsSome old.servers.active.replica.owed → old.servers.active.waits ≡ None → IsWorked old.servers.active heard active → PostsSome heard.to_net old.net new.net → left.files ≡ option_map (all_applied (calls_of_all (deeds_in old.servers.active.replica.owed))) held.files → counts.IsShort (length (calls_of_all (deeds_in old.servers.active.replica.owed))) held.armed → left.faults ≡ held.faults → new.agents ≡ old.agents → new.history.entries ≡ old.history.entries → new.now ≡ old.now → ComesOff pair_kit any_state EndsWork Memory old new before after held left
+pub work-untold : (old new : Cluster Pair) (heard : Heard) (active : Node) (before after : List (List ℕ)) (held left : DiskSeen) → IsSome old.servers.active.replica.owed → old.servers.active.waits ≡ None → IsWorked old.servers.active heard active → PostsSome heard.to_net old.net new.net → left.files ≡ option_map (all_applied (calls_of_all (deeds_in old.servers.active.replica.owed))) held.files → counts.IsShort (length (calls_of_all (deeds_in old.servers.active.replica.owed))) held.tally.armed → left.faults ≡ held.faults → new.agents ≡ old.agents → new.history.entries ≡ old.history.entries → new.now ≡ old.now → ComesOff pair_kit any_state EndsWork Memory old new before after held left
 work-untold old new heard active before after held left some none worked posts files short stands agents history now setup state good shows armed so =
     let found = ready-for setup state old shows some none in (
       untold-by setup state state.world.core.hand found.entry old new heard active held left found.ready good shows armed worked posts files short agents history now,
@@ -373,8 +374,8 @@ worked-range old heard active has some none worked =
     worked-range-by has.setup has.state has.state.world.core.hand found.entry old heard active found.ready has.good has.shows worked
 
 -- where the disk stops there is a standby
-pub stopped-role : (old : Cluster Pair) (armed : Option ℕ) (count : ℕ) → HasStateOn pair_kit any_state old armed → counts.reaches (suc count) armed ≡ true → old.servers.partner.replica.role ≡ StandsBy
-stopped-role old armed count has reached =
+pub stopped-role : (old : Cluster Pair) (seen : DiskSeen) (count : ℕ) → HasStateOn pair_kit any_state old seen → counts.reaches (suc count) seen.tally.armed ≡ true → old.servers.partner.replica.role ≡ StandsBy
+stopped-role old seen count has reached =
     let state = has.state in
     let standby = stop-standby state.peers.partner state.peers.armed count has.good.steady.good.armed (subst (λ (a : Option ℕ). counts.reaches (suc count) a ≡ true) has.count reached) in
     role-shown has.setup state standby.0 old has.shows standby.1

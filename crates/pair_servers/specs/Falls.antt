@@ -2,6 +2,7 @@
 use Rattle.std.specs.Prelude.{◌≡◌, ℕ, ◌≤◌, nat_le, if◌then◌else◌, Bool, true, false, Option, Some, None, option_map, Result, Ok, Err, List, [], ◌∷◌, ◌++◌}
 use Rattle.ais_values.specs.Causes.{Rose}
 use Rattle.disk_model.specs.DeviceCalls.{all_applied, BreaksOff, LeftAlone, LeftBy}
+use Rattle.disk_model.specs.Seen.{DiskSeen}
 use Rattle.disk_model.specs.declared.answers.DiskAnswer.{DiskAnswer}
 use Rattle.disk_model.specs.declared.answers.DiskAnswer.TheVariants.{Memory, Failed, Stopped}
 use Rattle.stream_layout.specs.Deeds.{calls_of_all}
@@ -15,10 +16,9 @@ use Rattle.mirror.specs.declared.heard.Role.{Role}
 use Rattle.mirror.specs.declared.heard.Role.TheVariants as role_of
 use Rattle.mirror.specs.declared.node.Node.{Node}
 use Rattle.mirror.specs.Replicas.{down, number_in_hand}
-use Rattle.mirror.specs.Pairing.{alone, taken_over}
+use Rattle.mirror.specs.Pairing.{alone, deeds_kept, taken_over}
 use Rattle.pair_cluster.specs.Peers.{other_server}
 use Rattle.cluster_clients.specs.Posted.{PostsAll}
-use Rattle.cluster_rounds.specs.Came.{DiskSeen}
 use Rattle.pair_servers.specs.declared.pair.Pair.{Pair}
 
 -- The lines of how a fall may end: the active server is down; its partner is active; or its partner is down too.
@@ -59,12 +59,12 @@ fallen servers = unlinked (record servers { partner = alone down })
 abbrev pub TakesOver : Result (Unit {0}) DiskAnswer → Pair → Pair → List (List ℕ) → List (List ℕ) → DiskSeen → DiskSeen → Type 0
 TakesOver (Ok done) old new before after held left =
     (new ≡ over old) × (after ≡ before ++ over_lines old.acting)
-    × (left.files ≡ option_map (all_applied (calls_of_all old.partner.kept)) held.files) × (left.armed ≡ None) × (left.faults ≡ held.faults)
+    × (left.files ≡ option_map (all_applied (calls_of_all (deeds_kept old.partner.kept))) held.files) × (left.tally.armed ≡ None) × (left.faults ≡ held.faults)
 TakesOver (Err Memory) old new before after held left =
-    (count : ℕ) × BreaksOff LeftAlone (calls_of_all old.partner.kept) count held.files left.files × (left.faults ≡ held.faults)
+    (count : ℕ) × BreaksOff LeftAlone (calls_of_all (deeds_kept old.partner.kept)) count held.files left.files × (left.faults ≡ held.faults)
 TakesOver (Err Failed) old new before after held left =
     (new ≡ fallen old) × (after ≡ before ++ fallen_lines old.acting) × (count : ℕ)
-    × BreaksOff LeftBy (calls_of_all old.partner.kept) count held.files left.files × (left.armed ≡ None) × (held.faults ≤ left.faults)
+    × BreaksOff LeftBy (calls_of_all (deeds_kept old.partner.kept)) count held.files left.files × (left.tally.armed ≡ None) × (held.faults ≤ left.faults)
     × Rose held.faults left.faults
 TakesOver (Err Stopped) old new before after held left = ⊥
 

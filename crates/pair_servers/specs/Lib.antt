@@ -1,5 +1,7 @@
 pub mod PairNodes
+pub mod PairCounts
 pub mod PairKit
+pub mod PairUses
 pub mod PairLaws
 pub mod PairScript
 pub mod Standing

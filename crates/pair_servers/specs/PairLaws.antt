@@ -1,14 +1,14 @@
 -- An active server and its partner are such servers as a cluster may have.
-use Rattle.std.specs.Prelude.{◌≡◌, ℕ, suc, Bool, true, false, ◌||◌, if◌then◌else◌, List, [], ◌∷◌, length}
-use Rattle.std.proofs.Common.{refl, sym, subst, inl, inr, le_refl, le_trans}
+use Rattle.std.specs.Prelude.{◌≡◌, ℕ, suc, Bool, true, false, ◌||◌, if◌then◌else◌, List, [], ◌∷◌, length, IfSome}
+use Rattle.std.proofs.Common.{refl, sym, subst, inl, inr, le_refl, le_trans, ◌∙◌}
 use Rattle.cluster_facts.specs.Types.{Entry, Called, Receipted, Answer}
 use Rattle.cluster_facts.specs.Messages.{Posting}
 use Rattle.cluster_facts.specs.Service.{Plain, IsPlain}
-use Rattle.cluster_facts.specs.History.{Hand, Empty, Ready, committed_by}
+use Rattle.cluster_facts.specs.History.{Hand, Empty, Ready, committed_by, Core}
 use Rattle.cluster_facts.specs.World.{World, knows}
 use Rattle.cluster_events.specs.Lines.{Posted, Committed}
 use Rattle.cluster_events.specs.Servers.{State}
-use Rattle.cluster_events.specs.Devices.{Device}
+use Rattle.cluster_events.specs.Devices.{Device, answered_in}
 use Rattle.cluster_events.specs.Serving.{IsCarried}
 use Rattle.event_text.specs.Texts.{printed}
 use Rattle.pair_cluster.specs.Answering.{lines_answering}
@@ -19,7 +19,7 @@ use Rattle.pair_cluster.specs.Peers.{Peers, IsPair}
 use Rattle.pair_cluster.specs.Pair.{is_linked, accept_by, pair}
 use Rattle.pair_cluster.proofs.Stepping.{Bears}
 use Rattle.pair_cluster.proofs.Serving.{pair-carries, pair-stepped}
-use Rattle.pair_cluster.proofs.Saying.{says-borne, pair-serves, pair-spends}
+use Rattle.pair_cluster.proofs.Saying.{says-borne, pair-serves}
 use Rattle.pair_cluster.specs.Falling.{with_core}
 use Rattle.cluster_rounds.specs.PartlyDone.{SaysUnasked}
 use Rattle.cluster_rounds.specs.Timely.{AreTimely}
@@ -28,7 +28,11 @@ use Rattle.cluster_rounds.specs.Kits.{IsKit}
 use Rattle.cluster_rounds.proofs.UnaskedSteps.{waits-same, asks-none, asks-both}
 use Rattle.cluster_rounds.proofs.HearSteps.{measured-entry}
 use Rattle.cluster_clients.proofs.ToldLines.{not-less}
+use Rattle.plain_service.specs.Storing.{files_of}
+use Rattle.cluster_events.proofs.Devices.{rose-later}
+use Rattle.cluster_rounds.proofs.FilesSteps.{between-behind, left-between, left-both, left-same, left-told}
 use Rattle.pair_servers.specs.PairKit.{pair_kit}
+use Rattle.pair_servers.specs.PairUses.{faults-behind, stood-later, uses-both, uses-none, uses-printed}
 
 -- No step of the two asks anything.
 
@@ -152,14 +156,42 @@ pub pair_laws : IsKit pair_kit
 pair_laws = record {
   serves = λ plain device is_plain. pair-serves plain device is_plain;
   unasked = λ plain device is_plain. pair-unasked plain device is_plain;
-  spends = λ plain device is_plain. pair-spends plain device is_plain;
   steps = λ plain device. refl;
   stepped = λ plain device is_plain. pair-stepped plain is_plain device (SaysUnasked plain) (unasked-borne plain);
   alike = λ plain one other. refl;
   keeps = λ plain device entry state. accept-keeps (is_linked state.peers.partner) entry state;
-  armed = λ plain device entry state count is. subst (λ armed. count ≡ armed) (accept-armed (is_linked state.peers.partner) entry state) is;
+  armed = λ plain device entry state seen is. subst (λ armed. seen.tally.armed ≡ armed) (accept-armed (is_linked state.peers.partner) entry state) is;
+  accepts = λ setup fails entry state seen empty tells.
+      subst (λ (past : List Entry). IfSome seen.files (λ files. files ≡ files_of setup past))
+      (sym (accept-keeps (is_linked state.peers.partner) entry state)) tells;
   measured = λ plain device entry state empty good. accept-measured (is_linked state.peers.partner) entry state empty;
-  stands = λ count. le_refl count;
-  least = λ one two is. is;
+  moves = λ setup old new seen core peers tells. subst (λ (c : Core). IfSome seen.files (λ files. files ≡ files_of setup c.answered)) (sym core) tells;
+  left_same = λ setup state seen tells. left-same setup state seen.files tells;
+  left_told = λ setup state held left leaves. left-told setup state held.files left.files leaves;
+  left_both = λ setup middle state held told left first second. left-both setup middle state held.files told.files left.files first second;
+  left_between = λ setup state held left begins steady range leaves. left-between setup state held.files left.files begins steady.sound range leaves;
+  between_behind = λ setup middle past held told left leaves between. between-behind setup middle past held.files told.files left.files leaves between;
+  shown = λ one beside. refl;
+  told = λ setup state seen tells. tells;
+  read_armed = λ peers one two beside read is. read.armed ∙ is;
+  read_left = λ setup state one two beside read tells. read.files ∙ left-same setup state one.files tells;
+  read_lacks = λ setup state one two beside read faults. stood-later one two faults;
+  read_outlives = λ one two beside read faults. stood-later one two faults;
+  read_rises = λ one two beside read later rose. record { later = later; rose = rose };
+  unused = λ setup state outcome seen same. uses-none seen outcome.told;
+  used_both = λ setup one two state first second held told left before after.
+      uses-both (answered_in first.state) one two first.told second.told held told left before after;
+  used_printed = λ setup happened state outcome held left uses. uses-printed happened outcome.told held left uses;
+  faults_behind = λ setup one two state first end held told left before after.
+      faults-behind (answered_in first.state) one two first.told held told left before after;
+  lacks_same = λ setup state seen. le_refl seen.faults;
+  lacks_behind = λ setup happened state first held told left before after. le_trans before.later after;
+  stands = λ seen. le_refl seen.faults;
   further = λ one two three first second. le_trans first second;
+  rises = λ one two three first second. record {
+    later = le_trans first second.later;
+    rose = rose-later one.faults two.faults three.faults first second.rose;
+  };
+  wild = λ servers old new entries seen grows wild. wild;
+  read_wild = λ servers net entries one two beside read wild. wild;
 }

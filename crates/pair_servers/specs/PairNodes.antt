@@ -52,7 +52,7 @@ active_by setup past hand partner = record {
   waits = waits_by hand;
   tie = tie_to partner;
   promised = promised_to setup (accepted_by past hand) partner;
-  kept = [];
+  kept = None;
 }
 
 -- Its partner.
@@ -69,7 +69,7 @@ standby_by setup history keeps = record {
   waits = None;
   tie = Apart;
   promised = [];
-  kept = if keeps then last_deeds setup history else [];
+  kept = if keeps then Some (last_deeds setup history) else None;
 }
 
 -- by all that was committed

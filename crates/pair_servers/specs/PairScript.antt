@@ -1,6 +1,7 @@
 -- The lines of a script over two servers lead to what they lead to over any.
-use Rattle.std.specs.Prelude.{ℕ, length}
-use Rattle.std.proofs.Common.{refl}
+use Rattle.std.specs.Prelude.{ℕ, length, ◌≡◌, List}
+use Rattle.std.proofs.Common.{refl, arith}
+use Rattle.disk_model.specs.Seen.{DiskSeen}
 use Rattle.script_lines.specs.declared.line.Line.{Line}
 use Rattle.script_lines.specs.declared.line.Line.TheVariants as line
 use Rattle.cluster_facts.specs.Service.{Plain}
@@ -13,6 +14,9 @@ use Rattle.pair_cluster.specs.Peers.{Peers, hand_number}
 use Rattle.pair_cluster.specs.Pair.{pair}
 use Rattle.pair_cluster.specs.Running.{PairHappens}
 use Rattle.cluster_lines.specs.Following.{IsInHand, IsScript}
+use Rattle.cluster_events.specs.Lines.{Told}
+use Rattle.pair_servers.specs.PairCounts.{UsesLine}
+use Rattle.pair_servers.specs.PairUses.{stood-later}
 use Rattle.pair_servers.specs.PairKit.{pair_kit, pair_script}
 
 shares : (plain : Plain) (shelf : Shelf) (device : Device) (next : Line) (state : State Peers) (outcome : Outcome (State Peers))
@@ -29,9 +33,21 @@ in-hand past (Waiting entry) = λ none. cc
 in-hand past (Applied entry) = λ none. cc
 in-hand past (Ready entry) = λ none. cc
 
+-- where the count of faults stood nothing more is said
+pub calm-uses : (next : Line) (told : List Told) (held left : DiskSeen) → left.faults ≡ held.faults → UsesLine next (λ number. 0) told held left
+calm-uses next told held left same = record {
+  caused = λ never number. refl;
+  later = stood-later held left same;
+  felled = λ less. absurd (let is = same in omega arith);
+}
+
 pub pair_follows : IsScript pair_kit pair_script
 pair_follows = record {
   shares = shares;
   settles = λ plain device state whole ends. record { whole = whole; ends = ends; is = refl };
   in_hand = λ plain device state. in-hand (length state.world.core.answered) state.world.core.hand;
+  settled = λ setup happened state outcome held left uses. record { caused = uses.caused; later = uses.later; felled = λ less. (refl, uses.felled less) };
+  settle_faults = λ setup happened state end held left faults. faults;
+  unused = λ next setup state outcome seen shared same. calm-uses next outcome.told seen seen refl;
+  read = λ next setup state outcome one two beside looks shared unsettled read faults same. calm-uses next outcome.told one two faults;
 }

@@ -1,13 +1,13 @@
 //! Servers that are crashed, armed and restarted.
 ghost use Rattle.std.specs.Prelude.{◌≡◌, ◌≤◌, ◌&&◌, ◌++◌, ℕ, true, not, is_some, List, IfOk, OnOk, OnErr, IfErr};
-ghost use Rattle.script_lines.specs.declared.line.Line.TheVariants.{Crash, Arm, Restart};
+ghost use Rattle.script_lines.specs.declared.line.Line.TheVariants.{Crash, Arm, Disarm, Restart};
 ghost use Rattle.mirror.specs.Pairing.{alone, joining};
 ghost use Rattle.pair_cluster.specs.Peers.{same_server};
 ghost use Rattle.cluster_rounds.specs.Worlds.{HasStateOn, Does, any_state};
 ghost use Rattle.cluster_rounds.specs.Broken.{BreaksAlone};
-ghost use Rattle.cluster_rounds.specs.Came.{seen_by, ComesOff};
+ghost use Rattle.cluster_rounds.specs.Came.{ComesOff};
 ghost use Rattle.cluster_lines.specs.Own.{DoesOn};
-ghost use Rattle.pair_servers.specs.PairKit.{pair_kit};
+ghost use Rattle.pair_servers.specs.PairKit.{pair_kit, pair_script};
 ghost use Rattle.pair_servers.specs.Steps.{restarted_by, crashed_by, armed_by, disarmed_by, EndsCrashed};
 ghost use Rattle.pair_servers.specs.Heard.{IsUntold};
 ghost use Rattle.pair_servers.specs.Falls.{stands_by, stays_down, waiting_in, waiting_lines, waiting_entries};
@@ -60,15 +60,13 @@ fn crash_active<D: SharedDisk>(
     server: Server,
     disk: &mut D,
 ) -> Result<(), DiskAnswer>
-    requires state { HasStateOn pair_kit any_state world.old (D.tally disk.old).armed }
+    requires state { HasStateOn pair_kit any_state world.old (D.seen disk.old) }
     requires leads { (same_server server world.old.servers.acting && stands_by
         world.old.servers.partner.replica.role) ≡ true }
-    ensures ok { OnOk result (DoesOn pair_kit (crashed_by server) world.old world.new
-        lines.old.items lines.new.items (seen_by D.files D.tally D.faults disk.old)
-        (seen_by D.files D.tally D.faults disk.new)) }
+    ensures ok { OnOk result (DoesOn pair_kit pair_script (Crash server) (crashed_by server)
+        world.old world.new lines.old.items lines.new.items (D.seen disk.old) (D.seen disk.new)) }
     ensures err { IfErr result (λ answer. ComesOff pair_kit any_state (EndsCrashed server) answer
-        world.old world.new lines.old.items lines.new.items
-        (seen_by D.files D.tally D.faults disk.old) (seen_by D.files D.tally D.faults disk.new)) }
+        world.old world.new lines.old.items lines.new.items (D.seen disk.old) (D.seen disk.new)) }
 {
     let count = lines.as_slice().len();
     match put_ends(alloc, lines, world.servers.acting) {
@@ -169,14 +167,12 @@ pub fn crash<D: SharedDisk>(
     server: Server,
     disk: &mut D,
 ) -> Result<(), DiskAnswer>
-    requires state { HasStateOn pair_kit any_state world.old (D.tally disk.old).armed }
+    requires state { HasStateOn pair_kit any_state world.old (D.seen disk.old) }
     requires line { line.now ≡ Crash server }
-    ensures ok { OnOk result (DoesOn pair_kit (crashed_by server) world.old world.new
-        lines.old.items lines.new.items (seen_by D.files D.tally D.faults disk.old)
-        (seen_by D.files D.tally D.faults disk.new)) }
+    ensures ok { OnOk result (DoesOn pair_kit pair_script (Crash server) (crashed_by server)
+        world.old world.new lines.old.items lines.new.items (D.seen disk.old) (D.seen disk.new)) }
     ensures err { IfErr result (λ answer. ComesOff pair_kit any_state (EndsCrashed server) answer
-        world.old world.new lines.old.items lines.new.items
-        (seen_by D.files D.tally D.faults disk.old) (seen_by D.files D.tally D.faults disk.new)) }
+        world.old world.new lines.old.items lines.new.items (D.seen disk.old) (D.seen disk.new)) }
 {
     if leads(&world.servers, server) {
         return crash_active(alloc, world, lines, server, disk);
@@ -200,12 +196,10 @@ pub fn arm<D: SharedDisk>(
 ) -> Result<(), AllocError>
     requires count { 1 ≤ count }
     requires line { line.now ≡ Arm server count }
-    ensures ok { OnOk result (DoesOn pair_kit (armed_by server count) world.old world.new
-        lines.old.items lines.new.items (seen_by D.files D.tally D.faults disk.old)
-        (seen_by D.files D.tally D.faults disk.new)) }
+    ensures ok { OnOk result (DoesOn pair_kit pair_script (Arm server count) (armed_by server count)
+        world.old world.new lines.old.items lines.new.items (D.seen disk.old) (D.seen disk.new)) }
     ensures world { OnErr result (world.new ≡ world.old) }
-    ensures disk { OnErr result (seen_by D.files D.tally D.faults disk.new
-        ≡ seen_by D.files D.tally D.faults disk.old) }
+    ensures disk { OnErr result (D.seen disk.new ≡ D.seen disk.old) }
 {
     if leads(&world.servers, server) {
         disk.arm(count);
@@ -217,8 +211,8 @@ pub fn arm<D: SharedDisk>(
 
 /// `disarm`: no server stops any more.
 pub fn disarm<D: SharedDisk>(world: &mut Cluster<Pair>, disk: &mut D)
-    ensures { (lines : List (List ℕ)) → DoesOn pair_kit disarmed_by world.old world.new lines lines
-        (seen_by D.files D.tally D.faults disk.old) (seen_by D.files D.tally D.faults disk.new) }
+    ensures { (lines : List (List ℕ)) → DoesOn pair_kit pair_script Disarm disarmed_by world.old
+        world.new lines lines (D.seen disk.old) (D.seen disk.new) }
 {
     disk.disarm();
     world.servers.armed = false;

@@ -2,7 +2,6 @@
 ghost use Rattle.std.specs.Prelude.{◌≡◌};
 ghost use Rattle.script_lines.specs.declared.line.Line.TheVariants.{Work};
 ghost use Rattle.cluster_rounds.specs.Worlds.{HasStateOn, any_state};
-ghost use Rattle.cluster_rounds.specs.Came.{seen};
 ghost use Rattle.cluster_lines.specs.Lines.{IsInRange, IsOwn};
 ghost use Rattle.cluster_lines.specs.Showing.{StandsAs};
 ghost use Rattle.cluster_lines.specs.Own.{PlaysLine};
@@ -36,11 +35,10 @@ fn work_line<D: SharedDisk>(
     line: &Line,
     disk: &mut D,
 ) -> Result<(), DiskAnswer>
-    requires state { HasStateOn pair_kit any_state world.old (D.tally disk.old).armed }
+    requires state { HasStateOn pair_kit any_state world.old (D.seen disk.old) }
     requires line { line.now ≡ Work }
     ensures { PlaysLine pair_kit pair_script result line.now world.old world.new lines.old.items
-        lines.new.items (seen (D.files disk.old) (D.tally disk.old) (D.faults disk.old))
-        (seen (D.files disk.new) (D.tally disk.new) (D.faults disk.new)) }
+        lines.new.items (D.seen disk.old) (D.seen disk.new) }
 {
     if world.servers.active.ready() {
         return work(alloc, world, lines, disk);
@@ -56,12 +54,11 @@ pub(crate) fn play_own<D: SharedDisk>(
     line: &Line,
     disk: &mut D,
 ) -> Result<(), DiskAnswer>
-    requires state { HasStateOn pair_kit any_state world.old (D.tally disk.old).armed }
+    requires state { HasStateOn pair_kit any_state world.old (D.seen disk.old) }
     requires range { IsInRange line.now }
     requires own { IsOwn pair_script line.now }
     ensures { PlaysLine pair_kit pair_script result line.now world.old world.new lines.old.items
-        lines.new.items (seen (D.files disk.old) (D.tally disk.old) (D.faults disk.old))
-        (seen (D.files disk.new) (D.tally disk.new) (D.faults disk.new)) }
+        lines.new.items (D.seen disk.old) (D.seen disk.new) }
 {
     match line {
         Line::Mirror => as_answer(mirror_line(alloc, world, lines, line)),

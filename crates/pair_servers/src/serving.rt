@@ -43,11 +43,12 @@ impl Serving for Pair {
         5
     }
 
-    fn advance<D: SharedDisk>(
+    fn advance<D: SharedDisk, J: SharedDisk>(
         alloc: Global,
         world: &mut Cluster<Pair>,
         lines: &mut Vec<Seq<u8>>,
         disk: &mut D,
+        _beside: &mut J,
     ) -> Result<bool, DiskAnswer> {
         working::advance(alloc, world, lines, disk)
     }
@@ -60,12 +61,13 @@ impl Scripted for Pair {
         playing::stands(world)
     }
 
-    fn play_own<D: SharedDisk>(
+    fn play_own<D: SharedDisk, J: SharedDisk>(
         alloc: Global,
         world: &mut Cluster<Pair>,
         lines: &mut Vec<Seq<u8>>,
         line: &Line,
         disk: &mut D,
+        _beside: &mut J,
     ) -> Result<(), DiskAnswer> {
         playing::play_own(alloc, world, lines, line, disk)
     }

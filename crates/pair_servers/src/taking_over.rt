@@ -3,7 +3,6 @@ ghost use Rattle.std.specs.Prelude.{◌≡◌, ◌+◌, ◌++◌, ℕ, List, len
 ghost use Rattle.mirror.specs.declared.heard.Role.TheVariants as role;
 ghost use Rattle.mirror.specs.Replicas.{down};
 ghost use Rattle.mirror.specs.Pairing.{alone};
-ghost use Rattle.cluster_rounds.specs.Came.{seen};
 ghost use Rattle.pair_servers.specs.Falls.{TakesOver, end_lines, unlinked, exchanged};
 
 use crate::Pair;
@@ -70,11 +69,9 @@ pub(crate) fn take_over<D: SharedDisk>(
 ) -> Result<(), DiskAnswer>
     requires standby { servers.old.partner.replica.role ≡ role.Standby }
     requires lines { count + 3 ≡ length lines.old.items }
-    ensures { (before : List (List ℕ)) → count ≡ length before →
-        lines.old.items ≡ before ++ end_lines servers.old.acting → TakesOver result servers.old
-        servers.new before lines.new.items
-        (seen (D.files disk.old) (D.tally disk.old) (D.faults disk.old))
-        (seen (D.files disk.new) (D.tally disk.new) (D.faults disk.new)) }
+    ensures { (before : List (List ℕ)) → count ≡ length before → lines.old.items ≡ before ++
+        end_lines servers.old.acting → TakesOver result servers.old servers.new before
+        lines.new.items (D.seen disk.old) (D.seen disk.new) }
 {
     disk.disarm();
     match servers.partner.takeover(alloc, disk) {

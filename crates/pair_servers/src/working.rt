@@ -5,7 +5,7 @@ ghost use Rattle.wire.specs.MessageSpelling.{MessageInRange};
 ghost use Rattle.cluster_clients.specs.Posted.{PostsSome};
 ghost use Rattle.cluster_rounds.specs.Worlds.{HasStateOn, any_state};
 ghost use Rattle.cluster_rounds.specs.Rounds.{EndsStep};
-ghost use Rattle.cluster_rounds.specs.Came.{seen_by, Comes, Advances, ComesOff};
+ghost use Rattle.cluster_rounds.specs.Came.{Comes, Advances, ComesOff};
 ghost use Rattle.pair_servers.specs.PairKit.{pair_kit};
 ghost use Rattle.pair_servers.specs.Steps.{grew, worked_by, EndsWork};
 ghost use Rattle.pair_servers.specs.Falls.{IsToldWorked};
@@ -69,15 +69,13 @@ pub fn work<D: SharedDisk>(
     lines: &mut Vec<Seq<u8>>,
     disk: &mut D,
 ) -> Result<(), DiskAnswer>
-    requires state { HasStateOn pair_kit any_state world.old (D.tally disk.old).armed }
+    requires state { HasStateOn pair_kit any_state world.old (D.seen disk.old) }
     requires hand { IsSome world.old.servers.active.replica.owed }
     requires ready { world.old.servers.active.waits ≡ None }
     ensures ok { OnOk result (Comes pair_kit any_state worked_by world.old world.new lines.old.items
-        lines.new.items (grew world.old world.new) (seen_by D.files D.tally D.faults disk.old)
-        (seen_by D.files D.tally D.faults disk.new)) }
+        lines.new.items (grew world.old world.new) (D.seen disk.old) (D.seen disk.new)) }
     ensures err { IfErr result (λ answer. ComesOff pair_kit any_state EndsWork answer world.old
-        world.new lines.old.items lines.new.items (seen_by D.files D.tally D.faults disk.old)
-        (seen_by D.files D.tally D.faults disk.new)) }
+        world.new lines.old.items lines.new.items (D.seen disk.old) (D.seen disk.new)) }
 {
     let count = lines.as_slice().len();
     match put_ends(alloc, lines, world.servers.acting) {
@@ -112,13 +110,11 @@ pub(crate) fn advance<D: SharedDisk>(
     lines: &mut Vec<Seq<u8>>,
     disk: &mut D,
 ) -> Result<bool, DiskAnswer>
-    requires { HasStateOn pair_kit any_state world.old (D.tally disk.old).armed }
+    requires { HasStateOn pair_kit any_state world.old (D.seen disk.old) }
     ensures ok { IfOk result (λ went. Advances pair_kit went world.old world.new lines.old.items
-        lines.new.items (seen_by D.files D.tally D.faults disk.old)
-        (seen_by D.files D.tally D.faults disk.new)) }
+        lines.new.items (D.seen disk.old) (D.seen disk.new)) }
     ensures err { IfErr result (λ answer. ComesOff pair_kit any_state (EndsStep pair_kit) answer
-        world.old world.new lines.old.items lines.new.items
-        (seen_by D.files D.tally D.faults disk.old) (seen_by D.files D.tally D.faults disk.new)) }
+        world.old world.new lines.old.items lines.new.items (D.seen disk.old) (D.seen disk.new)) }
 {
     match mirror(alloc, world, lines) {
         Ok(mirrored) => {

@@ -1,7 +1,6 @@
 use Rattle.std.proofs.Common.{sym, ap, subst}
 use Rattle.std.proofs.lemmas.Result.{on_ok_weaker}
 use Rattle.disk_model.specs.declared.tally.Tally.{Tally}
-use Rattle.cluster_rounds.specs.Came.{seen}
 use Rattle.cluster_rounds.specs.Worlds.{Does}
 use Rattle.pair_servers.specs.PairKit.{pair_kit}
 use Rattle.pair_servers.specs.Steps.{refused_by}
@@ -10,7 +9,7 @@ use Rattle.pair_servers.proofs.falling.arm.Goals as goal
 
 pub returns-then-leads-clause-ok : goal.returns-then-leads-clause-ok
 returns-then-leads-clause-ok g c =
-    arms c.args.server c.args.count c.args.world.now c.args.lines.now.items (seen (g.D.SharedDisk.files c.args.disk.now) (g.D.SharedDisk.tally c.args.disk.now) (g.D.SharedDisk.faults c.args.disk.now)) (seen (g.D.SharedDisk.files c.arm.new.self) (g.D.SharedDisk.tally c.arm.new.self) (g.D.SharedDisk.faults c.arm.new.self)) (sym c.if-leads.ensures) c.requires.count c.arm.ensures.same (ap (λ (t : Tally). t.armed) c.arm.ensures.counted) c.arm.ensures.faults_stay
+    arms c.args.server c.args.count c.args.world.now c.args.lines.now.items (g.D.SharedDisk.seen c.args.disk.now) (g.D.SharedDisk.seen c.arm.new.self) (sym c.if-leads.ensures) c.requires.count c.arm.ensures.same (ap (λ (t : Tally). t.armed) c.arm.ensures.counted) c.arm.ensures.faults_stay
 
 pub returns-clause-ok : goal.returns-clause-ok
 returns-clause-ok g c =
@@ -18,5 +17,5 @@ returns-clause-ok g c =
     let before = c.args.lines.now.items in
     let after = c.refused.new.lines.items in
     on_ok_weaker c.refused.result
-    (λ refuses. arm-refuses c.args.server c.args.count old before after (seen (g.D.SharedDisk.files c.args.disk.now) (g.D.SharedDisk.tally c.args.disk.now) (g.D.SharedDisk.faults c.args.disk.now)) (sym c.if-leads.ensures) (subst (λ line. Does pair_kit (refused_by line) old old before after) c.requires.line refuses))
+    (λ refuses. arm-refuses c.args.server c.args.count old before after (g.D.SharedDisk.seen c.args.disk.now) (sym c.if-leads.ensures) (subst (λ line. Does pair_kit (refused_by line) old old before after) c.requires.line refuses))
     c.refused.ensures.ok

@@ -1,7 +1,6 @@
 use Rattle.std.proofs.Common.{length, ap, subst}
 use Rattle.mirror.specs.declared.node.Node.{Node}
 use Rattle.cluster_rounds.specs.Worlds.{any_state}
-use Rattle.cluster_rounds.specs.Came.{seen}
 use Rattle.cluster_rounds.proofs.BrokenClients.{same-breaks-if}
 use Rattle.cluster_rounds.proofs.CameSteps.{alone-off}
 use Rattle.pair_cluster.specs.Peers.{same_server}
@@ -17,7 +16,7 @@ use Rattle.pair_servers.proofs.falling.crash_active.Goals as goal
 pub returns-in-Err-clause-err : goal.returns-in-Err-clause-err
 returns-in-Err-clause-err g c =
     let world = c.args.world.now in
-    (alone-off pair_kit pair_laws) any_state (EndsCrashed c.args.server) world world c.args.lines.now.items c.put_ends.new.lines.items (seen (g.D.SharedDisk.files c.args.disk.now) (g.D.SharedDisk.tally c.args.disk.now) (g.D.SharedDisk.faults c.args.disk.now)) ((same-breaks-if pair_kit pair_laws) any_state world)
+    (alone-off pair_kit pair_laws) any_state (EndsCrashed c.args.server) world world c.args.lines.now.items c.put_ends.new.lines.items (g.D.SharedDisk.seen c.args.disk.now) ((same-breaks-if pair_kit pair_laws) any_state world)
 
 pub take_over-requires : goal.take_over-requires
 take_over-requires g c =
@@ -31,14 +30,14 @@ pub returns-clause-ok : goal.returns-clause-ok
 returns-clause-ok g c =
     let old = c.args.world.now in
     let before = c.args.lines.now.items in
-    let T : Node → Type 0 = λ node. TakesOver c.take_over.result (record old.servers { active = node }) c.take_over.new.servers before c.take_over.new.lines.items (seen (g.D.SharedDisk.files c.args.disk.now) (g.D.SharedDisk.tally c.args.disk.now) (g.D.SharedDisk.faults c.args.disk.now)) (seen (g.D.SharedDisk.files c.take_over.new.disk) (g.D.SharedDisk.tally c.take_over.new.disk) (g.D.SharedDisk.faults c.take_over.new.disk)) in
+    let T : Node → Type 0 = λ node. TakesOver c.take_over.result (record old.servers { active = node }) c.take_over.new.servers before c.take_over.new.lines.items (g.D.SharedDisk.seen c.args.disk.now) (g.D.SharedDisk.seen c.take_over.new.disk) in
     let takes = subst T c.go_down.ensures (c.take_over.ensures before (ap length c.as_slice-count.ensures.value) c.in-Ok.ensures) in
-    crash-does c.args.server old c.take_over.new.servers before c.take_over.new.lines.items (seen (g.D.SharedDisk.files c.args.disk.now) (g.D.SharedDisk.tally c.args.disk.now) (g.D.SharedDisk.faults c.args.disk.now)) (seen (g.D.SharedDisk.files c.take_over.new.disk) (g.D.SharedDisk.tally c.take_over.new.disk) (g.D.SharedDisk.faults c.take_over.new.disk)) c.requires.leads c.take_over.result takes
+    crash-does c.args.server old c.take_over.new.servers before c.take_over.new.lines.items (g.D.SharedDisk.seen c.args.disk.now) (g.D.SharedDisk.seen c.take_over.new.disk) c.requires.leads c.take_over.result takes
 
 pub returns-clause-err : goal.returns-clause-err
 returns-clause-err g c =
     let old = c.args.world.now in
     let before = c.args.lines.now.items in
-    let T : Node → Type 0 = λ node. TakesOver c.take_over.result (record old.servers { active = node }) c.take_over.new.servers before c.take_over.new.lines.items (seen (g.D.SharedDisk.files c.args.disk.now) (g.D.SharedDisk.tally c.args.disk.now) (g.D.SharedDisk.faults c.args.disk.now)) (seen (g.D.SharedDisk.files c.take_over.new.disk) (g.D.SharedDisk.tally c.take_over.new.disk) (g.D.SharedDisk.faults c.take_over.new.disk)) in
+    let T : Node → Type 0 = λ node. TakesOver c.take_over.result (record old.servers { active = node }) c.take_over.new.servers before c.take_over.new.lines.items (g.D.SharedDisk.seen c.args.disk.now) (g.D.SharedDisk.seen c.take_over.new.disk) in
     let takes = subst T c.go_down.ensures (c.take_over.ensures before (ap length c.as_slice-count.ensures.value) c.in-Ok.ensures) in
-    crash-off c.args.server old c.take_over.new.servers before c.take_over.new.lines.items (seen (g.D.SharedDisk.files c.args.disk.now) (g.D.SharedDisk.tally c.args.disk.now) (g.D.SharedDisk.faults c.args.disk.now)) (seen (g.D.SharedDisk.files c.take_over.new.disk) (g.D.SharedDisk.tally c.take_over.new.disk) (g.D.SharedDisk.faults c.take_over.new.disk)) c.requires.leads c.take_over.result takes
+    crash-off c.args.server old c.take_over.new.servers before c.take_over.new.lines.items (g.D.SharedDisk.seen c.args.disk.now) (g.D.SharedDisk.seen c.take_over.new.disk) c.requires.leads c.take_over.result takes

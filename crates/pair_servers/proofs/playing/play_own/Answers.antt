@@ -1,6 +1,5 @@
 use Rattle.std.proofs.Common.{subst}
 use Rattle.cluster_lines.specs.Lines.{IsInRange}
-use Rattle.cluster_rounds.specs.Came.{seen}
 use Rattle.cluster_rounds.specs.Worlds.{any_state}
 use Rattle.cluster_rounds.proofs.ArmedSteps.{state-told}
 use Rattle.pair_servers.specs.PairKit.{pair_kit}
@@ -9,10 +8,10 @@ use Rattle.pair_servers.proofs.OwnSteps.{ack-line, arm-line, crash-line, disarm-
 use Rattle.pair_servers.proofs.playing.play_own.Goals as goal
 
 pub mirror_line-requires : goal.mirror_line-requires
-mirror_line-requires g c = record { state = (state-told pair_kit pair_laws) any_state c.args.world.now (g.D.SharedDisk.tally c.args.disk.now).armed c.requires.state; line = c.in-Mirror.is }
+mirror_line-requires g c = record { state = (state-told pair_kit pair_laws) any_state c.args.world.now (g.D.SharedDisk.seen c.args.disk.now) c.requires.state; line = c.in-Mirror.is }
 
 pub ack_line-requires : goal.ack_line-requires
-ack_line-requires g c = record { state = (state-told pair_kit pair_laws) any_state c.args.world.now (g.D.SharedDisk.tally c.args.disk.now).armed c.requires.state; line = c.in-Ack.is }
+ack_line-requires g c = record { state = (state-told pair_kit pair_laws) any_state c.args.world.now (g.D.SharedDisk.seen c.args.disk.now) c.requires.state; line = c.in-Ack.is }
 
 pub work_line-requires : goal.work_line-requires
 work_line-requires g c = record { state = c.requires.state; line = c.in-Work.is }
@@ -28,12 +27,12 @@ restart-requires g c = record { line = c.in-Restart.is }
 
 pub returns-in-Mirror : goal.returns-in-Mirror
 returns-in-Mirror g c =
-    let held = seen (g.D.SharedDisk.files c.args.disk.now) (g.D.SharedDisk.tally c.args.disk.now) (g.D.SharedDisk.faults c.args.disk.now) in
+    let held = (g.D.SharedDisk.seen c.args.disk.now) in
     mirror-line c.mirror_line.result c.as_answer.result c.args.line.now c.args.world.now c.mirror_line.new.world c.args.lines.now.items c.mirror_line.new.lines.items held c.in-Mirror.is c.as_answer.ensures c.requires.state c.mirror_line.ensures.ok c.mirror_line.ensures.err
 
 pub returns-in-Ack : goal.returns-in-Ack
 returns-in-Ack g c =
-    let held = seen (g.D.SharedDisk.files c.args.disk.now) (g.D.SharedDisk.tally c.args.disk.now) (g.D.SharedDisk.faults c.args.disk.now) in
+    let held = (g.D.SharedDisk.seen c.args.disk.now) in
     ack-line c.ack_line.result c.as_answer-in-Ack.result c.args.line.now c.args.world.now c.ack_line.new.world c.args.lines.now.items c.ack_line.new.lines.items held c.in-Ack.is c.as_answer-in-Ack.ensures c.requires.state c.ack_line.ensures.ok c.ack_line.ensures.err
 
 pub returns-in-Work : goal.returns-in-Work
@@ -41,23 +40,23 @@ returns-in-Work g c = c.work_line.ensures
 
 pub returns-in-Crash : goal.returns-in-Crash
 returns-in-Crash g c =
-    let held = seen (g.D.SharedDisk.files c.args.disk.now) (g.D.SharedDisk.tally c.args.disk.now) (g.D.SharedDisk.faults c.args.disk.now) in
-    let left = seen (g.D.SharedDisk.files c.crash.new.disk) (g.D.SharedDisk.tally c.crash.new.disk) (g.D.SharedDisk.faults c.crash.new.disk) in
+    let held = (g.D.SharedDisk.seen c.args.disk.now) in
+    let left = (g.D.SharedDisk.seen c.crash.new.disk) in
     crash-line c.crash.result c.args.line.now c.in-Crash.server c.args.world.now c.crash.new.world c.args.lines.now.items c.crash.new.lines.items held left c.in-Crash.is c.requires.state c.crash.ensures.ok c.crash.ensures.err
 
 pub returns-in-Arm : goal.returns-in-Arm
 returns-in-Arm g c =
-    let held = seen (g.D.SharedDisk.files c.args.disk.now) (g.D.SharedDisk.tally c.args.disk.now) (g.D.SharedDisk.faults c.args.disk.now) in
-    let left = seen (g.D.SharedDisk.files c.arm.new.disk) (g.D.SharedDisk.tally c.arm.new.disk) (g.D.SharedDisk.faults c.arm.new.disk) in
+    let held = (g.D.SharedDisk.seen c.args.disk.now) in
+    let left = (g.D.SharedDisk.seen c.arm.new.disk) in
     arm-line c.arm.result c.as_answer-in-Arm.result c.args.line.now c.in-Arm.server c.in-Arm.count c.args.world.now c.arm.new.world c.args.lines.now.items c.arm.new.lines.items held left c.in-Arm.is (subst IsInRange c.in-Arm.is c.requires.range) c.as_answer-in-Arm.ensures c.requires.state c.arm.ensures.ok c.arm.ensures.world c.arm.ensures.disk
 
 pub returns-in-Disarm : goal.returns-in-Disarm
 returns-in-Disarm g c =
-    let held = seen (g.D.SharedDisk.files c.args.disk.now) (g.D.SharedDisk.tally c.args.disk.now) (g.D.SharedDisk.faults c.args.disk.now) in
-    let left = seen (g.D.SharedDisk.files c.disarm.new.disk) (g.D.SharedDisk.tally c.disarm.new.disk) (g.D.SharedDisk.faults c.disarm.new.disk) in
+    let held = (g.D.SharedDisk.seen c.args.disk.now) in
+    let left = (g.D.SharedDisk.seen c.disarm.new.disk) in
     disarm-line _ c.args.line.now c.args.world.now c.disarm.new.world c.args.lines.now.items held left c.in-Disarm.is c.requires.state (c.disarm.ensures c.args.lines.now.items)
 
 pub returns-in-Restart : goal.returns-in-Restart
 returns-in-Restart g c =
-    let held = seen (g.D.SharedDisk.files c.args.disk.now) (g.D.SharedDisk.tally c.args.disk.now) (g.D.SharedDisk.faults c.args.disk.now) in
+    let held = (g.D.SharedDisk.seen c.args.disk.now) in
     restart-line c.restart.result c.as_answer-in-Restart.result c.args.line.now c.args.world.now c.restart.new.world c.args.lines.now.items c.restart.new.lines.items held c.in-Restart.server c.in-Restart.is c.as_answer-in-Restart.ensures c.requires.state c.restart.ensures.ok c.restart.ensures.err

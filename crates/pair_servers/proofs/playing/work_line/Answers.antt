@@ -1,7 +1,6 @@
 use Rattle.std.specs.Prelude.{◌≡◌, None, IsSome}
 use Rattle.std.proofs.Common.{refl}
 use Rattle.cluster_clients.proofs.DispatchSteps.{on-err}
-use Rattle.cluster_rounds.specs.Came.{seen}
 use Rattle.cluster_rounds.proofs.BrokenClients.{same-breaks}
 use Rattle.pair_servers.specs.PairKit.{pair_kit}
 use Rattle.pair_servers.specs.PairLaws.{pair_laws}
@@ -16,8 +15,8 @@ work-requires g c =
 
 pub returns-then-ready : goal.returns-then-ready
 returns-then-ready g c =
-    let held = seen (g.D.SharedDisk.files c.args.disk.now) (g.D.SharedDisk.tally c.args.disk.now) (g.D.SharedDisk.faults c.args.disk.now) in
-    let left = seen (g.D.SharedDisk.files c.work.new.disk) (g.D.SharedDisk.tally c.work.new.disk) (g.D.SharedDisk.faults c.work.new.disk) in
+    let held = (g.D.SharedDisk.seen c.args.disk.now) in
+    let left = (g.D.SharedDisk.seen c.work.new.disk) in
     work-line c.work.result c.args.line.now c.args.world.now c.work.new.world c.args.lines.now.items c.work.new.lines.items (grew c.args.world.now c.work.new.world) held left c.requires.line c.requires.state c.work.ensures.ok c.work.ensures.err
 
 pub returns : goal.returns
@@ -26,5 +25,5 @@ returns g c =
     let idle : IsSome old.servers.active.replica.owed × (old.servers.active.waits ≡ None) → ⊥ = λ ready.
     let is = c.ready.ensures.1 ready in let no = c.if-ready.false in cc
     in
-    let held = seen (g.D.SharedDisk.files c.args.disk.now) (g.D.SharedDisk.tally c.args.disk.now) (g.D.SharedDisk.faults c.args.disk.now) in
+    let held = (g.D.SharedDisk.seen c.args.disk.now) in
     idle-line c.refused.result c.as_answer.result c.args.line.now old old c.args.lines.now.items c.refused.new.lines.items held c.requires.line idle c.as_answer.ensures c.requires.state c.refused.ensures.ok (on-err c.refused.result ((same-breaks pair_kit pair_laws) old))

@@ -3,7 +3,7 @@ use Rattle.std.specs.Prelude.{IsSome}
 use Rattle.pair_cluster.specs.Pair.{mirror_pair, ack_pair}
 use Rattle.cluster_rounds.specs.declared.cluster.Cluster.{Cluster}
 use Rattle.cluster_rounds.specs.Worlds.{any_state}
-use Rattle.cluster_rounds.specs.Came.{seen, Comes, ComesOff, Advances}
+use Rattle.cluster_rounds.specs.Came.{Comes, ComesOff, Advances}
 use Rattle.cluster_rounds.proofs.ArmedSteps.{state-told}
 use Rattle.pair_servers.specs.declared.pair.Pair.{Pair}
 use Rattle.pair_servers.specs.PairKit.{pair_kit}
@@ -13,19 +13,19 @@ use Rattle.pair_servers.proofs.AdvanceSteps.{mirror-advances, ack-advances, no-m
 use Rattle.pair_servers.proofs.working.advance.Goals as goal
 
 pub mirror-requires : goal.mirror-requires
-mirror-requires g c = (state-told pair_kit pair_laws) any_state c.args.world.now (g.D.SharedDisk.tally c.args.disk.now).armed c.requires
+mirror-requires g c = (state-told pair_kit pair_laws) any_state c.args.world.now (g.D.SharedDisk.seen c.args.disk.now) c.requires
 
 pub returns-then-mirrored-clause-ok : goal.returns-then-mirrored-clause-ok
 returns-then-mirrored-clause-ok g c =
     let S : Bool → Type 0 = λ went. StepsBy mirror_pair went c.args.world.now c.mirror.new.world c.args.lines.now.items c.mirror.new.lines.items in
-    mirror-advances c.args.world.now c.mirror.new.world c.args.lines.now.items c.mirror.new.lines.items (seen (g.D.SharedDisk.files c.args.disk.now) (g.D.SharedDisk.tally c.args.disk.now) (g.D.SharedDisk.faults c.args.disk.now)) (subst S c.if-mirrored.true c.in-Ok.ensures.ok)
+    mirror-advances c.args.world.now c.mirror.new.world c.args.lines.now.items c.mirror.new.lines.items (g.D.SharedDisk.seen c.args.disk.now) (subst S c.if-mirrored.true c.in-Ok.ensures.ok)
 
 -- the link is empty
 pub ack-requires : goal.ack-requires
 ack-requires g c =
     let S : Bool → Type 0 = λ went. StepsBy mirror_pair went c.args.world.now c.mirror.new.world c.args.lines.now.items c.mirror.new.lines.items in
     let none = subst S c.if-mirrored.false c.in-Ok.ensures.ok in
-    state-after c.args.world.now c.mirror.new.world none.0 ((state-told pair_kit pair_laws) any_state c.args.world.now (g.D.SharedDisk.tally c.args.disk.now).armed c.requires)
+    state-after c.args.world.now c.mirror.new.world none.0 ((state-told pair_kit pair_laws) any_state c.args.world.now (g.D.SharedDisk.seen c.args.disk.now) c.requires)
 
 pub returns-then-confirmed-clause-ok : goal.returns-then-confirmed-clause-ok
 returns-then-confirmed-clause-ok g c =
@@ -33,7 +33,7 @@ returns-then-confirmed-clause-ok g c =
     let lines = c.mirror.new.lines.items in
     let S : Bool → Type 0 = λ went. StepsBy mirror_pair went c.args.world.now c.mirror.new.world first lines in
     let A : Bool → Type 0 = λ went. StepsBy ack_pair went c.mirror.new.world c.ack.new.world lines lines in
-    ack-advances c.args.world.now c.mirror.new.world c.ack.new.world first lines lines (seen (g.D.SharedDisk.files c.args.disk.now) (g.D.SharedDisk.tally c.args.disk.now) (g.D.SharedDisk.faults c.args.disk.now)) (subst S c.if-mirrored.false c.in-Ok.ensures.ok) (subst A c.if-confirmed.true (c.in-Ok-ack.ensures.ok lines))
+    ack-advances c.args.world.now c.mirror.new.world c.ack.new.world first lines lines (g.D.SharedDisk.seen c.args.disk.now) (subst S c.if-mirrored.false c.in-Ok.ensures.ok) (subst A c.if-confirmed.true (c.in-Ok-ack.ensures.ok lines))
 
 -- no message is on its way
 pub work-requires : goal.work-requires
@@ -48,7 +48,7 @@ work-requires g c =
     let none = no-message c.args.world.now c.mirror.new.world c.ack.new.world first lines lines mirrors acks in
     let ready = c.if-ready.ensures.0 refl in
     record {
-      state = state-on c.args.world.now c.ack.new.world (g.D.SharedDisk.tally c.args.disk.now).armed same c.requires;
+      state = state-on c.args.world.now c.ack.new.world (g.D.SharedDisk.seen c.args.disk.now) same c.requires;
       hand = ready.0;
       ready = ready.1;
     }
@@ -65,12 +65,12 @@ returns-in-Ok-work-clause-ok g c =
     let none = no-message c.args.world.now c.mirror.new.world c.ack.new.world first lines lines mirrors acks in
     let after = c.work.new.lines.items in
     let ready = c.if-ready.ensures.0 refl in
-    let C : Cluster Pair → Type 0 = λ world. Comes pair_kit any_state worked_by world c.work.new.world lines after (grew world c.work.new.world) (seen (g.D.SharedDisk.files c.args.disk.now) (g.D.SharedDisk.tally c.args.disk.now) (g.D.SharedDisk.faults c.args.disk.now)) (seen (g.D.SharedDisk.files c.work.new.disk) (g.D.SharedDisk.tally c.work.new.disk) (g.D.SharedDisk.faults c.work.new.disk)) in
+    let C : Cluster Pair → Type 0 = λ world. Comes pair_kit any_state worked_by world c.work.new.world lines after (grew world c.work.new.world) (g.D.SharedDisk.seen c.args.disk.now) (g.D.SharedDisk.seen c.work.new.disk) in
     let comes = subst C same c.in-Ok-work.ensures.ok in
     let some = subst (λ (world : Cluster Pair). IsSome world.servers.active.replica.owed) same ready.0 in
     let left = subst (λ (world : Cluster Pair). world.servers.active.waits ≡ None) same ready.1 in
-    let does = work-advances c.args.world.now c.work.new.world lines after (seen (g.D.SharedDisk.files c.args.disk.now) (g.D.SharedDisk.tally c.args.disk.now) (g.D.SharedDisk.faults c.args.disk.now)) (seen (g.D.SharedDisk.files c.work.new.disk) (g.D.SharedDisk.tally c.work.new.disk) (g.D.SharedDisk.faults c.work.new.disk)) none some left comes in
-    subst (λ (start : List (List ℕ)). Advances pair_kit true c.args.world.now c.work.new.world start after (seen (g.D.SharedDisk.files c.args.disk.now) (g.D.SharedDisk.tally c.args.disk.now) (g.D.SharedDisk.faults c.args.disk.now)) (seen (g.D.SharedDisk.files c.work.new.disk) (g.D.SharedDisk.tally c.work.new.disk) (g.D.SharedDisk.faults c.work.new.disk))) mirrors.1 does
+    let does = work-advances c.args.world.now c.work.new.world lines after (g.D.SharedDisk.seen c.args.disk.now) (g.D.SharedDisk.seen c.work.new.disk) none some left comes in
+    subst (λ (start : List (List ℕ)). Advances pair_kit true c.args.world.now c.work.new.world start after (g.D.SharedDisk.seen c.args.disk.now) (g.D.SharedDisk.seen c.work.new.disk)) mirrors.1 does
 
 pub returns-in-Err-work-clause-err : goal.returns-in-Err-work-clause-err
 returns-in-Err-work-clause-err g c =
@@ -83,9 +83,9 @@ returns-in-Err-work-clause-err g c =
     let same = acks.0 ∙ mirrors.0 in
     let none = no-message c.args.world.now c.mirror.new.world c.ack.new.world first lines lines mirrors acks in
     let after = c.work.new.lines.items in
-    let C : Cluster Pair → List (List ℕ) → Type 0 = λ world start. ComesOff pair_kit any_state EndsWork c.in-Err-work.answer world c.work.new.world start after (seen (g.D.SharedDisk.files c.args.disk.now) (g.D.SharedDisk.tally c.args.disk.now) (g.D.SharedDisk.faults c.args.disk.now)) (seen (g.D.SharedDisk.files c.work.new.disk) (g.D.SharedDisk.tally c.work.new.disk) (g.D.SharedDisk.faults c.work.new.disk)) in
+    let C : Cluster Pair → List (List ℕ) → Type 0 = λ world start. ComesOff pair_kit any_state EndsWork c.in-Err-work.answer world c.work.new.world start after (g.D.SharedDisk.seen c.args.disk.now) (g.D.SharedDisk.seen c.work.new.disk) in
     let comes = subst (λ (world : Cluster Pair). C world lines) same c.in-Err-work.ensures.err in
-    work-off c.in-Err-work.answer c.args.world.now c.work.new.world first after (seen (g.D.SharedDisk.files c.args.disk.now) (g.D.SharedDisk.tally c.args.disk.now) (g.D.SharedDisk.faults c.args.disk.now)) (seen (g.D.SharedDisk.files c.work.new.disk) (g.D.SharedDisk.tally c.work.new.disk) (g.D.SharedDisk.faults c.work.new.disk)) none (subst (λ (start : List (List ℕ)). C c.args.world.now start) mirrors.1 comes)
+    work-off c.in-Err-work.answer c.args.world.now c.work.new.world first after (g.D.SharedDisk.seen c.args.disk.now) (g.D.SharedDisk.seen c.work.new.disk) none (subst (λ (start : List (List ℕ)). C c.args.world.now start) mirrors.1 comes)
 
 -- and no entry in hand is ready
 pub returns-clause-ok : goal.returns-clause-ok
