@@ -33,5 +33,11 @@ fn laws_of_record_scan() {
 #[test]
 fn laws_of_stream_config() {
     stream_config::law_of_equality();
+    stream_config::law_of_sizes();
     stream_config::law_of_tests();
+}
+
+#[test]
+fn laws_of_stream_layout() {
+    stream_layout::law_of_states();
 }

@@ -1,6 +1,8 @@
 use ais_values::{ClassId, Duplicate, Name, Status, StreamKind, Text, UNKNOWN_TIME};
 use format_expr::parse_expr;
-use record_print::{Header, LogRecord, check_write, is_printable, print_record};
+use record_print::{
+    Header, LogRecord, check_write, is_printable, parts_length, print_record, printed_length,
+};
 use std::alloc::Global;
 use std::process::Abort;
 
@@ -192,6 +194,54 @@ fn numbers_and_cuts(rt: HostRuntime) {
             want,
         );
         assert!(rt; printed, "{expr:?} of {body:?}");
+    }
+}
+
+/// A record whose body has so many letters.
+fn lettered(rt: &impl Abort, alloc: Global, count: usize) -> LogRecord {
+    let body = vec![in alloc; b'x'; count].expect(rt, "memory");
+    let rec = generic(rt, alloc, T, 6, body.as_slice());
+    drop(body);
+    rec
+}
+
+/// Whether a line of so many bytes is a mark, a blank, letters and a line feed.
+fn is_lettered(line: &[u8], mark: u8, length: usize) -> bool {
+    let letters = line.iter().filter(|byte| **byte == b'x').count();
+    line.len() == length
+        && letters.saturating_add(3) == length
+        && line.first() == Some(&mark)
+        && line.last() == Some(&b'\n')
+}
+
+/// Whether a body of so many letters is printed with record size 0 behind this mark, in so many bytes, which were counted
+/// before.
+fn prints_freely(rt: &impl Abort, alloc: Global, count: usize, mark: u8, length: u32) -> bool {
+    let expr = parse_expr(alloc, StreamKind::System, b"@Cx @Cb").ok();
+    let expr = expr.expect(rt, "parsed");
+    let rec = lettered(rt, alloc, count);
+    assert!(rt; is_printable(&rec));
+    let line = print_record(alloc, &expr, 1, &rec, 0).expect(rt, "memory");
+    let found = printed_length(&expr, &rec);
+    let counted = parts_length(&expr, &rec.header, &rec.body);
+    drop(expr);
+    drop(rec);
+    let same = is_lettered(line.as_slice(), mark, length as usize);
+    drop(line);
+    same && found == length && counted == length
+}
+
+#[test]
+fn records_of_the_sizes_of_their_texts(rt: HostRuntime) {
+    for (count, mark, length) in [
+        (0, b'C', 3),
+        (3, b'C', 6),
+        (16_381, b'C', 16_384),
+        (16_382, b'T', 16_384),
+        (16_384, b'T', 16_384),
+    ] {
+        let printed = prints_freely(&rt, rt.alloc(), count, mark, length);
+        assert!(rt; printed, "{count} letters");
     }
 }
 

@@ -3,7 +3,7 @@ use std::alloc::Global;
 use std::process::Abort;
 use stream_config::{
     FullAction, LogFile, StreamAttrs, StreamEvent, StreamName, StreamState, cfg_text, check_attrs,
-    have_one_place, per_file, stamp, well_known,
+    first_standing, has_room, have_one_place, per_file, stamp, well_known,
 };
 
 const LONGEST: &[u8] = b"aaaaaaaaaaaaaaaaaaaaaaaaaaaaaaaaaaaaaaaaaaaaaaaaaaaaaaaaaaaaaaaa";
@@ -63,6 +63,11 @@ fn each_bound_of_numbers(rt: HostRuntime) {
         (32, 32, 2, 1, false),
         (32, 32, 0, 0, false),
         (32, 32, 0, 129, false),
+        (0, 16_384, 0, 1, true),
+        (0, 1_073_741_824, 0, 1, true),
+        (0, 16_383, 0, 1, false),
+        (0, 1_073_741_825, 0, 1, false),
+        (1, 16_384, 0, 1, false),
     ];
     for (record_size, max_file, ha, rotated, accepted) in cases {
         let mut attrs = attrs_of(&rt, rt.alloc(), b"f", b".");
@@ -70,6 +75,23 @@ fn each_bound_of_numbers(rt: HostRuntime) {
         attrs.max_file = max_file;
         attrs.ha = ha;
         attrs.rotated = rotated;
+        assert!(rt; passes(StreamKind::System, attrs) == accepted);
+    }
+}
+
+#[test]
+fn records_of_varying_size_do_not_wrap(rt: HostRuntime) {
+    let cases = [
+        (FullAction::Wrap, 32, true),
+        (FullAction::Wrap, 0, false),
+        (FullAction::Halt, 0, true),
+        (FullAction::Rotate, 0, true),
+    ];
+    for (action, record_size, accepted) in cases {
+        let mut attrs = attrs_of(&rt, rt.alloc(), b"f", b".");
+        attrs.max_file = 16_384;
+        attrs.record_size = record_size;
+        attrs.action = action;
         assert!(rt; passes(StreamKind::System, attrs) == accepted);
     }
 }
@@ -147,26 +169,77 @@ fn stamps_rise(rt: HostRuntime) {
     assert!(rt; stamp(1_704_067_206, 1_704_067_203_000_000_000) == 1_704_067_207);
 }
 
-/// The alarm stream, which has taken three records, all in its first file.
-fn alarm_stream(rt: &impl Abort, alloc: Global) -> StreamState {
+/// The alarm stream, which has taken so many records, the last of them to its current file, whose first record has this
+/// number.
+fn alarm_stream(rt: &impl Abort, alloc: Global, taken: u32, first: u32) -> StreamState {
     let mut files = Seq::new(alloc);
-    let first = LogFile {
+    let file = LogFile {
         created: 7,
         closed: None,
+        first,
+        bytes: 96,
     };
-    files.push(first).expect(rt, "memory");
+    files.push(file).expect(rt, "memory");
     StreamState {
         name: StreamName::Alarm,
         attrs: attrs_of(rt, alloc, b"f", b"."),
-        taken: 3,
+        taken,
+        opened: 1,
         files,
     }
+}
+
+/// The first record that stands of a stream whose files hold three records.
+fn first_of(rt: &impl Abort, alloc: Global, action: FullAction, taken: u32, first: u32) -> u32 {
+    let mut state = alarm_stream(rt, alloc, taken, first);
+    state.attrs.max_file = 96;
+    state.attrs.action = action;
+    assert!(rt; check_attrs(StreamKind::Alarm, &state.attrs).is_ok());
+    let standing = first_standing(&state);
+    drop(state);
+    standing
+}
+
+#[test]
+fn records_stand_until_they_are_overwritten_or_removed(rt: HostRuntime) {
+    let cases = [
+        (FullAction::Wrap, 3, 0, 0),
+        (FullAction::Wrap, 4, 0, 1),
+        (FullAction::Halt, 3, 0, 0),
+        (FullAction::Rotate, 8, 6, 6),
+    ];
+    for (action, taken, first, want) in cases {
+        let standing = first_of(&rt, rt.alloc(), action, taken, first);
+        assert!(rt; standing == want, "after {taken}");
+    }
+}
+
+/// The bytes of a file of at most 16,384, the length of a record, and whether it fits behind them.
+#[test]
+fn a_record_fits_up_to_the_last_byte(rt: HostRuntime) {
+    let mut attrs = attrs_of(&rt, rt.alloc(), b"f", b".");
+    attrs.max_file = 16_384;
+    for (bytes, len, fits) in [
+        (0, 1, true),
+        (0, 16_384, true),
+        (1, 16_384, false),
+        (16_382, 2, true),
+        (16_383, 2, false),
+        (16_384, 1, false),
+        (u64::MAX, 1, false),
+    ] {
+        assert!(rt;
+            has_room(&attrs, bytes, len) == fits,
+            "{len} behind {bytes}"
+        );
+    }
+    drop(attrs);
 }
 
 #[test]
 fn copies_are_equal(rt: HostRuntime) {
     let alloc = rt.alloc();
-    let before = alarm_stream(&rt, alloc);
+    let before = alarm_stream(&rt, alloc, 3, 0);
     let event = StreamEvent::Ended { before, closed: 9 };
     let copy = event.copy(alloc).expect(&rt, "memory");
     let equal = event == copy;

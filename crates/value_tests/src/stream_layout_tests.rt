@@ -1,9 +1,9 @@
-ghost use Rattle.std.specs.Prelude.{◌≡◌, ◌≤◌, is_some, IfOk, IfSome};
+ghost use Rattle.std.specs.Prelude.{◌≡◌, ◌≤◌, ◌*◌, pos, None, [], ◌∷◌, is_some, IfOk, IfSome};
+ghost use Rattle.stream_config.specs.Events.{current_file};
 ghost use Rattle.stream_config.specs.Fit.{changes_file};
 ghost use Rattle.stream_config.specs.WellKnown.{default_attrs};
 ghost use Rattle.stream_layout.specs.Carrying.{IsStamp, IsFitStream, IsFitEvent};
 ghost use Rattle.ais_values.specs.declared.kind.StreamKind.TheVariants as kinds;
-ghost use Rattle.stream_config.specs.declared.attrs.FullAction.TheVariants as actions;
 
 use ais_values::{Duplicate, Seq, StreamKind, Text};
 use std::alloc::Global;
@@ -13,7 +13,7 @@ use stream_config::{
     FullAction, LogFile, Stamps, StreamAttrs, StreamEvent, StreamName, StreamState, check_attrs,
     well_known,
 };
-use stream_layout::{Deed, Spot, deeds, file_name, place};
+use stream_layout::{Deed, Spot, deeds, file_name, place, place_next};
 
 /// A stream whose files hold two records of 32 bytes.
 fn attrs_of(rt: &impl Abort, alloc: Global, path: &[u8], action: FullAction) -> StreamAttrs {
@@ -32,7 +32,7 @@ fn attrs_of(rt: &impl Abort, alloc: Global, path: &[u8], action: FullAction) -> 
 /// Where a record of such a stream stands.
 fn place_of(rt: &impl Abort, alloc: Global, action: FullAction, k: u32) -> Spot {
     let attrs = attrs_of(rt, alloc, b".", action);
-    assert!(rt; check_attrs(StreamKind::System, &attrs).is_ok());
+    assert!(rt; check_attrs(StreamKind::System, &attrs).is_ok() && attrs.record_size > 0);
     let spot = place(&attrs, k);
     drop(attrs);
     spot
@@ -50,6 +50,107 @@ fn places_of_records(rt: HostRuntime) {
     }
     let spot = Spot { file: 2, at: 32 };
     assert!(rt; spot.copy(rt.alloc()).expect(&rt, "memory") == spot);
+}
+
+/// Attributes of a stream of records of varying size, whose files have 16,384 bytes at most.
+fn free_attrs(rt: &impl Abort, alloc: Global, action: FullAction) -> StreamAttrs
+    ensures max_file { result.max_file ≡ 16384 }
+    ensures record_size { result.record_size ≡ 0 }
+    ensures action { result.action ≡ action }
+    ensures rotated { result.rotated ≡ 1 }
+{
+    let mut attrs = attrs_of(rt, alloc, b".", action);
+    attrs.max_file = 16_384;
+    attrs.record_size = 0;
+    attrs.action = action;
+    attrs.rotated = 1;
+    attrs
+}
+
+/// The first file of a stream, with so many bytes.
+fn first_file(rt: &impl Abort, alloc: Global, bytes: u64) -> Seq<LogFile>
+    ensures { result
+        ≡ record { created = pos 1704067202; closed = None; first = 0; bytes = bytes } ∷ [] }
+{
+    let mut files = Seq::new(alloc);
+    let file = LogFile {
+        created: 1_704_067_202,
+        closed: None,
+        first: 0,
+        bytes,
+    };
+    files.push(file).expect(rt, "memory");
+    files
+}
+
+/// The place of a record of so many bytes in a stream that halts, whose file has so many records and bytes.
+fn halted_place(rt: &impl Abort, alloc: Global, taken: u32, bytes: u64, len: u32) -> Option<Spot>
+    requires least { taken ≤ bytes }
+    requires most { bytes ≤ taken * 16384 }
+    requires room { bytes ≤ 16384 }
+{
+    let state = StreamState {
+        name: StreamName::System,
+        attrs: free_attrs(rt, alloc, FullAction::Halt),
+        taken,
+        opened: 1,
+        files: first_file(rt, alloc, bytes),
+    };
+    let spot = place_next(&state, len);
+    drop(state);
+    spot
+}
+
+/// The same in a stream that rotates.
+fn rotated_place(rt: &impl Abort, alloc: Global, taken: u32, bytes: u64, len: u32) -> Option<Spot>
+    requires least { taken ≤ bytes }
+    requires most { bytes ≤ taken * 16384 }
+    requires room { bytes ≤ 16384 }
+{
+    let state = StreamState {
+        name: StreamName::System,
+        attrs: free_attrs(rt, alloc, FullAction::Rotate),
+        taken,
+        opened: 1,
+        files: first_file(rt, alloc, bytes),
+    };
+    let spot = place_next(&state, len);
+    drop(state);
+    spot
+}
+
+/// Where a record goes in either stream: to this file at its end, or to none and to the next one.
+fn goes_on(rt: &impl Abort, alloc: Global, taken: u32, bytes: u64, len: u32, fits: bool) {
+    let most = u64::from(taken) * 16_384;
+    assert!(rt; u64::from(taken) <= bytes && bytes <= most && bytes <= 16_384);
+    let here = Some(Spot { file: 0, at: bytes });
+    let next = Some(Spot { file: 1, at: 0 });
+    let halted = halted_place(rt, alloc, taken, bytes, len);
+    assert!(rt;
+        halted == if fits { here } else { None },
+        "{len} behind {bytes}"
+    );
+    let rotated = rotated_place(rt, alloc, taken, bytes, len);
+    assert!(rt;
+        rotated == if fits { here } else { next },
+        "{len} behind {bytes}"
+    );
+}
+
+/// Records and bytes of the current file, the length of the next record, and whether it fits.
+#[test]
+fn places_of_records_of_varying_size(rt: HostRuntime) {
+    for (taken, bytes, len, fits) in [
+        (0, 0, 16_384, true),
+        (0, 0, 1, true),
+        (1, 1, 16_384, false),
+        (2, 16_382, 2, true),
+        (2, 16_383, 1, true),
+        (2, 16_383, 2, false),
+        (2, 16_384, 1, false),
+    ] {
+        goes_on(&rt, rt.alloc(), taken, bytes, len, fits);
+    }
 }
 
 fn is_named(rt: &impl Abort, alloc: Global, path: &[u8], closed: Option<i64>, want: &[u8]) -> bool {
@@ -78,11 +179,11 @@ fn names_of_files(rt: HostRuntime) {
     assert!(rt; is_named(&rt, alloc, b"apps", Some(20_000_000_100), shut));
 }
 
-/// The system stream with its first file.
+/// The system stream with its first file, which has so many records.
 fn system_stream(alloc: Global, taken: u32) -> Result<StreamState, Fail>
     requires { taken ≤ 1024 }
     ensures fit { IfOk result IsFitStream }
-    ensures taken { IfOk result (λ state. state.taken ≡ taken) }
+    ensures bytes { IfOk result (λ state. (current_file state.files).bytes ≡ taken * 256) }
     ensures attrs { IfOk result (λ state. state.attrs ≡ default_attrs kinds.System) }
 {
     let attrs = well_known(alloc, StreamKind::System)?;
@@ -90,11 +191,14 @@ fn system_stream(alloc: Global, taken: u32) -> Result<StreamState, Fail>
     files.push(LogFile {
         created: 1_704_067_202,
         closed: None,
+        first: 0,
+        bytes: u64::from(taken) * 256,
     })?;
     Ok(StreamState {
         name: StreamName::System,
         attrs,
         taken,
+        opened: 1,
         files,
     })
 }
@@ -108,7 +212,7 @@ fn made(alloc: Global) -> Result<StreamEvent, Fail>
 
 fn stored(alloc: Global, taken: u32, stamps: Option<Stamps>) -> Result<StreamEvent, Fail>
     requires few { taken ≤ 1024 }
-    requires changes { is_some stamps ≡ changes_file actions.Rotate 1024 taken }
+    requires changes { is_some stamps ≡ changes_file (default_attrs kinds.System) (taken * 256) 256 }
     requires new { IfSome stamps (λ two. IsStamp two.closed × IsStamp two.created) }
     ensures { IfOk result IsFitEvent }
 {
