@@ -1,0 +1,10 @@
+pub mod Between
+pub mod Files
+pub mod Frames
+pub mod Staging
+pub mod Appends
+pub mod Whole
+pub mod Mending
+pub mod Keeping
+pub mod Unarmed
+pub mod Making

@@ -1,0 +1,4 @@
+pub mod Arming
+pub mod Frames
+pub mod Reading
+pub mod Staging
