@@ -55,12 +55,17 @@ fn apply(alloc: Global, service: &mut Service, client: u16, call: Call) -> Resul
     }
 }
 
-/// Makes the streams of applications, behind the system stream.
-fn open_streams(alloc: Global, service: &mut Service, count: u32) -> Result<(), AllocError> {
+/// Makes the streams of applications, with records of this size, behind the system stream.
+fn open_streams(
+    alloc: Global,
+    service: &mut Service,
+    count: u32,
+    record_size: u32,
+) -> Result<(), AllocError> {
     apply(alloc, service, WRITER, Call::LogInit)?;
     apply(alloc, service, WRITER, join_of())?;
     for number in 0..count {
-        let call = open_of(alloc, number)?;
+        let call = open_of(alloc, number, record_size)?;
         apply(alloc, service, WRITER, call)?;
     }
     Ok(())
@@ -92,7 +97,7 @@ pub(crate) fn prepare(
     setting: Setting,
     kind: Kind,
 ) -> Result<(), AllocError> {
-    open_streams(alloc, service, setting.streams)?;
+    open_streams(alloc, service, setting.streams, kind.record_size())?;
     subscribe(alloc, service, setting.subs)?;
     send_alarms(alloc, service, setting.alarms)?;
     if matches!(kind, Kind::Read) {
@@ -105,7 +110,7 @@ pub(crate) fn prepare(
 /// The client that makes the calls of a kind.
 fn caller_of(kind: Kind) -> u16 {
     match kind {
-        Kind::Write => WRITER,
+        Kind::Write | Kind::Even | Kind::Free => WRITER,
         _ => SENDER,
     }
 }

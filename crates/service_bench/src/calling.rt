@@ -52,12 +52,16 @@ pub(crate) fn join_of() -> Call {
     }
 }
 
-/// Makes the stream of this number, with the attributes of the system stream in a file of its own.
-pub(crate) fn open_of(alloc: Global, number: u32) -> Result<Call, AllocError> {
+/// Makes the stream of this number, with the attributes of the system stream but for the size of records, in a file of its own.
+pub(crate) fn open_of(alloc: Global, number: u32, record_size: u32) -> Result<Call, AllocError> {
     let stream = stream_of(alloc, number)?;
     let file = text_of(alloc, &letters_of(number))?;
     let given = well_known(alloc, StreamKind::System)?;
-    let create = StreamAttrs { file, ..given };
+    let create = StreamAttrs {
+        file,
+        record_size,
+        ..given
+    };
     Ok(Call::LogOpen {
         stream,
         create: Some(create),
@@ -72,7 +76,7 @@ fn turn_of(alloc: Global, streams: u32, number: u32) -> Result<StreamName, Alloc
     stream_of(alloc, number % streams)
 }
 
-/// Writes a body of 100 bytes to a stream, each in turn.
+/// Writes a body of 100 bytes to a stream, each in turn. Its text and the line feed are 148 bytes.
 pub(crate) fn write_of(alloc: Global, streams: u32, number: u32) -> Result<Call, AllocError> {
     let user = name_of(alloc, b"safApp=web")?;
     let header = Header::Generic {

@@ -1,7 +1,8 @@
 //! Applies entries of one kind to a service, beside subscriptions to one type of notifications, stored alarms and streams of
-//! applications. Its words are the kind (`write`, `offer`, `send`, `start` or `read`), how many entries are applied, and how
-//! many alarms, subscriptions and streams there are before; without words each kind is applied some times. It tells how many
-//! entries and deeds there were, and on standard error how many nanoseconds the entries took. `bench/service` measures it.
+//! applications. Its words are the kind (`write`, `even`, `free`, `offer`, `send`, `start` or `read`), how many entries are
+//! applied, and how many alarms, subscriptions and streams there are before; without words each kind is applied some times. It
+//! tells how many entries and deeds there were, and on standard error how many nanoseconds the entries took. `bench/service`
+//! measures it.
 #![tactic(auto)]
 
 mod applying;
@@ -92,6 +93,8 @@ fn tell<R: Print + Eprint + Clock + AllocGlobal>(rt: &R, run: Run) -> io::Result
 fn tell_each<R: Print + Eprint + Clock + AllocGlobal>(rt: &R) -> io::Result<()> {
     for kind in [
         Kind::Write,
+        Kind::Even,
+        Kind::Free,
         Kind::Offer,
         Kind::Send,
         Kind::Start,

@@ -31,12 +31,15 @@ fn well_stream(alloc: Global, name: StreamName, created: i64) -> Result<SavedStr
     files.push(LogFile {
         created,
         closed: None,
+        first: 0,
+        bytes: 0,
     })?;
     Ok(SavedStream {
         state: StreamState {
             name,
             attrs,
             taken: 0,
+            opened: 1,
             files,
         },
         openers: Seq::new(alloc),
