@@ -60,7 +60,7 @@ class Inputs:
 
     def made(self, rng):
         """Lines made from the grammar, most of which it takes: what they begin with lets calls do something."""
-        usual, begins = (USUAL, BEGINS) if rng.random() < 0.85 else (USUAL + LONG * 4, UNSIZED)
+        usual, begins = (USUAL, BEGINS) if rng.random() < 0.75 else (USUAL + LONG * 12, UNSIZED)
         lines = [CLUSTER.make(rng)] if rng.random() < 0.3 else [
             b"cluster start=1704067200000000000 queue=%d callbacks=%d" % (rng.choice([1, 2, 16]), rng.choice([1, 8, 64])) + rng.choice(begins)]
         if rng.random() < 0.9:
