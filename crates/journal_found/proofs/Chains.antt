@@ -3,7 +3,6 @@ use Rattle.std.proofs.Common.{◌≡◌, inl, inr, ⊎_elim, ℕ, suc, List, [],
 use Rattle.std.specs.Option.{option_map_or}
 use Rattle.disk_model.specs.Disk.{Files}
 use Rattle.disk_model.specs.DeviceCalls.{all_applied}
-use Rattle.disk_model.specs.declared.answers.DiskAnswer.{DiskAnswer}
 use Rattle.stream_layout.specs.declared.deed.Deed.{Deed}
 use Rattle.calls.specs.declared.entry.Entry.{Entry}
 use Rattle.calls.specs.declared.saved.Saved.{Saved}
@@ -58,13 +57,13 @@ journal-done setup past entry files journal joins =
           (record { short = short-push texts text journal.has.short joins.1; stands = append-done texts text journal.has.short joins.1 files journal.has.stands });
     }
 
-pub journal-broken : (setup : Setup) (past : List Entry) (entry : Entry) (answer : DiskAnswer) (count : ℕ) (old new : Files) → JournalOf setup past old → CanJoin (next_message past entry)
-    → NextBreaks setup past entry answer count old new → JournalStaged setup past entry new
-journal-broken setup past entry answer count old new journal joins broke = record {
+pub journal-broken : (setup : Setup) (past : List Entry) (entry : Entry) (old new : Files) → JournalOf setup past old → CanJoin (next_message past entry)
+    → NextBreaks setup past entry old new → JournalStaged setup past entry new
+journal-broken setup past entry old new journal joins broke = record {
   fits = journal.fits;
   short = journal.has.short;
   joins = joins;
-  has = append-staged (texts_of (messages_of setup past)) (message_text (next_message past entry)) journal.has.short joins.1 answer count old new journal.has.stands broke;
+  has = append-staged (texts_of (messages_of setup past)) (message_text (next_message past entry)) journal.has.short joins.1 broke.0 broke.1 old new journal.has.stands broke.2;
 }
 
 -- **from a journal that the history's next entry was to join the history is found, or it and the entry**
