@@ -271,11 +271,6 @@ numbers-same Halt attrs first stood one other taken records is sized count some 
 numbers-same Rotate attrs first stood one other taken records is sized count some low low' kept high kept' high' same =
     apart-offsets first one other records some low low' (omega (arith, high, count)) (omega (arith, high', count)) same
 
-stands-in : {X : Type 0} (xs : List X) (index : ℕ) (x : X) → slice_get xs index ≡ Some x → Stands x xs
-stands-in [] index x is = cc
-stands-in (y ∷ xs) zero x is = let same : y ≡ x = cc in inl (sym same)
-stands-in (y ∷ xs) (suc index) x is = inr (stands-in xs index x is)
-
 pub once-behind : {X : Type 0} (xs ys : List X) → NoneTwice (xs ++ ys) → NoneTwice ys
 once-behind [] ys once = once
 once-behind (x ∷ xs) ys once = once-behind xs ys once.1

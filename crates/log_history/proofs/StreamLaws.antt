@@ -16,7 +16,7 @@ use Rattle.stream_config.specs.declared.event.Stamps.{Stamps}
 use Rattle.stream_config.specs.Attributes.{kind_of, PassesAttrs}
 use Rattle.stream_config.specs.Events.{open_file, file_closed, current_file, last_closed, most_files, standing, state_after}
 use Rattle.stream_config.specs.declared.event.StreamEvent.TheVariants as event
-use Rattle.stream_config.specs.Fit.{stamps_of, rises, is_last_open, count_standing, count_in, HasFitBytes, changes_file, HasFitFiles}
+use Rattle.stream_config.specs.Fit.{stamps_of, rises, count_standing, count_in, HasFitBytes, changes_file, HasFitFiles}
 use Rattle.stream_config.specs.Sizes.{records_per_file, IsLength, has_room}
 use Rattle.stream_config.specs.Stamps.{stamp_after}
 use Rattle.stream_layout.proofs.CurrentFile.{last_closed-append}
@@ -75,11 +75,6 @@ rises-files (file ∷ next ∷ files) current up =
     and_from (int_lt (pos file.0) (pos file.1)) _ (int-less file.0 file.1 up.0)
     (and_from (int_lt (pos file.1) (pos next.0)) (rises (stamps_of (files_to (next ∷ files) current))) (int-less file.1 next.0 up.1) (rises-files (next ∷ files) current up.2))
 
-last-open : (files : List (ℕ × ℕ)) (current : ℕ) → is_last_open (files_to files current) ≡ true
-last-open [] current = refl
-last-open (file ∷ []) current = refl
-last-open (file ∷ next ∷ files) current = last-open (next ∷ files) current
-
 created-below : (last : ℕ) (files : List (ℕ × ℕ)) (current : ℕ) → RisesTo files current → current ≤ last → next_created files current ≤ last
 created-below last [] current up le = le
 created-below last (file ∷ files) current up le =
@@ -121,11 +116,6 @@ drop-had (suc k) (stamps ∷ full) [] = none (drop k full) where
   none [] = refl
   none (stamps ∷ full) = refl
 drop-had (suc k) (stamps ∷ full) (round ∷ rounds) = drop-had k full rounds
-
-length-had : (full : List (ℕ × ℕ)) (rounds : List Round) → length rounds ≡ length full → length (stamped_files full rounds) ≡ length full
-length-had [] rounds alike = refl
-length-had (stamps ∷ full) [] alike = alike
-length-had (stamps ∷ full) (round ∷ rounds) alike = ap suc (length-had full rounds (omega (arith, alike)))
 
 alike-drop : {X Y : Type 0} (k : ℕ) (xs : List X) (ys : List Y) → length xs ≡ length ys → length (drop k xs) ≡ length (drop k ys)
 alike-drop k xs ys alike = let one = length-drop k xs in let other = length-drop k ys in omega (arith, one, other, alike)
@@ -229,9 +219,6 @@ can-store-next last second rec stream passes living room fit =
       room = λ halts. ap (has_room attrs bytes) long ∙ ap (λ b. has_room attrs b (length_next stream rec)) now ∙ room-left attrs (last_of (files_had stream)).bytes (length_next stream rec) room halts;
       changes = due-is (changes_file attrs bytes (length_in state rec)) stamps ∙ ap (changes_file attrs bytes) (sym long);
     }
-
-stamps_by : (last second : ℕ) → Bool → Option Stamps
-stamps_by last second due = cond due (Some (record { closed = pos (stamp_after last second); created = pos (stamp_after (stamp_after last second) second) })) None
 
 -- the stamps and the count of files once a record is stored
 record IsRecorded (last second : ℕ) (full : List (ℕ × ℕ)) (current : ℕ) (due : Bool) : Type 0 where

@@ -297,8 +297,8 @@ impl LiveStream {
         requires moment { IsMoment last now }
         requires length { len ≤ 16384 }
         requires numbers { self.now.state.taken < 4294967294 }
-        requires room { lacks_room self.now.state.attrs (current_file self.now.state.files).bytes len
-            ≡ false }
+        requires room { lacks_room self.now.state.attrs (current_file self.now.state.files).bytes
+            len ≡ false }
         ensures filing { IfOk result (λ filed. (rec : RecordOf) → len ≡ length_in self.now.state rec
             → IsFiling last now rec self.now.state filed.0 filed.1 filed.2) }
         ensures few { IfOk result (λ filed. filed.1 ≤ self.now.state.taken + 2) }

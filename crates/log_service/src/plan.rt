@@ -114,7 +114,8 @@ fn put_files(
 )
     requires place { place < vec_len streams.old }
     requires few { opened ≤ taken + 1 }
-    ensures { streams.new.items ≡ change_at (with_files taken opened files) streams.old.items place }
+    ensures { streams.new.items
+        ≡ change_at (with_files taken opened files) streams.old.items place }
 {
     streams[place].put_files(taken, opened, files);
 }

@@ -526,8 +526,8 @@ impl LogState {
     ) -> Status
         requires moment { IsCallTime self.now.table now }
         requires numbers { HasNumberLeft self.now.table name.now }
-        ensures { result ≡ write_status self.now.table client name.now flags time header.now body.now
-            now }
+        ensures { result
+            ≡ write_status self.now.table client name.now flags time header.now body.now now }
     {
         if !self.users.contains(client) {
             Status::BadHandle
@@ -600,8 +600,8 @@ impl LogState {
     /// Writes a record to a stream. An unknown time stands for this moment. The answer is that of the first of
     /// these that holds: `BadHandle`, the client does not use the service or does not have the stream open;
     /// `BadFlags`, flags are above 1; `InvalidParam`, the record may not be written to a stream of the kind;
-    /// `NoSpace`, the record does not fit the stream. Where none holds the record is stored, and the answer is ok. On an error,
-    /// and with another answer, nothing changes.
+    /// `NoSpace`, the record does not fit the stream, which halts. Where none holds the record is stored, and the
+    /// answer is ok. On an error, and with another answer, nothing changes.
     pub fn write(
         &mut self,
         alloc: Global,

@@ -225,7 +225,8 @@ pub(crate) fn writing_plan(
     requires printable { IsTrue (can_print (record_at time header.now body.now now)) }
     requires numbers { ForSome (kept_stream streams.now name.now)
         (λ stream. stream.state.taken < 4294967294) }
-    requires room { is_filled streams.now name.now (record_at time header.now body.now now) ≡ false }
+    requires room { is_filled streams.now name.now (record_at time header.now body.now now)
+        ≡ false }
     ensures { IfOk result (PlansStoring last now name.now
         (record_at time header.now body.now now) streams.now) }
 {

@@ -30,7 +30,8 @@ use Rattle.plain_service.specs.Answers.{status_of}
 
 -- what an ok call changes in the Log Service, by what an open makes and how a notification is accepted; a send stores its notification's
 -- record
-abbrev pub log_change_with : (making : StreamName → Option StreamAttrs → Option StreamAttrs) (accepting : ℤ → Notification → Notification) (client : ℕ) (now : ℤ) → Call → Option LogChange
+abbrev pub log_change_with : (making : StreamName → Option StreamAttrs → Option StreamAttrs) (accepting : ℤ → Notification → Notification)
+    (client : ℕ) (now : ℤ) → Call → Option LogChange
 log_change_with making accepting client now LogInit = Some (log.Began client)
 log_change_with making accepting client now (LogOpen name create) =
     Some (log.Opened client name (making name create) (second_of now))

@@ -7,7 +7,8 @@ use Rattle.format_expr.specs.declared.token.Moment.TheVariants.{Record, Event}
 use Rattle.format_expr.specs.declared.token.TimePart.{TimePart}
 use Rattle.format_expr.specs.declared.token.TimePart.TheVariants.{Nanoseconds, Hour, Minute, Second, HalfDay, Month, MonthName, Day, DayName, ShortYear, Year}
 use Rattle.format_expr.specs.declared.token.Part.{Part}
-use Rattle.format_expr.specs.declared.token.Part.TheVariants.{Number, Time, ClassId, Cut, Body, BodyBytes, NotificationId, EventType, Object, Notifier, User, Severity}
+use Rattle.format_expr.specs.declared.token.Part.TheVariants.{Number, Time, ClassId, Cut, Body, BodyBytes, NotificationId, EventType, Object, Notifier}
+use Rattle.format_expr.specs.declared.token.Part.TheVariants.{User, Severity}
 use Rattle.format_expr.specs.declared.piece.Piece.{Piece}
 use Rattle.format_expr.specs.declared.piece.Piece.TheVariants.{Plain, Field}
 use Rattle.record_print.specs.declared.record.Header.{Header}

@@ -26,7 +26,7 @@ pub fn law_of_records()
         AreRecords size bytes one rest → AreRecords size bytes other left → rest ≡ left }
     ensures whole { (size : ℕ) (records : List (List ℕ)) → All (IsRecord size) records
         → AreRecords size (concat records) records [] }
-    ensures printed { (kind : StreamKind) (pieces : List Piece) (size number : ℕ) (rec : LogRecord) →
-        IsTrue (are_pieces kind pieces) → number < 2 ^ 32
+    ensures printed { (kind : StreamKind) (pieces : List Piece) (size number : ℕ)
+        (rec : LogRecord) → IsTrue (are_pieces kind pieces) → number < 2 ^ 32
         → IsRecord size (printed_record pieces number rec size) }
 {}

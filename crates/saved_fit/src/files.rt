@@ -78,7 +78,8 @@ fn is_last_open(files: &[LogFile]) -> bool
 
 /// How many files stand of those that were made.
 fn count_standing(state: &StreamState) -> u32
-    ensures { result ≡ count_standing state.now.attrs.action state.now.attrs.rotated state.now.opened }
+    ensures { result
+        ≡ count_standing state.now.attrs.action state.now.attrs.rotated state.now.opened }
 {
     match state.attrs.action {
         FullAction::Wrap | FullAction::Halt => state.opened,

@@ -9,7 +9,7 @@ use Rattle.ais_values.proofs.Basics.{AllByRecursion-append}
 use Rattle.stream_config.specs.declared.event.Stamps.{Stamps}
 use Rattle.stream_config.specs.declared.event.StreamEvent.TheVariants.{Stored}
 use Rattle.stream_config.specs.declared.state.LogFile.{LogFile}
-use Rattle.stream_config.specs.Events.{open_file, file_begun, current_file, last_with, last_closed, most_files, next_offset, state_after}
+use Rattle.stream_config.specs.Events.{open_file, file_begun, current_file, last_closed, most_files, next_offset, state_after}
 use Rattle.stream_config.specs.Fit.{stamps_of, rises, changes_file}
 use Rattle.stream_config.specs.Sizes.{IsLength, has_room}
 use Rattle.stream_config.specs.Stamps.{stamp_after}

@@ -24,7 +24,6 @@ pub fn law_of_states()
         HasFitFiles before →
         first_standing before ≤ first_standing (state_after (Stored before bytes stamps)) }
     ensures spots { (before : StreamState) (bytes : List ℕ) (stamps : Option Stamps) →
-        IsFitStored before bytes stamps →
-        option_map (λ (spot : Spot). spot.at) (next_spot before (length bytes))
-        ≡ Some (offset_written before stamps) }
+        IsFitStored before bytes stamps → option_map (λ (spot : Spot). spot.at)
+        (next_spot before (length bytes)) ≡ Some (offset_written before stamps) }
 {}
