@@ -110,8 +110,8 @@ older-found strings older place index bytes found all up at stands =
     let cases : (s : Option (Vec ℕ)) → P s = elim [
       | None ↦ λ is none. absurd (let e : None ≡ Some bytes = none in cc)
       | Some string ↦ λ is same.
-        let here : string.items ≡ bytes = (let e : Some string.items ≡ Some bytes = same in cc) in
-        let p : suc (index + 0) ≡ place = omega (arith, up) in
-        older-all [] strings older index string found all is at ∙ (λ i. newest_with (front_of (here i)) (net_before (p i) (net_from strings)))
+          let here : string.items ≡ bytes = (let e : Some string.items ≡ Some bytes = same in cc) in
+          let p : suc (index + 0) ≡ place = omega (arith, up) in
+          older-all [] strings older index string found all is at ∙ (λ i. newest_with (front_of (here i)) (net_before (p i) (net_from strings)))
     ] in
     cases (slice_get strings index) refl (sym (at-strings strings place index up) ∙ stands)
