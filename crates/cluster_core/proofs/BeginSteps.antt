@@ -3,6 +3,7 @@ use Rattle.std.proofs.Common.{◌≡◌, ℕ, suc, false, List, [], ◌∷◌, O
 use Rattle.std.specs.Prelude.{ℤ, option_map, Err}
 use Rattle.disk_model.specs.Disk.{Files}
 use Rattle.disk_model.specs.Failures.{WhereTold}
+use Rattle.disk_model.specs.Seen.{DiskSeen}
 use Rattle.disk_model.specs.Counts.{lowered, passed, reaches}
 use Rattle.disk_model.specs.DeviceCalls.{DeviceCall, all_applied, DoesFront, FailsAfter, Breaks}
 use Rattle.disk_model.specs.declared.answers.DiskAnswer.{DiskAnswer}
@@ -23,11 +24,10 @@ use Rattle.service_core.specs.Beginning.{BeginsAs}
 use Rattle.cluster_facts.proofs.Keeping.{IsSound-start}
 use Rattle.pair_cluster.specs.Pair.{pair_start}
 use Rattle.pair_servers.specs.PairNodes.{standby_by}
-use Rattle.cluster_rounds.specs.Came.{seen}
 use Rattle.mirror.specs.declared.node.Node.{Node}
 use Rattle.cluster_clients.specs.declared.answer.EventAnswer.{EventAnswer}
 use Rattle.cluster_core.specs.declared.world.World.{World}
-use Rattle.cluster_core.specs.Worlds.{Shows, IsGood, LeavesFiles}
+use Rattle.cluster_core.specs.Worlds.{Shows, IsGood, LeavesFiles, view_of}
 use Rattle.cluster_core.specs.Beginning.{Begins, HoldsNone, Begun, LeavesBroken}
 use Rattle.cluster_core.specs.Starting.{active_at, wells_of, world_of, broken_by, StartsBoth, StartsWorld}
 use Rattle.cluster_core.proofs.BeginSpelled.{spelled-begins}
@@ -60,12 +60,12 @@ passed-unarmed : (count : ℕ) (before after : Tally) → after ≡ passed count
 passed-unarmed count before after is unarmed = ap (λ (t : Tally). t.armed) is ∙ ap (lowered count) unarmed
 
 -- **the start was done**
-pub begun : (setup : Setup) (places count : ℕ) (held left : Option Files) (before after : Tally) (stood now : ℕ) (world : World) → CanBegin setup → world ≡ world_of (active_at setup) (standby_by setup [] false) setup.start places → HoldsNone held → left ≡ option_map (all_applied (calls_of_all (opening_of setup))) held → after ≡ passed count before → before.armed ≡ None → Begun setup places held (seen left after now) world
-begun setup places count held left before after stood now world begins is none done counted unarmed = record {
+pub begun : (setup : Setup) (places count : ℕ) (held : Option Files) (before left : DiskSeen) (world : World) → CanBegin setup → world ≡ world_of (active_at setup) (standby_by setup [] false) setup.start places → HoldsNone held → left.files ≡ option_map (all_applied (calls_of_all (opening_of setup))) held → left.tally ≡ passed count before.tally → before.tally.armed ≡ None → Begun setup places held (view_of left) world
+begun setup places count held before left world begins is none done counted unarmed = record {
   good = good-start setup places begins;
   shows = subst (λ w. Shows setup (pair_start setup.start places) w) (sym is) (shows-start setup places);
-  files = files-start setup places held left begins none done;
-  armed = passed-unarmed count before after counted unarmed;
+  files = files-start setup places held left.files begins none done;
+  armed = passed-unarmed count before.tally left.tally counted unarmed;
 }
 
 -- the start was not done

@@ -1,8 +1,8 @@
 -- An event of a world is one of its parts.
-use Rattle.std.proofs.Common.{◌≡◌, ℕ, ◌≤◌, Bool, Option, List, [], ◌++◌, refl, ap, sym, ◌∙◌, subst}
+use Rattle.std.proofs.Common.{◌≡◌, ℕ, Bool, List, [], ◌++◌, refl, ap, sym, ◌∙◌, subst}
 use Rattle.std.specs.Prelude.{ℤ}
-use Rattle.disk_model.specs.Disk.{Files}
-use Rattle.disk_model.specs.declared.answers.DiskAnswer.TheVariants.{Memory, Failed}
+use Rattle.disk_model.specs.Seen.{DiskSeen}
+use Rattle.disk_model.specs.declared.answers.DiskAnswer.TheVariants.{Memory, Failed, Stopped}
 use Rattle.script_lines.specs.declared.line.Line.{Line}
 use Rattle.script_lines.specs.declared.line.Line.TheVariants as line
 use Rattle.script_lines.specs.declared.line.Server.{Server}
@@ -16,16 +16,15 @@ use Rattle.mirror.specs.declared.node.Node.{Node}
 use Rattle.pair_cluster.specs.Peers.{Partner, Down, Owed, Linking, Standby, Peers}
 use Rattle.cluster_rounds.specs.declared.cluster.Cluster.{Cluster}
 use Rattle.cluster_rounds.specs.Broken as cluster
-use Rattle.cluster_rounds.specs.Came.{DiskSeen}
 use Rattle.cluster_rounds.specs.Worlds as clusters
 use Rattle.cluster_lines.specs.Lines.{CanPlay}
-use Rattle.cluster_lines.specs.Playing.{FaultLeaves as FaultLeavesParts, LineEnded}
+use Rattle.cluster_lines.specs.Playing.{FaultLeaves as FaultLeavesParts, LineEnded, ShowFails}
 use Rattle.pair_servers.specs.declared.pair.Pair.{Pair}
 use Rattle.pair_servers.specs.PairKit.{pair_kit, pair_script}
 use Rattle.pair_servers.specs.PairNodes.{active_by, partner_by}
 use Rattle.cluster_core.specs.declared.world.World.{World}
-use Rattle.cluster_core.specs.Worlds.{HasState, IsGood, Shows, named, parts_of, unnamed}
-use Rattle.cluster_core.specs.Broken.{Broken, BreaksOn}
+use Rattle.cluster_core.specs.Worlds.{HasState, IsGood, Shows, named, parts_of, unnamed, view_of}
+use Rattle.cluster_core.specs.Broken.{Broken, BreaksOn, files_alone}
 use Rattle.cluster_core.specs.Playing.{DoesEvent, EndsEvent, FaultLeaves, IsEventLine}
 use Rattle.cluster_core.specs.Parts.{BreaksWhole, PlaysWhole, acting_as, acting_in, whole_of}
 
@@ -73,8 +72,8 @@ whole-shows setup state parts world is shows =
 
 -- What a call of the parts asks for.
 
-pub parts-stand : (old : World) (armed : Option ℕ) → HasState old armed → (clusters.HasStateOn pair_kit) clusters.any_state (parts_of (acting_in old) old) armed
-parts-stand old armed has = record { setup = has.setup; state = has.state; good = has.good; shows = parts-show has.setup has.state old has.shows; count = has.count; so = tt }
+pub parts-stand : (old : World) (held : DiskSeen) → HasState old held.tally.armed → (clusters.HasStateOn pair_kit) clusters.any_state (parts_of (acting_in old) old) held
+parts-stand old held has = record { setup = has.setup; state = has.state; good = has.good; shows = parts-show has.setup has.state old has.shows; count = has.count; so = tt }
 
 pub can-play : (now : ℤ) (next : Line) → IsEventLine now next → CanPlay pair_script now next
 can-play now (line.Cluster start queue callbacks alarm ntf sys) can = can
@@ -82,8 +81,8 @@ can-play now (line.Time later) can = can
 can-play now _ can = tt
 
 -- **what a line led the parts to it led the world to**
-pub does-event : (next : Line) (old new : World) (before after lines : List (List ℕ)) (held left : DiskSeen) → before ≡ [] → lines ≡ after → held.faults ≤ left.faults → PlaysWhole next old new before after held left → DoesEvent next lines old new held left
-does-event next old new before after lines held left none same later whole setup state good shows armed tells =
+pub does-event : (next : Line) (old new : World) (before after lines : List (List ℕ)) (held left : DiskSeen) → before ≡ [] → lines ≡ after → PlaysWhole next old new before after held left → DoesEvent next lines old new (view_of held) (view_of left)
+does-event next old new before after lines held left none same whole setup state good shows armed tells =
     let parts = whole.0 in
     let done = whole.2 setup state good (parts-show setup state old shows) armed tells in
     record {
@@ -91,9 +90,9 @@ does-event next old new before after lines held left none same later whole setup
       done = record {
         shelf = done.shelf;
         shown = done.shelf_is;
-        step = record { fails = done.happened; happens = done.leads; caused = done.caused };
-        later = later;
-        felled = done.felled;
+        step = record { fails = done.happened; happens = done.leads; caused = done.uses.caused };
+        later = done.uses.later;
+        felled = done.uses.felled;
       };
       good = done.is.1;
       shows = whole-shows setup done.outcome.state parts new whole.1 done.is.0;
@@ -104,7 +103,7 @@ does-event next old new before after lines held left none same later whole setup
 
 -- **what a line left the parts as it left the world as**
 
-parts-broken : (acting : Server) (setup : Setup) (state : State Peers) (held left : Option Files) (parts : Cluster Pair) → cluster.Broken setup state held left parts → cluster.Broken setup state held left (parts_of acting (whole_of parts))
+parts-broken : (acting : Server) (setup : Setup) (state : State Peers) (held left : DiskSeen) (parts : Cluster Pair) → (cluster.Broken pair_kit) setup state held left parts → (cluster.Broken pair_kit) setup state (files_alone held.files) (files_alone left.files) (parts_of acting (whole_of parts))
 parts-broken acting setup state held left parts broken = record {
   rest = broken.rest;
   unseen = broken.unseen;
@@ -122,33 +121,38 @@ parts-broken acting setup state held left parts broken = record {
   files = broken.files;
 }
 
-pub lacks-event : (next : Line) (old new : World) (before after : List (List ℕ)) (held left : DiskSeen) → BreaksWhole Memory next old new before after held left → BreaksOn old new held left
+pub lacks-event : (next : Line) (old new : World) (before after : List (List ℕ)) (held left : DiskSeen) → BreaksWhole Memory next old new before after held left → BreaksOn old new (view_of held) (view_of left)
 lacks-event next old new before after held left whole setup state good shows armed =
     let parts = whole.0 in
     let broken = whole.2 setup state good (parts-show setup state old shows) armed in
-    subst (λ (w : World). Broken setup state held.files left.files w) (sym whole.1) (parts-broken state.peers.acting setup state held.files left.files parts broken)
+    subst (λ (w : World). Broken setup state held.files left.files w) (sym whole.1) (parts-broken state.peers.acting setup state held left parts broken.0)
+
+-- no event of a state ends as the disk stops
+pub stops-event : (next : Line) (old new : World) (before after : List (List ℕ)) (held left : DiskSeen) → BreaksWhole Stopped next old new before after held left → BreaksOn old new (view_of held) (view_of left)
+stops-event next old new before after held left whole setup state good shows armed =
+    absurd (whole.2 setup state good (parts-show setup state old shows) armed)
 
 -- a line that ended
-ends-event : (next : Line) (old new : World) (parts : Cluster Pair) (before after : List (List ℕ)) (held left : DiskSeen) → new ≡ whole_of parts → ((setup : Setup) (state : State Peers) → (clusters.IsGood pair_kit) setup state → (clusters.Shows pair_kit) setup state (parts_of (acting_in old) old) → pair_kit.Armed state.peers held.armed → (LineEnded pair_kit pair_script) setup state next parts before after held left) → EndsEvent next old new before after held left
+ends-event : (next : Line) (old new : World) (parts : Cluster Pair) (before after : List (List ℕ)) (held left : DiskSeen) → new ≡ whole_of parts → ((setup : Setup) (state : State Peers) → (clusters.IsGood pair_kit) setup state → (clusters.Shows pair_kit) setup state (parts_of (acting_in old) old) → pair_kit.Armed state.peers held → (LineEnded pair_kit pair_script) setup state next parts before after held left) → EndsEvent next old new before after (view_of held) (view_of left)
 ends-event next old new parts before after held left is ends setup state good shows armed =
     let ended = ends setup state good (parts-show setup state old shows) armed in
     let acting = ended.end.state.peers.acting in
     let back : parts_of acting (whole_of parts) ≡ parts = ap (λ one. parts_of one (whole_of parts)) (sym ended.fell.acting) ∙ parts-back parts in
-    let E : World → Type 0 = λ world. Rattle.cluster_core.specs.Broken.EventEnded setup state next ended.end.told held left world in (
+    let E : World → Type 0 = λ world. Rattle.cluster_core.specs.Broken.EventEnded setup state next ended.end.told (view_of held) (view_of left) world in (
       ended.end.told,
       subst E (sym is) (record {
         happened = ended.happened;
         end = ended.end;
         ends = ended.ends.is ended.happened (λ number above within. refl);
         printed = refl;
-        between = ended.between;
-        before_it = ended.before_it;
-        caused = ended.caused;
-        behind_it = ended.behind_it;
-        rose = ended.rose;
+        between = ended.faults.between;
+        before_it = ended.faults.before_it;
+        caused = ended.faults.caused;
+        behind_it = ended.faults.behind_it;
+        rose = ended.faults.rose;
         good = ended.good;
         shows = record {
-          fell = subst (λ (p : Cluster Pair). pair_kit.Fell setup ended.end.state p.servers left.armed) (sym back) ended.fell;
+          fell = subst (λ (p : Cluster Pair). pair_kit.Fell setup ended.end.state p.servers left) (sym back) ended.fell;
           net = ended.net;
           agents = ended.agents;
           history = ended.history;
@@ -168,13 +172,26 @@ same-whole old = by (acting_in old)
     by A = refl
     by B = refl
 
-fault-leaves : (next : Line) (old new : World) (parts : Cluster Pair) (before after : List (List ℕ)) (held left : DiskSeen) → new ≡ whole_of parts → (FaultLeavesParts pair_kit pair_script) next (parts_of (acting_in old) old) parts before after held left → FaultLeaves next old new before after held left
-fault-leaves line.Files old new parts before after held left is same = (is ∙ ap whole_of same.0 ∙ same-whole old, same.1, same.2, same.3)
-fault-leaves (line.Cat name) old new parts before after held left is same = (is ∙ ap whole_of same.0 ∙ same-whole old, same.1, same.2, same.3)
+-- files that were to be shown were only read
+shown-same : (held left : DiskSeen) → (ShowFails pair_kit pair_script) held left → (left.files ≡ held.files) × (left.tally.armed ≡ held.tally.armed)
+shown-same held left shows =
+    let is = shows.held_is in
+    let now = shows.left_is in (
+      (λ i. (now i).files) ∙ shows.read.files ∙ sym (λ i. (is i).files),
+      (λ i. (now i).tally.armed) ∙ shows.read.armed ∙ sym (λ i. (is i).tally.armed),
+    )
+
+fault-leaves : (next : Line) (old new : World) (parts : Cluster Pair) (before after : List (List ℕ)) (held left : DiskSeen) → new ≡ whole_of parts → (FaultLeavesParts pair_kit pair_script) next (parts_of (acting_in old) old) parts before after held left → FaultLeaves next old new before after (view_of held) (view_of left)
+fault-leaves line.Files old new parts before after held left is same =
+    let shown = shown-same held left same.2 in
+    (is ∙ ap whole_of same.0 ∙ same-whole old, same.1, shown.0, shown.1)
+fault-leaves (line.Cat name) old new parts before after held left is same =
+    let shown = shown-same held left same.2 in
+    (is ∙ ap whole_of same.0 ∙ same-whole old, same.1, shown.0, shown.1)
 fault-leaves next old new parts before after held left is ends = ends-event next old new parts before after held left is ends
 
-pub faults-event : (next : Line) (old new : World) (before after lines : List (List ℕ)) (held left : DiskSeen) → before ≡ [] → lines ≡ after → BreaksWhole Failed next old new before after held left → FaultLeaves next old new [] lines held left
+pub faults-event : (next : Line) (old new : World) (before after lines : List (List ℕ)) (held left : DiskSeen) → before ≡ [] → lines ≡ after → BreaksWhole Failed next old new before after held left → FaultLeaves next old new [] lines (view_of held) (view_of left)
 faults-event next old new before after lines held left none same whole =
     let own = fault-leaves next old new whole.0 before after held left whole.1 whole.2 in
-    subst (λ (l : List (List ℕ)). FaultLeaves next old new [] l held left) (sym same)
-    (subst (λ (front : List (List ℕ)). FaultLeaves next old new front after held left) none own)
+    subst (λ (l : List (List ℕ)). FaultLeaves next old new [] l (view_of held) (view_of left)) (sym same)
+    (subst (λ (front : List (List ℕ)). FaultLeaves next old new front after (view_of held) (view_of left)) none own)

@@ -10,11 +10,10 @@ use Rattle.script_language.specs.Streams.{well_attrs}
 use Rattle.plain_service.specs.Setups.{Setup}
 use Rattle.plain_service.specs.Storing.{opening_of}
 use Rattle.pair_cluster.specs.Pair.{pair_start}
-use Rattle.cluster_rounds.specs.Came.{DiskSeen}
 use Rattle.cluster_core.specs.declared.world.World.{World}
 use Rattle.cluster_clients.specs.declared.answer.EventAnswer.{EventAnswer}
 use Rattle.cluster_clients.specs.declared.answer.EventAnswer.TheVariants.{Memory, DiskFault}
-use Rattle.cluster_core.specs.Worlds.{Shows, IsGood, LeavesFiles}
+use Rattle.cluster_core.specs.Worlds.{DiskView, Shows, IsGood, LeavesFiles}
 
 -- a cluster line tells this setup, and how many callbacks each agent's queue holds; no other line tells one
 abbrev pub Begins : Line → Setup → ℕ → Type 0
@@ -36,7 +35,7 @@ HoldsNone held = IfSome held (λ files. files ≡ no_files)
 
 -- the cluster of a setup stands at its start: `a` is active, `b` standby, and nothing is on the way between them; the world is good, a disk
 -- that told its files tells those of the empty history, and it is not armed
-pub record Begun (setup : Setup) (places : ℕ) (held : Option Files) (left : DiskSeen) (world : World) : Type 0 where
+pub record Begun (setup : Setup) (places : ℕ) (held : Option Files) (left : DiskView) (world : World) : Type 0 where
   pub good : IsGood setup (pair_start setup.start places)
   pub shows : Shows setup (pair_start setup.start places) world
   pub files : LeavesFiles setup (pair_start setup.start places) held left.files

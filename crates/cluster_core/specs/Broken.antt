@@ -1,7 +1,8 @@
 -- Words of public clauses: what stands where an event breaks off, for want of memory or by a fault of the disk.
-use Rattle.std.specs.Prelude.{◌≡◌, ℕ, ◌≤◌, Bool, Option, List}
+use Rattle.std.specs.Prelude.{◌≡◌, ℕ, ◌≤◌, Option, List}
 use Rattle.ais_values.specs.Causes.{Rose}
 use Rattle.disk_model.specs.Disk.{Files}
+use Rattle.disk_model.specs.Seen.{DiskSeen, none_seen}
 use Rattle.plain_service.specs.Setups.{Setup}
 use Rattle.service_laws.specs.PlainOf.{plain_of}
 use Rattle.script_lines.specs.declared.line.Line.{Line}
@@ -15,27 +16,30 @@ use Rattle.pair_cluster.specs.Ended.{PairEnds}
 use Rattle.cluster_clients.specs.Spelled.{AreSpelled}
 use Rattle.cluster_clients.specs.Clients.{ShowsAgents}
 use Rattle.cluster_rounds.specs.Kits.{device_by}
-use Rattle.cluster_rounds.specs.Came.{DiskSeen}
 use Rattle.cluster_rounds.specs.Broken as cluster
 pub use Rattle.cluster_rounds.specs.Broken.{LeavesBetween}
-use Rattle.pair_servers.specs.PairKit.{pair_kit}
+use Rattle.pair_servers.specs.PairKit.{FellPair, pair_kit}
 use Rattle.cluster_core.specs.declared.world.World.{World}
-use Rattle.cluster_core.specs.Worlds.{parts_of, IsArmedBy, IsGood, Shows, TellsFiles}
+use Rattle.cluster_core.specs.Worlds.{DiskView, parts_of, IsArmedBy, IsGood, Shows, TellsFiles}
+
+-- a disk of which its files alone are told
+abbrev pub files_alone : Option Files → DiskSeen
+files_alone files = record none_seen { files = files }
 
 -- an event broke off for want of memory, and left the parts of the world so
 abbrev pub Broken : Setup → State Peers → Option Files → Option Files → World → Type 0
 Broken setup state held left world =
-    cluster.Broken setup state held left (parts_of state.peers.acting world)
+    cluster.Broken pair_kit setup state (files_alone held) (files_alone left) (parts_of state.peers.acting world)
 
 -- so it is over each good state that the world and the disk stood for
-abbrev pub BreaksOn : World → World → DiskSeen → DiskSeen → Type 0
+abbrev pub BreaksOn : World → World → DiskView → DiskView → Type 0
 BreaksOn old new held left =
     (setup : Setup) (state : State Peers) → IsGood setup state → Shows setup state old → IsArmedBy state held.armed
     → Broken setup state held.files left.files new
 
 -- what the world is once no server is active: the servers fell, and all else is that of the state
 pub record ShowsEnd (setup : Setup) (state : State Peers) (armed : Option ℕ) (world : World) : Type 0 where
-  pub fell : pair_kit.Fell setup state (parts_of state.peers.acting world).servers armed
+  pub fell : FellPair setup state (parts_of state.peers.acting world).servers armed
   pub net : AreSpelled state.world.net world.net
   pub agents : ShowsAgents state.world world.agents
   pub history : world.history.entries ≡ committed state.world.core
@@ -45,8 +49,8 @@ pub record ShowsEnd (setup : Setup) (state : State Peers) (armed : Option ℕ) (
 -- The disk had a fault that left no server active: the event of the line ended there, and told the lines of all that happened up to it.
 -- The works that failed before that fault are those by which the count of faults rose between the event's start and it. The files are
 -- between those of the history without its last entry and those of the history.
-pub record EventEnded (setup : Setup) (state : State Peers) (next : Line) (told : List Told) (held left : DiskSeen) (world : World) : Type 0 where
-  pub happened : ℕ → Bool
+pub record EventEnded (setup : Setup) (state : State Peers) (next : Line) (told : List Told) (held left : DiskView) (world : World) : Type 0 where
+  pub happened : ℕ → ℕ
   pub end : Outcome (State Peers)
   pub ends : PairEnds (plain_of setup) (device_by setup happened) next state end
   pub printed : told ≡ end.told

@@ -1,5 +1,6 @@
 -- Words of bodies alone: a world that is taken apart by who is active, and put together again.
 use Rattle.std.specs.Prelude.{◌≡◌, ℕ, List}
+use Rattle.disk_model.specs.Seen.{DiskSeen}
 use Rattle.disk_model.specs.declared.answers.DiskAnswer.{DiskAnswer}
 use Rattle.script_lines.specs.declared.line.Line.{Line}
 use Rattle.script_lines.specs.declared.line.Server.{Server}
@@ -7,7 +8,6 @@ use Rattle.script_lines.specs.declared.line.Server.TheVariants.{A, B}
 use Rattle.mirror.specs.declared.heard.Role.{Role}
 use Rattle.mirror.specs.declared.heard.Role.TheVariants.{Active}
 use Rattle.cluster_rounds.specs.declared.cluster.Cluster.{Cluster}
-use Rattle.cluster_rounds.specs.Came.{DiskSeen}
 use Rattle.cluster_lines.specs.Playing.{BreaksOff, Plays}
 use Rattle.pair_servers.specs.declared.pair.Pair.{Pair}
 use Rattle.pair_servers.specs.PairKit.{pair_kit, pair_script}

@@ -1,5 +1,5 @@
 -- Words of public clauses: what each line of a script does to the world of the code.
-use Rattle.std.specs.Prelude.{◌≡◌, ℕ, ◌≤◌, ℤ, ◌≤ℤ◌, false, Option, IfSome, List, [], ◌++◌, Result, Ok, Err}
+use Rattle.std.specs.Prelude.{◌≡◌, ℕ, ◌≤◌, ℤ, ◌≤ℤ◌, Option, IfSome, List, [], ◌++◌, Result, Ok, Err}
 use Rattle.ais_values.specs.Causes.{Rose}
 use Rattle.disk_model.specs.Disk.{Files}
 use Rattle.script_lines.specs.declared.line.Line.{Line}
@@ -17,12 +17,11 @@ use Rattle.pair_cluster.specs.Running.{PairStep}
 use Rattle.cluster_clients.specs.declared.answer.EventAnswer.{EventAnswer}
 use Rattle.cluster_clients.specs.declared.answer.EventAnswer.TheVariants.{Memory, DiskFault}
 use Rattle.cluster_rounds.specs.Kits.{device_by}
-use Rattle.cluster_rounds.specs.Came.{DiskSeen}
 use Rattle.cluster_core.specs.declared.world.World.{World}
 use Rattle.cluster_core.specs.Broken.{BreaksOn, EventEnded}
-use Rattle.cluster_lines.specs.Playing.{FellIn}
+use Rattle.pair_servers.specs.PairCounts.{FellIn}
 use Rattle.cluster_lines.specs.Shelves.{shelf_of}
-use Rattle.cluster_core.specs.Worlds.{IsArmedBy, IsGood, Shows, TellsFiles, LeavesFiles}
+use Rattle.cluster_core.specs.Worlds.{DiskView, IsArmedBy, IsGood, Shows, TellsFiles, LeavesFiles}
 
 -- a line that can be played behind the first one: no cluster line, and no time below that in force
 abbrev pub IsEventLine : ℤ → Line → Type 0
@@ -32,7 +31,7 @@ IsEventLine now _ = Unit {0}
 
 -- the changing device calls that the deeds of an entry behind a history are
 abbrev pub calls_by : Setup → List Entry → Entry → ℕ
-calls_by setup = (device_by setup (λ number. false)).calls
+calls_by setup = (device_by setup (λ number. 0)).calls
 
 -- A line was done: what it led to and printed, by the works that failed in it, with the disk's count of faults before and after it. A
 -- work fails only where that rose; and where it rose the line is one that works entries, and tells that a server is down. `files` and
@@ -46,7 +45,7 @@ pub record LineDone (setup : Setup) (held : Option Files) (before : ℕ) (next :
   pub felled : FellIn next before after outcome.told
 
 -- what a line led to: the world and the disk stand for the state after it, and the lines are those of the event
-pub record EventDone (setup : Setup) (state : State Peers) (next : Line) (lines : List (List ℕ)) (held left : DiskSeen) (world : World) : Type 0 where
+pub record EventDone (setup : Setup) (state : State Peers) (next : Line) (lines : List (List ℕ)) (held left : DiskView) (world : World) : Type 0 where
   pub outcome : Outcome (State Peers)
   pub done : LineDone setup held.files held.faults next state outcome left.faults
   pub good : IsGood setup outcome.state
@@ -56,21 +55,21 @@ pub record EventDone (setup : Setup) (state : State Peers) (next : Line) (lines 
   pub files : LeavesFiles setup outcome.state held.files left.files
 
 -- so it is over each good state that the world and the disk stood for
-abbrev pub DoesEvent : Line → List (List ℕ) → World → World → DiskSeen → DiskSeen → Type 0
+abbrev pub DoesEvent : Line → List (List ℕ) → World → World → DiskView → DiskView → Type 0
 DoesEvent next lines old new held left =
     (setup : Setup) (state : State Peers) → IsGood setup state → Shows setup state old → IsArmedBy state held.armed → TellsFiles setup state held.files
     → EventDone setup state next lines held left new
 
 -- the disk had a fault that left no server active: over each good state that the world and the disk stood for the event ended there, and
 -- these lines were printed
-abbrev pub EndsEvent : Line → World → World → List (List ℕ) → List (List ℕ) → DiskSeen → DiskSeen → Type 0
+abbrev pub EndsEvent : Line → World → World → List (List ℕ) → List (List ℕ) → DiskView → DiskView → Type 0
 EndsEvent next old new before after held left =
     (setup : Setup) (state : State Peers) → IsGood setup state → Shows setup state old → IsArmedBy state held.armed → (told : List Told)
     × EventEnded setup state next told held left new × (after ≡ before ++ printed told)
 
 -- A line that shows files leaves all as it was where the disk has a fault. Any other line ended: that is `work`, `settle` or a `crash`
 -- behind which the standby took over, since no other line asks the disk for changes, and so a fault comes in no other.
-abbrev pub FaultLeaves : Line → World → World → List (List ℕ) → List (List ℕ) → DiskSeen → DiskSeen → Type 0
+abbrev pub FaultLeaves : Line → World → World → List (List ℕ) → List (List ℕ) → DiskView → DiskView → Type 0
 FaultLeaves line.Files old new before after held left =
     (new ≡ old) × (after ≡ before) × (left.files ≡ held.files) × (left.armed ≡ held.armed)
 FaultLeaves (line.Cat name) old new before after held left =
@@ -78,7 +77,7 @@ FaultLeaves (line.Cat name) old new before after held left =
 FaultLeaves next old new before after held left = EndsEvent next old new before after held left
 
 -- what a line left that was not done, by the answer
-abbrev pub EventBroken : EventAnswer → Line → World → World → DiskSeen → DiskSeen → Type 0
+abbrev pub EventBroken : EventAnswer → Line → World → World → DiskView → DiskView → Type 0
 EventBroken Memory next old new held left = BreaksOn old new held left
 EventBroken (DiskFault lines) next old new held left = FaultLeaves next old new [] lines held left
 

@@ -1,5 +1,7 @@
 -- Words of public clauses: how a world of the code is a state of the definitions: its parts are a cluster of two servers.
 use Rattle.std.specs.Prelude.{◌≡◌, ℕ, pos, false, [], Option}
+use Rattle.disk_model.specs.Disk.{Files}
+use Rattle.disk_model.specs.Seen.{DiskSeen}
 use Rattle.calls.specs.History.{empty_history}
 use Rattle.script_lines.specs.declared.line.Server.{Server}
 use Rattle.script_lines.specs.declared.line.Server.TheVariants.{A, B}
@@ -51,6 +53,16 @@ Shows setup state world = cluster.Shows pair_kit setup state (parts_of state.pee
 -- are in range
 abbrev pub IsGood : Setup → State Peers → Type 0
 IsGood setup state = cluster.IsGood pair_kit setup state
+
+-- what a run follows of a disk: its files, where it tells them; the changing calls that are left until it stops, where it is armed; and its
+-- count of faults
+pub record DiskView : Type 0 where
+  pub files : Option Files
+  pub armed : Option ℕ
+  pub faults : ℕ
+
+abbrev pub view_of : DiskSeen → DiskView
+view_of disk = record { files = disk.files; armed = disk.tally.armed; faults = disk.faults }
 
 -- the disk's armed count is the active server's
 abbrev pub IsArmedBy : State Peers → Option ℕ → Type 0

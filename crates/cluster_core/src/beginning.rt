@@ -4,10 +4,9 @@ ghost use Rattle.ais_values.specs.declared.kind.StreamKind.TheVariants.{Alarm, N
 ghost use Rattle.plain_service.specs.Setups.{Setup};
 ghost use Rattle.script_language.specs.Lines.{Spells};
 ghost use Rattle.service_core.specs.Beginning.{BeginsAs, CanBeginAs};
-ghost use Rattle.cluster_core.specs.Worlds.{empty_world};
+ghost use Rattle.cluster_core.specs.Worlds.{empty_world, view_of};
 ghost use Rattle.cluster_clients.specs.Answers.{RisesAtFault};
 ghost use Rattle.cluster_core.specs.Beginning.{Begins, HoldsNone, Begun, LeavesBroken};
-ghost use Rattle.cluster_rounds.specs.Came.{seen};
 ghost use Rattle.pair_servers.specs.PairNodes.{standby_by};
 ghost use Rattle.cluster_core.specs.Starting.{wells_of, world_of, Starts, StartsBoth, StartsWorld, broken_by};
 
@@ -199,14 +198,14 @@ impl World {
         requires line { (setup : Setup) × (places : ℕ) × Begins line.now setup places }
         requires spelled { (raw : List ℕ) × Spells line.now raw }
         requires empty { self.old ≡ empty_world }
-        requires unarmed { (D.tally disk.old).armed ≡ None }
+        requires unarmed { (D.seen disk.old).tally.armed ≡ None }
         ensures ok { (setup : Setup) (places : ℕ) → Begins line.now setup places →
-            HoldsNone (D.files disk.old) → OnOk result (Begun setup places (D.files disk.old)
-            (seen (D.files disk.new) (D.tally disk.new) (D.faults disk.new)) self.new) }
+            HoldsNone (D.seen disk.old).files → OnOk result (Begun setup places
+            (D.seen disk.old).files (view_of (D.seen disk.new)) self.new) }
         ensures same { OnErr result (self.new ≡ self.old) }
         ensures broken { (setup : Setup) (places : ℕ) → Begins line.now setup places →
-            LeavesBroken setup (D.files disk.old) (D.files disk.new) result }
-        ensures cause { RisesAtFault (D.faults disk.old) (D.faults disk.new) result }
+            LeavesBroken setup (D.seen disk.old).files (D.seen disk.new).files result }
+        ensures cause { RisesAtFault (D.seen disk.old).faults (D.seen disk.new).faults result }
     {
         let (world, deeds) = match started(alloc, line) {
             Ok(made) => made,

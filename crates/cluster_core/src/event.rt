@@ -2,7 +2,6 @@
 ghost use Rattle.std.specs.Prelude.{ℕ, List, IfOk, IfErr};
 ghost use Rattle.std.specs.Result.{is_ok};
 ghost use Rattle.script_language.specs.Lines.{Spells};
-ghost use Rattle.cluster_rounds.specs.Came.{seen};
 ghost use Rattle.cluster_lines.specs.Playing.{LooksBy};
 
 use crate::World;
@@ -18,7 +17,7 @@ use std::sync::Wait;
 use std::thread::Threads;
 
 impl World {
-    ghost use Rattle.cluster_core.specs.Worlds.{HasState};
+    ghost use Rattle.cluster_core.specs.Worlds.{HasState, view_of};
     ghost use Rattle.cluster_core.specs.Playing.{IsEventLine, DoesEvent, EventBroken, RisesInEvent};
 
     /// Does what a line of a script asks for, and answers with the lines that it prints, each with its line feed. A cluster line and a
@@ -50,16 +49,16 @@ impl World {
     ) -> Result<Seq<Seq<u8>>, EventAnswer>
         requires spelled { (raw : List ℕ) × Spells line.now raw }
         requires line { IsEventLine self.old.now line.now }
-        requires state { HasState self.old (D.tally disk.old).armed }
+        requires state { HasState self.old (D.seen disk.old).tally.armed }
         ensures ok { IfOk result (λ lines. DoesEvent line.now lines self.old self.new
-            (seen (D.files disk.old) (D.tally disk.old) (D.faults disk.old))
-            (seen (D.files disk.new) (D.tally disk.new) (D.faults disk.new))) }
+            (view_of (D.seen disk.old))
+            (view_of (D.seen disk.new))) }
         ensures broken { IfErr result (λ answer. EventBroken answer line.now self.old self.new
-            (seen (D.files disk.old) (D.tally disk.old) (D.faults disk.old))
-            (seen (D.files disk.new) (D.tally disk.new) (D.faults disk.new))) }
-        ensures cause { RisesInEvent (D.faults disk.old) (D.faults disk.new) result }
-        ensures looks { LooksBy line.now (D.files disk.old) (is_ok result) (D.tally disk.old)
-            (D.tally disk.new) }
+            (view_of (D.seen disk.old))
+            (view_of (D.seen disk.new))) }
+        ensures cause { RisesInEvent (D.seen disk.old).faults (D.seen disk.new).faults result }
+        ensures looks { LooksBy line.now (D.seen disk.old).files (is_ok result)
+            (D.seen disk.old).tally (D.seen disk.new).tally }
     {
         let mut lines = Vec::new(alloc);
         match play_whole(rt, alloc, self, &mut lines, line, disk, gate) {

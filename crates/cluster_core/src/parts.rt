@@ -1,9 +1,9 @@
 //! A world that is taken apart for an event, by who is active, and put together again, without memory.
 ghost use Rattle.std.specs.Prelude.{◌≡◌, OnOk, IfErr};
 ghost use Rattle.std.specs.Result.{is_ok};
-ghost use Rattle.cluster_rounds.specs.Came.{seen};
 ghost use Rattle.cluster_lines.specs.Lines.{IsInRange};
-ghost use Rattle.cluster_lines.specs.Playing.{GoesOn, LooksBy};
+ghost use Rattle.cluster_rounds.specs.Counted.{Counted};
+ghost use Rattle.cluster_lines.specs.Playing.{LooksBy};
 ghost use Rattle.pair_servers.specs.PairKit.{pair_kit};
 ghost use Rattle.cluster_core.specs.Worlds.{named, unnamed, parts_of, HasState};
 ghost use Rattle.cluster_core.specs.Playing.{IsEventLine};
@@ -15,7 +15,7 @@ use callback_dispatch::Gate;
 use calls::History;
 use cluster_lines::play;
 use cluster_rounds::Cluster;
-use disk_model::{DiskAnswer, SharedDisk};
+use disk_model::{DiskAnswer, NoDisk, SharedDisk};
 use message_net::Net;
 use mirror::{Node, Role};
 use pair_servers::Pair;
@@ -116,22 +116,23 @@ pub(crate) fn play_whole<R: Threads + Wait + Sync, D: SharedDisk, G: Gate>(
     disk: &mut D,
     gate: &G,
 ) -> Result<(), DiskAnswer>
-    requires state { HasState world.old (D.tally disk.old).armed }
+    requires state { HasState world.old (D.seen disk.old).tally.armed }
     requires range { IsInRange line.now }
     requires line { IsEventLine world.old.now line.now }
     ensures ok { OnOk result (PlaysWhole line.now world.old world.new lines.old.items
-        lines.new.items (seen (D.files disk.old) (D.tally disk.old) (D.faults disk.old))
-        (seen (D.files disk.new) (D.tally disk.new) (D.faults disk.new))) }
+        lines.new.items (D.seen disk.old)
+        (D.seen disk.new)) }
     ensures broken { IfErr result (λ answer. BreaksWhole answer line.now world.old world.new
         lines.old.items lines.new.items
-        (seen (D.files disk.old) (D.tally disk.old) (D.faults disk.old))
-        (seen (D.files disk.new) (D.tally disk.new) (D.faults disk.new))) }
-    ensures counts { GoesOn pair_kit.Outlives (D.faults disk.old) (D.faults disk.new) result }
-    ensures looks { LooksBy line.now (D.files disk.old) (is_ok result) (D.tally disk.old)
-        (D.tally disk.new) }
+        (D.seen disk.old)
+        (D.seen disk.new)) }
+    ensures counts { Counted pair_kit (D.seen disk.old) (D.seen disk.new) result }
+    ensures looks { LooksBy line.now (D.seen disk.old).files (is_ok result) (D.seen disk.old).tally
+        (D.seen disk.new).tally }
 {
     let mut parts = take_parts(alloc, world);
-    let played = play(rt, alloc, &mut parts, lines, line, disk, gate);
+    let mut beside = NoDisk::new();
+    let played = play(rt, alloc, &mut parts, lines, line, disk, &mut beside, gate);
     mem::drop(mem::replace(world, put_parts(parts)));
     played
 }

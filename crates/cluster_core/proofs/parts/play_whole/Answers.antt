@@ -1,7 +1,6 @@
-use Rattle.std.proofs.Common.{sym, subst, ◌∙◌}
+use Rattle.std.proofs.Common.{inl, sym, subst, ◌∙◌}
 use Rattle.std.proofs.lemmas.Result.{on_ok_weaker, IfErr-weaker}
 use Rattle.cluster_rounds.specs.declared.cluster.Cluster.{Cluster}
-use Rattle.cluster_rounds.specs.Came.{seen}
 use Rattle.cluster_rounds.specs.Worlds.{HasStateOn, any_state}
 use Rattle.cluster_lines.specs.Lines.{CanPlay}
 use Rattle.cluster_lines.specs.Playing.{BreaksOff, Plays}
@@ -12,8 +11,8 @@ use Rattle.cluster_core.proofs.parts.play_whole.Goals as goal
 
 pub play-played-requires-clause-state : goal.play-played-requires-clause-state
 play-played-requires-clause-state g c κs within =
-    let armed = (g.D.SharedDisk.tally c.args.disk.now).armed in
-    subst (λ (parts : Cluster Pair). (HasStateOn pair_kit) any_state parts armed) (sym c.take_parts-parts.ensures) (parts-stand c.args.world.now armed c.requires.state)
+    let held = g.D.SharedDisk.seen c.args.disk.now in
+    inl (subst (λ (parts : Cluster Pair). (HasStateOn pair_kit) any_state parts held) (sym c.take_parts-parts.ensures) (parts-stand c.args.world.now held c.requires.state))
 
 pub play-played-requires-clause-range : goal.play-played-requires-clause-range
 play-played-requires-clause-range g c κs within = c.requires.range
@@ -24,15 +23,15 @@ play-played-requires-clause-can g c κs within =
 
 pub returns-clause-ok : goal.returns-clause-ok
 returns-clause-ok g c =
-    let held = seen (g.D.SharedDisk.files c.args.disk.now) (g.D.SharedDisk.tally c.args.disk.now) (g.D.SharedDisk.faults c.args.disk.now) in
-    let left = seen (g.D.SharedDisk.files c.play-played.new.disk) (g.D.SharedDisk.tally c.play-played.new.disk) (g.D.SharedDisk.faults c.play-played.new.disk) in
+    let held = g.D.SharedDisk.seen c.args.disk.now in
+    let left = g.D.SharedDisk.seen c.play-played.new.disk in
     let parts = c.play-played.new.world in
     let P : Cluster Pair → Type 0 = λ from. (Plays pair_kit pair_script) c.args.line.now from parts c.args.lines.now.items c.play-played.new.lines.items held left in
     on_ok_weaker c.play-played.result (λ plays. (parts, c.replace.ensures.after ∙ c.put_parts.ensures, subst P c.take_parts-parts.ensures plays)) c.play-played.ensures.ok
 
 pub returns-clause-broken : goal.returns-clause-broken
 returns-clause-broken g c =
-    let held = seen (g.D.SharedDisk.files c.args.disk.now) (g.D.SharedDisk.tally c.args.disk.now) (g.D.SharedDisk.faults c.args.disk.now) in
-    let left = seen (g.D.SharedDisk.files c.play-played.new.disk) (g.D.SharedDisk.tally c.play-played.new.disk) (g.D.SharedDisk.faults c.play-played.new.disk) in
+    let held = g.D.SharedDisk.seen c.args.disk.now in
+    let left = g.D.SharedDisk.seen c.play-played.new.disk in
     let parts = c.play-played.new.world in
     IfErr-weaker c.play-played.result _ _ (λ answer broken. (parts, c.replace.ensures.after ∙ c.put_parts.ensures, subst (λ (from : Cluster Pair). (BreaksOff pair_kit pair_script) answer c.args.line.now from parts c.args.lines.now.items c.play-played.new.lines.items held left) c.take_parts-parts.ensures broken)) c.play-played.ensures.broken

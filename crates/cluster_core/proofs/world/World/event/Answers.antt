@@ -1,12 +1,11 @@
 use Rattle.std.proofs.Common.{subst}
 use Rattle.std.specs.Prelude.{Err}
 use Rattle.disk_model.specs.declared.answers.DiskAnswer.{DiskAnswer}
-use Rattle.cluster_rounds.specs.Came.{seen}
-use Rattle.cluster_lines.specs.Playing.{GoesOn}
+use Rattle.cluster_rounds.specs.Counted.{Counted}
 use Rattle.cluster_lines.proofs.LineSpelled.{spelled-fits}
 use Rattle.pair_servers.specs.PairKit.{pair_kit}
 use Rattle.cluster_core.specs.Parts.{BreaksWhole}
-use Rattle.cluster_core.proofs.EventSteps.{does-event, faults-event, lacks-event}
+use Rattle.cluster_core.proofs.EventSteps.{does-event, faults-event, lacks-event, stops-event}
 use Rattle.cluster_core.proofs.world.World.event.Goals as goal
 
 pub play_whole-requires-clause-range : goal.play_whole-requires-clause-range
@@ -14,40 +13,44 @@ play_whole-requires-clause-range g c κs within = (spelled-fits c.args.line.now 
 
 pub returns-in-Ok-clause-ok : goal.returns-in-Ok-clause-ok
 returns-in-Ok-clause-ok g c =
-    let held = seen (g.D.SharedDisk.files c.args.disk.now) (g.D.SharedDisk.tally c.args.disk.now) (g.D.SharedDisk.faults c.args.disk.now) in
-    let left = seen (g.D.SharedDisk.files c.play_whole.new.disk) (g.D.SharedDisk.tally c.play_whole.new.disk) (g.D.SharedDisk.faults c.play_whole.new.disk) in
-    does-event c.args.line.now c.args.self.now c.play_whole.new.world c.new-lines.result.items c.play_whole.new.lines.items c.from_vec.result held left c.new-lines.ensures.items c.from_vec.ensures c.in-Ok.ensures.counts c.in-Ok.ensures.ok
+    let held = g.D.SharedDisk.seen c.args.disk.now in
+    let left = g.D.SharedDisk.seen c.play_whole.new.disk in
+    does-event c.args.line.now c.args.self.now c.play_whole.new.world c.new-lines.result.items c.play_whole.new.lines.items c.from_vec.result held left c.new-lines.ensures.items c.from_vec.ensures c.in-Ok.ensures.ok
 
 pub returns-in-Err-Memory-clause-broken : goal.returns-in-Err-Memory-clause-broken
 returns-in-Err-Memory-clause-broken g c =
-    let held = seen (g.D.SharedDisk.files c.args.disk.now) (g.D.SharedDisk.tally c.args.disk.now) (g.D.SharedDisk.faults c.args.disk.now) in
-    let left = seen (g.D.SharedDisk.files c.play_whole.new.disk) (g.D.SharedDisk.tally c.play_whole.new.disk) (g.D.SharedDisk.faults c.play_whole.new.disk) in
+    let held = g.D.SharedDisk.seen c.args.disk.now in
+    let left = g.D.SharedDisk.seen c.play_whole.new.disk in
     let B : DiskAnswer → Type 0 = λ answer. BreaksWhole answer c.args.line.now c.args.self.now c.play_whole.new.world c.new-lines.result.items c.play_whole.new.lines.items held left in
     lacks-event c.args.line.now c.args.self.now c.play_whole.new.world c.new-lines.result.items c.play_whole.new.lines.items held left (subst B c.in-Err-Memory.field-0-is c.in-Err-Memory.ensures.broken)
 
 pub returns-in-Err-Stopped-clause-broken : goal.returns-in-Err-Stopped-clause-broken
 returns-in-Err-Stopped-clause-broken g c =
-    let held = seen (g.D.SharedDisk.files c.args.disk.now) (g.D.SharedDisk.tally c.args.disk.now) (g.D.SharedDisk.faults c.args.disk.now) in
-    let left = seen (g.D.SharedDisk.files c.play_whole.new.disk) (g.D.SharedDisk.tally c.play_whole.new.disk) (g.D.SharedDisk.faults c.play_whole.new.disk) in
+    let held = g.D.SharedDisk.seen c.args.disk.now in
+    let left = g.D.SharedDisk.seen c.play_whole.new.disk in
     let B : DiskAnswer → Type 0 = λ answer. BreaksWhole answer c.args.line.now c.args.self.now c.play_whole.new.world c.new-lines.result.items c.play_whole.new.lines.items held left in
-    absurd (subst B c.in-Err-Stopped.field-0-is c.in-Err-Stopped.ensures.broken).2
+    stops-event c.args.line.now c.args.self.now c.play_whole.new.world c.new-lines.result.items c.play_whole.new.lines.items held left (subst B c.in-Err-Stopped.field-0-is c.in-Err-Stopped.ensures.broken)
 
 -- the lines of an event that a fault ended are those that it put
 pub returns-in-Err-Failed-clause-broken : goal.returns-in-Err-Failed-clause-broken
 returns-in-Err-Failed-clause-broken g c =
-    let held = seen (g.D.SharedDisk.files c.args.disk.now) (g.D.SharedDisk.tally c.args.disk.now) (g.D.SharedDisk.faults c.args.disk.now) in
-    let left = seen (g.D.SharedDisk.files c.play_whole.new.disk) (g.D.SharedDisk.tally c.play_whole.new.disk) (g.D.SharedDisk.faults c.play_whole.new.disk) in
+    let held = g.D.SharedDisk.seen c.args.disk.now in
+    let left = g.D.SharedDisk.seen c.play_whole.new.disk in
     let B : DiskAnswer → Type 0 = λ answer. BreaksWhole answer c.args.line.now c.args.self.now c.play_whole.new.world c.new-lines.result.items c.play_whole.new.lines.items held left in
     faults-event c.args.line.now c.args.self.now c.play_whole.new.world c.new-lines.result.items c.play_whole.new.lines.items c.from_vec-printed.result held left c.new-lines.ensures.items c.from_vec-printed.ensures (subst B c.in-Err-Failed.field-0-is c.in-Err-Failed.ensures.broken)
 
 pub returns-in-Err-Memory-clause-cause : goal.returns-in-Err-Memory-clause-cause
 returns-in-Err-Memory-clause-cause g c =
-    subst (λ (answer : DiskAnswer). GoesOn {T = Unit {0}} pair_kit.Outlives (g.D.SharedDisk.faults c.args.disk.now) (g.D.SharedDisk.faults c.play_whole.new.disk) (Err answer)) c.in-Err-Memory.field-0-is c.in-Err-Memory.ensures.counts
+    let G : DiskAnswer → Type 0 = λ answer. Counted {T = Unit {0}} pair_kit (g.D.SharedDisk.seen c.args.disk.now) (g.D.SharedDisk.seen c.play_whole.new.disk) (Err answer) in
+    subst G c.in-Err-Memory.field-0-is c.in-Err-Memory.ensures.counts
 
 pub returns-in-Err-Stopped-clause-cause : goal.returns-in-Err-Stopped-clause-cause
 returns-in-Err-Stopped-clause-cause g c =
-    absurd (subst (λ (answer : DiskAnswer). GoesOn {T = Unit {0}} pair_kit.Outlives (g.D.SharedDisk.faults c.args.disk.now) (g.D.SharedDisk.faults c.play_whole.new.disk) (Err answer)) c.in-Err-Stopped.field-0-is c.in-Err-Stopped.ensures.counts)
+    let G : DiskAnswer → Type 0 = λ answer. Counted {T = Unit {0}} pair_kit (g.D.SharedDisk.seen c.args.disk.now) (g.D.SharedDisk.seen c.play_whole.new.disk) (Err answer) in
+    subst G c.in-Err-Stopped.field-0-is c.in-Err-Stopped.ensures.counts
 
 pub returns-in-Err-Failed-clause-cause : goal.returns-in-Err-Failed-clause-cause
 returns-in-Err-Failed-clause-cause g c =
-    subst (λ (answer : DiskAnswer). GoesOn {T = Unit {0}} pair_kit.Outlives (g.D.SharedDisk.faults c.args.disk.now) (g.D.SharedDisk.faults c.play_whole.new.disk) (Err answer)) c.in-Err-Failed.field-0-is c.in-Err-Failed.ensures.counts
+    let G : DiskAnswer → Type 0 = λ answer. Counted {T = Unit {0}} pair_kit (g.D.SharedDisk.seen c.args.disk.now) (g.D.SharedDisk.seen c.play_whole.new.disk) (Err answer) in
+    let rises = subst G c.in-Err-Failed.field-0-is c.in-Err-Failed.ensures.counts in
+    (rises.later, rises.rose)
