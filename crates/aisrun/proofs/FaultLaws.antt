@@ -36,10 +36,9 @@ use Rattle.service_laws.specs.StorageOf.{storage_of}
 use Rattle.service_laws.proofs.ServiceLaws.{is_plain}
 use Rattle.service_laws.proofs.StorageLaws.{is_storage}
 use Rattle.cluster_rounds.specs.Kits.{device_by}
-use Rattle.cluster_rounds.specs.Came.{DiskSeen}
 use Rattle.cluster_core.specs.declared.world.World.{World}
 use Rattle.cluster_core.specs.Broken.{EventEnded, LeavesBetween}
-use Rattle.cluster_core.specs.Worlds.{TellsFiles}
+use Rattle.cluster_core.specs.Worlds.{DiskView, TellsFiles}
 use Rattle.aisrun.specs.AfterFault.{AnswersOnly, EndKeeps, FaultKeeps, IsUnanswered, KeepsAtFault, LeavesUnanswered, RecordsKept}
 use Rattle.aisrun.specs.Endings.{FaultLeft, Showing, Ending}
 use Rattle.aisrun.specs.Playing.{files_told, Goes, seen_behind}
@@ -131,7 +130,7 @@ module _ (setup : Setup) (places : ℕ) (held : Option Files) (first : ℕ) (pla
   leaves-unanswered (line.Crash server) world told lacks = tt
   leaves-unanswered next world told lacks = lacks refl
 
-  ended-keeps : (next : Line) (told : List Told) (left : DiskSeen) (world : World) → (ended : EventEnded setup goes.state next told (seen_behind goes) left world) → EndKeeps setup next ended.end.state.world (ended.end.told ++ goes.told) left.files
+  ended-keeps : (next : Line) (told : List Told) (left : DiskView) (world : World) → (ended : EventEnded setup goes.state next told (seen_behind goes) left world) → EndKeeps setup next ended.end.state.world (ended.end.told ++ goes.told) left.files
   ended-keeps next told left world ended =
       let plain = plain_of setup in
       let device = device_by setup ended.happened in
@@ -156,7 +155,7 @@ module _ (setup : Setup) (places : ℕ) (held : Option Files) (first : ℕ) (pla
         records = left-between setup past (files_told goes.files held) left.files (RecordsKept setup past) leaves (λ files between. records-kept setup ended.good.begins end.now past files (legal-now setup start end lines sound empty says) range between);
       }
 
-  fault-keeps : (next : Line) (left : DiskSeen) (world : World) (lines : List ℕ) (fault : FaultLeft setup goes.state next (seen_behind goes) left world lines) → FaultKeeps setup goes.state next (seen_behind goes) left world lines goes.told fault
+  fault-keeps : (next : Line) (left : DiskView) (world : World) (lines : List ℕ) (fault : FaultLeft setup goes.state next (seen_behind goes) left world lines) → FaultKeeps setup goes.state next (seen_behind goes) left world lines goes.told fault
   fault-keeps next left world lines (Showing shows_files shows same armed rose none) =
       let core = goes.state.world.core in
       let one = told-same held left.files goes.files same in
@@ -168,6 +167,6 @@ module _ (setup : Setup) (places : ℕ) (held : Option Files) (first : ℕ) (pla
       let K : List Told → Type 0 = λ one. EndKeeps setup next ended.end.state.world (one ++ goes.told) left.files in
       subst K (sym ended.printed) (ended-keeps next told left world ended)
 
-pub keeps-at-fault : (held : Option Files) (left : DiskSeen) (world : World) → KeepsAtFault held left world
+pub keeps-at-fault : (held : Option Files) (left : DiskView) (world : World) → KeepsAtFault held left world
 keeps-at-fault held left world first script done rest next text lines front fault =
     fault-keeps front.setup front.places held first done text front.goes next left world lines fault

@@ -16,7 +16,6 @@ use Rattle.cluster_events.specs.OnDisk.{performed}
 use Rattle.cluster_events.specs.Servers.{State}
 use Rattle.pair_cluster.specs.Peers.{Peers}
 use Rattle.pair_cluster.specs.Pair.{pair_start}
-use Rattle.cluster_rounds.specs.Came.{DiskSeen}
 use Rattle.event_text.specs.Texts.{printed}
 use Rattle.service_laws.specs.Disks.{service_disk}
 use Rattle.service_laws.specs.StorageOf.{storage_of}
@@ -24,7 +23,7 @@ use Rattle.cluster_core.specs.declared.world.World.{World}
 use Rattle.cluster_core.specs.Beginning.{Begun}
 use Rattle.cluster_core.specs.Broken.{Broken}
 use Rattle.cluster_core.specs.Playing.{EventDone, FaultLeaves, LineDone}
-use Rattle.cluster_core.specs.Worlds.{HasState, IsArmedBy, IsGood, Shows, TellsFiles}
+use Rattle.cluster_core.specs.Worlds.{DiskView, HasState, IsArmedBy, IsGood, Shows, TellsFiles}
 use Rattle.cluster_clients.proofs.ToldLines.{printed-append}
 use Rattle.cluster_events.specs.Runs.RunBy.{Started, Went}
 use Rattle.aisrun.specs.Playing.{files_told, Goes, Played, seen_behind, text_of}
@@ -60,7 +59,7 @@ told-again None mid left one two first second = second ∙ ap (option_map (λ (_
 told-again (Some f) mid left one two first second = second ∙ ap (option_map (λ (_ : Files). two)) first
 
 -- a cluster that was begun
-pub going-start : (setup : Setup) (places : ℕ) (held : Option Files) (left : DiskSeen) (world : World) → Begun setup places held left world → Going setup places held left.faults left world [] []
+pub going-start : (setup : Setup) (places : ℕ) (held : Option Files) (left : DiskView) (world : World) → Begun setup places held left world → Going setup places held left.faults left world [] []
 going-start setup places held left world begun = record {
   state = pair_start setup.start places;
   told = [];
@@ -75,12 +74,12 @@ going-start setup places held left world begun = record {
 
 module _ (setup : Setup) (places : ℕ) (held : Option Files) (first : ℕ) where
   -- the world stands for a state whose files the disk tells
-  pub going-tells : (left : DiskSeen) (world : World) (lines : List Line) (text : List ℕ) → (going : Going setup places held first left world lines text) → TellsFiles setup going.state left.files
+  pub going-tells : (left : DiskView) (world : World) (lines : List Line) (text : List ℕ) → (going : Going setup places held first left world lines text) → TellsFiles setup going.state left.files
   going-tells left world lines text going =
       told-same held left.files (files_of setup going.state.world.core.answered) going.tells
 
   -- one line more
-  pub going-next : (mid left : DiskSeen) (old new : World) (lines : List Line) (text : List ℕ) (next : Line) (printed_lines : List (List ℕ)) → (going : Going setup places held first mid old lines text) → EventDone setup going.state next printed_lines mid left new → Going setup places held first left new (lines ++ next ∷ []) (text ++ joined_lines printed_lines)
+  pub going-next : (mid left : DiskView) (old new : World) (lines : List Line) (text : List ℕ) (next : Line) (printed_lines : List (List ℕ)) → (going : Going setup places held first mid old lines text) → EventDone setup going.state next printed_lines mid left new → Going setup places held first left new (lines ++ next ∷ []) (text ++ joined_lines printed_lines)
   going-next mid left old new lines text next printed_lines going event =
       let state = going.state in
       let outcome = event.outcome in
@@ -107,7 +106,7 @@ module _ (setup : Setup) (places : ℕ) (held : Option Files) (first : ℕ) wher
         written = ap (λ front. front ++ joined_lines printed_lines) going.written ∙ ap (λ all. text_of going.told ++ joined_lines all) event.text ∙ sym (text-append outcome.told going.told);
       }
 
-  abbrev pub going-goes : (left : DiskSeen) (world : World) (lines : List Line) (text : List ℕ) → Going setup places held first left world lines text → Goes setup places held first lines text
+  abbrev pub going-goes : (left : DiskView) (world : World) (lines : List Line) (text : List ℕ) → Going setup places held first left world lines text → Goes setup places held first lines text
   going-goes left world lines text going = record {
     state = going.state;
     told = going.told;
@@ -119,37 +118,37 @@ module _ (setup : Setup) (places : ℕ) (held : Option Files) (first : ℕ) wher
   }
 
   -- the disk has the files that the deeds of the run make
-  pub going-stand : (left : DiskSeen) (world : World) (lines : List Line) (text : List ℕ) → (going : Going setup places held first left world lines text) → left.files ≡ files_told going.files held
+  pub going-stand : (left : DiskView) (world : World) (lines : List Line) (text : List ℕ) → (going : Going setup places held first left world lines text) → left.files ≡ files_told going.files held
   going-stand left world lines text going =
       let core = going.state.world.core in
       let range = answered-range core.answered core.hand going.good.range in
       going.tells ∙ ap (λ (files : Files). files_told files held) (sym (played-files setup places held first going.good.begins going.run range))
 
   -- and it tells what it would tell behind these lines
-  going-seen : (left : DiskSeen) (world : World) (lines : List Line) (text : List ℕ) → (going : Going setup places held first left world lines text) → left ≡ seen_behind (going-goes left world lines text going)
+  going-seen : (left : DiskView) (world : World) (lines : List Line) (text : List ℕ) → (going : Going setup places held first left world lines text) → left ≡ seen_behind (going-goes left world lines text going)
   going-seen left world lines text going =
       let tells = going-stand left world lines text going in
-      let S : Option Files → Option ℕ → DiskSeen = λ files armed. record { files = files; armed = armed; faults = left.faults } in
+      let S : Option Files → Option ℕ → DiskView = λ files armed. record { files = files; armed = armed; faults = left.faults } in
       ap (λ (files : Option Files). S files left.armed) tells ∙ ap (λ (armed : Option ℕ). S (files_told going.files held) armed) going.armed
 
-  pub going-plays : (left : DiskSeen) (world : World) (lines : List Line) (text : List ℕ) → Going setup places held first left world lines text → Plays setup places held first left world lines text
+  pub going-plays : (left : DiskView) (world : World) (lines : List Line) (text : List ℕ) → Going setup places held first left world lines text → Plays setup places held first left world lines text
   going-plays left world lines text going = record {
     goes = going-goes left world lines text going;
     now = record { shows = going.shows; stand = going-stand left world lines text going; armed = going.armed; count = refl };
   }
 
-  pub going-state : (left : DiskSeen) (world : World) (lines : List Line) (text : List ℕ) → Going setup places held first left world lines text → HasState world left.armed
+  pub going-state : (left : DiskView) (world : World) (lines : List Line) (text : List ℕ) → Going setup places held first left world lines text → HasState world left.armed
   going-state left world lines text going =
       record { setup = setup; state = going.state; good = going.good; shows = going.shows; count = going.armed }
 
   -- what one line comes to is what all lines come to
-  pub line-events : (mid left : DiskSeen) (Since : Option Files → ℕ → Type 0) (old new : World) (done : List Line) (next : Line) (others : List Line) (front : List ℕ) → (going : Going setup places held first mid old done front) → Since mid.files mid.faults → (reached : Option Status8) (text : List ℕ) → LineEnds setup going.state next mid left new reached text → EventsEnd setup places held first left Since new (done ++ next ∷ others) reached (front ++ text)
+  pub line-events : (mid left : DiskView) (Since : Option Files → ℕ → Type 0) (old new : World) (done : List Line) (next : Line) (others : List Line) (front : List ℕ) → (going : Going setup places held first mid old done front) → Since mid.files mid.faults → (reached : Option Status8) (text : List ℕ) → LineEnds setup going.state next mid left new reached text → EventsEnd setup places held first left Since new (done ++ next ∷ others) reached (front ++ text)
   line-events mid left Since old new done next others front going since None text ends =
       let further = going-next mid left old new done front next ends.0 going ends.2 in
       let P : List ℕ → Type 0 = λ one. Plays setup places held first left new (done ++ next ∷ []) one in
       (done ++ next ∷ [], others, sym (append_assoc done (next ∷ []) others), subst P (ap (λ (behind : List ℕ). front ++ behind) (sym ends.1)) (going-plays left new (done ++ next ∷ []) (front ++ joined_lines ends.0) further))
   line-events mid left Since old new done next others front going since (Some DiskFault) text ends =
-      let F : DiskSeen → Type 0 = λ one. FaultLeft setup going.state next one left new ends.0 in
+      let F : DiskView → Type 0 = λ one. FaultLeft setup going.state next one left new ends.0 in
       record {
         front = front;
         behind = record { done = done; next = next; rest = others; parts = refl; goes = going-goes mid old done front going };
@@ -169,7 +168,7 @@ module _ (setup : Setup) (places : ℕ) (held : Option Files) (first : ℕ) wher
   line-events mid left Since old new done next others front going since (Some Inseparable) text ends = absurd ends
 
   -- memory that was wanting in a line was wanting behind those before it
-  pub line-lacks : (mid left : DiskSeen) (old new : World) (done : List Line) (next : Line) (others : List Line) (front : List ℕ) → (going : Going setup places held first mid old done front) → (text : List ℕ) → LineLacks setup going.state mid.files left.files new text → LacksBehind setup places held first left.files new (done ++ next ∷ others) (front ++ text)
+  pub line-lacks : (mid left : DiskView) (old new : World) (done : List Line) (next : Line) (others : List Line) (front : List ℕ) → (going : Going setup places held first mid old done front) → (text : List ℕ) → LineLacks setup going.state mid.files left.files new text → LacksBehind setup places held first left.files new (done ++ next ∷ others) (front ++ text)
   line-lacks mid left old new done next others front going text lacks =
       let stand = going-stand mid old done front going in
       let B : Option Files → Type 0 = λ one. Broken setup going.state one left.files new in
@@ -182,7 +181,7 @@ module _ (setup : Setup) (places : ℕ) (held : Option Files) (first : ℕ) wher
       subst L (sym (ap (λ (more : List ℕ). front ++ more) lacks.0 ∙ append-nil front)) whole
 
   -- the counts of a line that ends, behind those of the lines before it
-  line-counts : (start between later : ℕ) → start ≤ between → (mid left : DiskSeen) (state : State Peers) (next : Line) (new : World) (reached : Option Status8) (text : List ℕ) → LineEnds setup state next mid left new reached text → RisesBefore reached unasked (between, later) → RisesBefore reached unasked (start, later)
+  line-counts : (start between later : ℕ) → start ≤ between → (mid left : DiskView) (state : State Peers) (next : Line) (new : World) (reached : Option Status8) (text : List ℕ) → LineEnds setup state next mid left new reached text → RisesBefore reached unasked (between, later) → RisesBefore reached unasked (start, later)
   line-counts start between later before mid left state next new None text ends rises = (rises.0, on-behind start between later before rises.1)
   line-counts start between later before mid left state next new (Some DiskFault) text ends rises = (rises.0, risen-later start between later before rises.1)
   line-counts start between later before mid left state next new (Some Done) text ends rises = absurd ends
@@ -197,7 +196,7 @@ module _ (setup : Setup) (places : ℕ) (held : Option Files) (first : ℕ) wher
 
   module _ {K : Type 0} (told : K → Option (List ℕ)) (faults : K → ℕ) where
     -- one line more is behind
-    pub behind-next : (one mid last : K) (disk left : DiskSeen) (old new : World) (events : List Line) (next : Line) (others : List Line) (text : List ℕ) (printed_lines : List (List ℕ)) → (so_far : Behind setup places held first disk old (edge told faults one mid) events (next ∷ others)) → text ≡ joined_lines printed_lines → EventDone setup so_far.going.state next printed_lines disk left new → Appends (told mid) (told last) text → Behind setup places held first left new (edge told faults one last) events others
+    pub behind-next : (one mid last : K) (disk left : DiskView) (old new : World) (events : List Line) (next : Line) (others : List Line) (text : List ℕ) (printed_lines : List (List ℕ)) → (so_far : Behind setup places held first disk old (edge told faults one mid) events (next ∷ others)) → text ≡ joined_lines printed_lines → EventDone setup so_far.going.state next printed_lines disk left new → Appends (told mid) (told last) text → Behind setup places held first left new (edge told faults one last) events others
     behind-next one mid last disk left old new events next others text printed_lines so_far is event appended = record {
       done = so_far.done ++ next ∷ [];
       parts = so_far.parts ∙ sym (append_assoc so_far.done (next ∷ []) others);
@@ -207,14 +206,14 @@ module _ (setup : Setup) (places : ℕ) (held : Option Files) (first : ℕ) wher
     }
 
     -- behind the last line
-    pub behind-last : (one last : K) (left : DiskSeen) (disk : ℕ × ℕ) (Since : Option Files → ℕ → Type 0) (world : World) (events rest : List Line) → rest ≡ [] → faults last ≡ faults one → HasGoneOn disk → Behind setup places held first left world (edge told faults one last) events rest → Ended unasked disk (EventsEnd setup places held first left Since world events) (LacksBehind setup places held first left.files world events) (edge told faults one last) Done
+    pub behind-last : (one last : K) (left : DiskView) (disk : ℕ × ℕ) (Since : Option Files → ℕ → Type 0) (world : World) (events rest : List Line) → rest ≡ [] → faults last ≡ faults one → HasGoneOn disk → Behind setup places held first left world (edge told faults one last) events rest → Ended unasked disk (EventsEnd setup places held first left Since world events) (LacksBehind setup places held first left.files world events) (edge told faults one last) Done
     behind-last one last left disk Since world events rest none sink_stood disk_on behind =
         let all : events ≡ behind.done = behind.parts ∙ ap (λ (others : List Line). behind.done ++ others) none ∙ append-nil behind.done in
         let P : List Line → Type 0 = λ lines. Plays setup places held first left world lines behind.text in
         Whole behind.text (subst P (sym all) (going-plays left world behind.done behind.text behind.going), (refl, disk_on)) sink_stood behind.appended
 
     -- a line that ended the run
-    pub behind-ends : (one mid last : K) (disk left : DiskSeen) (start between later : ℕ) (Since : Option Files → ℕ → Type 0) (old new : World) (events : List Line) (next : Line) (others : List Line) (status : Status8) → (behind : Behind setup places held first disk old (edge told faults one mid) events (next ∷ others)) → faults mid ≡ faults one → start ≤ between → Since disk.files disk.faults → Ended unasked (between, later) (LineEnds setup behind.going.state next disk left new) (LineLacks setup behind.going.state disk.files left.files new) (edge told faults mid last) status → Ended unasked (start, later) (EventsEnd setup places held first left Since new events) (LacksBehind setup places held first left.files new events) (edge told faults one last) status
+    pub behind-ends : (one mid last : K) (disk left : DiskView) (start between later : ℕ) (Since : Option Files → ℕ → Type 0) (old new : World) (events : List Line) (next : Line) (others : List Line) (status : Status8) → (behind : Behind setup places held first disk old (edge told faults one mid) events (next ∷ others)) → faults mid ≡ faults one → start ≤ between → Since disk.files disk.faults → Ended unasked (between, later) (LineEnds setup behind.going.state next disk left new) (LineLacks setup behind.going.state disk.files left.files new) (edge told faults mid last) status → Ended unasked (start, later) (EventsEnd setup places held first left Since new events) (LacksBehind setup places held first left.files new events) (edge told faults one last) status
     behind-ends one mid last disk left start between later Since old new events next others status behind sink before since ended =
         let all = behind.done ++ next ∷ others in
         let front = behind.text in
@@ -226,7 +225,7 @@ module _ (setup : Setup) (places : ℕ) (held : Option Files) (first : ℕ) wher
         subst W (sym behind.parts) (written-behind told faults one mid last E F L M front status behind.appended sink (λ reached text ends. (line-events disk left Since old new behind.done next others front behind.going since reached text ends.0, line-counts start between later before disk left behind.going.state next new reached text ends.0 ends.1)) (λ text lacks. (line-lacks disk left old new behind.done next others front behind.going text lacks.0, lacks.1, on-behind start between later before lacks.2)) ended)
 
 -- before the first line
-pub behind-start : {K : Type 0} (told : K → Option (List ℕ)) (faults : K → ℕ) (sink : K) (setup : Setup) (places : ℕ) (held : Option Files) (left : DiskSeen) (world : World) (events : List Line) → Begun setup places held left world → Behind setup places held left.faults left world (edge told faults sink sink) events events
+pub behind-start : {K : Type 0} (told : K → Option (List ℕ)) (faults : K → ℕ) (sink : K) (setup : Setup) (places : ℕ) (held : Option Files) (left : DiskView) (world : World) (events : List Line) → Begun setup places held left world → Behind setup places held left.faults left world (edge told faults sink sink) events events
 behind-start told faults sink setup places held left world events begun = record {
   done = [];
   parts = refl;
@@ -236,7 +235,7 @@ behind-start told faults sink setup places held left world events begun = record
 }
 
 -- the lines behind can still follow
-pub follow-next : (setup : Setup) (state : State Peers) (held left : DiskSeen) (old new : World) (next : Line) (others : List Line) (printed_lines : List (List ℕ)) → IsGood setup state → Shows setup state old → EventDone setup state next printed_lines held left new → CanFollow (time_behind old.now next) others → CanFollow new.now others
+pub follow-next : (setup : Setup) (state : State Peers) (held left : DiskView) (old new : World) (next : Line) (others : List Line) (printed_lines : List (List ℕ)) → IsGood setup state → Shows setup state old → EventDone setup state next printed_lines held left new → CanFollow (time_behind old.now next) others → CanFollow new.now others
 follow-next setup state held left old new next others printed_lines good shows event follows =
     let outcome = event.outcome in
     let done = event.done in
@@ -249,7 +248,7 @@ pub from-place : (lines : List Line) (place : ℕ) (next : Line) → place < len
 from-place lines place next inside is = rw add-one (drop-cons lines place next inside ∙ ap (λ (one : Line). one ∷ drop (suc place) lines) (sym is))
 
 -- what a disk fault in a line left
-pub fault-left : (setup : Setup) (state : State Peers) (next : Line) (held left : DiskSeen) (old new : World) (lines : List (List ℕ)) → IsGood setup state → Shows setup state old → IsArmedBy state held.armed → HasRisen (held.faults, left.faults) → FaultLeaves next old new [] lines held left → FaultLeft setup state next held left new (joined_lines lines)
+pub fault-left : (setup : Setup) (state : State Peers) (next : Line) (held left : DiskView) (old new : World) (lines : List (List ℕ)) → IsGood setup state → Shows setup state old → IsArmedBy state held.armed → HasRisen (held.faults, left.faults) → FaultLeaves next old new [] lines held left → FaultLeft setup state next held left new (joined_lines lines)
 fault-left setup state line.Files held left old new lines good shows armed risen leaves =
     Showing refl (subst (λ (world : World). Shows setup state world) (sym leaves.0) shows) leaves.2 leaves.3 risen (ap joined_lines leaves.1)
 fault-left setup state (line.Cat name) held left old new lines good shows armed risen leaves =

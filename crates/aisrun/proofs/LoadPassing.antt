@@ -2,18 +2,18 @@
 use Rattle.std.proofs.Common.{◌≡◌, ℕ, zero, suc, ◌≤◌, ◌⊎◌, inl, inr, ◌+◌, ◌<◌, List, [], ◌∷◌, ◌++◌, length, take, drop, get_or, Option, Some, None, Result, Ok, Err, refl, ap, sym, ◌∙◌, subst, arith, append_assoc, append-nil, take-append-drop}
 use Rattle.std.proofs.lemmas.List.{take_more}
 use Rattle.disk_model.specs.Disk.{Files}
+use Rattle.disk_model.specs.Seen.{DiskSeen}
 use Rattle.script_lines.specs.declared.line.Line.{Line}
 use Rattle.plain_service.specs.Setups.{Setup}
-use Rattle.cluster_rounds.specs.Came.{DiskSeen}
 use Rattle.cluster_core.specs.declared.world.World.{World}
 use Rattle.cluster_core.specs.Playing.{DoesEvent, FaultLeaves}
 use Rattle.cluster_core.specs.Broken.{BreaksOn}
-use Rattle.cluster_core.specs.Worlds.{HasState}
+use Rattle.cluster_core.specs.Worlds.{DiskView, HasState}
 use Rattle.aisrun.specs.declared.ending.Status8.TheVariants.{DiskFault as Faulted}
 use Rattle.aisrun.specs.declared.loading.Halt.{Halt}
 use Rattle.aisrun.specs.declared.loading.Halt.TheVariants.{Memory, DiskFault}
 use Rattle.aisrun.specs.Counts.{HasRisen}
-use Rattle.aisrun.specs.Edges.{edge}
+use Rattle.aisrun.specs.Edges.{disk_edge}
 use Rattle.aisrun.specs.Endings.{StoodUpTo, fault_line}
 use Rattle.aisrun.specs.LoadSteps.{CanPass, HasGone, PassEnds, Passes, RisesPassing}
 use Rattle.aisrun.specs.Steps.{BreaksBehind, EventsEnd, Going, HasBegun, LacksBehind, joined_lines}
@@ -32,13 +32,13 @@ module _ (setup : Setup) (places : ℕ) (held : Option Files) (first : ℕ) wher
     goes = behind.goes;
   }
 
-  wants-more : (Since : Option Files → ℕ → Type 0) (left : DiskSeen) (world : World) (lines more : List Line) (text : List ℕ) → LacksBehind setup places held first left.files world lines text ⊎ EventsEnd setup places held first left Since world lines None text → LacksBehind setup places held first left.files world (lines ++ more) text ⊎ EventsEnd setup places held first left Since world (lines ++ more) None text
+  wants-more : (Since : Option Files → ℕ → Type 0) (left : DiskView) (world : World) (lines more : List Line) (text : List ℕ) → LacksBehind setup places held first left.files world lines text ⊎ EventsEnd setup places held first left Since world lines None text → LacksBehind setup places held first left.files world (lines ++ more) text ⊎ EventsEnd setup places held first left Since world (lines ++ more) None text
   wants-more Since left world lines more text (inl lacks) =
       inl (record { behind = breaks-more lines more text lacks.behind; broken = lacks.broken })
   wants-more Since left world lines more text (inr ends) =
       inr (ends.0, ends.1 ++ more, ap (λ (all : List Line). all ++ more) ends.2 ∙ append_assoc ends.0 ends.1 more, ends.3)
 
-  halts-more : (Since : Option Files → ℕ → Type 0) (left : DiskSeen) (world : World) (lines more : List Line) (halt : Halt) → PassEnds Since setup places held first lines left world (Err halt) → PassEnds Since setup places held first (lines ++ more) left world (Err halt)
+  halts-more : (Since : Option Files → ℕ → Type 0) (left : DiskView) (world : World) (lines more : List Line) (halt : Halt) → PassEnds Since setup places held first lines left world (Err halt) → PassEnds Since setup places held first (lines ++ more) left world (Err halt)
   halts-more Since left world lines more Memory ends = (ends.0, wants-more Since left world lines more ends.0 ends.1)
   halts-more Since left world lines more DiskFault ends =
       let fault = ends.1 in
@@ -46,11 +46,11 @@ module _ (setup : Setup) (places : ℕ) (held : Option Files) (first : ℕ) wher
 
 -- The values of the disk through which the run passed.
 
-module _ {D : Type 0} (files : D → Option Files) (faults : D → ℕ) where
+module _ {D : Type 0} (shows : D → DiskSeen) where
   abbrev Since : D → D → Option Files → ℕ → Type 0
-  Since old new = StoodUpTo (edge files faults old new)
+  Since old new = StoodUpTo (disk_edge shows old new)
 
-  since-earlier : (setup : Setup) (places : ℕ) (held : Option Files) (first : ℕ) (left : DiskSeen) (world : World) (lines : List Line) (old mid new : D) (result : Result Unit Halt) → PassEnds (Since mid new) setup places held first lines left world result → PassEnds (Since old new) setup places held first lines left world result
+  since-earlier : (setup : Setup) (places : ℕ) (held : Option Files) (first : ℕ) (left : DiskView) (world : World) (lines : List Line) (old mid new : D) (result : Result Unit Halt) → PassEnds (Since mid new) setup places held first lines left world result → PassEnds (Since old new) setup places held first lines left world result
   since-earlier setup places held first left world lines old mid new (Ok done) ends = ends
   since-earlier setup places held first left world lines old mid new (Err Memory) ends = ends
   since-earlier setup places held first left world lines old mid new (Err DiskFault) ends =
@@ -58,7 +58,7 @@ module _ {D : Type 0} (files : D → Option Files) (faults : D → ℕ) where
       (ends.0, record { front = fault.front; behind = fault.behind; lines = fault.lines; fault = fault.fault; since = record { mid = fault.since.mid; told = fault.since.told; count = fault.since.count }; written = fault.written })
 
   -- some lines, and others behind them
-  pub passes-then : (one two : List Line) (start between left : DiskSeen) (first_world mid_world last_world : World) (old mid new : D) (done : Unit) (result : Result Unit Halt) → Passes (Since old mid) one start between first_world mid_world (Ok done) → Passes (Since mid new) two between left mid_world last_world result → Passes (Since old new) (one ++ two) start left first_world last_world result
+  pub passes-then : (one two : List Line) (start between left : DiskView) (first_world mid_world last_world : World) (old mid new : D) (done : Unit) (result : Result Unit Halt) → Passes (Since old mid) one start between first_world mid_world (Ok done) → Passes (Since mid new) two between left mid_world last_world result → Passes (Since old new) (one ++ two) start left first_world last_world result
   passes-then one two start between left first_world mid_world last_world old mid new done result before then =
       λ setup places held first lines text going.
       let gone = before setup places held first lines text going in
@@ -67,34 +67,34 @@ module _ {D : Type 0} (files : D → Option Files) (faults : D → ℕ) where
       subst (λ (all : List Line). PassEnds (Since old new) setup places held first all left last_world result) (append_assoc lines one two) earlier
 
 -- what ended the run in some lines ended it in these and more
-pub passes-halted : (Since : Option Files → ℕ → Type 0) (one more : List Line) (mid left : DiskSeen) (old new : World) (halt : Halt) → Passes Since one mid left old new (Err halt) → Passes Since (one ++ more) mid left old new (Err halt)
+pub passes-halted : (Since : Option Files → ℕ → Type 0) (one more : List Line) (mid left : DiskView) (old new : World) (halt : Halt) → Passes Since one mid left old new (Err halt) → Passes Since (one ++ more) mid left old new (Err halt)
 passes-halted Since one more mid left old new halt passes =
     λ setup places held first done text going.
     subst (λ (all : List Line). PassEnds Since setup places held first all left new (Err halt)) (append_assoc done one more) (halts-more setup places held first Since left new (done ++ one) more halt (passes setup places held first done text going))
 
 -- no line yet
-pub passes-nothing : (Since : Option Files → ℕ → Type 0) (mid : DiskSeen) (world : World) (done : Unit) → Passes Since [] mid mid world world (Ok done)
+pub passes-nothing : (Since : Option Files → ℕ → Type 0) (mid : DiskView) (world : World) (done : Unit) → Passes Since [] mid mid world world (Ok done)
 passes-nothing Since mid world unit =
     λ setup places held first done text going. (text, subst (λ (all : List Line). Going setup places held first mid world all text) (sym (append-nil done)) going)
 
 -- lines that were not made for want of memory
-pub passes-unmade : (Since : Option Files → ℕ → Type 0) (lines : List Line) (mid : DiskSeen) (world : World) → Passes Since lines mid mid world world (Err Memory)
+pub passes-unmade : (Since : Option Files → ℕ → Type 0) (lines : List Line) (mid : DiskView) (world : World) → Passes Since lines mid mid world world (Err Memory)
 passes-unmade Since lines mid world =
     λ setup places held first done text going. (text, inr (done, lines, refl, going-plays setup places held first mid world done text going))
 
 -- One line.
 
-pub passes-line : (Since : Option Files → ℕ → Type 0) (next : Line) (lines : List (List ℕ)) (mid left : DiskSeen) (old new : World) (done : Unit) → DoesEvent next lines old new mid left → Passes Since (next ∷ []) mid left old new (Ok done)
+pub passes-line : (Since : Option Files → ℕ → Type 0) (next : Line) (lines : List (List ℕ)) (mid left : DiskView) (old new : World) (done : Unit) → DoesEvent next lines old new mid left → Passes Since (next ∷ []) mid left old new (Ok done)
 passes-line Since next lines mid left old new unit does =
     λ setup places held first done text going.
     (text ++ joined_lines lines, going-next setup places held first mid left old new done text next lines going (does setup going.state going.good going.shows going.armed (going-tells setup places held first mid old done text going)))
 
-pub passes-broken : (Since : Option Files → ℕ → Type 0) (next : Line) (mid left : DiskSeen) (old new : World) → BreaksOn old new mid left → Passes Since (next ∷ []) mid left old new (Err Memory)
+pub passes-broken : (Since : Option Files → ℕ → Type 0) (next : Line) (mid left : DiskView) (old new : World) → BreaksOn old new mid left → Passes Since (next ∷ []) mid left old new (Err Memory)
 passes-broken Since next mid left old new breaks =
     λ setup places held first done text going.
     (text ++ [], inl (line-lacks setup places held first mid left old new done next [] text going [] (refl, breaks setup going.state going.good going.shows going.armed)))
 
-pub passes-fault : (Since : Option Files → ℕ → Type 0) (next : Line) (lines : List (List ℕ)) (mid left : DiskSeen) (old new : World) → Since mid.files mid.faults → HasRisen (mid.faults, left.faults) → FaultLeaves next old new [] lines mid left → Passes Since (next ∷ []) mid left old new (Err DiskFault)
+pub passes-fault : (Since : Option Files → ℕ → Type 0) (next : Line) (lines : List (List ℕ)) (mid left : DiskView) (old new : World) → Since mid.files mid.faults → HasRisen (mid.faults, left.faults) → FaultLeaves next old new [] lines mid left → Passes Since (next ∷ []) mid left old new (Err DiskFault)
 passes-fault Since next lines mid left old new since risen leaves =
     λ setup places held first done text going.
     let fault = fault-left setup going.state next mid left old new lines going.good going.shows going.armed risen leaves in
@@ -103,16 +103,16 @@ passes-fault Since next lines mid left old new since risen leaves =
 
 -- Lines that led to a world and a disk.
 
-pub gone-on : (Since : Option Files → ℕ → Type 0) (lines : List Line) (mid left : DiskSeen) (old new : World) (done : Unit) → HasGone mid old → Passes Since lines mid left old new (Ok done) → HasGone left new
+pub gone-on : (Since : Option Files → ℕ → Type 0) (lines : List Line) (mid left : DiskView) (old new : World) (done : Unit) → HasGone mid old → Passes Since lines mid left old new (Ok done) → HasGone left new
 gone-on Since lines mid left old new done gone passes =
     let ends = passes gone.0 gone.1 gone.2 gone.3 gone.4 gone.5 gone.6 in
     (gone.0, gone.1, gone.2, gone.3, gone.4 ++ lines, ends.0, ends.1)
 
-pub gone-start : (left : DiskSeen) (world : World) → HasBegun left world → HasGone left world
+pub gone-start : (left : DiskView) (world : World) → HasBegun left world → HasGone left world
 gone-start left world begun =
     (begun.0, begun.1, begun.2, left.faults, [], [], going-start begun.0 begun.1 begun.2 left world begun.3)
 
-pub gone-state : (left : DiskSeen) (world : World) → HasGone left world → HasState world left.armed
+pub gone-state : (left : DiskView) (world : World) → HasGone left world → HasState world left.armed
 gone-state left world gone = going-state gone.0 gone.1 gone.2 gone.3 left world gone.4 gone.5 gone.6
 
 -- A line among others.

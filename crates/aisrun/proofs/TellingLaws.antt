@@ -5,12 +5,12 @@ use Rattle.plain_service.specs.Setups.{Setup}
 use Rattle.cluster_facts.specs.Messages.{messages_in, sent_by, receipts_of}
 use Rattle.cluster_facts.specs.Agents.{fed_of}
 use Rattle.cluster_facts.specs.World.{World as WorldOf}
-use Rattle.cluster_rounds.specs.Came.{DiskSeen}
 use Rattle.cluster_core.specs.declared.world.World.{World}
 use Rattle.cluster_events.specs.Promises.{ItemsInOrder}
 use Rattle.cluster_events.specs.Taking.{items_in, taken_of}
 use Rattle.service_laws.specs.PlainOf.{plain_of}
 use Rattle.service_laws.proofs.TellingLaws.{first-told, fed-told}
+use Rattle.cluster_core.specs.Worlds.{DiskView}
 use Rattle.aisrun.specs.Promises.{Throughout}
 use Rattle.aisrun.specs.Telling.{TellsEach, TellsOnce, TellsAtWant}
 use Rattle.aisrun.proofs.PlayLaws.{played-keeps}
@@ -23,7 +23,7 @@ each-told setup world items client key =
 pub tells-once : (held : Option Files) → Throughout held TellsOnce
 tells-once held = throughout held TellsOnce (λ setup places told_first first can lines state told files run range. each-told setup state.world (played-keeps setup places told_first first run).items)
 
-pub tells-at-want : (held : Option Files) (left : DiskSeen) (world : World) → TellsAtWant held left world
+pub tells-at-want : (held : Option Files) (left : DiskView) (world : World) → TellsAtWant held left world
 tells-at-want held left world first script done rest next text front broken client key =
     let state = front.goes.state in
     let fed = broken.fed client in

@@ -19,8 +19,8 @@ use Rattle.pair_cluster.specs.Peers.{Peers}
 use Rattle.service_laws.specs.Disks.{service_disk}
 use Rattle.service_laws.specs.PlainOf.{plain_of}
 use Rattle.service_laws.specs.StorageOf.{storage_of}
-use Rattle.cluster_rounds.specs.Came.{DiskSeen}
 use Rattle.cluster_core.specs.declared.world.World.{World}
+use Rattle.cluster_core.specs.Worlds.{DiskView}
 use Rattle.aisrun.specs.Endings.{FaultLeft, Showing, Ending}
 use Rattle.aisrun.specs.Playing.{PlaysFront, seen_behind}
 use Rattle.aisrun.specs.Telling.{TellsEach}
@@ -69,7 +69,7 @@ pub record ShowKeeps (setup : Setup) (world : WorldOf) (left : Option Files) : T
 
 -- by what the fault left behind these lines
 abbrev pub FaultKeeps :
-    (setup : Setup) (state : State Peers) (next : Line) (held left : DiskSeen) (world : World) (lines : List ℕ) (before : List Told)
+    (setup : Setup) (state : State Peers) (next : Line) (held left : DiskView) (world : World) (lines : List ℕ) (before : List Told)
     → FaultLeft setup state next held left world lines → Type 0
 FaultKeeps setup state next held left world lines before (Showing shows_files shows same armed rose none) =
     ShowKeeps setup state.world left.files
@@ -78,7 +78,7 @@ FaultKeeps setup state next held left world lines before (Ending told ended prin
 
 -- so it is behind each front of a script that was played on a disk that told these files before, wherever a fault in the next line
 -- left the world and the disk as they are now
-abbrev pub KeepsAtFault : (held : Option Files) (left : DiskSeen) (world : World) → Type 0
+abbrev pub KeepsAtFault : (held : Option Files) (left : DiskView) (world : World) → Type 0
 KeepsAtFault held left world =
     (first : ℕ) (script done rest : List Line) (next : Line) (text lines : List ℕ) (front : PlaysFront held first script done (next ∷ rest) text)
     (fault : FaultLeft front.setup front.goes.state next (seen_behind front.goes) left world lines)

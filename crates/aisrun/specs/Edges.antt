@@ -1,8 +1,9 @@
 -- Words of public clauses: what a run was given of each thing outside, and what it leaves of it.
 use Rattle.std.specs.Prelude.{◌≡◌, ℕ, List, Option}
 use Rattle.disk_model.specs.Disk.{Files}
-use Rattle.cluster_rounds.specs.Came.{DiskSeen}
+use Rattle.disk_model.specs.Seen.{DiskSeen}
 use Rattle.cluster_core.specs.declared.world.World.{World}
+use Rattle.cluster_core.specs.Worlds.{DiskView}
 
 -- a source, a sink or a disk before and after: what it tells of its content, and how often it has failed
 pub record Edge (S T : Type 0) : Type 0 where
@@ -13,6 +14,10 @@ pub record Edge (S T : Type 0) : Type 0 where
 
 abbrev pub edge : {S T : Type 0} → (S → Option T) → (S → ℕ) → S → S → Edge S T
 edge told faults old new = record { told = told; faults = faults; old = old; new = new }
+
+-- the edge of a disk, by what is seen of it
+abbrev pub disk_edge : {D : Type 0} → (D → DiskSeen) → D → D → Edge D Files
+disk_edge shows old new = edge (λ disk. (shows disk).files) (λ disk. (shows disk).faults) old new
 
 -- what it told before, and what it tells after
 abbrev pub before : {S T : Type 0} → Edge S T → Option T
@@ -43,7 +48,7 @@ stage sink disk armed world world_after =
     record { sink = sink; disk = disk; armed = armed; world = world; world_after = world_after }
 
 -- what the disk tells after
-abbrev pub disk_left : {K D : Type 0} → Stage K D → DiskSeen
+abbrev pub disk_left : {K D : Type 0} → Stage K D → DiskView
 disk_left scene = record { files = after scene.disk; armed = scene.armed; faults = scene.disk.faults scene.disk.new }
 
 -- the disk's count of faults before

@@ -25,11 +25,10 @@ use Rattle.disk_model.specs.DeviceCalls.{DoesFront, FailsAfter}
 use Rattle.cluster_core.specs.declared.world.World.{World}
 use Rattle.cluster_core.specs.Beginning.{Begins, HoldsNone}
 use Rattle.cluster_core.specs.Broken.{Broken, EventEnded}
-use Rattle.cluster_core.specs.Worlds.{Shows}
+use Rattle.cluster_core.specs.Worlds.{DiskView, Shows}
 use Rattle.cluster_events.specs.Lines.{Told}
 use Rattle.cluster_events.specs.Servers.{State}
 use Rattle.pair_cluster.specs.Peers.{Peers}
-use Rattle.cluster_rounds.specs.Came.{DiskSeen}
 use Rattle.aisrun.specs.declared.ending.Status8.{Status8}
 use Rattle.aisrun.specs.declared.ending.Status8.TheVariants.{Done, ScriptRefused, Usage, Memory, ReadFault, WriteFault, DiskFault}
 use Rattle.aisrun.specs.declared.ending.Status8.TheVariants.{RootNotEmpty, TooLong, Inseparable}
@@ -123,7 +122,7 @@ shows_files _ = false
 
 -- what a fault in the event of a line left: a line that shows files left all as it was; any other, which is `work`, `settle` or a `crash`
 -- of the active server, ended where no server was left that is active
-pub data FaultLeft (setup : Setup) (state : State Peers) (next : Line) (held left : DiskSeen) (world : World) (lines : List ℕ) : Type 0 where
+pub data FaultLeft (setup : Setup) (state : State Peers) (next : Line) (held left : DiskView) (world : World) (lines : List ℕ) : Type 0 where
   Showing :
       shows_files next ≡ true → Shows setup state world → left.files ≡ held.files → left.armed ≡ held.armed → HasRisen (held.faults, left.faults)
       → lines ≡ [] → FaultLeft setup state next held left world lines

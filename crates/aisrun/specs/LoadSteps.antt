@@ -15,9 +15,9 @@ use Rattle.cluster_clients.specs.declared.fetching.Fetched.{Fetched}
 use Rattle.cluster_clients.specs.declared.fetching.Fetched.TheVariants.{Whole, Bad}
 use Rattle.cluster_clients.specs.Files.{sizes_of}
 use Rattle.pair_cluster.specs.Peers.{Peers}
-use Rattle.cluster_rounds.specs.Came.{DiskSeen}
 use Rattle.cluster_core.specs.declared.world.World.{World}
 use Rattle.cluster_core.specs.Playing.{IsEventLine}
+use Rattle.cluster_core.specs.Worlds.{DiskView}
 use Rattle.aisrun.specs.declared.ending.Status8.{Status8}
 use Rattle.aisrun.specs.declared.ending.Status8.TheVariants.{Done, DiskFault as Faulted, RootNotEmpty}
 use Rattle.aisrun.specs.declared.figures.Held.{Held}
@@ -40,7 +40,7 @@ CanPass (next ∷ lines) = ((raw : List ℕ) × Spells next raw) × ((now : ℤ)
 -- what stands behind lines that were played from the start of a cluster on; or where the run ended: for want of memory, in one of them or
 -- as one was made, or by a fault of the disk
 abbrev pub PassEnds :
-    (Since : Option Files → ℕ → Type 0) → Setup → ℕ → Option Files → ℕ → List Line → DiskSeen → World → Result Unit Halt → Type 0
+    (Since : Option Files → ℕ → Type 0) → Setup → ℕ → Option Files → ℕ → List Line → DiskView → World → Result Unit Halt → Type 0
 PassEnds Since setup places held first lines left world (Ok done) =
     (text : List ℕ) × Going setup places held first left world lines text
 PassEnds Since setup places held first lines left world (Err Memory) =
@@ -50,13 +50,13 @@ PassEnds Since setup places held first lines left world (Err DiskFault) =
     (text : List ℕ) × EventsEnd setup places held first left Since world lines (Some Faulted) text
 
 -- so it is behind all lines that led to a world and a disk
-abbrev pub Passes : (Since : Option Files → ℕ → Type 0) → List Line → (mid left : DiskSeen) (old new : World) → Result Unit Halt → Type 0
+abbrev pub Passes : (Since : Option Files → ℕ → Type 0) → List Line → (mid left : DiskView) (old new : World) → Result Unit Halt → Type 0
 Passes Since lines mid left old new result =
     (setup : Setup) (places : ℕ) (held : Option Files) (first : ℕ) (done : List Line) (text : List ℕ)
     → Going setup places held first mid old done text → PassEnds Since setup places held first (done ++ lines) left new result
 
 -- some lines led there
-abbrev pub HasGone : DiskSeen → World → Type 0
+abbrev pub HasGone : DiskView → World → Type 0
 HasGone left world =
     (setup : Setup) × (places : ℕ) × (held : Option Files) × (first : ℕ) × (done : List Line) × (text : List ℕ)
     × Going setup places held first left world done text
@@ -125,7 +125,7 @@ TellLacks disk text = (text ≡ []) × HasStood disk
 -- The whole run.
 
 -- the lines behind the cluster line were played, and where they led is told
-abbrev pub RunEnds : Setup → ℕ → Option Files → ℕ → DiskSeen → (Option Files → ℕ → Type 0) → World → List Line → Reaching
+abbrev pub RunEnds : Setup → ℕ → Option Files → ℕ → DiskView → (Option Files → ℕ → Type 0) → World → List Line → Reaching
 RunEnds setup places held first left Since world events (Some Done) text =
     (unwritten : List ℕ) × (plays : Plays setup places held first left world events unwritten) × TellsLoad plays.goes.state left.files text
 RunEnds setup places held first left Since world events (Some Faulted) text =
@@ -136,7 +136,7 @@ RunEnds setup places held first left Since world events (Some Faulted) text =
     × HasRisen (goes.faults, left.faults)))
 RunEnds setup places held first left Since world events _ text = ⊥
 
-abbrev pub RunWants : Setup → ℕ → Option Files → ℕ → DiskSeen → (Option Files → ℕ → Type 0) → World → List Line → List ℕ → Type 0
+abbrev pub RunWants : Setup → ℕ → Option Files → ℕ → DiskView → (Option Files → ℕ → Type 0) → World → List Line → List ℕ → Type 0
 RunWants setup places held first left Since world events text =
     (text ≡ [])
     × ((unwritten : List ℕ)

@@ -12,11 +12,10 @@ use Rattle.pair_cluster.specs.Pair.{pair_start}
 use Rattle.event_text.specs.Texts.{printed}
 use Rattle.service_laws.specs.Disks.{service_disk}
 use Rattle.service_laws.specs.StorageOf.{storage_of}
-use Rattle.cluster_rounds.specs.Came.{DiskSeen}
 use Rattle.cluster_core.specs.declared.world.World.{World}
 use Rattle.cluster_core.specs.Beginning.{Begins, HoldsNone}
 use Rattle.cluster_core.specs.Playing.{LineDone}
-use Rattle.cluster_core.specs.Worlds.{IsArmedBy, IsGood, Shows}
+use Rattle.cluster_core.specs.Worlds.{DiskView, IsArmedBy, IsGood, Shows}
 
 -- what the lines of a script lead to from the start of a cluster, the last line first: all that their events tell, the last in
 -- front, and the files by the deeds of the start and of each entry whose work is done, with the disk's count of faults, which goes along
@@ -59,12 +58,12 @@ files_told files held = option_map (λ _. files) held
 
 -- what the disk tells behind these lines
 abbrev pub seen_behind :
-    {setup : Setup} {places : ℕ} {held : Option Files} {first : ℕ} {lines : List Line} {text : List ℕ} → Goes setup places held first lines text → DiskSeen
+    {setup : Setup} {places : ℕ} {held : Option Files} {first : ℕ} {lines : List Line} {text : List ℕ} → Goes setup places held first lines text → DiskView
 seen_behind {held = held} goes =
     record { files = files_told goes.files held; armed = goes.state.peers.armed; faults = goes.faults }
 
 -- the world stands for this state, a disk that told its files tells these, and it is armed as the state says and has this count of faults
-pub record StandsAt (setup : Setup) (state : State Peers) (files : Files) (faults : ℕ) (held : Option Files) (left : DiskSeen)
+pub record StandsAt (setup : Setup) (state : State Peers) (files : Files) (faults : ℕ) (held : Option Files) (left : DiskView)
     (world : World) : Type 0 where
   pub shows : Shows setup state world
   pub stand : left.files ≡ files_told files held

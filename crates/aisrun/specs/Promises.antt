@@ -29,7 +29,7 @@ use Rattle.service_laws.specs.Disks.{service_disk}
 use Rattle.service_laws.specs.PlainOf.{plain_of}
 use Rattle.service_laws.specs.StorageOf.{storage_of}
 use Rattle.cluster_rounds.specs.Timely.{AreTimely, IsTimelyIn}
-use Rattle.cluster_lines.specs.Playing.{FellIn}
+use Rattle.pair_servers.specs.PairCounts.{FellIn}
 use Rattle.cluster_core.specs.Playing.{LineDone}
 use Rattle.aisrun.specs.Playing.{PlaysFront}
 

@@ -14,12 +14,11 @@ use Rattle.plain_service.specs.Setups.{Setup}
 use Rattle.cluster_events.specs.Lines.{Told}
 use Rattle.cluster_events.specs.Servers.{State}
 use Rattle.pair_cluster.specs.Peers.{Peers}
-use Rattle.cluster_rounds.specs.Came.{DiskSeen}
 use Rattle.cluster_core.specs.declared.world.World.{World}
 use Rattle.cluster_core.specs.Beginning.{Begun, HoldsNone}
 use Rattle.cluster_core.specs.Broken.{Broken}
 use Rattle.cluster_core.specs.Playing.{EventDone, IsEventLine}
-use Rattle.cluster_core.specs.Worlds.{IsArmedBy, IsGood, LeavesFiles, Shows}
+use Rattle.cluster_core.specs.Worlds.{DiskView, IsArmedBy, IsGood, LeavesFiles, Shows}
 use Rattle.aisrun.specs.declared.ending.Status8.{Status8}
 use Rattle.aisrun.specs.declared.ending.Status8.TheVariants.{Done, Memory, WriteFault, DiskFault}
 use Rattle.aisrun.specs.Counts.{HasGoneOn, HasStood, HasRisen, RisesBefore}
@@ -103,7 +102,7 @@ CanFollow now (next ∷ lines) =
     ((raw : List ℕ) × Spells next raw) × IsEventLine now next × CanFollow (time_behind now next) lines
 
 -- some lines were played from a count of faults on
-pub record Going (setup : Setup) (places : ℕ) (held : Option Files) (first : ℕ) (left : DiskSeen) (world : World) (lines : List Line)
+pub record Going (setup : Setup) (places : ℕ) (held : Option Files) (first : ℕ) (left : DiskView) (world : World) (lines : List Line)
     (text : List ℕ) : Type 0 where
   pub state : State Peers
   pub told : List Told
@@ -116,7 +115,7 @@ pub record Going (setup : Setup) (places : ℕ) (held : Option Files) (first : �
   pub written : text ≡ text_of told
 
 -- where one line that is played ends: its event is done, or the disk failed behind some lines
-abbrev pub LineEnds : Setup → State Peers → Line → DiskSeen → DiskSeen → World → Reaching
+abbrev pub LineEnds : Setup → State Peers → Line → DiskView → DiskView → World → Reaching
 LineEnds setup state next held left world None text =
     (lines : List (List ℕ)) × (text ≡ joined_lines lines) × EventDone setup state next lines held left world
 LineEnds setup state next held left world (Some DiskFault) text =
@@ -134,7 +133,7 @@ abbrev pub LineLacks : Setup → State Peers → Option Files → Option Files �
 LineLacks setup state held left world text = (text ≡ []) × Broken setup state held left world
 
 -- lines were played, and world and disk stand where they led
-pub record Plays (setup : Setup) (places : ℕ) (held : Option Files) (first : ℕ) (left : DiskSeen) (world : World) (lines : List Line)
+pub record Plays (setup : Setup) (places : ℕ) (held : Option Files) (first : ℕ) (left : DiskView) (world : World) (lines : List Line)
     (text : List ℕ) : Type 0 where
   pub goes : Goes setup places held first lines text
   pub now : StandsAt setup goes.state goes.files goes.faults held left world
@@ -154,7 +153,7 @@ pub record LacksBehind (setup : Setup) (places : ℕ) (held : Option Files) (fir
   pub broken : Broken setup behind.goes.state (files_told behind.goes.files held) left world
 
 -- by a fault of the disk, which told the files of the events before and their count of faults
-pub record FaultsBehind (setup : Setup) (places : ℕ) (held : Option Files) (first : ℕ) (left : DiskSeen) (Since : Option Files → ℕ → Type 0)
+pub record FaultsBehind (setup : Setup) (places : ℕ) (held : Option Files) (first : ℕ) (left : DiskView) (Since : Option Files → ℕ → Type 0)
     (world : World) (events : List Line) (text : List ℕ) : Type 0 where
   pub front : List ℕ
   pub behind : BreaksBehind setup places held first events front
@@ -164,7 +163,7 @@ pub record FaultsBehind (setup : Setup) (places : ℕ) (held : Option Files) (fi
   pub written : text ≡ front ++ (lines ++ fault_line)
 
 -- where the lines behind the opening end
-abbrev pub EventsEnd : Setup → ℕ → Option Files → ℕ → DiskSeen → (Option Files → ℕ → Type 0) → World → List Line → Reaching
+abbrev pub EventsEnd : Setup → ℕ → Option Files → ℕ → DiskView → (Option Files → ℕ → Type 0) → World → List Line → Reaching
 EventsEnd setup places held first left Since world events None text =
     (done : List Line) × (rest : List Line) × (events ≡ done ++ rest) × Plays setup places held first left world done text
 EventsEnd setup places held first left Since world events (Some Done) text = Plays setup places held first left world events text
@@ -173,7 +172,7 @@ EventsEnd setup places held first left Since world events (Some DiskFault) text 
 EventsEnd setup places held first left Since world events _ text = ⊥
 
 -- behind some of the lines, of which these are left: the text so far is written, and no fault was lost
-pub record Behind {K : Type 0} (setup : Setup) (places : ℕ) (held : Option Files) (first : ℕ) (left : DiskSeen) (world : World)
+pub record Behind {K : Type 0} (setup : Setup) (places : ℕ) (held : Option Files) (first : ℕ) (left : DiskView) (world : World)
     (sink : Edge K (List ℕ)) (events rest : List Line) : Type 0 where
   pub done : List Line
   pub parts : events ≡ done ++ rest
@@ -182,5 +181,5 @@ pub record Behind {K : Type 0} (setup : Setup) (places : ℕ) (held : Option Fil
   pub appended : Appends (before sink) (after sink) text
 
 -- a cluster was begun, and the disk has its first files
-abbrev pub HasBegun : DiskSeen → World → Type 0
+abbrev pub HasBegun : DiskView → World → Type 0
 HasBegun left world = (setup : Setup) × (places : ℕ) × (held : Option Files) × Begun setup places held left world

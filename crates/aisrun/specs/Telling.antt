@@ -9,10 +9,10 @@ use Rattle.cluster_facts.specs.Agents.{fed_of}
 use Rattle.cluster_facts.specs.World.{World as WorldOf}
 use Rattle.cluster_events.specs.Servers.{State}
 use Rattle.pair_cluster.specs.Peers.{Peers}
-use Rattle.cluster_rounds.specs.Came.{DiskSeen}
 use Rattle.service_laws.specs.Telling.{TellSends, callbacks_of}
 use Rattle.cluster_core.specs.declared.world.World.{World}
 use Rattle.cluster_core.specs.Broken.{Broken}
+use Rattle.cluster_core.specs.Worlds.{DiskView}
 use Rattle.aisrun.specs.Playing.{PlaysFront, files_told}
 use Rattle.aisrun.specs.Promises.{Sentence}
 
@@ -39,7 +39,7 @@ TellsBroken setup state held left world broken =
 
 -- so it is behind each front of a script that was played on a disk that told these files before, wherever want of memory in the
 -- next line left the world and the disk as they are now
-abbrev pub TellsAtWant : (held : Option Files) (left : DiskSeen) (world : World) → Type 0
+abbrev pub TellsAtWant : (held : Option Files) (left : DiskView) (world : World) → Type 0
 TellsAtWant held left world =
     (first : ℕ) (script done rest : List Line) (next : Line) (text : List ℕ) (front : PlaysFront held first script done (next ∷ rest) text)
     (broken : Broken front.setup front.goes.state (files_told front.goes.files held) left.files world)

@@ -157,11 +157,12 @@ fn one_more(held: Held, length: u64) -> Option<Held>
 
 /// These and the file of a name, if it has a length. More than a `u64` tells count as want of memory, here and below.
 fn with_file<D: SharedDisk>(disk: &mut D, name: &[u8], held: Held) -> Result<Held, Halt>
-    ensures counted { IfOk result (λ more. IfSome (D.files disk.old) (λ told.
+    ensures counted { IfOk result (λ more. IfSome (D.seen disk.old).files (λ told.
         CountsFile told name.now held more)) }
-    ensures same { D.files disk.new ≡ D.files disk.old }
-    ensures armed { (D.tally disk.new).armed ≡ (D.tally disk.old).armed }
-    ensures cause { RoseExactlyOn (D.faults disk.old) (D.faults disk.new) result Halt.DiskFault }
+    ensures same { (D.seen disk.new).files ≡ (D.seen disk.old).files }
+    ensures armed { (D.seen disk.new).tally.armed ≡ (D.seen disk.old).tally.armed }
+    ensures cause { RoseExactlyOn (D.seen disk.old).faults (D.seen disk.new).faults result
+        Halt.DiskFault }
 {
     match disk.len(name) {
         Ok(None) => Ok(held),
@@ -175,11 +176,12 @@ fn with_file<D: SharedDisk>(disk: &mut D, name: &[u8], held: Held) -> Result<Hel
 
 /// Counts the files of a disk. `DiskFault` comes exactly where the disk's count of faults rose.
 fn count_files<D: SharedDisk>(alloc: Global, disk: &mut D) -> Result<Held, Halt>
-    ensures counted { IfOk result (λ held. IfSome (D.files disk.old) (λ told.
+    ensures counted { IfOk result (λ held. IfSome (D.seen disk.old).files (λ told.
         CountsFront told (map.keys told) held)) }
-    ensures same { D.files disk.new ≡ D.files disk.old }
-    ensures armed { (D.tally disk.new).armed ≡ (D.tally disk.old).armed }
-    ensures cause { RoseExactlyOn (D.faults disk.old) (D.faults disk.new) result Halt.DiskFault }
+    ensures same { (D.seen disk.new).files ≡ (D.seen disk.old).files }
+    ensures armed { (D.seen disk.new).tally.armed ≡ (D.seen disk.old).tally.armed }
+    ensures cause { RoseExactlyOn (D.seen disk.old).faults (D.seen disk.new).faults result
+        Halt.DiskFault }
 {
     let names = match disk.names(alloc) {
         Ok(names) => names,
@@ -258,10 +260,11 @@ fn load_line(alloc: Global, world: &World, held: &Held) -> Result<String, AllocE
 /// `DiskFault` comes exactly where the disk's count of faults rose; the disk is only read.
 pub fn tell_load<D: SharedDisk>(alloc: Global, disk: &mut D, world: &World) -> Result<String, Halt>
     ensures told { IfOk result (λ line. (setup : Setup) (state : State Peers) → Shows setup state
-        world.entry.now → TellsLoad state (D.files disk.old) (string_bytes line)) }
-    ensures same { D.files disk.new ≡ D.files disk.old }
-    ensures armed { (D.tally disk.new).armed ≡ (D.tally disk.old).armed }
-    ensures cause { RoseExactlyOn (D.faults disk.old) (D.faults disk.new) result Halt.DiskFault }
+        world.entry.now → TellsLoad state (D.seen disk.old).files (string_bytes line)) }
+    ensures same { (D.seen disk.new).files ≡ (D.seen disk.old).files }
+    ensures armed { (D.seen disk.new).tally.armed ≡ (D.seen disk.old).tally.armed }
+    ensures cause { RoseExactlyOn (D.seen disk.old).faults (D.seen disk.new).faults result
+        Halt.DiskFault }
 {
     let held = match count_files(alloc, disk) {
         Ok(held) => held,

@@ -5,7 +5,6 @@ ghost use Rattle.disk_model.specs.Disk.{Files};
 ghost use Rattle.plain_service.specs.Setups.{Setup};
 ghost use Rattle.cluster_events.specs.Servers.{State};
 ghost use Rattle.cluster_clients.specs.Answers.{RisesAtFault};
-ghost use Rattle.cluster_rounds.specs.Came.{seen_by};
 ghost use Rattle.script_language.specs.Lines.{Spells};
 ghost use Rattle.script_language.specs.Scripts.{IsScriptOf};
 ghost use Rattle.load_script.specs.Texts.{load_text};
@@ -13,8 +12,8 @@ ghost use Rattle.load_lines.specs.Lines.{closing_lines, first_lines, load_lines,
 ghost use Rattle.pair_cluster.specs.Peers.{Peers};
 ghost use Rattle.cluster_core.specs.Beginning.{Begins, Begun, HoldsNone, LeavesBroken};
 ghost use Rattle.cluster_core.specs.Playing.{IsEventLine};
-ghost use Rattle.cluster_core.specs.Worlds.{empty_world, HasState, Shows};
-ghost use Rattle.aisrun.specs.Edges.{edge, stage};
+ghost use Rattle.cluster_core.specs.Worlds.{empty_world, HasState, Shows, view_of};
+ghost use Rattle.aisrun.specs.Edges.{disk_edge, edge, stage};
 ghost use Rattle.aisrun.specs.Endings.{StoodUpTo};
 ghost use Rattle.aisrun.specs.LoadSteps.{CanPass, HasGone, LoadedOn, Passes, RisesPassing, RunEnds, RunWants, TellEnds, TellLacks};
 ghost use Rattle.aisrun.specs.Steps.{Ended, HasBegun, Written, unasked};
@@ -56,11 +55,11 @@ fn pass_line<R: Threads + Wait + Sync, D: SharedDisk, G: Gate>(
 ) -> Result<(), Halt>
     requires spelled { (raw : List ℕ) × Spells line.now raw }
     requires event { IsEventLine world.old.now line.now }
-    requires state { HasState world.old (D.tally disk.old).armed }
-    ensures passes { Passes (StoodUpTo (edge D.files D.faults disk.old disk.new)) (line.now ∷ [])
-        (seen_by D.files D.tally D.faults disk.old) (seen_by D.files D.tally D.faults disk.new)
+    requires state { HasState world.old (D.seen disk.old).tally.armed }
+    ensures passes { Passes (StoodUpTo (disk_edge D.seen disk.old disk.new)) (line.now ∷ [])
+        (view_of (D.seen disk.old)) (view_of (D.seen disk.new))
         world.old world.new result }
-    ensures counts { RisesPassing (D.faults disk.old, D.faults disk.new) result }
+    ensures counts { RisesPassing ((D.seen disk.old).faults, (D.seen disk.new).faults) result }
 {
     match world.event(rt, alloc, line, disk, gate) {
         Ok(printed) => {
@@ -84,12 +83,12 @@ fn pass_lines<R: Threads + Wait + Sync, D: SharedDisk, G: Gate>(
     gate: &G,
     world: &mut World,
 ) -> Result<(), Halt>
-    requires gone { HasGone (seen_by D.files D.tally D.faults disk.old) world.old }
+    requires gone { HasGone (view_of (D.seen disk.old)) world.old }
     requires can { CanPass lines.now }
-    ensures passes { Passes (StoodUpTo (edge D.files D.faults disk.old disk.new)) lines.now
-        (seen_by D.files D.tally D.faults disk.old) (seen_by D.files D.tally D.faults disk.new)
+    ensures passes { Passes (StoodUpTo (disk_edge D.seen disk.old disk.new)) lines.now
+        (view_of (D.seen disk.old)) (view_of (D.seen disk.new))
         world.old world.new result }
-    ensures counts { RisesPassing (D.faults disk.old, D.faults disk.new) result }
+    ensures counts { RisesPassing ((D.seen disk.old).faults, (D.seen disk.new).faults) result }
 {
     for line in lines {
         match pass_line(rt, alloc, line, disk, gate, world) {
@@ -110,12 +109,12 @@ fn pass_turn<R: Threads + Wait + Sync, D: SharedDisk, G: Gate>(
     gate: &G,
     world: &mut World,
 ) -> Result<(), Halt>
-    requires gone { HasGone (seen_by D.files D.tally D.faults disk.old) world.old }
+    requires gone { HasGone (view_of (D.seen disk.old)) world.old }
     requires small { number < 65536 }
-    ensures passes { Passes (StoodUpTo (edge D.files D.faults disk.old disk.new))
-        (turn_lines turn number) (seen_by D.files D.tally D.faults disk.old)
-        (seen_by D.files D.tally D.faults disk.new) world.old world.new result }
-    ensures counts { RisesPassing (D.faults disk.old, D.faults disk.new) result }
+    ensures passes { Passes (StoodUpTo (disk_edge D.seen disk.old disk.new))
+        (turn_lines turn number) (view_of (D.seen disk.old))
+        (view_of (D.seen disk.new)) world.old world.new result }
+    ensures counts { RisesPassing ((D.seen disk.old).faults, (D.seen disk.new).faults) result }
 {
     match turn_lines(alloc, turn, number) {
         Ok(lines) => pass_lines(rt, alloc, lines.as_slice(), disk, gate, world),
@@ -133,11 +132,11 @@ fn pass_turns<R: Threads + Wait + Sync, D: SharedDisk, G: Gate>(
     gate: &G,
     world: &mut World,
 ) -> Result<(), Halt>
-    requires gone { HasGone (seen_by D.files D.tally D.faults disk.old) world.old }
-    ensures passes { Passes (StoodUpTo (edge D.files D.faults disk.old disk.new))
-        (turns_lines seed count) (seen_by D.files D.tally D.faults disk.old)
-        (seen_by D.files D.tally D.faults disk.new) world.old world.new result }
-    ensures counts { RisesPassing (D.faults disk.old, D.faults disk.new) result }
+    requires gone { HasGone (view_of (D.seen disk.old)) world.old }
+    ensures passes { Passes (StoodUpTo (disk_edge D.seen disk.old disk.new))
+        (turns_lines seed count) (view_of (D.seen disk.old))
+        (view_of (D.seen disk.new)) world.old world.new result }
+    ensures counts { RisesPassing ((D.seen disk.old).faults, (D.seen disk.new).faults) result }
 {
     let mut state = first_state(seed);
     for done in 0..count {
@@ -158,11 +157,11 @@ fn pass_first<R: Threads + Wait + Sync, D: SharedDisk, G: Gate>(
     gate: &G,
     world: &mut World,
 ) -> Result<(), Halt>
-    requires gone { HasGone (seen_by D.files D.tally D.faults disk.old) world.old }
-    ensures passes { Passes (StoodUpTo (edge D.files D.faults disk.old disk.new)) first_lines
-        (seen_by D.files D.tally D.faults disk.old) (seen_by D.files D.tally D.faults disk.new)
+    requires gone { HasGone (view_of (D.seen disk.old)) world.old }
+    ensures passes { Passes (StoodUpTo (disk_edge D.seen disk.old disk.new)) first_lines
+        (view_of (D.seen disk.old)) (view_of (D.seen disk.new))
         world.old world.new result }
-    ensures counts { RisesPassing (D.faults disk.old, D.faults disk.new) result }
+    ensures counts { RisesPassing ((D.seen disk.old).faults, (D.seen disk.new).faults) result }
 {
     match first_lines(alloc) {
         Ok(lines) => pass_lines(rt, alloc, lines.as_slice(), disk, gate, world),
@@ -178,11 +177,11 @@ fn pass_closing<R: Threads + Wait + Sync, D: SharedDisk, G: Gate>(
     gate: &G,
     world: &mut World,
 ) -> Result<(), Halt>
-    requires gone { HasGone (seen_by D.files D.tally D.faults disk.old) world.old }
-    ensures passes { Passes (StoodUpTo (edge D.files D.faults disk.old disk.new)) closing_lines
-        (seen_by D.files D.tally D.faults disk.old) (seen_by D.files D.tally D.faults disk.new)
+    requires gone { HasGone (view_of (D.seen disk.old)) world.old }
+    ensures passes { Passes (StoodUpTo (disk_edge D.seen disk.old disk.new)) closing_lines
+        (view_of (D.seen disk.old)) (view_of (D.seen disk.new))
         world.old world.new result }
-    ensures counts { RisesPassing (D.faults disk.old, D.faults disk.new) result }
+    ensures counts { RisesPassing ((D.seen disk.old).faults, (D.seen disk.new).faults) result }
 {
     match closing_lines(alloc) {
         Ok(lines) => pass_lines(rt, alloc, lines.as_slice(), disk, gate, world),
@@ -200,11 +199,11 @@ fn pass_front<R: Threads + Wait + Sync, D: SharedDisk, G: Gate>(
     gate: &G,
     world: &mut World,
 ) -> Result<(), Halt>
-    requires gone { HasGone (seen_by D.files D.tally D.faults disk.old) world.old }
-    ensures passes { Passes (StoodUpTo (edge D.files D.faults disk.old disk.new))
-        (first_lines ++ turns_lines seed count) (seen_by D.files D.tally D.faults disk.old)
-        (seen_by D.files D.tally D.faults disk.new) world.old world.new result }
-    ensures counts { RisesPassing (D.faults disk.old, D.faults disk.new) result }
+    requires gone { HasGone (view_of (D.seen disk.old)) world.old }
+    ensures passes { Passes (StoodUpTo (disk_edge D.seen disk.old disk.new))
+        (first_lines ++ turns_lines seed count) (view_of (D.seen disk.old))
+        (view_of (D.seen disk.new)) world.old world.new result }
+    ensures counts { RisesPassing ((D.seen disk.old).faults, (D.seen disk.new).faults) result }
 {
     match pass_first(rt, alloc, disk, gate, world) {
         Ok(()) => pass_turns(rt, alloc, count, seed, disk, gate, world),
@@ -222,12 +221,12 @@ fn pass_events<R: Threads + Wait + Sync, D: SharedDisk, G: Gate>(
     gate: &G,
     world: &mut World,
 ) -> Result<(), Halt>
-    requires gone { HasGone (seen_by D.files D.tally D.faults disk.old) world.old }
-    ensures passes { Passes (StoodUpTo (edge D.files D.faults disk.old disk.new))
+    requires gone { HasGone (view_of (D.seen disk.old)) world.old }
+    ensures passes { Passes (StoodUpTo (disk_edge D.seen disk.old disk.new))
         (first_lines ++ turns_lines seed count ++ closing_lines)
-        (seen_by D.files D.tally D.faults disk.old) (seen_by D.files D.tally D.faults disk.new)
+        (view_of (D.seen disk.old)) (view_of (D.seen disk.new))
         world.old world.new result }
-    ensures counts { RisesPassing (D.faults disk.old, D.faults disk.new) result }
+    ensures counts { RisesPassing ((D.seen disk.old).faults, (D.seen disk.new).faults) result }
 {
     match pass_front(rt, alloc, count, seed, disk, gate, world) {
         Ok(()) => pass_closing(rt, alloc, disk, gate, world),
@@ -238,11 +237,11 @@ fn pass_events<R: Threads + Wait + Sync, D: SharedDisk, G: Gate>(
 // Writes the line that tells where the run led. The disk is only read.
 fn tell<K: Sink, D: SharedDisk>(alloc: Global, out: &mut K, disk: &mut D, world: &World) -> Status8
     ensures told { (setup : Setup) (state : State Peers) → Shows setup state world.entry.now
-        → Written (TellEnds (D.faults disk.old, D.faults disk.new) state (D.files disk.old))
-        (TellLacks (D.faults disk.old, D.faults disk.new))
+        → Written (TellEnds ((D.seen disk.old).faults, (D.seen disk.new).faults) state
+        (D.seen disk.old).files) (TellLacks ((D.seen disk.old).faults, (D.seen disk.new).faults))
         (edge K.written K.faults out.old out.new) result }
-    ensures same { D.files disk.new ≡ D.files disk.old }
-    ensures armed { (D.tally disk.new).armed ≡ (D.tally disk.old).armed }
+    ensures same { (D.seen disk.new).files ≡ (D.seen disk.old).files }
+    ensures armed { (D.seen disk.new).tally.armed ≡ (D.seen disk.old).tally.armed }
 {
     match tell_load(alloc, disk, world) {
         Ok(line) => write_text(out, Status8::Done, line.as_bytes()),
@@ -262,15 +261,15 @@ fn run_events<R: Threads + Wait + Sync, K: Sink, D: SharedDisk, G: Gate>(
     gate: &G,
     world: &mut World,
 ) -> Status8
-    requires begun { HasBegun (seen_by D.files D.tally D.faults disk.old) world.old }
+    requires begun { HasBegun (view_of (D.seen disk.old)) world.old }
     ensures { (setup : Setup) (places : ℕ) (held : Option Files)
-        → Begun setup places held (seen_by D.files D.tally D.faults disk.old) world.old
+        → Begun setup places held (view_of (D.seen disk.old)) world.old
         → let events = first_lines ++ turns_lines seed count ++ closing_lines
-        in let left = seen_by D.files D.tally D.faults disk.new
-        in let since = StoodUpTo (edge D.files D.faults disk.old disk.new)
-        in Ended unasked (D.faults disk.old, D.faults disk.new)
-        (RunEnds setup places held (D.faults disk.old) left since world.new events)
-        (RunWants setup places held (D.faults disk.old) left since world.new events)
+        in let left = view_of (D.seen disk.new)
+        in let since = StoodUpTo (disk_edge D.seen disk.old disk.new)
+        in Ended unasked ((D.seen disk.old).faults, (D.seen disk.new).faults)
+        (RunEnds setup places held (D.seen disk.old).faults left since world.new events)
+        (RunWants setup places held (D.seen disk.old).faults left since world.new events)
         (edge K.written K.faults out.old out.new) result }
 {
     match pass_events(rt, alloc, count, seed, disk, gate, world) {
@@ -288,14 +287,14 @@ fn begin_load<R, D: SharedDisk>(
     world: &mut World,
 ) -> Result<(), EventAnswer>
     requires empty { world.old ≡ empty_world }
-    requires unarmed { (D.tally disk.old).armed ≡ None }
+    requires unarmed { (D.seen disk.old).tally.armed ≡ None }
     ensures ok { (setup : Setup) (places : ℕ) → Begins opening_line setup places →
-        HoldsNone (D.files disk.old) → OnOk result (Begun setup places (D.files disk.old)
-        (seen_by D.files D.tally D.faults disk.new) world.new) }
+        HoldsNone (D.seen disk.old).files → OnOk result (Begun setup places (D.seen disk.old).files
+        (view_of (D.seen disk.new)) world.new) }
     ensures same { OnErr result (world.new ≡ world.old) }
     ensures broken { (setup : Setup) (places : ℕ) → Begins opening_line setup places →
-        LeavesBroken setup (D.files disk.old) (D.files disk.new) result }
-    ensures cause { RisesAtFault (D.faults disk.old) (D.faults disk.new) result }
+        LeavesBroken setup (D.seen disk.old).files (D.seen disk.new).files result }
+    ensures cause { RisesAtFault (D.seen disk.old).faults (D.seen disk.new).faults result }
 {
     let line = opening_line();
     let begun = world.begin(rt, alloc, &line, disk);
@@ -315,10 +314,10 @@ fn open_load<R: Threads + Wait + Sync, K: Sink, D: SharedDisk, G: Gate>(
     world: &mut World,
 ) -> Status8
     requires empty { world.old ≡ empty_world }
-    requires bare { HoldsNone (D.files disk.old) }
-    requires unarmed { (D.tally disk.old).armed ≡ None }
+    requires bare { HoldsNone (D.seen disk.old).files }
+    requires unarmed { (D.seen disk.old).tally.armed ≡ None }
     ensures { LoadedOn (load_lines count seed) (stage (edge K.written K.faults out.old out.new)
-        (edge D.files D.faults disk.old disk.new) (D.tally disk.new).armed world.old world.new)
+        (disk_edge D.seen disk.old disk.new) (D.seen disk.new).tally.armed world.old world.new)
         result }
 {
     match begin_load(rt, alloc, disk, world) {
@@ -348,10 +347,10 @@ pub fn load<R: Threads + Wait + Sync, K: Sink, D: SharedDisk, G: Gate>(
     world: &mut World,
 ) -> Status8
     requires empty { world.old ≡ empty_world }
-    requires unarmed { (D.tally disk.old).armed ≡ None }
+    requires unarmed { (D.seen disk.old).tally.armed ≡ None }
     ensures script { IsScriptOf (load_lines count seed) (load_text count seed) }
     ensures ends { LoadedOn (load_lines count seed) (stage (edge K.written K.faults out.old out.new)
-        (edge D.files D.faults disk.old disk.new) (D.tally disk.new).armed world.old world.new)
+        (disk_edge D.seen disk.old disk.new) (D.seen disk.new).tally.armed world.old world.new)
         result }
 {
     law_of_loads();

@@ -5,12 +5,11 @@ ghost use Rattle.disk_model.specs.Disk.{Files};
 ghost use Rattle.plain_service.specs.Setups.{Setup};
 ghost use Rattle.cluster_events.specs.Servers.{State};
 ghost use Rattle.pair_cluster.specs.Peers.{Peers};
-ghost use Rattle.cluster_rounds.specs.Came.{seen};
 ghost use Rattle.script_language.specs.Lines.{Spells};
 ghost use Rattle.cluster_core.specs.Beginning.{Begun, HoldsNone};
 ghost use Rattle.cluster_core.specs.Playing.{IsEventLine};
-ghost use Rattle.cluster_core.specs.Worlds.{empty_world, HasState, IsArmedBy, IsGood, Shows, TellsFiles};
-ghost use Rattle.aisrun.specs.Edges.{edge, stage};
+ghost use Rattle.cluster_core.specs.Worlds.{empty_world, HasState, IsArmedBy, IsGood, Shows, TellsFiles, view_of};
+ghost use Rattle.aisrun.specs.Edges.{disk_edge, edge, stage};
 ghost use Rattle.aisrun.specs.Endings.{StoodUpTo};
 ghost use Rattle.aisrun.specs.Scripting.{CanPlay, IsPlayable};
 ghost use Rattle.aisrun.specs.Steps.{CanFollow, Ended, EventsEnd, FindsNames, HasBegun, IsNone, IsText, LacksBehind, LineEnds, LineGives, LineLacks, PlayedOn, Written, unasked};
@@ -40,14 +39,14 @@ fn play_line<R: Threads + Wait + Sync, K: Sink, D: SharedDisk, G: Gate>(
 ) -> Result<(), Status8>
     requires spelled { (raw : List ℕ) × Spells line.now raw }
     requires event { IsEventLine world.old.now line.now }
-    requires state { HasState world.old (D.tally disk.old).armed }
+    requires state { HasState world.old (D.seen disk.old).tally.armed }
     ensures { (setup : Setup) (state : State Peers) → IsGood setup state
-        → Shows setup state world.old → IsArmedBy state (D.tally disk.old).armed
-        → TellsFiles setup state (D.files disk.old)
-        → LineGives (D.faults disk.old, D.faults disk.new) (LineEnds setup state line.now
-        (seen (D.files disk.old) (D.tally disk.old) (D.faults disk.old))
-        (seen (D.files disk.new) (D.tally disk.new) (D.faults disk.new)) world.new)
-        (LineLacks setup state (D.files disk.old) (D.files disk.new) world.new)
+        → Shows setup state world.old → IsArmedBy state (D.seen disk.old).tally.armed
+        → TellsFiles setup state (D.seen disk.old).files
+        → LineGives ((D.seen disk.old).faults, (D.seen disk.new).faults) (LineEnds setup state
+        line.now (view_of (D.seen disk.old))
+        (view_of (D.seen disk.new)) world.new)
+        (LineLacks setup state (D.seen disk.old).files (D.seen disk.new).files world.new)
         (edge K.written K.faults out.old out.new) result }
 {
     match world.event(rt, alloc, line, disk, gate) {
@@ -70,18 +69,18 @@ fn play_events<R: Threads + Wait + Sync, K: Sink, D: SharedDisk, G: Gate>(
     gate: &G,
     world: &mut World,
 ) -> Status8
-    requires begun { HasBegun (seen (D.files disk.old) (D.tally disk.old) (D.faults disk.old))
+    requires begun { HasBegun (view_of (D.seen disk.old))
         world.old }
     requires follows { CanFollow world.old.now events.now }
     ensures { (setup : Setup) (places : ℕ) (held : Option Files)
         → Begun setup places held
-        (seen (D.files disk.old) (D.tally disk.old) (D.faults disk.old)) world.old
-        → Ended unasked (D.faults disk.old, D.faults disk.new)
-        (EventsEnd setup places held (D.faults disk.old)
-        (seen (D.files disk.new) (D.tally disk.new) (D.faults disk.new))
-        (StoodUpTo (edge D.files D.faults disk.old disk.new)) world.new events.now)
-        (LacksBehind setup places held (D.faults disk.old) (D.files disk.new) world.new events.now)
-        (edge K.written K.faults out.old out.new) result }
+        (view_of (D.seen disk.old)) world.old
+        → Ended unasked ((D.seen disk.old).faults, (D.seen disk.new).faults)
+        (EventsEnd setup places held (D.seen disk.old).faults
+        (view_of (D.seen disk.new))
+        (StoodUpTo (disk_edge D.seen disk.old disk.new)) world.new events.now)
+        (LacksBehind setup places held (D.seen disk.old).faults (D.seen disk.new).files world.new
+        events.now) (edge K.written K.faults out.old out.new) result }
 {
     for line in events {
         match play_line(rt, alloc, line, out, disk, gate, world) {
@@ -105,10 +104,10 @@ fn open<R: Threads + Wait + Sync, K: Sink, D: SharedDisk, G: Gate>(
 ) -> Status8
     requires script { CanPlay opening.now events.now }
     requires empty { world.old ≡ empty_world }
-    requires bare { HoldsNone (D.files disk.old) }
-    requires unarmed { (D.tally disk.old).armed ≡ None }
+    requires bare { HoldsNone (D.seen disk.old).files }
+    requires unarmed { (D.seen disk.old).tally.armed ≡ None }
     ensures { PlayedOn (opening.now ∷ events.now) (stage (edge K.written K.faults out.old out.new)
-        (edge D.files D.faults disk.old disk.new) (D.tally disk.new).armed world.old world.new)
+        (disk_edge D.seen disk.old disk.new) (D.seen disk.new).tally.armed world.old world.new)
         result }
 {
     match world.begin(rt, alloc, opening, disk) {
@@ -120,10 +119,11 @@ fn open<R: Threads + Wait + Sync, K: Sink, D: SharedDisk, G: Gate>(
 
 /// The least name of the disk's files, if it holds one. `Failed` comes exactly where its count of faults rose.
 pub fn first_name<D: SharedDisk>(alloc: Global, disk: &mut D) -> Result<Option<Text>, DiskAnswer>
-    ensures found { IfOk result (λ found. FindsNames (D.files disk.old) found) }
-    ensures same { D.files disk.new ≡ D.files disk.old }
-    ensures armed { (D.tally disk.new).armed ≡ (D.tally disk.old).armed }
-    ensures cause { RoseExactlyOn (D.faults disk.old) (D.faults disk.new) result DiskAnswer.Failed }
+    ensures found { IfOk result (λ found. FindsNames (D.seen disk.old).files found) }
+    ensures same { (D.seen disk.new).files ≡ (D.seen disk.old).files }
+    ensures armed { (D.seen disk.new).tally.armed ≡ (D.seen disk.old).tally.armed }
+    ensures cause { RoseExactlyOn (D.seen disk.old).faults (D.seen disk.new).faults result
+        DiskAnswer.Failed }
 {
     let names = match disk.names(alloc) {
         Ok(names) => names,
@@ -168,9 +168,9 @@ pub fn play<R: Threads + Wait + Sync, K: Sink, D: SharedDisk, G: Gate>(
 ) -> Status8
     requires script { IsPlayable lines.now }
     requires empty { world.old ≡ empty_world }
-    requires unarmed { (D.tally disk.old).armed ≡ None }
+    requires unarmed { (D.seen disk.old).tally.armed ≡ None }
     ensures { PlayedOn lines.now (stage (edge K.written K.faults out.old out.new)
-        (edge D.files D.faults disk.old disk.new) (D.tally disk.new).armed world.old world.new)
+        (disk_edge D.seen disk.old disk.new) (D.seen disk.new).tally.armed world.old world.new)
         result }
 {
     match first_name(alloc, disk) {

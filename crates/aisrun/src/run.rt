@@ -5,15 +5,14 @@ ghost use Rattle.aisrun.specs.Commands.{command_of, word_bytes};
 ghost use Rattle.aisrun.specs.Completing.{CanCheck, CanGenerate, CanLoad, CanParse, CanRun, HoldsRecords, IsDoneOrMemory};
 ghost use Rattle.aisrun.specs.Counts.{HasRisen, NoneRises, RisesBy};
 ghost use Rattle.aisrun.specs.declared.ending.Status8.{Status8};
-ghost use Rattle.aisrun.specs.Edges.{around, edge, fault_count, stage};
+ghost use Rattle.aisrun.specs.Edges.{around, disk_edge, edge, fault_count, stage};
 ghost use Rattle.aisrun.specs.Endings.{Ends, EndsBy};
 ghost use Rattle.aisrun.specs.Promises.{OfAllLines, Throughout, CallsBack, CommitsInTime, DeclinesRightly, FallsByCause, FaultsFell, KeepsFiles, KeepsOneHistory, KeepsRecords, PrintsPosts, ReadsRightly, RepliesRightly, SettlesAll, StandsOnce};
 ghost use Rattle.aisrun.specs.Telling.{TellsAtWant, TellsOnce};
 ghost use Rattle.aisrun.specs.Scripting.{BytesEnd, BytesLack};
 ghost use Rattle.aisrun.specs.RunSteps.{InputEnds, InputLacks, WordsLack};
 ghost use Rattle.aisrun.specs.Steps.{Ended, unasked};
-ghost use Rattle.cluster_rounds.specs.Came.{seen};
-ghost use Rattle.cluster_core.specs.Worlds.{empty_world};
+ghost use Rattle.cluster_core.specs.Worlds.{empty_world, view_of};
 
 use crate::check::run_check;
 use crate::command::{Command, command_of, text_of, wanted_of};
@@ -46,9 +45,9 @@ fn run_bytes<R: Threads + Wait + Sync, K: Sink, D: SharedDisk, G: Gate>(
 ) -> Status8
     requires short { length bytes.now ≤ 16777216 }
     requires empty { world.old ≡ empty_world }
-    requires unarmed { (D.tally disk.old).armed ≡ None }
+    requires unarmed { (D.seen disk.old).tally.armed ≡ None }
     ensures { let scene = stage (edge K.written K.faults out.old out.new)
-        (edge D.files D.faults disk.old disk.new) (D.tally disk.new).armed world.old world.new
+        (disk_edge D.seen disk.old disk.new) (D.seen disk.new).tally.armed world.old world.new
         in Ended unasked (fault_count scene.disk) (BytesEnd bytes.now scene)
         (BytesLack bytes.now scene) scene.sink result }
 {
@@ -70,10 +69,10 @@ fn run_script<R: Threads + Wait + Sync, S: Source, K: Sink, D: SharedDisk, G: Ga
     world: &mut World,
 ) -> Status8
     requires empty { world.old ≡ empty_world }
-    requires unarmed { (D.tally disk.old).armed ≡ None }
+    requires unarmed { (D.seen disk.old).tally.armed ≡ None }
     ensures { let source = edge S.left S.faults source.old source.new in
         let scene = stage (edge K.written K.faults out.old out.new)
-        (edge D.files D.faults disk.old disk.new) (D.tally disk.new).armed world.old world.new
+        (disk_edge D.seen disk.old disk.new) (D.seen disk.new).tally.armed world.old world.new
         in Ended (fault_count source) (fault_count scene.disk) (InputEnds source scene)
         (InputLacks source scene) scene.sink result }
 {
@@ -97,10 +96,10 @@ fn run_command<R: Threads + Wait + Sync, S: Source, K: Sink, D: SharedDisk, G: G
 ) -> Status8
     requires asked { Some command ≡ command_of (word_bytes words.now) }
     requires empty { world.old ≡ empty_world }
-    requires unarmed { (D.tally disk.old).armed ≡ None }
+    requires unarmed { (D.seen disk.old).tally.armed ≡ None }
     ensures { let run = around (word_bytes words.now)
         (edge S.left S.faults source.old source.new) (edge K.written K.faults out.old out.new)
-        (edge D.files D.faults disk.old disk.new) (D.tally disk.new).armed world.old world.new
+        (disk_edge D.seen disk.old disk.new) (D.seen disk.new).tally.armed world.old world.new
         in Ended (fault_count run.source) (fault_count run.stage.disk) (Ends run)
         (WordsLack run) run.stage.sink result }
 {
@@ -128,10 +127,10 @@ fn run_words<R: Threads + Wait + Sync, S: Source, K: Sink, D: SharedDisk, G: Gat
     world: &mut World,
 ) -> Status8
     requires empty { world.old ≡ empty_world }
-    requires unarmed { (D.tally disk.old).armed ≡ None }
+    requires unarmed { (D.seen disk.old).tally.armed ≡ None }
     ensures { let run = around (word_bytes words.now)
         (edge S.left S.faults source.old source.new) (edge K.written K.faults out.old out.new)
-        (edge D.files D.faults disk.old disk.new) (D.tally disk.new).armed world.old world.new
+        (disk_edge D.seen disk.old disk.new) (D.seen disk.new).tally.armed world.old world.new
         in Ended (fault_count run.source) (fault_count run.stage.disk) (Ends run)
         (WordsLack run) run.stage.sink result }
 {
@@ -192,46 +191,46 @@ pub fn run<R: Threads + Wait + Sync, S: Source, K: Sink, D: SharedDisk, G: Gate>
     world: &mut World,
 ) -> Status8
     requires empty { world.old ≡ empty_world }
-    requires unarmed { (D.tally disk.old).armed ≡ None }
+    requires unarmed { (D.seen disk.old).tally.armed ≡ None }
 
     // How the run ends, by its status.
     ensures ends { EndsBy result (around (word_bytes words.now)
         (edge S.left S.faults source.old source.new) (edge K.written K.faults out.old out.new)
-        (edge D.files D.faults disk.old disk.new) (D.tally disk.new).armed world.old world.new) }
+        (disk_edge D.seen disk.old disk.new) (D.seen disk.new).tally.armed world.old world.new) }
 
     // Which counts of faults rose.
     ensures faults { RisesBy result (S.faults source.old, S.faults source.new)
-        (K.faults out.old, K.faults out.new) (D.faults disk.old, D.faults disk.new) }
+        (K.faults out.old, K.faults out.new) ((D.seen disk.old).faults, (D.seen disk.new).faults) }
 
     // What holds at the end of every line that was played.
-    ensures one_history { Throughout (D.files disk.old) KeepsOneHistory }
-    ensures replies { Throughout (D.files disk.old) RepliesRightly }
-    ensures declines { OfAllLines (D.files disk.old) DeclinesRightly }
-    ensures in_time { OfAllLines (D.files disk.old) CommitsInTime }
-    ensures falls { OfAllLines (D.files disk.old) FallsByCause }
-    ensures fells { OfAllLines (D.files disk.old) FaultsFell }
-    ensures readers { Throughout (D.files disk.old) ReadsRightly }
-    ensures callbacks { Throughout (D.files disk.old) CallsBack }
-    ensures tells_once { Throughout (D.files disk.old) TellsOnce }
-    ensures posts { Throughout (D.files disk.old) PrintsPosts }
-    ensures files { Throughout (D.files disk.old) KeepsFiles }
-    ensures stays { Throughout (D.files disk.old) KeepsRecords }
-    ensures stands_once { Throughout (D.files disk.old) StandsOnce }
-    ensures settles { Throughout (D.files disk.old) SettlesAll }
+    ensures one_history { Throughout (D.seen disk.old).files KeepsOneHistory }
+    ensures replies { Throughout (D.seen disk.old).files RepliesRightly }
+    ensures declines { OfAllLines (D.seen disk.old).files DeclinesRightly }
+    ensures in_time { OfAllLines (D.seen disk.old).files CommitsInTime }
+    ensures falls { OfAllLines (D.seen disk.old).files FallsByCause }
+    ensures fells { OfAllLines (D.seen disk.old).files FaultsFell }
+    ensures readers { Throughout (D.seen disk.old).files ReadsRightly }
+    ensures callbacks { Throughout (D.seen disk.old).files CallsBack }
+    ensures tells_once { Throughout (D.seen disk.old).files TellsOnce }
+    ensures posts { Throughout (D.seen disk.old).files PrintsPosts }
+    ensures files { Throughout (D.seen disk.old).files KeepsFiles }
+    ensures stays { Throughout (D.seen disk.old).files KeepsRecords }
+    ensures stands_once { Throughout (D.seen disk.old).files StandsOnce }
+    ensures settles { Throughout (D.seen disk.old).files SettlesAll }
 
     // What holds where a fault of the disk ended the run in an event.
-    ensures fault_keeps { KeepsAtFault (D.files disk.old)
-        (seen (D.files disk.new) (D.tally disk.new) (D.faults disk.new)) world.new }
+    ensures fault_keeps { KeepsAtFault (D.seen disk.old).files
+        (view_of (D.seen disk.new)) world.new }
 
     // What holds where memory ran out in an event.
-    ensures want_tells { TellsAtWant (D.files disk.old)
-        (seen (D.files disk.new) (D.tally disk.new) (D.faults disk.new)) world.new }
+    ensures want_tells { TellsAtWant (D.seen disk.old).files
+        (view_of (D.seen disk.new)) world.new }
 
     // Where nothing fails, a script is played, a script is checked, an expression is taken apart, a script is made, a large run
     // is played, and records are told: only memory may be missing.
-    ensures completes { CanRun (word_bytes words.now) (S.left source.old) (D.files disk.old)
+    ensures completes { CanRun (word_bytes words.now) (S.left source.old) (D.seen disk.old).files
         → NoneRises (S.faults source.old, S.faults source.new) (K.faults out.old, K.faults out.new)
-        (D.faults disk.old, D.faults disk.new) → IsDoneOrMemory result }
+        ((D.seen disk.old).faults, (D.seen disk.new).faults) → IsDoneOrMemory result }
     ensures checks { CanCheck (word_bytes words.now) (S.left source.old)
         → ¬ HasRisen (S.faults source.old, S.faults source.new)
         → ¬ HasRisen (K.faults out.old, K.faults out.new) → IsDoneOrMemory result }
@@ -239,9 +238,9 @@ pub fn run<R: Threads + Wait + Sync, S: Source, K: Sink, D: SharedDisk, G: Gate>
         → ¬ HasRisen (K.faults out.old, K.faults out.new) → IsDoneOrMemory result }
     ensures generates { CanGenerate (word_bytes words.now)
         → ¬ HasRisen (K.faults out.old, K.faults out.new) → IsDoneOrMemory result }
-    ensures loads { CanLoad (word_bytes words.now) (D.files disk.old)
+    ensures loads { CanLoad (word_bytes words.now) (D.seen disk.old).files
         → ¬ HasRisen (K.faults out.old, K.faults out.new)
-        → ¬ HasRisen (D.faults disk.old, D.faults disk.new) → IsDoneOrMemory result }
+        → ¬ HasRisen ((D.seen disk.old).faults, (D.seen disk.new).faults) → IsDoneOrMemory result }
     ensures scans { HoldsRecords (word_bytes words.now) (S.left source.old)
         → ¬ HasRisen (S.faults source.old, S.faults source.new)
         → ¬ HasRisen (K.faults out.old, K.faults out.new) → IsDoneOrMemory result }

@@ -11,7 +11,8 @@ use std::thread::Threads;
 
 /// The calls in which the server stops, the lines before it is armed, those behind, and the text,
 /// parted by `^`; one row behind another, parted by a back quote. The calls of a new file are a
-/// rename, a create, a remove where one is due, a write and a sync.
+/// rename, a create, a remove where one is due, a write and a sync. Records of size 0 are long by
+/// tokens that show an empty body in 255 places.
 const STOPS: &str = "\
     1 2 3 4 5^\
     cluster start=1704067200000000000 queue=2 callbacks=8 sysfmt=\"@Cr @Cb\" sysrec=32 sysmax=32 sysfull=rotate sysrot=1\n\
@@ -148,6 +149,101 @@ const STOPS: &str = "\
     text          1 a\n\
     text          2 b\n\
     text          3 c\n\
+    `\
+    1 2 3 4 5^\
+    cluster start=1704067200000000000 queue=2 callbacks=8 sysfmt=\"@Cr\
+    @Ci255@Ci255@Ci255@Ci255@Ci255@Ci255@Ci255@Ci255@Ci255@Ci255@Ci255\
+    @Ci255@Ci255@Ci255@Ci255@Ci255@Ci255@Ci255@Ci255@Ci255@Ci255@Ci255\
+    @Ci255@Ci255@Ci255@Ci255@Ci255@Ci255@Ci255@Ci255@Ci255@Ci255@Ci255\
+    \" sysrec=0 sysmax=16384 sysfull=rotate sysrot=1\n\
+    log 1 init A.2.1\n\
+    log 1 open system\n\
+    log 1 write system inv=0 flags=0 gen sev=6 class=0.0.0 user=\"u\" body=\"\"\n\
+    log 1 write system inv=0 flags=0 gen sev=6 class=0.0.0 user=\"u\" body=\"\"\n\
+    settle\n\
+    ^\
+    log 1 write system inv=0 flags=0 gen sev=6 class=0.0.0 user=\"u\" body=\"\"\n\
+    settle\n\
+    files\n\
+    cat \"saLogSystem_20240101_000006.log\"\n\
+    ^\
+    post 1 req 1 1\n\
+    post 2 req 1 2\n\
+    post 3 req 1 3\n\
+    post 4 req 1 4\n\
+    acc 1 call 1 1 1704067200000000000\n\
+    post 5 rep 1 1\n\
+    reply 1 1 ok\n\
+    acc 2 call 1 2 1704067200000000000\n\
+    post 6 rep 1 2\n\
+    reply 1 2 ok\n\
+    acc 3 call 1 3 1704067200000000000\n\
+    post 7 rep 1 3\n\
+    reply 1 3 ok\n\
+    acc 4 call 1 4 1704067200000000000\n\
+    post 8 rep 1 4\n\
+    reply 1 4 ok\n\
+    post 9 req 1 5\n\
+    acc 5 call 1 5 1704067200000000000\n\
+    server a down\n\
+    server b active\n\
+    post 10 rep 1 5\n\
+    reply 1 5 ok\n\
+    file saLogAlarm.cfg 156\n\
+    file saLogAlarm_20240101_000000.log 0\n\
+    file saLogNotification.cfg 163\n\
+    file saLogNotification_20240101_000001.log 0\n\
+    file saLogSystem.cfg 321\n\
+    file saLogSystem_20240101_000006.log 8426\n\
+    text          3\n\
+    `\
+    1 2^\
+    cluster start=1704067200000000000 queue=2 callbacks=8 sysfmt=\"@Cr\
+    @Ci255@Ci255@Ci255@Ci255@Ci255@Ci255@Ci255@Ci255\
+    @Ci255@Ci255@Ci255@Ci255@Ci255@Ci255@Ci255@Ci255\
+    \" sysrec=0 sysmax=16384 sysfull=rotate sysrot=2\n\
+    log 1 init A.2.1\n\
+    log 1 open system\n\
+    log 1 write system inv=0 flags=0 gen sev=6 class=0.0.0 user=\"u\" body=\"\"\n\
+    log 1 write system inv=0 flags=0 gen sev=6 class=0.0.0 user=\"u\" body=\"\"\n\
+    settle\n\
+    ^\
+    log 1 write system inv=0 flags=0 gen sev=6 class=0.0.0 user=\"u\" body=\"\"\n\
+    settle\n\
+    files\n\
+    cat \"saLogSystem_20240101_000002.log\"\n\
+    ^\
+    post 1 req 1 1\n\
+    post 2 req 1 2\n\
+    post 3 req 1 3\n\
+    post 4 req 1 4\n\
+    acc 1 call 1 1 1704067200000000000\n\
+    post 5 rep 1 1\n\
+    reply 1 1 ok\n\
+    acc 2 call 1 2 1704067200000000000\n\
+    post 6 rep 1 2\n\
+    reply 1 2 ok\n\
+    acc 3 call 1 3 1704067200000000000\n\
+    post 7 rep 1 3\n\
+    reply 1 3 ok\n\
+    acc 4 call 1 4 1704067200000000000\n\
+    post 8 rep 1 4\n\
+    reply 1 4 ok\n\
+    post 9 req 1 5\n\
+    acc 5 call 1 5 1704067200000000000\n\
+    server a down\n\
+    server b active\n\
+    post 10 rep 1 5\n\
+    reply 1 5 ok\n\
+    file saLogAlarm.cfg 156\n\
+    file saLogAlarm_20240101_000000.log 0\n\
+    file saLogNotification.cfg 163\n\
+    file saLogNotification_20240101_000001.log 0\n\
+    file saLogSystem.cfg 219\n\
+    file saLogSystem_20240101_000002.log 12273\n\
+    text          1\n\
+    text          2\n\
+    text          3\n\
     `\
     1 2 3 4^\
     cluster start=1704067200000000000 queue=2 callbacks=8\n\

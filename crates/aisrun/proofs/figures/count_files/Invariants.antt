@@ -5,8 +5,8 @@ use Rattle.aisrun.proofs.figures.count_files.Given as goal
 
 abbrev pub invariant-loop-name : goal.invariant-loop-name
 invariant-loop-name g l = record {
-  counted : IfSome (g.D.SharedDisk.files l.fn.disk) (λ told. CountsFront told (take l.name-index l.name-items) l.held);
-  same : g.D.SharedDisk.files l.disk ≡ g.D.SharedDisk.files l.fn.disk;
-  armed : (g.D.SharedDisk.tally l.disk).armed ≡ (g.D.SharedDisk.tally l.fn.disk).armed;
-  stands : g.D.SharedDisk.faults l.disk ≡ g.D.SharedDisk.faults l.fn.disk;
+  counted : IfSome (g.D.SharedDisk.seen l.fn.disk).files (λ told. CountsFront told (take l.name-index l.name-items) l.held);
+  same : (g.D.SharedDisk.seen l.disk).files ≡ (g.D.SharedDisk.seen l.fn.disk).files;
+  armed : (g.D.SharedDisk.seen l.disk).tally.armed ≡ (g.D.SharedDisk.seen l.fn.disk).tally.armed;
+  stands : (g.D.SharedDisk.seen l.disk).faults ≡ (g.D.SharedDisk.seen l.fn.disk).faults;
 }

@@ -7,6 +7,6 @@ returns-in-Ok-load_line-clause-told g c setup state shows =
     record {
       files = held.files;
       bytes = held.bytes;
-      counted = counts-all (g.D.SharedDisk.files c.args.disk.now) held c.in-Ok.ensures.counted;
+      counted = counts-all (g.D.SharedDisk.seen c.args.disk.now).files held c.in-Ok.ensures.counted;
       printed = c.in-Ok-load_line.ensures setup state shows;
     }

@@ -1,40 +1,30 @@
 use Rattle.std.proofs.Common.{◌++◌}
-use Rattle.cluster_rounds.specs.Came.{seen}
 use Rattle.load_lines.specs.Lines.{closing_lines, first_lines, turns_lines}
-use Rattle.aisrun.specs.Edges.{edge}
+use Rattle.cluster_core.specs.Worlds.{view_of}
+use Rattle.aisrun.specs.Edges.{disk_edge}
 use Rattle.aisrun.specs.Endings.{StoodUpTo}
 use Rattle.aisrun.proofs.LoadPassing.{gone-on, passes-halted, passes-then, rises-later}
 use Rattle.aisrun.proofs.loading.pass_events.Goals as goal
 
 pub pass_closing-requires-clause-gone : goal.pass_closing-requires-clause-gone
 pass_closing-requires-clause-gone g c κs within =
-    let files = g.D.SharedDisk.files in
-    let faults = g.D.SharedDisk.faults in
-    let tally = g.D.SharedDisk.tally in
-    let start = seen (files c.args.disk.now) (tally c.args.disk.now) (faults c.args.disk.now) in
-    let mid = seen (files c.pass_front.new.disk) (tally c.pass_front.new.disk) (faults c.pass_front.new.disk) in
-    gone-on (StoodUpTo (edge files faults c.args.disk.now c.pass_front.new.disk)) (first_lines ++ turns_lines c.args.seed c.args.count) start mid c.args.world.now c.pass_front.new.world tt c.requires.gone c.in-Ok.ensures.passes
+    let start = view_of (g.D.SharedDisk.seen c.args.disk.now) in
+    let mid = view_of (g.D.SharedDisk.seen c.pass_front.new.disk) in
+    gone-on (StoodUpTo (disk_edge g.D.SharedDisk.seen c.args.disk.now c.pass_front.new.disk)) (first_lines ++ turns_lines c.args.seed c.args.count) start mid c.args.world.now c.pass_front.new.world tt c.requires.gone c.in-Ok.ensures.passes
 
 pub returns-in-Ok-clause-passes : goal.returns-in-Ok-clause-passes
 returns-in-Ok-clause-passes g c =
-    let files = g.D.SharedDisk.files in
-    let faults = g.D.SharedDisk.faults in
-    let tally = g.D.SharedDisk.tally in
-    let start = seen (files c.args.disk.now) (tally c.args.disk.now) (faults c.args.disk.now) in
-    let mid = seen (files c.pass_front.new.disk) (tally c.pass_front.new.disk) (faults c.pass_front.new.disk) in
-    let left = seen (files c.pass_closing.new.disk) (tally c.pass_closing.new.disk) (faults c.pass_closing.new.disk) in
-    passes-then files faults (first_lines ++ turns_lines c.args.seed c.args.count) (closing_lines) start mid left c.args.world.now c.pass_front.new.world c.pass_closing.new.world c.args.disk.now c.pass_front.new.disk c.pass_closing.new.disk tt c.pass_closing.result c.in-Ok.ensures.passes c.pass_closing.ensures.passes
+    let start = view_of (g.D.SharedDisk.seen c.args.disk.now) in
+    let mid = view_of (g.D.SharedDisk.seen c.pass_front.new.disk) in
+    let left = view_of (g.D.SharedDisk.seen c.pass_closing.new.disk) in
+    passes-then g.D.SharedDisk.seen (first_lines ++ turns_lines c.args.seed c.args.count) (closing_lines) start mid left c.args.world.now c.pass_front.new.world c.pass_closing.new.world c.args.disk.now c.pass_front.new.disk c.pass_closing.new.disk tt c.pass_closing.result c.in-Ok.ensures.passes c.pass_closing.ensures.passes
 
 pub returns-in-Ok-clause-counts : goal.returns-in-Ok-clause-counts
 returns-in-Ok-clause-counts g c =
-    let faults = g.D.SharedDisk.faults in
-    rises-later (faults c.args.disk.now) (faults c.pass_front.new.disk) (faults c.pass_closing.new.disk) c.pass_closing.result c.in-Ok.ensures.counts c.pass_closing.ensures.counts
+    rises-later (g.D.SharedDisk.seen c.args.disk.now).faults (g.D.SharedDisk.seen c.pass_front.new.disk).faults (g.D.SharedDisk.seen c.pass_closing.new.disk).faults c.pass_closing.result c.in-Ok.ensures.counts c.pass_closing.ensures.counts
 
 pub returns-in-Err-clause-passes : goal.returns-in-Err-clause-passes
 returns-in-Err-clause-passes g c =
-    let files = g.D.SharedDisk.files in
-    let faults = g.D.SharedDisk.faults in
-    let tally = g.D.SharedDisk.tally in
-    let start = seen (files c.args.disk.now) (tally c.args.disk.now) (faults c.args.disk.now) in
-    let left = seen (files c.pass_front.new.disk) (tally c.pass_front.new.disk) (faults c.pass_front.new.disk) in
-    passes-halted (StoodUpTo (edge files faults c.args.disk.now c.pass_front.new.disk)) (first_lines ++ turns_lines c.args.seed c.args.count) (closing_lines) start left c.args.world.now c.pass_front.new.world c.in-Err.halt c.in-Err.ensures.passes
+    let start = view_of (g.D.SharedDisk.seen c.args.disk.now) in
+    let left = view_of (g.D.SharedDisk.seen c.pass_front.new.disk) in
+    passes-halted (StoodUpTo (disk_edge g.D.SharedDisk.seen c.args.disk.now c.pass_front.new.disk)) (first_lines ++ turns_lines c.args.seed c.args.count) (closing_lines) start left c.args.world.now c.pass_front.new.world c.in-Err.halt c.in-Err.ensures.passes

@@ -1,7 +1,7 @@
 use Rattle.std.proofs.Common.{List, sym, ◌∙◌, subst}
 use Rattle.script_lines.specs.declared.line.Line.{Line}
-use Rattle.cluster_rounds.specs.Came.{seen}
-use Rattle.aisrun.specs.Edges.{edge}
+use Rattle.cluster_core.specs.Worlds.{view_of}
+use Rattle.aisrun.specs.Edges.{disk_edge}
 use Rattle.aisrun.specs.Endings.{StoodUpTo}
 use Rattle.load_lines.specs.Lines.{first_lines}
 use Rattle.aisrun.specs.LoadSteps.{CanPass, Passes}
@@ -15,16 +15,10 @@ pass_lines-requires-clause-can g c κs within =
 
 pub returns-in-Ok-clause-passes : goal.returns-in-Ok-clause-passes
 returns-in-Ok-clause-passes g c =
-    let files = g.D.SharedDisk.files in
-    let faults = g.D.SharedDisk.faults in
-    let tally = g.D.SharedDisk.tally in
-    let mid = seen (files c.args.disk.now) (tally c.args.disk.now) (faults c.args.disk.now) in
-    let left = seen (files c.pass_lines.new.disk) (tally c.pass_lines.new.disk) (faults c.pass_lines.new.disk) in
-    subst (λ (all : List Line). Passes (StoodUpTo (edge files faults c.args.disk.now c.pass_lines.new.disk)) all mid left c.args.world.now c.pass_lines.new.world c.pass_lines.result) (c.as_slice.ensures ∙ c.in-Ok.ensures) c.pass_lines.ensures.passes
+    let mid = view_of (g.D.SharedDisk.seen c.args.disk.now) in
+    let left = view_of (g.D.SharedDisk.seen c.pass_lines.new.disk) in
+    subst (λ (all : List Line). Passes (StoodUpTo (disk_edge g.D.SharedDisk.seen c.args.disk.now c.pass_lines.new.disk)) all mid left c.args.world.now c.pass_lines.new.world c.pass_lines.result) (c.as_slice.ensures ∙ c.in-Ok.ensures) c.pass_lines.ensures.passes
 
 pub returns-in-Err-clause-passes : goal.returns-in-Err-clause-passes
 returns-in-Err-clause-passes g c =
-    let files = g.D.SharedDisk.files in
-    let faults = g.D.SharedDisk.faults in
-    let tally = g.D.SharedDisk.tally in
-    passes-unmade (StoodUpTo (edge files faults c.args.disk.now c.args.disk.now)) first_lines (seen (files c.args.disk.now) (tally c.args.disk.now) (faults c.args.disk.now)) c.args.world.now
+    passes-unmade (StoodUpTo (disk_edge g.D.SharedDisk.seen c.args.disk.now c.args.disk.now)) first_lines (view_of (g.D.SharedDisk.seen c.args.disk.now)) c.args.world.now

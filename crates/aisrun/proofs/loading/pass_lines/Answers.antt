@@ -1,7 +1,7 @@
 use Rattle.std.proofs.Common.{◌+◌, Ok, Err, List, [], ◌∷◌, ◌++◌, take, drop, sym, subst, arith}
 use Rattle.script_lines.specs.declared.line.Line.{Line}
-use Rattle.cluster_rounds.specs.Came.{seen}
-use Rattle.aisrun.specs.Edges.{edge}
+use Rattle.cluster_core.specs.Worlds.{view_of}
+use Rattle.aisrun.specs.Edges.{disk_edge}
 use Rattle.aisrun.specs.Endings.{StoodUpTo}
 use Rattle.aisrun.specs.LoadSteps.{Passes}
 use Rattle.aisrun.proofs.CountSteps.{on-same, on-behind}
@@ -10,69 +10,55 @@ use Rattle.aisrun.proofs.loading.pass_lines.Goals as goal
 
 pub loop-line-init : goal.loop-line-init
 loop-line-init g c =
-    let files = g.D.SharedDisk.files in
-    let faults = g.D.SharedDisk.faults in
     let disk = c.args.disk.now in
     record {
       can = c.requires.can;
-      passes = passes-nothing (StoodUpTo (edge files faults disk disk)) (seen (files disk) (g.D.SharedDisk.tally disk) (faults disk)) c.args.world.now tt;
-      disk = on-same (faults disk);
+      passes = passes-nothing (StoodUpTo (disk_edge g.D.SharedDisk.seen disk disk)) (view_of (g.D.SharedDisk.seen disk)) c.args.world.now tt;
+      disk = on-same (g.D.SharedDisk.seen disk).faults;
     }
 
 pub returns-in-Err-clause-passes : goal.returns-in-Err-clause-passes
 returns-in-Err-clause-passes g c =
-    let files = g.D.SharedDisk.files in
-    let faults = g.D.SharedDisk.faults in
-    let tally = g.D.SharedDisk.tally in
     let lines = c.args.lines.now in
     let place = c.loop-line.line-index in
     let line = c.line-item.result in
-    let start = seen (files c.args.disk.now) (tally c.args.disk.now) (faults c.args.disk.now) in
-    let mid = seen (files c.loop-line.disk) (tally c.loop-line.disk) (faults c.loop-line.disk) in
-    let left = seen (files c.pass_line.new.disk) (tally c.pass_line.new.disk) (faults c.pass_line.new.disk) in
-    let Since = StoodUpTo (edge files faults c.args.disk.now c.pass_line.new.disk) in
+    let start = view_of (g.D.SharedDisk.seen c.args.disk.now) in
+    let mid = view_of (g.D.SharedDisk.seen c.loop-line.disk) in
+    let left = view_of (g.D.SharedDisk.seen c.pass_line.new.disk) in
+    let Since = StoodUpTo (disk_edge g.D.SharedDisk.seen c.args.disk.now c.pass_line.new.disk) in
     let halt = c.in-Err.halt in
-    let both = passes-then files faults (take place lines) (line ∷ []) start mid left c.args.world.now c.loop-line.world c.pass_line.new.world c.args.disk.now c.loop-line.disk c.pass_line.new.disk tt (Err halt) c.loop-line.invariant.passes c.in-Err.ensures.passes in
+    let both = passes-then g.D.SharedDisk.seen (take place lines) (line ∷ []) start mid left c.args.world.now c.loop-line.world c.pass_line.new.world c.args.disk.now c.loop-line.disk c.pass_line.new.disk tt (Err halt) c.loop-line.invariant.passes c.in-Err.ensures.passes in
     subst (λ (all : List Line). Passes Since all start left c.args.world.now c.pass_line.new.world (Err halt)) (line-parts lines place line c.loop-line-test.true c.line-item.is) (passes-halted Since (take place lines ++ line ∷ []) (drop (place + 1) lines) start left c.args.world.now c.pass_line.new.world halt both)
 
 pub loop-line-preserved : goal.loop-line-preserved
 loop-line-preserved g c =
-    let files = g.D.SharedDisk.files in
-    let faults = g.D.SharedDisk.faults in
-    let tally = g.D.SharedDisk.tally in
     let lines = c.args.lines.now in
     let place = c.loop-line.line-index in
     let line = c.line-item.result in
-    let start = seen (files c.args.disk.now) (tally c.args.disk.now) (faults c.args.disk.now) in
-    let mid = seen (files c.loop-line.disk) (tally c.loop-line.disk) (faults c.loop-line.disk) in
-    let left = seen (files c.pass_line.new.disk) (tally c.pass_line.new.disk) (faults c.pass_line.new.disk) in
-    let Since = StoodUpTo (edge files faults c.args.disk.now c.pass_line.new.disk) in
-    let both = passes-then files faults (take place lines) (line ∷ []) start mid left c.args.world.now c.loop-line.world c.pass_line.new.world c.args.disk.now c.loop-line.disk c.pass_line.new.disk tt (Ok tt) c.loop-line.invariant.passes c.in-Ok.ensures.passes in
+    let start = view_of (g.D.SharedDisk.seen c.args.disk.now) in
+    let mid = view_of (g.D.SharedDisk.seen c.loop-line.disk) in
+    let left = view_of (g.D.SharedDisk.seen c.pass_line.new.disk) in
+    let Since = StoodUpTo (disk_edge g.D.SharedDisk.seen c.args.disk.now c.pass_line.new.disk) in
+    let both = passes-then g.D.SharedDisk.seen (take place lines) (line ∷ []) start mid left c.args.world.now c.loop-line.world c.pass_line.new.world c.args.disk.now c.loop-line.disk c.pass_line.new.disk tt (Ok tt) c.loop-line.invariant.passes c.in-Ok.ensures.passes in
     record {
       can = (line-can lines place line c.loop-line-test.true c.line-item.is c.loop-line.invariant.can).2;
       passes = subst (λ (all : List Line). Passes Since all start left c.args.world.now c.pass_line.new.world (Ok tt)) (sym (line-taken lines place line c.loop-line-test.true c.line-item.is)) both;
-      disk = on-behind (faults c.args.disk.now) (faults c.loop-line.disk) (faults c.pass_line.new.disk) c.loop-line.invariant.disk c.in-Ok.ensures.counts;
+      disk = on-behind (g.D.SharedDisk.seen c.args.disk.now).faults (g.D.SharedDisk.seen c.loop-line.disk).faults (g.D.SharedDisk.seen c.pass_line.new.disk).faults c.loop-line.invariant.disk c.in-Ok.ensures.counts;
     }
 
 pub returns-clause-passes : goal.returns-clause-passes
 returns-clause-passes g c =
-    let files = g.D.SharedDisk.files in
-    let faults = g.D.SharedDisk.faults in
-    let tally = g.D.SharedDisk.tally in
     let lines = c.args.lines.now in
-    let start = seen (files c.args.disk.now) (tally c.args.disk.now) (faults c.args.disk.now) in
-    let left = seen (files c.loop-line.disk) (tally c.loop-line.disk) (faults c.loop-line.disk) in
-    let Since = StoodUpTo (edge files faults c.args.disk.now c.loop-line.disk) in
+    let start = view_of (g.D.SharedDisk.seen c.args.disk.now) in
+    let left = view_of (g.D.SharedDisk.seen c.loop-line.disk) in
+    let Since = StoodUpTo (disk_edge g.D.SharedDisk.seen c.args.disk.now c.loop-line.disk) in
     subst (λ (all : List Line). Passes Since all start left c.args.world.now c.loop-line.world (Ok tt)) (take-all lines c.loop-line.line-index (omega arith)) c.loop-line.invariant.passes
 
 pub pass_line-requires-clause-state : goal.pass_line-requires-clause-state
 pass_line-requires-clause-state g c κs within =
-    let files = g.D.SharedDisk.files in
-    let faults = g.D.SharedDisk.faults in
-    let tally = g.D.SharedDisk.tally in
-    let start = seen (files c.args.disk.now) (tally c.args.disk.now) (faults c.args.disk.now) in
-    let mid = seen (files c.loop-line.disk) (tally c.loop-line.disk) (faults c.loop-line.disk) in
-    gone-state mid c.loop-line.world (gone-on (StoodUpTo (edge files faults c.args.disk.now c.loop-line.disk)) (take c.loop-line.line-index c.args.lines.now) start mid c.args.world.now c.loop-line.world tt c.requires.gone c.loop-line.invariant.passes)
+    let start = view_of (g.D.SharedDisk.seen c.args.disk.now) in
+    let mid = view_of (g.D.SharedDisk.seen c.loop-line.disk) in
+    gone-state mid c.loop-line.world (gone-on (StoodUpTo (disk_edge g.D.SharedDisk.seen c.args.disk.now c.loop-line.disk)) (take c.loop-line.line-index c.args.lines.now) start mid c.args.world.now c.loop-line.world tt c.requires.gone c.loop-line.invariant.passes)
 
 pub pass_line-requires-clause-spelled : goal.pass_line-requires-clause-spelled
 pass_line-requires-clause-spelled g c κs within =
@@ -84,5 +70,4 @@ pass_line-requires-clause-event g c κs within =
 
 pub returns-in-Err-clause-counts : goal.returns-in-Err-clause-counts
 returns-in-Err-clause-counts g c =
-    let faults = g.D.SharedDisk.faults in
-    rises-later (faults c.args.disk.now) (faults c.loop-line.disk) (faults c.pass_line.new.disk) (Err c.in-Err.halt) c.loop-line.invariant.disk c.in-Err.ensures.counts
+    rises-later (g.D.SharedDisk.seen c.args.disk.now).faults (g.D.SharedDisk.seen c.loop-line.disk).faults (g.D.SharedDisk.seen c.pass_line.new.disk).faults (Err c.in-Err.halt) c.loop-line.invariant.disk c.in-Err.ensures.counts

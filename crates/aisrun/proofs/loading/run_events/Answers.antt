@@ -1,8 +1,8 @@
 use Rattle.std.proofs.Common.{ℕ, [], ◌++◌, inl, refl}
-use Rattle.cluster_rounds.specs.Came.{seen}
 use Rattle.load_lines.specs.Lines.{closing_lines, first_lines, turns_lines}
+use Rattle.cluster_core.specs.Worlds.{view_of}
 use Rattle.aisrun.specs.declared.ending.Status8.TheVariants.{DiskFault}
-use Rattle.aisrun.specs.Edges.{edge}
+use Rattle.aisrun.specs.Edges.{disk_edge, edge}
 use Rattle.aisrun.specs.Endings.{StoodUpTo, fault_line}
 use Rattle.aisrun.specs.LoadSteps.{RunEnds, RunWants, TellEnds, TellLacks}
 use Rattle.aisrun.specs.Steps.{Counting, Standing, unasked}
@@ -15,22 +15,16 @@ use Rattle.aisrun.proofs.loading.run_events.Goals as goal
 
 pub pass_events-requires-clause-gone : goal.pass_events-requires-clause-gone
 pass_events-requires-clause-gone g c κs within =
-    let files = g.D.SharedDisk.files in
-    let faults = g.D.SharedDisk.faults in
-    let tally = g.D.SharedDisk.tally in
-    gone-start (seen (files c.args.disk.now) (tally c.args.disk.now) (faults c.args.disk.now)) c.args.world.now c.requires.begun
+    gone-start (view_of (g.D.SharedDisk.seen c.args.disk.now)) c.args.world.now c.requires.begun
 
 pub returns-in-Ok : goal.returns-in-Ok
 returns-in-Ok g c setup places held begun =
-    let files = g.D.SharedDisk.files in
-    let faults = g.D.SharedDisk.faults in
-    let tally = g.D.SharedDisk.tally in
-    let start = seen (files c.args.disk.now) (tally c.args.disk.now) (faults c.args.disk.now) in
-    let mid = seen (files c.pass_events.new.disk) (tally c.pass_events.new.disk) (faults c.pass_events.new.disk) in
-    let left = seen (files c.tell.new.disk) (tally c.tell.new.disk) (faults c.tell.new.disk) in
+    let start = view_of (g.D.SharedDisk.seen c.args.disk.now) in
+    let mid = view_of (g.D.SharedDisk.seen c.pass_events.new.disk) in
+    let left = view_of (g.D.SharedDisk.seen c.tell.new.disk) in
     let world = c.pass_events.new.world in
     let events = first_lines ++ turns_lines c.args.seed c.args.count ++ closing_lines in
-    let Since = StoodUpTo (edge files faults c.args.disk.now c.tell.new.disk) in
+    let Since = StoodUpTo (disk_edge g.D.SharedDisk.seen c.args.disk.now c.tell.new.disk) in
     let ends = c.in-Ok.ensures.passes setup places held start.faults [] [] (going-start setup places held start c.args.world.now begun) in
     let going = ends.1 in
     let disk : ℕ × ℕ = (mid.faults, left.faults) in
@@ -43,10 +37,7 @@ returns-in-Ok g c setup places held begun =
 
 pub returns-in-Err-Memory : goal.returns-in-Err-Memory
 returns-in-Err-Memory g c setup places held begun =
-    let files = g.D.SharedDisk.files in
-    let faults = g.D.SharedDisk.faults in
-    let tally = g.D.SharedDisk.tally in
-    let start = seen (files c.args.disk.now) (tally c.args.disk.now) (faults c.args.disk.now) in
+    let start = view_of (g.D.SharedDisk.seen c.args.disk.now) in
     let passes = rw c.in-Err-Memory.field-0-is at c.in-Err-Memory.ensures.passes in
     let on = rw c.in-Err-Memory.field-0-is at c.in-Err-Memory.ensures.counts in
     let ends = passes setup places held start.faults [] [] (going-start setup places held start c.args.world.now begun) in
@@ -54,14 +45,11 @@ returns-in-Err-Memory g c setup places held begun =
 
 pub returns-in-Err-DiskFault : goal.returns-in-Err-DiskFault
 returns-in-Err-DiskFault g c setup places held begun =
-    let files = g.D.SharedDisk.files in
-    let faults = g.D.SharedDisk.faults in
-    let tally = g.D.SharedDisk.tally in
-    let start = seen (files c.args.disk.now) (tally c.args.disk.now) (faults c.args.disk.now) in
-    let left = seen (files c.pass_events.new.disk) (tally c.pass_events.new.disk) (faults c.pass_events.new.disk) in
+    let start = view_of (g.D.SharedDisk.seen c.args.disk.now) in
+    let left = view_of (g.D.SharedDisk.seen c.pass_events.new.disk) in
     let world = c.pass_events.new.world in
     let events = first_lines ++ turns_lines c.args.seed c.args.count ++ closing_lines in
-    let Since = StoodUpTo (edge files faults c.args.disk.now c.pass_events.new.disk) in
+    let Since = StoodUpTo (disk_edge g.D.SharedDisk.seen c.args.disk.now c.pass_events.new.disk) in
     let passes = rw c.in-Err-DiskFault.field-0-is at c.in-Err-DiskFault.ensures.passes in
     let risen = rw c.in-Err-DiskFault.field-0-is at c.in-Err-DiskFault.ensures.counts in
     let ends = passes setup places held start.faults [] [] (going-start setup places held start c.args.world.now begun) in

@@ -12,22 +12,21 @@ use Rattle.aisrun.proofs.loading.tell.Goals as goal
 
 pub returns-in-Ok-clause-told : goal.returns-in-Ok-clause-told
 returns-in-Ok-clause-told g c setup state shows =
-    let held = g.D.SharedDisk.files c.args.disk.now in
-    let disk : ℕ × ℕ = (g.D.SharedDisk.faults c.args.disk.now, g.D.SharedDisk.faults c.tell_load.new.disk) in
+    let held = (g.D.SharedDisk.seen c.args.disk.now).files in
+    let disk : ℕ × ℕ = ((g.D.SharedDisk.seen c.args.disk.now).faults, (g.D.SharedDisk.seen c.tell_load.new.disk).faults) in
     let sink = edge g.K.Sink.written g.K.Sink.faults c.args.out.now c.write_text.new.out in
     let told = subst (λ (text : List ℕ). TellsLoad state held text) (sym c.as_bytes.ensures.value) (c.in-Ok.ensures.told setup state shows) in
     text-written (TellEnds disk state held) (TellLacks disk) Done c.as_bytes.result.now sink c.write_text.result (told, c.in-Ok.ensures.cause.stands) c.write_text.ensures
 
 pub returns-in-Err-Memory-clause-told : goal.returns-in-Err-Memory-clause-told
 returns-in-Err-Memory-clause-told g c setup state shows =
-    let faults = g.D.SharedDisk.faults in
-    let stood = other-stood (faults c.args.disk.now) (faults c.tell_load.new.disk) c.in-Err-Memory.field-0 halt.DiskFault halt.Memory c.in-Err-Memory.ensures.cause c.in-Err-Memory.field-0-is (λ is. cc) in
+    let stood = other-stood (g.D.SharedDisk.seen c.args.disk.now).faults (g.D.SharedDisk.seen c.tell_load.new.disk).faults c.in-Err-Memory.field-0 halt.DiskFault halt.Memory c.in-Err-Memory.ensures.cause c.in-Err-Memory.field-0-is (λ is. cc) in
     lacked _ _ _ (refl, stood) refl
 
 pub returns-in-Err-DiskFault-clause-told : goal.returns-in-Err-DiskFault-clause-told
 returns-in-Err-DiskFault-clause-told g c setup state shows =
-    let held = g.D.SharedDisk.files c.args.disk.now in
-    let disk : ℕ × ℕ = (g.D.SharedDisk.faults c.args.disk.now, g.D.SharedDisk.faults c.tell_load.new.disk) in
+    let held = (g.D.SharedDisk.seen c.args.disk.now).files in
+    let disk : ℕ × ℕ = ((g.D.SharedDisk.seen c.args.disk.now).faults, (g.D.SharedDisk.seen c.tell_load.new.disk).faults) in
     let sink = edge g.K.Sink.written g.K.Sink.faults c.args.out.now c.write_broken.new.out in
     let cause = c.in-Err-DiskFault.ensures.cause in
     let risen : HasRisen disk = (cause.later, cause.rose (ap Err c.in-Err-DiskFault.field-0-is)) in

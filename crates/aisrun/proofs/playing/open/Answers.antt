@@ -1,7 +1,7 @@
 use Rattle.std.proofs.Common.{ℕ, List, ◌∷◌, ◌++◌, ◌∙◌, ap, refl}
-use Rattle.cluster_rounds.specs.Came.{seen}
+use Rattle.cluster_core.specs.Worlds.{view_of}
 use Rattle.aisrun.specs.declared.ending.Status8.TheVariants.{DiskFault}
-use Rattle.aisrun.specs.Edges.{edge, fault_count, stage}
+use Rattle.aisrun.specs.Edges.{disk_edge, edge, fault_count, stage}
 use Rattle.aisrun.specs.Endings.{PlayEnds, PlayLacks, Opens, Opening, StoodUpTo, AtOpening, fault_line}
 use Rattle.aisrun.specs.Steps.{Counting, EventsEnd, LacksBehind, Standing, joined_lines, unasked}
 use Rattle.aisrun.proofs.CountSteps.{stood-on}
@@ -13,39 +13,37 @@ pub returns-in-Ok : goal.returns-in-Ok
 returns-in-Ok g c =
     let written = g.K.Sink.written in
     let sink_faults = g.K.Sink.faults in
-    let files = g.D.SharedDisk.files in
-    let faults = g.D.SharedDisk.faults in
     let begins = c.requires.script.begins in
     let begun = c.in-Ok.ensures.ok begins.0 begins.1 begins.2 c.requires.bare in
     let sink = edge written sink_faults c.args.out.now c.play_events.new.out in
-    let scene = stage sink (edge files faults c.args.disk.now c.play_events.new.disk) (g.D.SharedDisk.tally c.play_events.new.disk).armed c.args.world.now c.play_events.new.world in
-    let left = seen (files c.play_events.new.disk) (g.D.SharedDisk.tally c.play_events.new.disk) (faults c.play_events.new.disk) in
+    let scene = stage sink (disk_edge g.D.SharedDisk.seen c.args.disk.now c.play_events.new.disk) (g.D.SharedDisk.seen c.play_events.new.disk).tally.armed c.args.world.now c.play_events.new.world in
+    let left = view_of (g.D.SharedDisk.seen c.play_events.new.disk) in
     let armed = left.armed in
-    let E = EventsEnd begins.0 begins.1 (files c.args.disk.now) (faults c.begin.new.disk) left (StoodUpTo (edge files faults c.begin.new.disk c.play_events.new.disk)) c.play_events.new.world c.args.events.now in
-    ended-later unasked (faults c.args.disk.now) (faults c.begin.new.disk) (faults c.play_events.new.disk) E (PlayEnds (c.args.opening.now ∷ c.args.events.now) scene) (LacksBehind begins.0 begins.1 (files c.args.disk.now) (faults c.begin.new.disk) (files c.play_events.new.disk) c.play_events.new.world c.args.events.now) (PlayLacks (c.args.opening.now ∷ c.args.events.now) scene) sink c.play_events.result c.in-Ok.ensures.cause
-    (events-play written sink_faults c.args.out.now c.play_events.new.out files faults armed c.args.world.now c.play_events.new.world c.args.disk.now c.begin.new.disk c.play_events.new.disk c.args.opening.now c.args.events.now begins.0 begins.1 begins.2 c.requires.bare c.in-Ok.ensures.cause)
-    (events-lack written sink_faults c.args.out.now c.play_events.new.out files faults armed c.args.world.now c.play_events.new.world c.args.disk.now c.begin.new.disk c.play_events.new.disk c.args.opening.now c.args.events.now begins.0 begins.1 begins.2 c.requires.bare c.in-Ok.ensures.cause)
-    (c.play_events.ensures begins.0 begins.1 (files c.args.disk.now) begun)
+    let E = EventsEnd begins.0 begins.1 (g.D.SharedDisk.seen c.args.disk.now).files (g.D.SharedDisk.seen c.begin.new.disk).faults left (StoodUpTo (disk_edge g.D.SharedDisk.seen c.begin.new.disk c.play_events.new.disk)) c.play_events.new.world c.args.events.now in
+    ended-later unasked (g.D.SharedDisk.seen c.args.disk.now).faults (g.D.SharedDisk.seen c.begin.new.disk).faults (g.D.SharedDisk.seen c.play_events.new.disk).faults E (PlayEnds (c.args.opening.now ∷ c.args.events.now) scene) (LacksBehind begins.0 begins.1 (g.D.SharedDisk.seen c.args.disk.now).files (g.D.SharedDisk.seen c.begin.new.disk).faults (g.D.SharedDisk.seen c.play_events.new.disk).files c.play_events.new.world c.args.events.now) (PlayLacks (c.args.opening.now ∷ c.args.events.now) scene) sink c.play_events.result c.in-Ok.ensures.cause
+    (events-play written sink_faults c.args.out.now c.play_events.new.out g.D.SharedDisk.seen armed c.args.world.now c.play_events.new.world c.args.disk.now c.begin.new.disk c.play_events.new.disk c.args.opening.now c.args.events.now begins.0 begins.1 begins.2 c.requires.bare c.in-Ok.ensures.cause)
+    (events-lack written sink_faults c.args.out.now c.play_events.new.out g.D.SharedDisk.seen armed c.args.world.now c.play_events.new.world c.args.disk.now c.begin.new.disk c.play_events.new.disk c.args.opening.now c.args.events.now begins.0 begins.1 begins.2 c.requires.bare c.in-Ok.ensures.cause)
+    (c.play_events.ensures begins.0 begins.1 (g.D.SharedDisk.seen c.args.disk.now).files begun)
 
 pub returns-in-Err-Memory : goal.returns-in-Err-Memory
 returns-in-Err-Memory g c =
     let begins = c.requires.script.begins in
     let broke = rw c.in-Err-Memory.field-0-is at (c.in-Err-Memory.ensures.broken begins.0 begins.1 begins.2) in
     let stood = rw c.in-Err-Memory.field-0-is at c.in-Err-Memory.ensures.cause in
-    let opens : Opens (c.args.opening.now ∷ c.args.events.now) (g.D.SharedDisk.files c.args.disk.now) =
+    let opens : Opens (c.args.opening.now ∷ c.args.events.now) (g.D.SharedDisk.seen c.args.disk.now).files =
     record { opening = c.args.opening.now; events = c.args.events.now; parts = refl; empty = c.requires.bare; setup = begins.0; places = begins.1; begins = begins.2 } in
-    lacked _ _ _ (Opening refl opens broke c.in-Err-Memory.ensures.same, refl, stood-on (g.D.SharedDisk.faults c.args.disk.now, g.D.SharedDisk.faults c.begin.new.disk) stood) refl
+    lacked _ _ _ (Opening refl opens broke c.in-Err-Memory.ensures.same, refl, stood-on ((g.D.SharedDisk.seen c.args.disk.now).faults, (g.D.SharedDisk.seen c.begin.new.disk).faults) stood) refl
 
 pub returns-in-Err-DiskFault : goal.returns-in-Err-DiskFault
 returns-in-Err-DiskFault g c =
     let sink = edge g.K.Sink.written g.K.Sink.faults c.args.out.now c.write_broken.new.out in
-    let scene = stage sink (edge g.D.SharedDisk.files g.D.SharedDisk.faults c.args.disk.now c.begin.new.disk) (g.D.SharedDisk.tally c.begin.new.disk).armed c.args.world.now c.begin.new.self in
+    let scene = stage sink (disk_edge g.D.SharedDisk.seen c.args.disk.now c.begin.new.disk) (g.D.SharedDisk.seen c.begin.new.disk).tally.armed c.args.world.now c.begin.new.self in
     let script = c.args.opening.now ∷ c.args.events.now in
     let disk = fault_count scene.disk in
     let begins = c.requires.script.begins in
     let risen = rw c.in-Err-DiskFault.field-0-is at c.in-Err-DiskFault.ensures.cause in
     let broke = rw c.in-Err-DiskFault.field-0-is at (c.in-Err-DiskFault.ensures.broken begins.0 begins.1 begins.2) in
-    let opens : Opens script (g.D.SharedDisk.files c.args.disk.now) =
+    let opens : Opens script (g.D.SharedDisk.seen c.args.disk.now).files =
     record { opening = c.args.opening.now; events = c.args.events.now; parts = refl; empty = c.requires.bare; setup = begins.0; places = begins.1; begins = begins.2 } in
     let none = ap (λ (lines : List (List ℕ)). joined_lines lines ++ fault_line) (c.as_slice.ensures ∙ c.in-Err-DiskFault.printed-is ∙ broke.0) in
     text-written (Counting unasked disk (PlayEnds script scene)) (Standing unasked disk (PlayLacks script scene)) DiskFault (joined_lines c.as_slice.result.now ++ fault_line) sink c.write_broken.result (AtOpening opens broke.1 broke.2 c.in-Err-DiskFault.ensures.same none, (refl, risen)) c.write_broken.ensures

@@ -5,7 +5,7 @@ use Rattle.disk_model.specs.declared.answers.DiskAnswer.TheVariants as answer
 use Rattle.script_lines.specs.declared.line.Line.{Line}
 use Rattle.aisrun.specs.declared.ending.Status8.TheVariants.{DiskFault, RootNotEmpty}
 use Rattle.aisrun.specs.Counts.{HasRisen}
-use Rattle.aisrun.specs.Edges.{edge, fault_count, stage}
+use Rattle.aisrun.specs.Edges.{disk_edge, edge, fault_count, stage}
 use Rattle.aisrun.specs.Endings.{PlayEnds, PlayLacks, Unopened, AtNames, fault_line}
 use Rattle.aisrun.specs.Steps.{Counting, Ended, IsNone, IsText, Standing, unasked}
 use Rattle.aisrun.proofs.CountSteps.{other-stood, stood-on}
@@ -19,10 +19,10 @@ returns-in-Ok-Some g c =
     let stood = found.cause.stands in
     let names = rw c.in-Ok-Some.field-0-is at found.found in
     let sink = edge g.K.Sink.written g.K.Sink.faults c.args.out.now c.write_held.new.out in
-    let scene = stage sink (edge g.D.SharedDisk.files g.D.SharedDisk.faults c.args.disk.now c.first_name.new.disk) (g.D.SharedDisk.tally c.first_name.new.disk).armed c.args.world.now c.args.world.now in
+    let scene = stage sink (disk_edge g.D.SharedDisk.seen c.args.disk.now c.first_name.new.disk) (g.D.SharedDisk.seen c.first_name.new.disk).tally.armed c.args.world.now c.args.world.now in
     let disk = fault_count scene.disk in
     let name = c.as_slice.result.now in
-    let L : List ℕ → Type 0 = λ one. IfSome (g.D.SharedDisk.files c.args.disk.now) (λ f. (others : List (List ℕ)) × (keys f ≡ one ∷ others)) in
+    let L : List ℕ → Type 0 = λ one. IfSome (g.D.SharedDisk.seen c.args.disk.now).files (λ f. (others : List (List ℕ)) × (keys f ≡ one ∷ others)) in
     let least = subst L (sym c.as_slice.ensures.bytes) names in
     let text = codes "root not empty: " ++ (name ++ codes "\n") in
     let E = Counting unasked disk (PlayEnds c.args.lines.now scene) in
@@ -32,36 +32,32 @@ pub returns-in-Some : goal.returns-in-Some
 returns-in-Some g c =
     let written = g.K.Sink.written in
     let sink_faults = g.K.Sink.faults in
-    let files = g.D.SharedDisk.files in
-    let faults = g.D.SharedDisk.faults in
     let sink = edge written sink_faults c.args.out.now c.open.new.out in
     let script = c.in-Some.opening.now ∷ c.in-Some.events.now in
-    let armed = (g.D.SharedDisk.tally c.open.new.disk).armed in
-    let scene = stage sink (edge files faults c.args.disk.now c.open.new.disk) armed c.args.world.now c.open.new.world in
-    let later = stage sink (edge files faults c.first_name.new.disk c.open.new.disk) armed c.args.world.now c.open.new.world in
+    let armed = (g.D.SharedDisk.seen c.open.new.disk).tally.armed in
+    let scene = stage sink (disk_edge g.D.SharedDisk.seen c.args.disk.now c.open.new.disk) armed c.args.world.now c.open.new.world in
+    let later = stage sink (disk_edge g.D.SharedDisk.seen c.first_name.new.disk c.open.new.disk) armed c.args.world.now c.open.new.world in
     let found = c.in-Ok-None.ensures in
     subst (λ (lines : List Line). Ended unasked (fault_count scene.disk) (PlayEnds lines scene) (PlayLacks lines scene) sink c.open.result) (sym c.in-Some.ensures.cases.0)
-    (ended-later unasked (faults c.args.disk.now) (faults c.first_name.new.disk) (faults c.open.new.disk) (PlayEnds script later) (PlayEnds script scene) (PlayLacks script later) (PlayLacks script scene) sink c.open.result found.cause.stands
-    (play-earlier written sink_faults c.args.out.now c.open.new.out files faults armed c.args.world.now c.open.new.world c.args.disk.now c.first_name.new.disk c.open.new.disk script found.same found.cause.stands)
-    (lacks-earlier written sink_faults c.args.out.now c.open.new.out files faults armed c.args.world.now c.open.new.world c.args.disk.now c.first_name.new.disk c.open.new.disk script found.same found.cause.stands)
+    (ended-later unasked (g.D.SharedDisk.seen c.args.disk.now).faults (g.D.SharedDisk.seen c.first_name.new.disk).faults (g.D.SharedDisk.seen c.open.new.disk).faults (PlayEnds script later) (PlayEnds script scene) (PlayLacks script later) (PlayLacks script scene) sink c.open.result found.cause.stands
+    (play-earlier written sink_faults c.args.out.now c.open.new.out g.D.SharedDisk.seen armed c.args.world.now c.open.new.world c.args.disk.now c.first_name.new.disk c.open.new.disk script found.same found.cause.stands)
+    (lacks-earlier written sink_faults c.args.out.now c.open.new.out g.D.SharedDisk.seen armed c.args.world.now c.open.new.world c.args.disk.now c.first_name.new.disk c.open.new.disk script found.same found.cause.stands)
     c.open.ensures)
 
 pub returns-in-Err-Memory : goal.returns-in-Err-Memory
 returns-in-Err-Memory g c =
-    let faults = g.D.SharedDisk.faults in
-    let stood = other-stood (faults c.args.disk.now) (faults c.first_name.new.disk) c.in-Err-Memory.field-0 answer.Failed answer.Memory c.in-Err-Memory.ensures.cause c.in-Err-Memory.field-0-is (λ is. cc) in
-    lacked _ _ _ (Unopened refl c.in-Err-Memory.ensures.same refl, refl, stood-on (faults c.args.disk.now, faults c.first_name.new.disk) stood) refl
+    let stood = other-stood (g.D.SharedDisk.seen c.args.disk.now).faults (g.D.SharedDisk.seen c.first_name.new.disk).faults c.in-Err-Memory.field-0 answer.Failed answer.Memory c.in-Err-Memory.ensures.cause c.in-Err-Memory.field-0-is (λ is. cc) in
+    lacked _ _ _ (Unopened refl c.in-Err-Memory.ensures.same refl, refl, stood-on ((g.D.SharedDisk.seen c.args.disk.now).faults, (g.D.SharedDisk.seen c.first_name.new.disk).faults) stood) refl
 
 pub returns-in-Err-Stopped : goal.returns-in-Err-Stopped
 returns-in-Err-Stopped g c =
-    let faults = g.D.SharedDisk.faults in
-    let stood = other-stood (faults c.args.disk.now) (faults c.first_name.new.disk) c.in-Err-Stopped.field-0 answer.Failed answer.Stopped c.in-Err-Stopped.ensures.cause c.in-Err-Stopped.field-0-is (λ is. cc) in
-    lacked _ _ _ (Unopened refl c.in-Err-Stopped.ensures.same refl, refl, stood-on (faults c.args.disk.now, faults c.first_name.new.disk) stood) refl
+    let stood = other-stood (g.D.SharedDisk.seen c.args.disk.now).faults (g.D.SharedDisk.seen c.first_name.new.disk).faults c.in-Err-Stopped.field-0 answer.Failed answer.Stopped c.in-Err-Stopped.ensures.cause c.in-Err-Stopped.field-0-is (λ is. cc) in
+    lacked _ _ _ (Unopened refl c.in-Err-Stopped.ensures.same refl, refl, stood-on ((g.D.SharedDisk.seen c.args.disk.now).faults, (g.D.SharedDisk.seen c.first_name.new.disk).faults) stood) refl
 
 pub returns-in-Err-Failed : goal.returns-in-Err-Failed
 returns-in-Err-Failed g c =
     let sink = edge g.K.Sink.written g.K.Sink.faults c.args.out.now c.write_broken.new.out in
-    let scene = stage sink (edge g.D.SharedDisk.files g.D.SharedDisk.faults c.args.disk.now c.first_name.new.disk) (g.D.SharedDisk.tally c.first_name.new.disk).armed c.args.world.now c.args.world.now in
+    let scene = stage sink (disk_edge g.D.SharedDisk.seen c.args.disk.now c.first_name.new.disk) (g.D.SharedDisk.seen c.first_name.new.disk).tally.armed c.args.world.now c.args.world.now in
     let disk = fault_count scene.disk in
     let failed = c.in-Err-Failed.ensures in
     let risen : HasRisen disk = (failed.cause.later, failed.cause.rose (ap Err c.in-Err-Failed.field-0-is)) in

@@ -1,8 +1,8 @@
 use Rattle.std.proofs.Common.{ℕ, ◌+◌, ◌≤◌, List, drop, refl, ◌∙◌, subst, arith}
 use Rattle.std.proofs.Math.ListN.{drop_of_length-le}
 use Rattle.script_lines.specs.declared.line.Line.{Line}
-use Rattle.cluster_rounds.specs.Came.{seen}
-use Rattle.aisrun.specs.Edges.{edge}
+use Rattle.cluster_core.specs.Worlds.{view_of}
+use Rattle.aisrun.specs.Edges.{disk_edge, edge}
 use Rattle.aisrun.specs.Endings.{StoodUpTo}
 use Rattle.aisrun.specs.Steps.{Behind, CanFollow}
 use Rattle.aisrun.proofs.CountSteps.{on-same}
@@ -14,27 +14,24 @@ loop-line-init g c =
     let disk = c.args.disk.now in
     record {
       follows = c.requires.follows;
-      behind = λ setup places held begun. behind-start g.K.Sink.written g.K.Sink.faults c.args.out.now setup places held (seen (g.D.SharedDisk.files disk) (g.D.SharedDisk.tally disk) (g.D.SharedDisk.faults disk)) c.args.world.now c.args.events.now begun;
+      behind = λ setup places held begun. behind-start g.K.Sink.written g.K.Sink.faults c.args.out.now setup places held (view_of (g.D.SharedDisk.seen disk)) c.args.world.now c.args.events.now begun;
       sink = refl;
-      disk = on-same (g.D.SharedDisk.faults disk);
+      disk = on-same (g.D.SharedDisk.seen disk).faults;
     }
 
 pub returns-in-Err : goal.returns-in-Err
 returns-in-Err g c setup places held begun =
     let written = g.K.Sink.written in
     let sink = g.K.Sink.faults in
-    let files = g.D.SharedDisk.files in
-    let faults = g.D.SharedDisk.faults in
-    let tally = g.D.SharedDisk.tally in
     let events = c.args.events.now in
     let line = c.line-item.result in
     let others = drop (c.loop-line.line-index + 1) events in
-    let mid = seen (files c.loop-line.disk) (tally c.loop-line.disk) (faults c.loop-line.disk) in
-    let left = seen (files c.play_line.new.disk) (tally c.play_line.new.disk) (faults c.play_line.new.disk) in
-    let first = faults c.args.disk.now in
+    let mid = view_of (g.D.SharedDisk.seen c.loop-line.disk) in
+    let left = view_of (g.D.SharedDisk.seen c.play_line.new.disk) in
+    let first = (g.D.SharedDisk.seen c.args.disk.now).faults in
     let at = from-place events c.loop-line.line-index line c.loop-line-test.true c.line-item.is in
     let behind = subst (λ (rest : List Line). Behind setup places held first mid c.loop-line.world (edge written sink c.args.out.now c.loop-line.out) events rest) at (c.loop-line.invariant.behind setup places held begun) in
-    behind-ends setup places held first written sink c.args.out.now c.loop-line.out c.play_line.new.out mid left first mid.faults left.faults (StoodUpTo (edge files faults c.args.disk.now c.play_line.new.disk)) c.loop-line.world c.play_line.new.world events line others c.in-Err.status behind c.loop-line.invariant.sink c.loop-line.invariant.disk
+    behind-ends setup places held first written sink c.args.out.now c.loop-line.out c.play_line.new.out mid left first mid.faults left.faults (StoodUpTo (disk_edge g.D.SharedDisk.seen c.args.disk.now c.play_line.new.disk)) c.loop-line.world c.play_line.new.world events line others c.in-Err.status behind c.loop-line.invariant.sink c.loop-line.invariant.disk
     (record { mid = c.loop-line.disk; told = refl; count = refl })
     (c.in-Err.ensures setup behind.going.state behind.going.good behind.going.shows behind.going.armed (going-tells setup places held first mid c.loop-line.world behind.done behind.text behind.going))
 
@@ -42,17 +39,14 @@ pub loop-line-preserved : goal.loop-line-preserved
 loop-line-preserved g c =
     let written = g.K.Sink.written in
     let sink = g.K.Sink.faults in
-    let files = g.D.SharedDisk.files in
-    let faults = g.D.SharedDisk.faults in
-    let tally = g.D.SharedDisk.tally in
     let events = c.args.events.now in
     let line = c.line-item.result in
     let others = drop (c.loop-line.line-index + 1) events in
     let old = c.loop-line.world in
     let new = c.play_line.new.world in
-    let mid = seen (files c.loop-line.disk) (tally c.loop-line.disk) (faults c.loop-line.disk) in
-    let left = seen (files c.play_line.new.disk) (tally c.play_line.new.disk) (faults c.play_line.new.disk) in
-    let first = faults c.args.disk.now in
+    let mid = view_of (g.D.SharedDisk.seen c.loop-line.disk) in
+    let left = view_of (g.D.SharedDisk.seen c.play_line.new.disk) in
+    let first = (g.D.SharedDisk.seen c.args.disk.now).faults in
     let at = from-place events c.loop-line.line-index line c.loop-line-test.true c.line-item.is in
     let follows = subst (λ (rest : List Line). CanFollow old.now rest) at c.loop-line.invariant.follows in
     let begun = c.requires.begun in
@@ -73,19 +67,16 @@ loop-line-preserved g c =
 
 pub returns : goal.returns
 returns g c setup places held begun =
-    let files = g.D.SharedDisk.files in
-    let faults = g.D.SharedDisk.faults in
-    let tally = g.D.SharedDisk.tally in
-    let left = seen (files c.loop-line.disk) (tally c.loop-line.disk) (faults c.loop-line.disk) in
-    let disk : ℕ × ℕ = (faults c.args.disk.now, faults c.loop-line.disk) in
-    behind-last setup places held (faults c.args.disk.now) g.K.Sink.written g.K.Sink.faults c.args.out.now c.loop-line.out left disk (StoodUpTo (edge files faults c.args.disk.now c.loop-line.disk)) c.loop-line.world c.args.events.now (drop c.loop-line.line-index c.args.events.now) (drop_of_length-le c.args.events.now (omega arith)) c.loop-line.invariant.sink c.loop-line.invariant.disk (c.loop-line.invariant.behind setup places held begun)
+    let left = view_of (g.D.SharedDisk.seen c.loop-line.disk) in
+    let disk : ℕ × ℕ = ((g.D.SharedDisk.seen c.args.disk.now).faults, (g.D.SharedDisk.seen c.loop-line.disk).faults) in
+    behind-last setup places held (g.D.SharedDisk.seen c.args.disk.now).faults g.K.Sink.written g.K.Sink.faults c.args.out.now c.loop-line.out left disk (StoodUpTo (disk_edge g.D.SharedDisk.seen c.args.disk.now c.loop-line.disk)) c.loop-line.world c.args.events.now (drop c.loop-line.line-index c.args.events.now) (drop_of_length-le c.args.events.now (omega arith)) c.loop-line.invariant.sink c.loop-line.invariant.disk (c.loop-line.invariant.behind setup places held begun)
 
 pub play_line-requires-clause-state : goal.play_line-requires-clause-state
 play_line-requires-clause-state g c κs within =
     let begun = c.requires.begun in
     let one = c.loop-line.invariant.behind begun.0 begun.1 begun.2 begun.3 in
     let disk = c.loop-line.disk in
-    going-state begun.0 begun.1 begun.2 (g.D.SharedDisk.faults c.args.disk.now) (seen (g.D.SharedDisk.files disk) (g.D.SharedDisk.tally disk) (g.D.SharedDisk.faults disk)) c.loop-line.world one.done one.text one.going
+    going-state begun.0 begun.1 begun.2 (g.D.SharedDisk.seen c.args.disk.now).faults (view_of (g.D.SharedDisk.seen disk)) c.loop-line.world one.done one.text one.going
 
 pub play_line-requires-clause-spelled : goal.play_line-requires-clause-spelled
 play_line-requires-clause-spelled g c κs within =

@@ -1,6 +1,6 @@
 use Rattle.std.proofs.Common.{ℕ, List, ◌++◌, ◌∙◌, None, refl, sym, subst}
-use Rattle.cluster_rounds.specs.Came.{seen}
 use Rattle.cluster_core.specs.Playing.{EventDone}
+use Rattle.cluster_core.specs.Worlds.{view_of}
 use Rattle.aisrun.specs.declared.ending.Status8.{Status8}
 use Rattle.aisrun.specs.declared.ending.Status8.TheVariants.{DiskFault}
 use Rattle.aisrun.specs.Edges.{edge}
@@ -13,11 +13,8 @@ use Rattle.aisrun.proofs.playing.play_line.Goals as goal
 
 pub returns-in-Ok : goal.returns-in-Ok
 returns-in-Ok g c setup state good shows armed tells =
-    let files = g.D.SharedDisk.files in
-    let faults = g.D.SharedDisk.faults in
-    let tally = g.D.SharedDisk.tally in
-    let held = seen (files c.args.disk.now) (tally c.args.disk.now) (faults c.args.disk.now) in
-    let left = seen (files c.event.new.disk) (tally c.event.new.disk) (faults c.event.new.disk) in
+    let held = view_of (g.D.SharedDisk.seen c.args.disk.now) in
+    let left = view_of (g.D.SharedDisk.seen c.event.new.disk) in
     let disk : ℕ × ℕ = (held.faults, left.faults) in
     let world = c.event.new.self in
     let next = c.args.line.now in
@@ -32,17 +29,14 @@ pub returns-in-Err-Memory : goal.returns-in-Err-Memory
 returns-in-Err-Memory g c setup state good shows armed tells =
     let broken = rw c.in-Err-Memory.field-0-is at c.in-Err-Memory.ensures.broken in
     let on = rw c.in-Err-Memory.field-0-is at c.in-Err-Memory.ensures.cause in
-    let disk : ℕ × ℕ = (g.D.SharedDisk.faults c.args.disk.now, g.D.SharedDisk.faults c.event.new.disk) in
-    let L = LineLacks setup state (g.D.SharedDisk.files c.args.disk.now) (g.D.SharedDisk.files c.event.new.disk) c.event.new.self in
+    let disk : ℕ × ℕ = ((g.D.SharedDisk.seen c.args.disk.now).faults, (g.D.SharedDisk.seen c.event.new.disk).faults) in
+    let L = LineLacks setup state (g.D.SharedDisk.seen c.args.disk.now).files (g.D.SharedDisk.seen c.event.new.disk).files c.event.new.self in
     lacked _ (Standing unasked disk L) _ ((refl, broken setup state good shows armed), refl, on) refl
 
 pub returns : goal.returns
 returns g c setup state good shows armed tells =
-    let files = g.D.SharedDisk.files in
-    let faults = g.D.SharedDisk.faults in
-    let tally = g.D.SharedDisk.tally in
-    let held = seen (files c.args.disk.now) (tally c.args.disk.now) (faults c.args.disk.now) in
-    let left = seen (files c.event.new.disk) (tally c.event.new.disk) (faults c.event.new.disk) in
+    let held = view_of (g.D.SharedDisk.seen c.args.disk.now) in
+    let left = view_of (g.D.SharedDisk.seen c.event.new.disk) in
     let disk : ℕ × ℕ = (held.faults, left.faults) in
     let E = LineEnds setup state c.args.line.now held left c.event.new.self in
     let L = LineLacks setup state held.files left.files c.event.new.self in

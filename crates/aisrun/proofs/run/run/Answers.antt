@@ -1,4 +1,4 @@
-use Rattle.cluster_rounds.specs.Came.{seen}
+use Rattle.cluster_core.specs.Worlds.{view_of}
 use Rattle.aisrun.proofs.StatusLaws.{ends-by, rises-by}
 use Rattle.aisrun.proofs.PromiseLaws.{keeps-one-history, replies-rightly, reads-rightly, calls-back, prints-posts, keeps-files, keeps-records, stands-once, settles-all}
 use Rattle.aisrun.proofs.TellingLaws.{tells-once, tells-at-want}
@@ -61,11 +61,11 @@ returns-clause-settles g c = settles-all _
 
 pub returns-clause-fault_keeps : goal.returns-clause-fault_keeps
 returns-clause-fault_keeps g c =
-    keeps-at-fault (g.D.SharedDisk.files c.args.disk.now) (seen (g.D.SharedDisk.files c.run_words.new.disk) (g.D.SharedDisk.tally c.run_words.new.disk) (g.D.SharedDisk.faults c.run_words.new.disk)) c.run_words.new.world
+    keeps-at-fault (g.D.SharedDisk.seen c.args.disk.now).files (view_of (g.D.SharedDisk.seen c.run_words.new.disk)) c.run_words.new.world
 
 pub returns-clause-want_tells : goal.returns-clause-want_tells
 returns-clause-want_tells g c =
-    tells-at-want (g.D.SharedDisk.files c.args.disk.now) (seen (g.D.SharedDisk.files c.run_words.new.disk) (g.D.SharedDisk.tally c.run_words.new.disk) (g.D.SharedDisk.faults c.run_words.new.disk)) c.run_words.new.world
+    tells-at-want (g.D.SharedDisk.seen c.args.disk.now).files (view_of (g.D.SharedDisk.seen c.run_words.new.disk)) c.run_words.new.world
 
 pub returns-clause-completes : goal.returns-clause-completes
 returns-clause-completes g c can none =

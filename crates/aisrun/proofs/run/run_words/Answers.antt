@@ -1,7 +1,7 @@
 use Rattle.std.proofs.Common.{◌≡◌, ℕ, List, None, map, refl, sym}
 use Rattle.std.specs.Prelude.{string_bytes}
 use Rattle.aisrun.specs.Commands.{command_of}
-use Rattle.aisrun.specs.Edges.{around, edge, fault_count}
+use Rattle.aisrun.specs.Edges.{around, disk_edge, edge, fault_count}
 use Rattle.aisrun.specs.Endings.{Ends}
 use Rattle.aisrun.specs.RunSteps.{WordsLack}
 use Rattle.aisrun.specs.Steps.{Counting, Standing}
@@ -18,15 +18,15 @@ returns-in-Ok-None g c =
     let asked : command_of words ≡ None = sym (rw c.in-Ok-None.field-0-is at c.in-Ok-None.ensures) in
     let source = edge g.S.Source.left g.S.Source.faults c.args.source.now c.args.source.now in
     let sink = edge g.K.Sink.written g.K.Sink.faults c.args.out.now c.write_end.new.out in
-    let disk = edge g.D.SharedDisk.files g.D.SharedDisk.faults c.args.disk.now c.args.disk.now in
-    let run = around words source sink disk (g.D.SharedDisk.tally c.args.disk.now).armed c.args.world.now c.args.world.now in
-    end-written (Counting (fault_count source) (fault_count disk) (Ends run)) (Standing (fault_count source) (fault_count disk) (WordsLack run)) c.usage.result sink c.write_end.result c.write_end.ensures (usage-run run asked (record { disk = refl; world = refl }) refl c.usage.result c.usage.ensures.status c.usage.ensures.text) (lacks-early run (command_of words) (record { disk = refl; world = refl }) refl, refl, on-same (g.D.SharedDisk.faults c.args.disk.now))
+    let disk = disk_edge g.D.SharedDisk.seen c.args.disk.now c.args.disk.now in
+    let run = around words source sink disk (g.D.SharedDisk.seen c.args.disk.now).tally.armed c.args.world.now c.args.world.now in
+    end-written (Counting (fault_count source) (fault_count disk) (Ends run)) (Standing (fault_count source) (fault_count disk) (WordsLack run)) c.usage.result sink c.write_end.result c.write_end.ensures (usage-run run asked (record { disk = refl; world = refl }) refl c.usage.result c.usage.ensures.status c.usage.ensures.text) (lacks-early run (command_of words) (record { disk = refl; world = refl }) refl, refl, on-same (g.D.SharedDisk.seen c.args.disk.now).faults)
 
 pub returns-in-Err : goal.returns-in-Err
 returns-in-Err g c =
     let words : List (List ℕ) = map (λ word. string_bytes word) c.args.words.now in
     let source = edge g.S.Source.left g.S.Source.faults c.args.source.now c.args.source.now in
     let sink = edge g.K.Sink.written g.K.Sink.faults c.args.out.now c.args.out.now in
-    let disk = edge g.D.SharedDisk.files g.D.SharedDisk.faults c.args.disk.now c.args.disk.now in
-    let run = around words source sink disk (g.D.SharedDisk.tally c.args.disk.now).armed c.args.world.now c.args.world.now in
-    lacked (Counting (fault_count source) (fault_count disk) (Ends run)) (Standing (fault_count source) (fault_count disk) (WordsLack run)) sink (lacks-early run (command_of words) (record { disk = refl; world = refl }) refl, refl, on-same (g.D.SharedDisk.faults c.args.disk.now)) refl
+    let disk = disk_edge g.D.SharedDisk.seen c.args.disk.now c.args.disk.now in
+    let run = around words source sink disk (g.D.SharedDisk.seen c.args.disk.now).tally.armed c.args.world.now c.args.world.now in
+    lacked (Counting (fault_count source) (fault_count disk) (Ends run)) (Standing (fault_count source) (fault_count disk) (WordsLack run)) sink (lacks-early run (command_of words) (record { disk = refl; world = refl }) refl, refl, on-same (g.D.SharedDisk.seen c.args.disk.now).faults) refl
