@@ -23,7 +23,7 @@ use Rattle.pair_servers.specs.declared.pair.Pair.{Pair}
 use Rattle.pair_servers.specs.PairKit.{pair_kit, pair_script}
 use Rattle.pair_servers.specs.PairNodes.{active_by, partner_by}
 use Rattle.cluster_core.specs.declared.world.World.{World}
-use Rattle.cluster_core.specs.Worlds.{HasState, IsGood, Shows, named, parts_of, unnamed, view_of}
+use Rattle.cluster_core.specs.Worlds.{HasState, Shows, named, parts_of, unnamed, view_of}
 use Rattle.cluster_core.specs.Broken.{Broken, BreaksOn, files_alone}
 use Rattle.cluster_core.specs.Playing.{DoesEvent, EndsEvent, FaultLeaves, IsEventLine}
 use Rattle.cluster_core.specs.Parts.{BreaksWhole, PlaysWhole, acting_as, acting_in, whole_of}
