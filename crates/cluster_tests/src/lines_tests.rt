@@ -13,7 +13,7 @@ use callback_dispatch::OpenGate;
 use calls::History;
 use cluster_lines::play;
 use cluster_rounds::Cluster;
-use disk_model::MemDisk;
+use disk_model::{NoDisk, SharedDisk};
 use message_net::Net;
 use mirror::{Node, Role};
 use pair_servers::Pair;
@@ -48,16 +48,19 @@ fn cluster_of(alloc: Global, active: Node, start: i64, callbacks: u32) -> Cluste
     }
 }
 
-/// The same, where `a` is active with the service of a history without entries, and the deeds of its start.
-fn begin(
+/// The same over a disk that is not armed, where `a` is active with the service of a history without entries, and the deeds of its
+/// start.
+fn begin<D: SharedDisk>(
     alloc: Global,
     start: i64,
     queue: u32,
     callbacks: u32,
     wells: Seq<StreamAttrs>,
+    _disk: &D,
 ) -> Result<(Cluster<Pair>, Seq<Deed>), AllocError>
-    requires { CanBeginAs start queue wells }
-    ensures { IfOk result (λ made. HasStateOn pair_kit any_state made.0 None) }
+    requires begins { CanBeginAs start queue wells }
+    requires unarmed { (D.seen _disk.now).tally.armed ≡ None }
+    ensures { IfOk result (λ made. HasStateOn pair_kit any_state made.0 (D.seen _disk.now)) }
 {
     match Service::new(alloc, start, queue, wells) {
         Ok((service, deeds)) => {
@@ -69,21 +72,31 @@ fn begin(
 }
 
 /// Plays a line, which prints so many lines.
-fn plays<R: Abort + Threads + Wait + Sync>(
+fn plays<R: Abort + Threads + Wait + Sync, D: SharedDisk>(
     rt: &R,
     alloc: Global,
     cluster: &mut Cluster<Pair>,
-    disk: &mut MemDisk,
+    disk: &mut D,
     line: Line,
     count: usize,
 )
-    requires state { HasStateOn pair_kit any_state cluster.old disk.old.tally.armed }
+    requires state { HasStateOn pair_kit any_state cluster.old (D.seen disk.old) }
     requires range { IsInRange line }
     requires can { CanPlay pair_script cluster.old.now line }
-    ensures { HasStateOn pair_kit any_state cluster.new disk.new.tally.armed }
+    ensures { HasStateOn pair_kit any_state cluster.new (D.seen disk.new) }
 {
     let mut lines = Vec::new(alloc);
-    let done = play(rt, alloc, cluster, &mut lines, &line, disk, &OpenGate);
+    let mut beside = NoDisk::new();
+    let done = play(
+        rt,
+        alloc,
+        cluster,
+        &mut lines,
+        &line,
+        disk,
+        &mut beside,
+        &OpenGate,
+    );
     drop(line);
     done.expect(rt, "a disk that serves");
     assert_eq!(rt; lines.as_slice().len(), count);
@@ -91,13 +104,13 @@ fn plays<R: Abort + Threads + Wait + Sync>(
 }
 
 /// The server that was down comes back and joins, and takes over.
-fn joins<R: Abort + Threads + Wait + Sync>(
+fn joins<R: Abort + Threads + Wait + Sync, D: SharedDisk>(
     rt: &R,
     alloc: Global,
     cluster: &mut Cluster<Pair>,
-    disk: &mut MemDisk,
+    disk: &mut D,
 )
-    requires { HasStateOn pair_kit any_state cluster.old disk.old.tally.armed }
+    requires { HasStateOn pair_kit any_state cluster.old (D.seen disk.old) }
 {
     plays(
         rt,
@@ -131,9 +144,9 @@ fn joins<R: Abort + Threads + Wait + Sync>(
 fn lines_are_played(rt: HostRuntime) {
     let alloc = rt.alloc();
     let wells = default_wells(&rt, alloc);
-    let (mut cluster, deeds) = begin(alloc, START, 4, 4, wells).expect(&rt, "memory");
-    drop(deeds);
     let mut disk = new_disk(alloc);
+    let (mut cluster, deeds) = begin(alloc, START, 4, 4, wells, &disk).expect(&rt, "memory");
+    drop(deeds);
     plays(&rt, alloc, &mut cluster, &mut disk, Line::Servers, 2);
     plays(&rt, alloc, &mut cluster, &mut disk, Line::Mirror, 1);
     plays(&rt, alloc, &mut cluster, &mut disk, Line::Work, 1);

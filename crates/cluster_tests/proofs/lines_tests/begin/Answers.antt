@@ -1,4 +1,5 @@
 use Rattle.std.proofs.Common.{◌≡◌, ℕ, ℤ, None, List, [], refl, ap, sym, subst, ◌∙◌, inr, to_z, of_z, w64, rules}
+use Rattle.disk_model.specs.Seen.{DiskSeen}
 use Rattle.calls.specs.declared.saved.Saved.{Saved}
 use Rattle.stream_config.specs.declared.attrs.StreamAttrs.{StreamAttrs}
 use Rattle.plain_service.specs.Setups.{Setup, CanBegin}
@@ -35,8 +36,8 @@ shows setup callbacks = record {
 }
 
 -- the cluster stands for its state
-stands : (setup : Setup) (start : ℤ) (queue callbacks : ℕ) (wells : List StreamAttrs) (saved : Saved) → BeginsAs setup start queue wells → saved ≡ saved_of setup [] → HasStateOn pair_kit any_state (cluster_of (alone (started Active saved)) start callbacks) None
-stands setup start queue callbacks wells saved begins is =
+stands : (setup : Setup) (start : ℤ) (queue callbacks : ℕ) (wells : List StreamAttrs) (saved : Saved) → BeginsAs setup start queue wells → saved ≡ saved_of setup [] → (held : DiskSeen) → held.tally.armed ≡ None → HasStateOn pair_kit any_state (cluster_of (alone (started Active saved)) start callbacks) held
+stands setup start queue callbacks wells saved begins is held unarmed =
     let S : Saved → Type 0 = λ value. Shows pair_kit setup (state_of setup.start callbacks) (cluster_of (alone (started Active value)) start callbacks) in
     let T : ℤ → Type 0 = λ time. Shows pair_kit setup (state_of setup.start callbacks) (cluster_of (alone (at_rest setup [])) time callbacks) in
     record {
@@ -44,15 +45,16 @@ stands setup start queue callbacks wells saved begins is =
       state = state_of setup.start callbacks;
       good = good setup callbacks begins.sound;
       shows = subst S (sym is) (subst T begins.start_is (shows setup callbacks));
-      count = refl;
+      count = unarmed;
       so = tt;
     }
 
 pub returns-in-Ok : goal.returns-in-Ok
-returns-in-Ok c =
-    let setup = c.requires.0 in
+returns-in-Ok g c =
+    let setup = c.requires.begins.0 in
+    let held = g.D.SharedDisk.seen c.args._disk.now in
     let is : to_z w64 (of_z w64 c.args.start) ≡ c.args.start = search rules in
     let made = subst (λ time. c.cluster_of.result ≡ cluster_of c.start-active.result time c.args.callbacks) is c.cluster_of.ensures in
     let whole = made ∙ ap (λ active. cluster_of active c.args.start c.args.callbacks) c.start-active.ensures in
-    let begun = stands setup c.args.start c.args.queue c.args.callbacks c.args.wells c.in-Ok.service c.requires.1 (c.in-Ok.ensures setup (subst (λ time. BeginsAs setup time c.args.queue c.args.wells) (sym is) c.requires.1)).stands in
-    subst (λ (cluster : Cluster Pair). HasStateOn pair_kit any_state cluster None) (sym whole) begun
+    let begun = stands setup c.args.start c.args.queue c.args.callbacks c.args.wells c.in-Ok.service c.requires.begins.1 (c.in-Ok.ensures setup (subst (λ time. BeginsAs setup time c.args.queue c.args.wells) (sym is) c.requires.begins.1)).stands held c.requires.unarmed in
+    subst (λ (cluster : Cluster Pair). HasStateOn pair_kit any_state cluster held) (sym whole) begun
