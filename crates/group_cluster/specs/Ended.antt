@@ -48,7 +48,8 @@ abbrev pub ended : State Peers → Outcome (State Peers)
 ended state = ended_by (catches state.peers.seats state.world.core.hand) state
 
 -- A fault in a call of the deeds of the entry in hand ends the run: the active server falls in them, each standby fails in its takeover,
--- and the last one too. How many fell before the last one is what the device tells
+-- and the last one too. How many fell before the last one is what the device tells. Where it tells as many, the work may also end in a
+-- takeover by the last one, since the device does not tell whether that one fails too: the outcome does
 pub record EndsGroup (device : Device) (state : State Peers) (end : Outcome (State Peers)) : Type 0 where
   pub entry : Entry
   pub ready : state.world.core.hand ≡ Ready entry

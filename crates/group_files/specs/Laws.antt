@@ -58,13 +58,13 @@ WorkLeavesFiles =
     → Attempt service_disk ((storage_of setup).deeds past entry) files left
     → FilesLeft service_disk (storage_of setup) past (Ready entry) left
 
--- each standby's service stands for the history, or for the history and the waiting entry
+-- each standby has applied the history, or the history and the waiting entry
 abbrev pub StandbysFollow : Type 0
 StandbysFollow =
     (state : State Peers) → IsGroup state
     → AllByRecursion (λ (seat : Seat). IsFollowed state.world.core.answered state.world.core.hand seat.stance) state.peers.seats
 
--- one that keeps no deeds stands for the answered history, and the files are those of that history
+-- one that keeps no deeds has applied the answered history, and the files are those of that history
 abbrev pub FreshFollow : Type 0
 FreshFollow =
     (setup : Setup) (state : State Peers) (files : service_disk.Files) → IsGroup state
