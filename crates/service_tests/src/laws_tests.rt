@@ -38,6 +38,7 @@ fn laws_of_log_history() {
     log_history::law_of_files();
     log_history::law_of_names();
     log_history::law_of_records();
+    log_history::law_of_rounds();
 }
 
 #[test]

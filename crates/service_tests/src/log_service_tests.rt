@@ -1,5 +1,5 @@
 //! Calls of clients, and what they do to streams.
-ghost use Rattle.std.specs.Prelude.{◌≡◌, ◌≤◌, IfOk};
+ghost use Rattle.std.specs.Prelude.{◌≡◌, ◌≤◌, ◌+◌, IfOk};
 ghost use Rattle.ais_values.specs.declared.kind.StreamKind.TheVariants.{Alarm, System};
 ghost use Rattle.stream_config.specs.Attributes.{PassesAttrs};
 ghost use Rattle.stream_config.specs.WellKnown.{default_file};
@@ -254,17 +254,21 @@ fn stores(rt: &impl Abort, alloc: Global, state: &mut LogState, rec: &LogRecord)
 fn alarm_state(rt: &impl Abort, alloc: Global) -> StreamState
     ensures name { result.name ≡ StreamName.Alarm }
     ensures passes { PassesAttrs Alarm result.attrs }
+    ensures few { result.opened ≤ result.taken + 1 }
 {
     let mut files = Seq::new(alloc);
     let first = LogFile {
         created: 7,
         closed: None,
+        first: 0,
+        bytes: 0,
     };
     files.push(first).expect(rt, "memory");
     StreamState {
         name: StreamName::Alarm,
         attrs: well_known(alloc, StreamKind::Alarm).expect(rt, "memory"),
         taken: 0,
+        opened: 1,
         files,
     }
 }
@@ -430,6 +434,7 @@ fn stores_for_notifications(rt: HostRuntime) {
 fn again(rt: &impl Abort, alloc: Global, stream: StreamState) -> LogState
     requires name { stream.name ≡ StreamName.Alarm }
     requires passes { PassesAttrs Alarm stream.attrs }
+    requires few { stream.opened ≤ stream.taken + 1 }
 {
     let mut users = Seq::new(alloc);
     users.push(1).expect(rt, "memory");

@@ -1,19 +1,15 @@
 //! That calls succeed while there is memory, with what the rules say of a few values.
-ghost use Rattle.std.specs.Prelude.{IsTrue};
-ghost use Rattle.stream_config.specs.Attributes.{kind_of, PassesAttrs};
-
 use crate::fixtures::{alarm, alarms_by};
-use ais_values::{Seq, Status, StreamKind, UNKNOWN_TIME};
+use ais_values::{Status, UNKNOWN_TIME};
 use alarm_view::AlarmView;
 use calls::{Reply, SavedReader};
 use client_window::Judged;
 use service_parts::{
-    Told, accepted, answer_call, end_reading, first_standing, is_alarm, judge_call, next_call,
-    read_on, record_for, room_for, start_reading, stop_reader,
+    Told, accepted, answer_call, end_reading, is_alarm, judge_call, next_call, read_on, record_for,
+    room_for, start_reading, stop_reader,
 };
 use std::alloc::Global;
 use std::process::Abort;
-use stream_config::{LogFile, StreamName, StreamState, well_known};
 
 /// The stored alarms are one of id 1, at the time 100.
 fn one_alarm(rt: &impl Abort, alloc: Global) -> AlarmView {
@@ -131,33 +127,4 @@ fn a_first_call_is_answered(rt: HostRuntime) {
     drop(callers);
     assert!(rt; (first, second) == (1, 2));
     assert!(rt; repeated && new);
-}
-
-/// The first record that stands of the system stream, which keeps 4 files of 1,024 records.
-fn standing_after(rt: &impl Abort, alloc: Global, taken: u32) -> u32 {
-    let attrs = well_known(alloc, StreamKind::System).expect(rt, "memory");
-    let mut files = Seq::new(alloc);
-    files
-        .push(LogFile {
-            created: 0,
-            closed: None,
-        })
-        .expect(rt, "memory");
-    let state = StreamState {
-        name: StreamName::System,
-        attrs,
-        taken,
-        files,
-    };
-    let first = first_standing(&state);
-    drop(state);
-    first
-}
-
-#[test]
-fn records_stand_until_their_file_is_removed(rt: HostRuntime) {
-    for (taken, want) in [(0, 0), (4096, 0), (4097, 1024), (5120, 1024), (5121, 2048)] {
-        let first = standing_after(&rt, rt.alloc(), taken);
-        assert!(rt; first == want, "after {taken}");
-    }
 }

@@ -1,4 +1,4 @@
-use Rattle.std.proofs.Common.{ap, arith}
+use Rattle.std.proofs.Common.{inl, ap, arith}
 use Rattle.stream_config.specs.declared.attrs.StreamAttrs.{StreamAttrs}
 use Rattle.service_tests.proofs.log_service_tests.system.Goals as goal
 
@@ -13,7 +13,10 @@ returns-clause-passes c =
     record {
       file = given.file;
       path = given.path;
-      sizes = record { least_record = omega arith; greatest_record = omega arith; least_file = least; greatest_file = omega arith };
+      sizes = record {
+        records = inl (record { least_record = omega arith; greatest_record = omega arith; least_file = least });
+        greatest_file = omega arith;
+      };
       ha = given.ha;
       some_rotated = omega arith;
       few_rotated = omega arith;
