@@ -212,7 +212,8 @@ fn made(alloc: Global) -> Result<StreamEvent, Fail>
 
 fn stored(alloc: Global, taken: u32, stamps: Option<Stamps>) -> Result<StreamEvent, Fail>
     requires few { taken ≤ 1024 }
-    requires changes { is_some stamps ≡ changes_file (default_attrs kinds.System) (taken * 256) 256 }
+    requires changes { is_some stamps
+        ≡ changes_file (default_attrs kinds.System) (taken * 256) 256 }
     requires new { IfSome stamps (λ two. IsStamp two.closed × IsStamp two.created) }
     ensures { IfOk result IsFitEvent }
 {
