@@ -19,6 +19,11 @@ fn laws_of_format_expr() {
 }
 
 #[test]
+fn laws_of_journal_frames() {
+    journal_frames::law_of_appends();
+}
+
+#[test]
 fn laws_of_record_print() {
     record_print::law_of_cut_marks();
     record_print::law_of_equality();

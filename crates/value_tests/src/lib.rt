@@ -17,6 +17,8 @@ mod format_expr_tests;
 #[cfg(test)]
 mod io_edge_tests;
 #[cfg(test)]
+mod journal_frames_tests;
+#[cfg(test)]
 mod laws_tests;
 #[cfg(test)]
 mod load_script_tests;
