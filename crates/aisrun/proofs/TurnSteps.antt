@@ -1,5 +1,5 @@
 -- The turns of a large run, one after another.
-use Rattle.std.proofs.Common.{◌≡◌, ℕ, zero, suc, ◌+◌, ◌<◌, List, [], ◌++◌, inl, inr, ap, sym, ◌∙◌, arith, append-nil, append_assoc}
+use Rattle.std.proofs.Common.{◌≡◌, ℕ, zero, suc, ◌<◌, List, [], ◌++◌, inl, inr, ap, sym, ◌∙◌, arith, append-nil, append_assoc}
 use Rattle.std.proofs.Math.Nat.{le-suc_iff}
 use Rattle.script_lines.specs.declared.line.Line.{Line}
 use Rattle.load_script.specs.Numbers.{next_state, number_in, state_at}
