@@ -6,8 +6,8 @@ mod plan;
 use building::built;
 use calls::Saved;
 use plan::{
-    ALARMS, ALARMS_BY_SOURCE, EMPTY, NONE, OBJECTS_BY_CAUSE, OBJECTS_TOO, Plan, alarm, reader,
-    sound, stream, sub, window,
+    ALARMS, ALARMS_BY_SOURCE, EMPTY, NONE, OBJECTS_BY_CAUSE, OBJECTS_TOO, Plan, StreamPlan, alarm,
+    reader, sound, stream, sub, window,
 };
 use saved_fit::is_fit;
 use service_core::Service;
@@ -34,6 +34,13 @@ fn is_plan_fit(rt: &impl Abort, alloc: Global, plan: &Plan) -> bool {
     fit
 }
 
+/// A stream of one file that has taken no record.
+fn empty(mut stream: StreamPlan) -> StreamPlan {
+    stream.taken = 0;
+    stream.bytes = [0, 0];
+    stream
+}
+
 /// Values at the bounds of rules.
 fn at_bounds(plan: &mut Plan, case: u32) {
     match case {
@@ -44,7 +51,7 @@ fn at_bounds(plan: &mut Plan, case: u32) {
         4 => plan.last_stamp = 9_000_000_118,
         5 => plan.last_stamp = 102,
         6 => plan.windows[1] = window(4096, 11, 10),
-        7 => plan.streams[4].taken = 0,
+        7 => plan.streams[4] = empty(plan.streams[4]),
         8 => plan.streams[4].file = b'v',
         9 => plan.subs[0].held = 2,
         10 => plan.subs[1].first = 11,
@@ -127,9 +134,10 @@ fn break_attributes(plan: &mut Plan, rule: u32) {
         7 => attrs.ha = 2,
         8 => attrs.rotated = 0,
         9 => attrs.rotated = 129,
-        _ => attrs.max = 31,
+        10 => attrs.max = 31,
+        _ => attrs.record = 0,
     }
-    if rule == 5 {
+    if rule == 5 || rule == 11 {
         attrs.max = 20_000;
     }
 }
@@ -148,10 +156,15 @@ fn break_files(plan: &mut Plan, rule: u32) {
         9 => plan.streams[2].closed = [0, 0],
         10 => plan.streams[3].created = [-1, 0],
         11 => plan.streams[3].created = [201, 0],
-        _ => plan.streams[3].taken = 11,
+        12 => plan.streams[3].taken = 11,
+        13 => plan.streams[3].opened = 2,
+        14 => plan.streams[3].first = [1, 0],
+        _ => plan.streams[3].bytes = [65, 0],
     }
     if rule == 1 || rule == 3 {
         plan.streams[rule as usize].closed = [101, 0];
+    } else if rule == 2 {
+        plan.streams[4].bytes = [96, 0];
     }
 }
 
@@ -252,9 +265,68 @@ fn values_of_many(rt: HostRuntime) {
 
 #[test]
 fn rules_broken_one_at_a_time(rt: HostRuntime) {
-    let rules = [14, 12, 11, 13, 11, 12, 6];
+    let rules = [14, 12, 12, 16, 11, 12, 6];
     for part in 0..7 {
         each_breaks(&rt, rt.alloc(), part, rules[part as usize]);
+    }
+}
+
+/// The two files of the system stream, which keeps no more, one row a line: the size of records, how many it has taken,
+/// how many files were made of it, the first record of each and the bytes of each. A file has 64 bytes at most, or
+/// 16,384 with record size 0.
+const FIT_FILES: &str = "\
+    32 3 2 0 2 64 32\n\
+    32 4 2 0 2 64 64\n\
+    32 5 3 2 4 64 32\n\
+    0 3 2 0 2 2 1\n\
+    0 3 2 0 1 16384 16384\n\
+    0 3 3 1 2 5 5";
+
+const UNFIT_FILES: &str = "\
+    32 5 2 0 2 64 96\n\
+    32 3 3 0 2 64 32\n\
+    32 3 2 0 1 32 64\n\
+    32 3 2 1 2 32 32\n\
+    32 3 2 0 2 64 31\n\
+    32 3 2 0 2 63 32\n\
+    32 2 2 0 2 64 0\n\
+    0 3 2 0 2 1 1\n\
+    0 3 2 0 2 2 0\n\
+    0 3 2 0 2 2 16385\n\
+    0 3 2 0 1 16385 2\n\
+    0 3 2 1 2 5 5\n\
+    0 3 4 1 2 5 5\n\
+    0 3 1 0 2 5 5\n\
+    0 3 2 0 3 5 0\n\
+    0 3 2 0 0 0 5\n\
+    0 3 2 0 4 5 5";
+
+/// The number at a place of a row.
+fn number(rt: &impl Abort, row: &str, place: usize) -> u32 {
+    let text = row.split(' ').nth(place).expect(rt, "a number");
+    text.parse().ok().expect(rt, "a number")
+}
+
+/// Whether a value is fit whose system stream has the files of a row.
+fn are_files_fit(rt: &impl Abort, alloc: Global, row: &str) -> bool {
+    let mut plan = sound();
+    let system = &mut plan.streams[2];
+    system.record = number(rt, row, 0);
+    system.max = if system.record == 0 { 16_384 } else { 64 };
+    system.taken = number(rt, row, 1);
+    system.opened = number(rt, row, 2);
+    system.first = [number(rt, row, 3), number(rt, row, 4)];
+    system.bytes = [number(rt, row, 5).into(), number(rt, row, 6).into()];
+    is_plan_fit(rt, alloc, &plan)
+}
+
+#[test]
+fn files_have_their_records(rt: HostRuntime) {
+    for row in FIT_FILES.split('\n') {
+        assert!(rt; are_files_fit(&rt, rt.alloc(), row), "{row}");
+    }
+    for row in UNFIT_FILES.split('\n') {
+        assert!(rt; !are_files_fit(&rt, rt.alloc(), row), "{row}");
     }
 }
 

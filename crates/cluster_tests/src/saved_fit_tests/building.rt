@@ -91,6 +91,8 @@ fn files(rt: &impl Abort, alloc: Global, plan: &StreamPlan) -> Seq<LogFile> {
         let file = LogFile {
             created: plan.created[place],
             closed: if closed == 0 { None } else { Some(closed) },
+            first: plan.first[place],
+            bytes: plan.bytes[place],
         };
         list.push(file).expect(rt, "memory");
     }
@@ -103,6 +105,7 @@ fn built_stream(rt: &impl Abort, alloc: Global, plan: &StreamPlan) -> SavedStrea
             name: stream_name(rt, alloc, plan.name),
             attrs: attrs(rt, alloc, plan),
             taken: plan.taken,
+            opened: plan.opened,
             files: files(rt, alloc, plan),
         },
         openers: clients(rt, alloc, &plan.openers),

@@ -29,7 +29,8 @@ pub(crate) struct WindowPlan {
 }
 
 /// A stream. Its name is that of a well-known one below 3, and else an application's of this letter; its file and path
-/// have one letter, and its expression is a class's token with this letter. A file is closed unless at 0.
+/// have one letter, and its expression is a class's token with this letter. Two of its files are told at most, by their
+/// stamps, first records and bytes. A file is closed unless at 0.
 #[derive(Clone, Copy)]
 pub(crate) struct StreamPlan {
     pub(crate) name: u8,
@@ -42,9 +43,12 @@ pub(crate) struct StreamPlan {
     pub(crate) action: u8,
     pub(crate) rotated: u32,
     pub(crate) taken: u32,
+    pub(crate) opened: u32,
     pub(crate) files: usize,
     pub(crate) created: [i64; 2],
     pub(crate) closed: [i64; 2],
+    pub(crate) first: [u32; 2],
+    pub(crate) bytes: [u64; 2],
     pub(crate) openers: [u16; 2],
 }
 
@@ -95,7 +99,7 @@ pub(crate) struct Plan {
     pub(crate) more_streams: u8,
 }
 
-/// A stream of two records a file that has one file and nothing stored.
+/// A stream of two records a file that has one file, with the last two of so many records.
 pub(crate) fn stream(name: u8, file: u8, action: u8, taken: u32) -> StreamPlan {
     StreamPlan {
         name,
@@ -108,9 +112,12 @@ pub(crate) fn stream(name: u8, file: u8, action: u8, taken: u32) -> StreamPlan {
         action,
         rotated: 2,
         taken,
+        opened: 1,
         files: 1,
         created: [100, 102],
         closed: [0, 0],
+        first: [0, 0],
+        bytes: [u64::from(taken.min(2)) * 32, 0],
         openers: [NONE, NONE],
     }
 }
@@ -119,16 +126,22 @@ pub(crate) fn stream(name: u8, file: u8, action: u8, taken: u32) -> StreamPlan {
 fn alarm_stream() -> StreamPlan {
     let mut plan = stream(0, b'a', ROTATE, 3);
     plan.record = 64;
+    plan.opened = 3;
     plan.files = 2;
     plan.closed = [101, 0];
+    plan.first = [1, 2];
+    plan.bytes = [64, 64];
     plan
 }
 
 /// The system stream has stored two files, of two records and of one.
 fn system_stream() -> StreamPlan {
     let mut plan = stream(2, b's', ROTATE, 3);
+    plan.opened = 2;
     plan.files = 2;
     plan.closed = [101, 0];
+    plan.first = [0, 2];
+    plan.bytes = [64, 32];
     plan.openers = [1, 2];
     plan
 }
