@@ -10,7 +10,7 @@ const CLUSTER: &str = "cluster start=10 queue=1 callbacks=256\n";
 /// A line of each form, as each is written.
 const FORMS: &str =
     "cluster start=1 queue=2 callbacks=8 alarmfmt=\"@Cr\" alarmrec=32 alarmmax=64 alarmfull=wrap alarmrot=1 \
-    ntfrec=40 sysfull=halt sysrot=128\n\
+    ntfrec=40 sysrec=0 sysmax=16384 sysfull=halt sysrot=128\n\
     time 1\nlog 1 init A.2.1\nlog 2 open alarm\nlog 3 open notification\nlog 4 open system\nlog 5 open app:\"safApp=web\"\n\
     log 6 open app:\"b\" create file=\"f\" path=\".\" max=18446744073709551615 rec=4294967295 ha=255 full=rotate rot=4294967295\n\
     log 7 open app:\"b\" create file=\"\" path=\"\" max=0 rec=0 ha=0 full=halt rot=0 fmt=\"@Cb\"\n\
@@ -153,7 +153,9 @@ const BAD_SCRIPTS: &str = "\
     log 1 fini\n>1 cluster;\
     cluster start=1 queue=1 callbacks=1\ntime 3\n\ntime 2\nx\n>4 time;\
     cluster start=1 queue=1 callbacks=1\ncluster start=1 queue=1 callbacks=1\n>2 cluster;\
-    cluster start=1 queue=1 callbacks=1\r\n>1 grammar";
+    cluster start=1 queue=1 callbacks=1\r\n>1 grammar;\
+    cluster start=0 queue=1 callbacks=1 sysrec=0 sysfull=wrap\n>1 grammar;\
+    cluster start=0 queue=1 callbacks=1 sysrec=0 sysmax=16383\n>1 grammar";
 
 fn parsed(rt: &impl Abort, alloc: Global, text: &[u8]) -> Result<Seq<Line>, ScriptAnswer> {
     assert!(rt; text.len() <= 1_000_000);

@@ -1,11 +1,11 @@
 //! Spellings and refusals from the rules' rows, and that calls succeed while there is memory.
 ghost use Rattle.wire.specs.MessageSpelling.{MessageInRange};
 
-use ais_values::{Duplicate, Name, Seq};
-use calls::{Boxed, Call, Entry, Reply, Saved};
+use ais_values::{Duplicate, Name, Seq, Text};
+use calls::{Boxed, Call, Entry, Reply, Saved, SavedStream};
 use std::alloc::Global;
 use std::process::Abort;
-use stream_config::StreamName;
+use stream_config::{FullAction, LogFile, StreamAttrs, StreamName, StreamState};
 use sub_queue::{Content, Item, Lost};
 use wire::{Message, WireAnswer, WireWhy, decode, encode};
 
@@ -160,6 +160,85 @@ fn a_snapshot(rt: HostRuntime) {
             0,
         ],
     );
+}
+
+/// A file of the stream.
+fn file(created: i64, closed: Option<i64>, first: u32, bytes: u64) -> LogFile {
+    LogFile {
+        created,
+        closed,
+        first,
+        bytes,
+    }
+}
+
+/// The system stream with records of varying size, of which three stand in two files. Client 1 has it open.
+fn system_stream(rt: &impl Abort, alloc: Global) -> SavedStream {
+    let attrs = StreamAttrs {
+        file: Text::new(alloc, b"s").expect(rt, "a text"),
+        path: Text::new(alloc, b".").expect(rt, "a text"),
+        max_file: 16_384,
+        record_size: 0,
+        ha: 0,
+        action: FullAction::Rotate,
+        rotated: 2,
+        expr: Text::new(alloc, b"@Cb").expect(rt, "a text"),
+    };
+    let mut files = Seq::new(alloc);
+    files.push(file(5, Some(7), 0, 16_000)).expect(rt, "memory");
+    files.push(file(8, None, 2, 400)).expect(rt, "memory");
+    let mut openers = Seq::new(alloc);
+    openers.push(1).expect(rt, "memory");
+    let state = StreamState {
+        name: StreamName::System,
+        attrs,
+        taken: 3,
+        opened: 2,
+        files,
+    };
+    SavedStream { state, openers }
+}
+
+/// The spelling of that stream: its name and attributes, what it has taken, its files and who has it open.
+const SYSTEM_STREAM: [u8; 98] = [
+    3, 0, 1, 115, 0, 1, 46, 0, 0, 0, 0, 0, 0, 64, 0, 0, 0, 0, 0, 0, 3, 0, 0, 0, 2, 0, 3, 64, 67,
+    98, 0, 0, 0, 3, 0, 0, 0, 2, 0, 0, 0, 2, 0, 0, 0, 0, 0, 0, 0, 5, 1, 0, 0, 0, 0, 0, 0, 0, 7, 0,
+    0, 0, 0, 0, 0, 0, 0, 0, 0, 62, 128, 0, 0, 0, 0, 0, 0, 0, 8, 0, 0, 0, 0, 2, 0, 0, 0, 0, 0, 0, 1,
+    144, 0, 0, 0, 1, 0, 1,
+];
+
+/// The value of a service without users, entries and ids, which has that stream alone.
+fn saved_stream(rt: &impl Abort, alloc: Global) -> Message
+    ensures { MessageInRange result }
+{
+    let mut streams = Seq::new(alloc);
+    streams.push(system_stream(rt, alloc)).expect(rt, "memory");
+    let saved = Saved {
+        number: 0,
+        last_stamp: 0,
+        last_id: 0,
+        capacity: 0,
+        log_users: Seq::new(alloc),
+        ntf_users: Seq::new(alloc),
+        windows: Seq::new(alloc),
+        streams,
+        alarms: Seq::new(alloc),
+        subs: Seq::new(alloc),
+        readers: Seq::new(alloc),
+    };
+    Message::Snapshot { saved }
+}
+
+#[test]
+fn a_stream_of_a_snapshot(rt: HostRuntime) {
+    let alloc = rt.alloc();
+    let mut want = vec![in alloc; 0u8; 41].expect(&rt, "memory");
+    want[0] = 7;
+    want.extend_from_slice(&[0, 0, 0, 1]).expect(&rt, "memory");
+    want.extend_from_slice(&SYSTEM_STREAM).expect(&rt, "memory");
+    want.extend_from_slice(&[0; 12]).expect(&rt, "memory");
+    let message = saved_stream(&rt, alloc);
+    spelled(&rt, alloc, message, want.as_slice());
 }
 
 #[test]
