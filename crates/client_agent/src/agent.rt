@@ -184,7 +184,8 @@ impl Agent {
     }
 
     /// Hands out callbacks, each under its number: the oldest, or all of them, by so many workers, of which each passes
-    /// the gate before its first take. What is handed out is the same for every number of workers.
+    /// the gate before its first take. Where nothing waits no worker is started. What is handed out is the same for every
+    /// number of workers.
     ///
     /// It is refused as BAD_HANDLE exactly where the client has no handle. Where memory runs out nothing changes.
     pub fn dispatch<R: Threads + Wait + Sync, G: Gate>(

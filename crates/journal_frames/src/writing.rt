@@ -57,8 +57,9 @@ fn write_through<J: SharedDisk>(disk: &mut J, at: u64, bytes: &[u8]) -> Result<(
 /// gate is written and made durable, and then the gate. `behind` is what `behind_gate` gives of the text.
 ///
 /// It makes these four calls in order, up to the first that is not done, and no others. `Failed` comes exactly where the
-/// disk's count of faults rose, and `Stopped` exactly where its count of stops rose. After either only what `mend` does
-/// makes a journal of the file again, which then holds its texts, or these and this one.
+/// disk's count of faults rose, and `Stopped` exactly where its count of stops rose. After either, and
+/// where memory was wanting behind the first call, only what `mend` does makes a journal of the file again, which then
+/// holds its texts, or these and this one.
 pub fn append_text<J: SharedDisk>(disk: &mut J, end: u64, behind: &[u8]) -> Result<(), DiskAnswer>
     requires { end < 2 ^ 64 - 1 }
     ensures performs { Performs (calls_behind end behind.now) result (J.seen disk.old).files
