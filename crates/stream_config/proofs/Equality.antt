@@ -1,4 +1,4 @@
--- `==` of names, attributes, states and events of streams decides whether they are equal.
+-- `==` of names, attributes, marks, states and events of streams decides whether they are equal.
 use Rattle.std.proofs.Common.{◌≡◌, ℕ, refl, ap}
 use Rattle.std.specs.Bool.{Decides}
 use Rattle.std.specs.Ordering.{int_eq}
@@ -11,6 +11,7 @@ use Rattle.stream_config.specs.declared.attrs.FullAction.TheVariants.{Wrap, Halt
 use Rattle.stream_config.specs.declared.attrs.StreamAttrs.{StreamAttrs}
 use Rattle.stream_config.specs.declared.attrs.StreamName.{StreamName}
 use Rattle.stream_config.specs.declared.attrs.StreamName.TheVariants.{Alarm, Notification, System, App}
+use Rattle.stream_config.specs.declared.mark.Mark.{Mark}
 use Rattle.stream_config.specs.declared.state.LogFile.{LogFile}
 use Rattle.stream_config.specs.declared.state.StreamState.{StreamState}
 use Rattle.stream_config.specs.declared.event.Stamps.{Stamps}
@@ -19,6 +20,7 @@ use Rattle.stream_config.specs.declared.event.StreamEvent.TheVariants.{Made, Sto
 use Rattle.stream_config.specs.contracts.attrs.FullActionPartialEq.TheImpl as action_impl
 use Rattle.stream_config.specs.contracts.attrs.StreamAttrsPartialEq.TheImpl as attrs_impl
 use Rattle.stream_config.specs.contracts.attrs.StreamNamePartialEq.TheImpl as name_impl
+use Rattle.stream_config.specs.contracts.mark.MarkPartialEq.TheImpl as mark_impl
 use Rattle.stream_config.specs.contracts.state.LogFilePartialEq.TheImpl as file_impl
 use Rattle.stream_config.specs.contracts.state.StreamStatePartialEq.TheImpl as state_impl
 use Rattle.stream_config.specs.contracts.event.StampsPartialEq.TheImpl as stamps_impl
@@ -54,6 +56,13 @@ attrs_eq-decides one other =
     (λ e. λ i. record { file = e.0 i; path = (e.1).0 i; max_file = (e.1).1.0 i; record_size = (e.1).1.1.0 i; ha = (e.1).1.1.1.0 i; action = (e.1).1.1.1.1.0 i; rotated = (e.1).1.1.1.1.1.0 i; expr = (e.1).1.1.1.1.1.1 i })
     (λ e. (ap (λ (a : StreamAttrs). a.file) e, (ap (λ (a : StreamAttrs). a.path) e, (ap (λ (a : StreamAttrs). a.max_file) e, (ap (λ (a : StreamAttrs). a.record_size) e, (ap (λ (a : StreamAttrs). a.ha) e, (ap (λ (a : StreamAttrs). a.action) e, (ap (λ (a : StreamAttrs). a.rotated) e, ap (λ (a : StreamAttrs). a.expr) e))))))))
     (Decides-and _ _ (bytes_eq-Decides one.file other.file) (Decides-and _ _ (bytes_eq-Decides one.path other.path) (Decides-and _ _ (Decides-eqb one.max_file other.max_file) (Decides-and _ _ (Decides-eqb one.record_size other.record_size) (Decides-and _ _ (Decides-eqb one.ha other.ha) (Decides-and _ _ (action_eq-decides one.action other.action) (Decides-and _ _ (Decides-eqb one.rotated other.rotated) (bytes_eq-Decides one.expr other.expr))))))))
+
+pub mark_eq-decides : (one other : Mark) → Decides ((mark_impl.ghosts).eq one other) (one ≡ other)
+mark_eq-decides one other =
+    Decides-like _
+    (λ e. λ i. record { since = e.0 i; mask = (e.1) i })
+    (λ e. (ap (λ (m : Mark). m.since) e, ap (λ (m : Mark). m.mask) e))
+    (Decides-and _ _ (Decides-eqb one.since other.since) (Decides-eqb one.mask other.mask))
 
 file_eq-decides : (one other : LogFile) → Decides ((file_impl.ghosts).eq one other) (one ≡ other)
 file_eq-decides one other =

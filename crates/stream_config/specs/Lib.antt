@@ -4,6 +4,7 @@ pub mod Cfg
 pub mod Equality
 pub mod Events
 pub mod Fit
+pub mod Marks
 pub mod Sizes
 pub mod Stamps
 pub mod WellKnown

@@ -3,6 +3,7 @@ ghost use Rattle.std.specs.Prelude.{◌≡◌, ◌↔◌, ◌*◌, ◌<◌, ℕ,
 ghost use Rattle.ais_values.specs.declared.kind.StreamKind.{StreamKind};
 ghost use Rattle.stream_config.specs.declared.attrs.StreamAttrs.{StreamAttrs as AttrsOf};
 ghost use Rattle.stream_config.specs.declared.attrs.StreamName.{StreamName as NameOf};
+ghost use Rattle.stream_config.specs.declared.mark.Mark.{Mark as MarkOf};
 ghost use Rattle.stream_config.specs.declared.state.StreamState.{StreamState as StateOf};
 ghost use Rattle.stream_config.specs.declared.event.StreamEvent.{StreamEvent as EventOf};
 ghost use Rattle.stream_config.specs.Attributes.{PassesAttrs, HaveOnePlace};
@@ -10,15 +11,17 @@ ghost use Rattle.stream_config.specs.AttributeTests.{passes_attrs, have_one_plac
 ghost use Rattle.stream_config.specs.Equality.{same_name, same_attrs};
 ghost use Rattle.stream_config.specs.Sizes.{records_per_file, has_room};
 
-use crate::{StreamAttrs, StreamEvent, StreamName, StreamState};
+use crate::{Mark, StreamAttrs, StreamEvent, StreamName, StreamState};
 
-/// Two names, two streams' attributes, two states and two events are told equal by `==` exactly where they are
-/// equal.
+/// Two names, two streams' attributes, two marks, two states and two events are told equal by `==` exactly where
+/// they are equal.
 pub fn law_of_equality()
     ensures names { (one other : NameOf) → IsTrue (⟦<StreamName as PartialEq>⟧.eq one other)
         ↔ (one ≡ other) }
     ensures attributes { (one other : AttrsOf) →
         IsTrue (⟦<StreamAttrs as PartialEq>⟧.eq one other) ↔ (one ≡ other) }
+    ensures marks { (one other : MarkOf) → IsTrue (⟦<Mark as PartialEq>⟧.eq one other)
+        ↔ (one ≡ other) }
     ensures states { (one other : StateOf) →
         IsTrue (⟦<StreamState as PartialEq>⟧.eq one other) ↔ (one ≡ other) }
     ensures events { (one other : EventOf) →
