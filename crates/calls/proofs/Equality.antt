@@ -1,13 +1,14 @@
 -- `==` of calls, replies and entries decides whether they are equal.
 use Rattle.std.proofs.Common.{◌≡◌, ℕ, refl}
 use Rattle.std.specs.Bool.{Decides}
+use Rattle.std.specs.Cmp.{booleans_Decides}
 use Rattle.std.proofs.lemmas.Bool.Decides.{Decides-eqb, Decides-int_eq, Decides-and, Decides-like}
 use Rattle.std.proofs.lemmas.Slice.Eq.{bytes_eq-Decides}
 use Rattle.ais_values.proofs.Equality.{eq-decides_through, eq-decides_apart, option_eq-decides}
 use Rattle.ntf_types.proofs.Equality.{notification_eq-decides}
 use Rattle.ntf_filters.proofs.Equality.{filter_set_eq-decides}
 use Rattle.record_print.proofs.Equality.{header_eq-decides}
-use Rattle.stream_config.proofs.Equality.{name_eq-decides, attrs_eq-decides}
+use Rattle.stream_config.proofs.Equality.{name_eq-decides, attrs_eq-decides, mark_eq-decides}
 use Rattle.ais_values.specs.Statuses.{status_code}
 use Rattle.ais_values.specs.declared.status.Status.{Status}
 use Rattle.ais_values.specs.declared.status.Status.TheVariants as status
@@ -49,6 +50,7 @@ call_number (call.ReaderStart mode value filters) = 9
 call_number (call.ReaderRead direction) = 10
 call_number call.ReaderEnd = 11
 call_number call.NtfFini = 12
+call_number (call.LogFilter stream mask) = 13
 
 pub call_eq-decides : (one other : Call) → Decides ((call_impl.ghosts).eq one other) (one ≡ other)
 call_eq-decides call.LogInit call.LogInit = (λ _. refl, λ _. refl)
@@ -84,6 +86,11 @@ call_eq-decides (call.ReaderRead one) (call.ReaderRead other) =
     eq-decides_through call.ReaderRead _ one other (λ e. cc) (Decides-eqb one other)
 call_eq-decides call.ReaderEnd call.ReaderEnd = (λ _. refl, λ _. refl)
 call_eq-decides call.NtfFini call.NtfFini = (λ _. refl, λ _. refl)
+call_eq-decides (call.LogFilter stream1 mask1) (call.LogFilter stream2 mask2) =
+    Decides-like _
+    (λ e. λ i. call.LogFilter (e.0 i) (e.1 i))
+    (λ e. (cc, cc))
+    (Decides-and _ _ (name_eq-decides stream1 stream2) (Decides-eqb mask1 mask2))
 call_eq-decides one other = eq-decides_apart call_number _ one other refl refl
 
 abbrev reply_number : Reply → ℕ
@@ -91,6 +98,7 @@ reply_number (reply.Refused status) = 0
 reply_number reply.Done = 1
 reply_number (reply.Sent id) = 2
 reply_number (reply.Found notification) = 3
+reply_number (reply.Marked filtered mark) = 4
 
 pub reply_eq-decides : (one other : Reply) → Decides ((reply_impl.ghosts).eq one other) (one ≡ other)
 reply_eq-decides (reply.Refused one) (reply.Refused other) =
@@ -100,6 +108,11 @@ reply_eq-decides (reply.Sent one) (reply.Sent other) =
     eq-decides_through reply.Sent _ one other (λ e. cc) (Decides-eqb one other)
 reply_eq-decides (reply.Found one) (reply.Found other) =
     eq-decides_through reply.Found _ one other (λ e. cc) (notification_eq-decides one other)
+reply_eq-decides (reply.Marked filtered1 mark1) (reply.Marked filtered2 mark2) =
+    Decides-like _
+    (λ e. λ i. reply.Marked (e.0 i) (e.1 i))
+    (λ e. (cc, cc))
+    (Decides-and _ _ (booleans_Decides filtered1 filtered2) (mark_eq-decides mark1 mark2))
 reply_eq-decides one other = eq-decides_apart reply_number _ one other refl refl
 
 abbrev entry_number : Entry → ℕ

@@ -7,7 +7,7 @@ use Rattle.std.proofs.lemmas.Bool.Decides.{Decides-eqb, Decides-int_eq, Decides-
 use Rattle.ntf_types.proofs.Equality.{notification_eq-decides}
 use Rattle.ntf_filters.proofs.Equality.{filter_set_eq-decides}
 use Rattle.sub_queue.proofs.Equality.{content_eq-decides, lost_eq-decides}
-use Rattle.stream_config.proofs.Equality.{state_eq-decides}
+use Rattle.stream_config.proofs.Equality.{mark_eq-decides, state_eq-decides}
 use Rattle.calls.proofs.Equality.{reply_eq-decides}
 use Rattle.calls.specs.declared.saved.SavedWindow.{SavedWindow}
 use Rattle.calls.specs.contracts.saved.SavedWindowPartialEq.TheImpl as saved_window_impl
@@ -32,9 +32,9 @@ saved_window_eq-decides one other =
 pub saved_stream_eq-decides : (one other : SavedStream) → Decides ((saved_stream_impl.ghosts).eq one other) (one ≡ other)
 saved_stream_eq-decides one other =
     Decides-like _
-    (λ e. λ i. record { state = e.0 i; openers = (e.1) i })
-    (λ e. (ap (λ (x : SavedStream). x.state) e, ap (λ (x : SavedStream). x.openers) e))
-    (Decides-and _ _ (state_eq-decides one.state other.state) (pointwise_decides Decides-eqb one.openers other.openers))
+    (λ e. λ i. record { state = e.0 i; openers = (e.1).0 i; mark = (e.1).1 i })
+    (λ e. (ap (λ (x : SavedStream). x.state) e, (ap (λ (x : SavedStream). x.openers) e, ap (λ (x : SavedStream). x.mark) e)))
+    (Decides-and _ _ (state_eq-decides one.state other.state) (Decides-and _ _ (pointwise_decides Decides-eqb one.openers other.openers) (mark_eq-decides one.mark other.mark)))
 
 pub saved_alarm_eq-decides : (one other : SavedAlarm) → Decides ((saved_alarm_impl.ghosts).eq one other) (one ≡ other)
 saved_alarm_eq-decides one other =

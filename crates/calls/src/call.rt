@@ -64,6 +64,11 @@ pub enum Call {
     ReaderEnd,
     /// Ends the use of the Notification Service.
     NtfFini,
+    /// Sets which severities of records a stream lets pass.
+    LogFilter {
+        stream: StreamName,
+        mask: u32,
+    },
 }
 
 /// What a client asks of its library.
@@ -131,6 +136,10 @@ impl Duplicate for Call {
             }),
             Call::ReaderEnd => Ok(Call::ReaderEnd),
             Call::NtfFini => Ok(Call::NtfFini),
+            Call::LogFilter { stream, mask } => Ok(Call::LogFilter {
+                stream: stream.copy(alloc)?,
+                mask: *mask,
+            }),
         }
     }
 }

@@ -3,6 +3,7 @@ use crate::Boxed;
 use ais_values::{Duplicate, Seq, Status};
 use ntf_types::Notification;
 use std::alloc::{AllocError, Global};
+use stream_config::{Mark, StreamName};
 use sub_queue::Lost;
 
 /// The answer to a call.
@@ -15,6 +16,8 @@ pub enum Reply {
     Sent { id: u64 },
     /// The stored alarm that was read.
     Found { notification: Boxed<Notification> },
+    /// The call is done, and this is its stream's mark; where it was to write a record, the mask may have filtered it.
+    Marked { filtered: bool, mark: Mark },
 }
 
 /// What a callback tells a client.
@@ -35,6 +38,12 @@ pub enum Callback {
         id: u32,
         lost: Seq<Lost>,
     },
+    /// A stream's mask became another one; and with this invocation, a write whose writer asked to be told is done.
+    FilterSet {
+        stream: StreamName,
+        mask: u32,
+        written: Option<u64>,
+    },
 }
 
 impl Duplicate for Reply {
@@ -45,6 +54,10 @@ impl Duplicate for Reply {
             Reply::Sent { id } => Ok(Reply::Sent { id: *id }),
             Reply::Found { notification } => Ok(Reply::Found {
                 notification: notification.copy(alloc)?,
+            }),
+            Reply::Marked { filtered, mark } => Ok(Reply::Marked {
+                filtered: *filtered,
+                mark: *mark,
             }),
         }
     }
@@ -64,6 +77,15 @@ impl Duplicate for Callback {
             Callback::Discarded { id, lost } => Ok(Callback::Discarded {
                 id: *id,
                 lost: lost.copy(alloc)?,
+            }),
+            Callback::FilterSet {
+                stream,
+                mask,
+                written,
+            } => Ok(Callback::FilterSet {
+                stream: stream.copy(alloc)?,
+                mask: *mask,
+                written: *written,
             }),
         }
     }

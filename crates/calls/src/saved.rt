@@ -4,7 +4,7 @@ use ais_values::{Duplicate, Seq};
 use ntf_filters::FilterSet;
 use ntf_types::Notification;
 use std::alloc::{AllocError, Global};
-use stream_config::StreamState;
+use stream_config::{Mark, StreamState};
 use sub_queue::{Content, Lost};
 
 /// The window of a client: the number of its next call, and its last replies, the oldest first.
@@ -15,11 +15,12 @@ pub struct SavedWindow {
     pub replies: Seq<Reply>,
 }
 
-/// A stream, and the clients that have it open.
+/// A stream, the clients that have it open, and its mark.
 #[derive(PartialEq, Drop)]
 pub struct SavedStream {
     pub state: StreamState,
     pub openers: Seq<u16>,
+    pub mark: Mark,
 }
 
 /// A stored alarm, under the number of its record.
@@ -88,7 +89,11 @@ impl Duplicate for SavedStream {
     fn copy(&self, alloc: Global) -> Result<Self, AllocError> {
         let openers = self.openers.copy(alloc)?;
         let state = self.state.copy(alloc)?;
-        Ok(SavedStream { state, openers })
+        Ok(SavedStream {
+            state,
+            openers,
+            mark: self.mark,
+        })
     }
 }
 
