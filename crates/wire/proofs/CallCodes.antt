@@ -1,11 +1,12 @@
 -- The readings of calls, replies, items and entries are exact.
-use Rattle.std.proofs.Common.{ℕ, ℤ, List, Option, refl, inl, inr, arith}
+use Rattle.std.proofs.Common.{ℕ, ℤ, Bool, List, Option, refl, inl, inr, arith}
 use Rattle.ais_values.specs.declared.status.Status.{Status}
 use Rattle.ntf_types.specs.declared.notification.Notification.{Notification}
 use Rattle.ntf_filters.specs.declared.filter.FilterSet.{FilterSet}
 use Rattle.sub_queue.specs.declared.item.Lost.{Lost}
 use Rattle.stream_config.specs.declared.attrs.StreamName.{StreamName}
 use Rattle.stream_config.specs.declared.attrs.StreamAttrs.{StreamAttrs}
+use Rattle.stream_config.specs.declared.mark.Mark.{Mark}
 use Rattle.record_print.specs.declared.record.Header.{Header}
 use Rattle.calls.specs.declared.call.Call.{Call}
 use Rattle.sub_queue.specs.declared.item.Content.TheVariants as content
@@ -16,14 +17,14 @@ use Rattle.calls.specs.declared.entry.Entry.TheVariants as entry
 use Rattle.wire.proofs.NtfCodes.{notification_code, filter_set_code}
 use Rattle.wire.specs.LogSpelling.{attrs_text, AttrsFits}
 use Rattle.wire.specs.LogReading.{attrs_at}
-use Rattle.wire.proofs.LogCodes.{stream_name_code, attrs_code, header_code}
+use Rattle.wire.proofs.LogCodes.{stream_name_code, attrs_code, mark_code, header_code}
 use Rattle.wire.specs.CallSpelling.{status_text, StatusFits, call_text, CallFits, reply_text, ReplyFits, lost_text, LostFits, content_text, ContentFits, item_text, ItemFits, entry_text, EntryFits}
 use Rattle.wire.specs.CallReading.{status_at, call_at, reply_at, lost_at, lost_of, content_at, item_at, item_of, entry_at}
 use Rattle.wire_code.proofs.Codes.{Code, made_code, both_code, nothing_code}
 use Rattle.wire_code.proofs.NumberCodes.{number_code, signed_code}
 use Rattle.wire_code.proofs.RangeCodes.{client_code, count_code}
 use Rattle.wire_code.proofs.ListCodes.{list_code, text_code}
-use Rattle.wire_code.proofs.ChoiceCodes.{option_code, no_choice, variant_choice, choice_code}
+use Rattle.wire_code.proofs.ChoiceCodes.{option_code, flag_code, no_choice, variant_choice, choice_code}
 
 -- a status: one byte, its number in the interface
 pub status_code : Code status_at status_text StatusFits
@@ -73,7 +74,8 @@ call_code =
     (variant_choice 11 (λ (x : ℕ). call.ReaderRead x) call_text CallFits (number_code 4) (λ p fits. refl) (λ p fits. fits) (omega arith)
     (variant_choice 12 (λ (_ : Unit {0}). call.ReaderEnd) call_text CallFits nothing_code (λ p fits. refl) (λ p fits. tt) (omega arith)
     (variant_choice 13 (λ (_ : Unit {0}). call.NtfFini) call_text CallFits nothing_code (λ p fits. refl) (λ p fits. tt) (omega arith)
-    (no_choice 14 call_text CallFits))))))))))))))
+    (variant_choice 14 (λ (p : StreamName × ℕ). call.LogFilter p.0 p.1) call_text CallFits (both_code stream_name_code (number_code 4)) (λ p fits. refl) (λ p fits. (fits.0, fits.1)) (omega arith)
+    (no_choice 15 call_text CallFits)))))))))))))))
     (elim [
       | call.LogInit ↦ λ fits. inl (tt, refl, tt)
       | call.LogOpen stream create ↦ λ fits. inr (inl ((stream, create), refl, (fits.0, fits.1)))
@@ -88,6 +90,7 @@ call_code =
       | call.ReaderRead direction ↦ λ fits. inr (inr (inr (inr (inr (inr (inr (inr (inr (inr (inl (direction, refl, fits)))))))))))
       | call.ReaderEnd ↦ λ fits. inr (inr (inr (inr (inr (inr (inr (inr (inr (inr (inr (inl (tt, refl, tt))))))))))))
       | call.NtfFini ↦ λ fits. inr (inr (inr (inr (inr (inr (inr (inr (inr (inr (inr (inr (inl (tt, refl, tt)))))))))))))
+      | call.LogFilter stream mask ↦ λ fits. inr (inr (inr (inr (inr (inr (inr (inr (inr (inr (inr (inr (inr (inl ((stream, mask), refl, (fits.0, fits.1)))))))))))))))
     ])
     (call.LogInit, tt)
 
@@ -100,12 +103,14 @@ reply_code =
     (variant_choice 2 (λ (_ : Unit {0}). reply.Done) reply_text ReplyFits nothing_code (λ p fits. refl) (λ p fits. tt) (omega arith)
     (variant_choice 3 (λ (x : ℕ). reply.Sent x) reply_text ReplyFits (number_code 8) (λ p fits. refl) (λ p fits. fits) (omega arith)
     (variant_choice 4 (λ (x : Notification). reply.Found x) reply_text ReplyFits notification_code (λ p fits. refl) (λ p fits. fits) (omega arith)
-    (no_choice 5 reply_text ReplyFits)))))
+    (variant_choice 5 (λ (p : Bool × Mark). reply.Marked p.0 p.1) reply_text ReplyFits (both_code flag_code mark_code) (λ p fits. refl) (λ p fits. fits.1) (omega arith)
+    (no_choice 6 reply_text ReplyFits))))))
     (elim [
       | reply.Refused status ↦ λ fits. inl (status, refl, fits)
       | reply.Done ↦ λ fits. inr (inl (tt, refl, tt))
       | reply.Sent id ↦ λ fits. inr (inr (inl (id, refl, fits)))
       | reply.Found notification ↦ λ fits. inr (inr (inr (inl (notification, refl, fits))))
+      | reply.Marked filtered mark ↦ λ fits. inr (inr (inr (inr (inl ((filtered, mark), refl, (tt, fits))))))
     ])
     (reply.Refused status_code.some.0, status_code.some.1)
 

@@ -7,8 +7,8 @@ use Rattle.record_print.specs.declared.record.Header.TheVariants as header
 use Rattle.wire_code.specs.Spelling.{signed_text, IsSigned}
 use Rattle.wire_code.specs.Reading.{signed_at}
 use Rattle.wire.proofs.NtfCodes.{class_code}
-use Rattle.wire.specs.LogSpelling.{action_text, ActionFits, stream_name_text, StreamNameFits, attrs_text, AttrsFits, log_file_text, LogFileFits, stream_text, StreamFits, header_text, HeaderFits}
-use Rattle.wire.specs.LogReading.{action_at, stream_name_at, attrs_at, attrs_of, log_file_at, log_file_of, stream_at, stream_of, header_at}
+use Rattle.wire.specs.LogSpelling.{action_text, ActionFits, stream_name_text, StreamNameFits, attrs_text, AttrsFits, log_file_text, LogFileFits, stream_text, StreamFits, mark_text, MarkFits, header_text, HeaderFits}
+use Rattle.wire.specs.LogReading.{action_at, stream_name_at, attrs_at, attrs_of, log_file_at, log_file_of, stream_at, stream_of, mark_at, mark_of, header_at}
 use Rattle.wire_code.proofs.Codes.{Code, made_code, both_code, nothing_code}
 use Rattle.wire_code.proofs.NumberCodes.{number_code, signed_code}
 use Rattle.wire_code.proofs.ListCodes.{list_code, text_code, name_code}
@@ -74,6 +74,15 @@ stream_code =
     (λ p fits. refl)
     (λ p fits. record { name = fits.0; attrs = fits.1.0; taken = fits.1.1.0; opened = fits.1.1.1.0; files = fits.1.1.1.1 })
     (λ x fits. ((x.name, (x.attrs, (x.taken, (x.opened, x.files)))), refl, (fits.name, (fits.attrs, (fits.taken, (fits.opened, fits.files))))))
+
+-- the mark of a stream
+pub mark_code : Code mark_at mark_text MarkFits
+unfolding mark_at mark_text
+mark_code =
+    made_code mark_of mark_text MarkFits (both_code (number_code 8) (number_code 4))
+    (λ p fits. refl)
+    (λ p fits. record { since = fits.0; mask = fits.1 })
+    (λ x fits. ((x.since, x.mask), refl, (fits.since, fits.mask)))
 
 -- the header of a log record
 pub header_code : Code header_at header_text HeaderFits

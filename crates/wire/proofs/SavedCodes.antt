@@ -3,7 +3,7 @@ use Rattle.std.proofs.Common.{refl}
 use Rattle.wire_code.specs.Spelling.{number_text, IsNumber}
 use Rattle.wire_code.specs.Reading.{number_at}
 use Rattle.wire.proofs.NtfCodes.{notification_code, filter_set_code}
-use Rattle.wire.proofs.LogCodes.{stream_code}
+use Rattle.wire.proofs.LogCodes.{stream_code, mark_code}
 use Rattle.wire.specs.CallSpelling.{reply_text, ReplyFits, lost_text, LostFits, content_text, ContentFits}
 use Rattle.wire.specs.CallReading.{reply_at, lost_at, content_at}
 use Rattle.wire.proofs.CallCodes.{reply_code, lost_code, content_code}
@@ -24,14 +24,14 @@ saved_window_code =
     (λ p fits. record { client = fits.0; next = fits.1.0; replies = fits.1.1 })
     (λ x fits. ((x.client, (x.next, x.replies)), refl, (fits.client, (fits.next, fits.replies))))
 
--- a stream with its openers
+-- a stream with its openers and its mark
 pub saved_stream_code : Code saved_stream_at saved_stream_text SavedStreamFits
 unfolding saved_stream_at saved_stream_text
 saved_stream_code =
-    made_code saved_stream_of saved_stream_text SavedStreamFits (both_code stream_code (list_code (number_at 2) (number_text 2) (IsNumber 2) (number_code 2)))
+    made_code saved_stream_of saved_stream_text SavedStreamFits (both_code stream_code (both_code (list_code (number_at 2) (number_text 2) (IsNumber 2) (number_code 2)) mark_code))
     (λ p fits. refl)
-    (λ p fits. record { state = fits.0; openers = fits.1 })
-    (λ x fits. ((x.state, x.openers), refl, (fits.state, fits.openers)))
+    (λ p fits. record { state = fits.0; openers = fits.1.0; mark = fits.1.1 })
+    (λ x fits. ((x.state, (x.openers, x.mark)), refl, (fits.state, (fits.openers, fits.mark))))
 
 -- a stored alarm
 pub saved_alarm_code : Code saved_alarm_at saved_alarm_text SavedAlarmFits

@@ -1,5 +1,5 @@
 -- Words of bodies alone: how calls, replies, items and entries are read.
-use Rattle.std.specs.Prelude.{ℕ, ℤ, List, Option}
+use Rattle.std.specs.Prelude.{ℕ, ℤ, Bool, List, Option}
 use Rattle.ais_values.specs.declared.status.Status.{Status}
 use Rattle.ntf_types.specs.declared.notification.Notification.{Notification}
 use Rattle.ntf_filters.specs.declared.filter.FilterSet.{FilterSet}
@@ -8,6 +8,7 @@ use Rattle.sub_queue.specs.declared.item.Content.{Content}
 use Rattle.sub_queue.specs.declared.item.Item.{Item}
 use Rattle.stream_config.specs.declared.attrs.StreamName.{StreamName}
 use Rattle.stream_config.specs.declared.attrs.StreamAttrs.{StreamAttrs}
+use Rattle.stream_config.specs.declared.mark.Mark.{Mark}
 use Rattle.record_print.specs.declared.record.Header.{Header}
 use Rattle.calls.specs.declared.call.Call.{Call}
 use Rattle.calls.specs.declared.reply.Reply.{Reply}
@@ -18,9 +19,9 @@ use Rattle.calls.specs.declared.call.Call.TheVariants as call
 use Rattle.calls.specs.declared.reply.Reply.TheVariants as reply
 use Rattle.calls.specs.declared.entry.Entry.TheVariants as entry
 use Rattle.wire_code.specs.Reading.{At, made, both, nothing, number_at, signed_at, client_at}
-use Rattle.wire_code.specs.Reading.{count_at, list_at, option_at, text_at, tagged, variant, no_variant}
+use Rattle.wire_code.specs.Reading.{count_at, list_at, option_at, text_at, flag_at, tagged, variant, no_variant}
 use Rattle.wire.specs.NtfReading.{notification_at, filter_set_at}
-use Rattle.wire.specs.LogReading.{stream_name_at, attrs_at, header_at}
+use Rattle.wire.specs.LogReading.{stream_name_at, attrs_at, mark_at, header_at}
 
 -- a status: one byte, its number in the interface
 unfoldable pub status_at : At Status
@@ -37,16 +38,17 @@ status_at bytes = tagged
     (variant 25 (made (λ (_ : Unit {0}). status.BadFlags) nothing)
     no_variant)))))))))) bytes
 
--- a call of a reader, or one that ends the use of the Notification Service, behind its tag
+-- a call of a reader, one that ends the use of the Notification Service, or one that sets a mask, behind its tag
 abbrev pub reader_call_at : ℕ → At Call
 reader_call_at =
     variant 10 (made (λ (p : ℕ × (ℤ × FilterSet)). call.ReaderStart p.0 p.1.0 p.1.1) (both (number_at 4) (both signed_at filter_set_at)))
     (variant 11 (made (λ (x : ℕ). call.ReaderRead x) (number_at 4))
     (variant 12 (made (λ (_ : Unit {0}). call.ReaderEnd) nothing)
     (variant 13 (made (λ (_ : Unit {0}). call.NtfFini) nothing)
-    no_variant)))
+    (variant 14 (made (λ (p : StreamName × ℕ). call.LogFilter p.0 p.1) (both stream_name_at (number_at 4)))
+    no_variant))))
 
--- any call of the Notification Service, behind its tag
+-- any call of the Notification Service, or one that sets a mask, behind its tag
 abbrev pub ntf_call_at : ℕ → At Call
 ntf_call_at =
     variant 6 (made (λ (_ : Unit {0}). call.NtfInit) nothing)
@@ -74,7 +76,8 @@ reply_at bytes = tagged
     (variant 2 (made (λ (_ : Unit {0}). reply.Done) nothing)
     (variant 3 (made (λ (x : ℕ). reply.Sent x) (number_at 8))
     (variant 4 (made (λ (x : Notification). reply.Found x) notification_at)
-    no_variant)))) bytes
+    (variant 5 (made (λ (p : Bool × Mark). reply.Marked p.0 p.1) (both flag_at mark_at))
+    no_variant))))) bytes
 
 -- a notification that was lost
 abbrev pub lost_of : ℕ × ℕ → Lost

@@ -12,10 +12,10 @@ use Rattle.ais_values.specs.declared.status.Status.TheVariants as status
 use Rattle.calls.specs.declared.call.Call.TheVariants as call
 use Rattle.calls.specs.declared.reply.Reply.TheVariants as reply
 use Rattle.calls.specs.declared.entry.Entry.TheVariants as entry
-use Rattle.wire_code.specs.Spelling.{number_text, IsNumber, signed_text, IsSigned, counted_text, IsText}
+use Rattle.wire_code.specs.Spelling.{number_text, IsNumber, signed_text, IsSigned, counted_text, IsText, flag_text}
 use Rattle.wire_code.specs.Spelling.{IsClient, IsCount, list_text, ListFits, option_text, OptionFits}
 use Rattle.wire.specs.NtfSpelling.{notification_text, NotificationFits, filter_set_text, FilterSetFits}
-use Rattle.wire.specs.LogSpelling.{stream_name_text, StreamNameFits, attrs_text, AttrsFits, header_text, HeaderFits}
+use Rattle.wire.specs.LogSpelling.{stream_name_text, StreamNameFits, attrs_text, AttrsFits, mark_text, MarkFits, header_text, HeaderFits}
 
 -- a status: one byte, its number in the interface
 unfoldable pub status_text : Status → List ℕ
@@ -50,6 +50,7 @@ call_text (call.ReaderStart mode value filters) = 10 ∷ (number_text 4 mode ++ 
 call_text (call.ReaderRead direction) = 11 ∷ number_text 4 direction
 call_text call.ReaderEnd = 12 ∷ []
 call_text call.NtfFini = 13 ∷ []
+call_text (call.LogFilter stream mask) = 14 ∷ (stream_name_text stream ++ number_text 4 mask)
 
 abbrev pub CallFits : Call → Type 0
 CallFits call.LogInit = Unit {0}
@@ -66,6 +67,7 @@ CallFits (call.ReaderStart mode value filters) = IsNumber 4 mode × IsSigned val
 CallFits (call.ReaderRead direction) = IsNumber 4 direction
 CallFits call.ReaderEnd = Unit {0}
 CallFits call.NtfFini = Unit {0}
+CallFits (call.LogFilter stream mask) = StreamNameFits stream × IsNumber 4 mask
 
 -- a reply
 unfoldable pub reply_text : Reply → List ℕ
@@ -73,12 +75,14 @@ reply_text (reply.Refused status) = 1 ∷ status_text status
 reply_text reply.Done = 2 ∷ []
 reply_text (reply.Sent id) = 3 ∷ number_text 8 id
 reply_text (reply.Found notification) = 4 ∷ notification_text notification
+reply_text (reply.Marked filtered mark) = 5 ∷ (flag_text filtered ++ mark_text mark)
 
 abbrev pub ReplyFits : Reply → Type 0
 ReplyFits (reply.Refused status) = StatusFits status
 ReplyFits reply.Done = Unit {0}
 ReplyFits (reply.Sent id) = IsNumber 8 id
 ReplyFits (reply.Found notification) = NotificationFits notification
+ReplyFits (reply.Marked filtered mark) = MarkFits mark
 
 -- a notification that was lost
 unfoldable pub lost_text : Lost → List ℕ

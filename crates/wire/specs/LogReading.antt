@@ -4,6 +4,7 @@ use Rattle.ais_values.specs.declared.kind.ClassId.{ClassId}
 use Rattle.stream_config.specs.declared.attrs.FullAction.{FullAction}
 use Rattle.stream_config.specs.declared.attrs.StreamName.{StreamName}
 use Rattle.stream_config.specs.declared.attrs.StreamAttrs.{StreamAttrs}
+use Rattle.stream_config.specs.declared.mark.Mark.{Mark}
 use Rattle.stream_config.specs.declared.state.LogFile.{LogFile}
 use Rattle.stream_config.specs.declared.state.StreamState.{StreamState}
 use Rattle.record_print.specs.declared.record.Header.{Header}
@@ -63,6 +64,13 @@ stream_of p = record { name = p.0; attrs = p.1.0; taken = p.1.1.0; opened = p.1.
 unfoldable pub stream_at : At StreamState
 stream_at bytes =
     made stream_of (both stream_name_at (both attrs_at (both (number_at 4) (both (number_at 4) (list_at log_file_at))))) bytes
+
+-- the mark of a stream
+abbrev pub mark_of : ℕ × ℕ → Mark
+mark_of p = record { since = p.0; mask = p.1 }
+
+unfoldable pub mark_at : At Mark
+mark_at bytes = made mark_of (both (number_at 8) (number_at 4)) bytes
 
 -- the header of a log record
 unfoldable pub header_at : At Header

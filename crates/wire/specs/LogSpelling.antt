@@ -4,6 +4,7 @@ use Rattle.ais_values.specs.Names.{IsName}
 use Rattle.stream_config.specs.declared.attrs.FullAction.{FullAction}
 use Rattle.stream_config.specs.declared.attrs.StreamName.{StreamName}
 use Rattle.stream_config.specs.declared.attrs.StreamAttrs.{StreamAttrs}
+use Rattle.stream_config.specs.declared.mark.Mark.{Mark}
 use Rattle.stream_config.specs.declared.state.LogFile.{LogFile}
 use Rattle.stream_config.specs.declared.state.StreamState.{StreamState}
 use Rattle.record_print.specs.declared.record.Header.{Header}
@@ -75,6 +76,15 @@ pub record StreamFits (stream : StreamState) : Type 0 where
   pub taken : IsNumber 4 stream.taken
   pub opened : IsNumber 4 stream.opened
   pub files : ListFits LogFileFits stream.files
+
+-- the mark of a stream
+unfoldable pub mark_text : Mark → List ℕ
+mark_text mark =
+    number_text 8 mark.since ++ number_text 4 mark.mask
+
+pub record MarkFits (mark : Mark) : Type 0 where
+  pub since : IsNumber 8 mark.since
+  pub mask : IsNumber 4 mark.mask
 
 -- the header of a log record
 unfoldable pub header_text : Header → List ℕ

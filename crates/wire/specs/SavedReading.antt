@@ -4,6 +4,7 @@ use Rattle.ntf_types.specs.declared.notification.Notification.{Notification}
 use Rattle.ntf_filters.specs.declared.filter.FilterSet.{FilterSet}
 use Rattle.sub_queue.specs.declared.item.Lost.{Lost}
 use Rattle.sub_queue.specs.declared.item.Content.{Content}
+use Rattle.stream_config.specs.declared.mark.Mark.{Mark}
 use Rattle.stream_config.specs.declared.state.StreamState.{StreamState}
 use Rattle.calls.specs.declared.reply.Reply.{Reply}
 use Rattle.calls.specs.declared.saved.SavedWindow.{SavedWindow}
@@ -14,7 +15,7 @@ use Rattle.calls.specs.declared.saved.SavedReader.{SavedReader}
 use Rattle.calls.specs.declared.saved.Saved.{Saved}
 use Rattle.wire_code.specs.Reading.{At, made, both, number_at, signed_at, client_at, count_at, list_at, flag_at}
 use Rattle.wire.specs.NtfReading.{notification_at, filter_set_at}
-use Rattle.wire.specs.LogReading.{stream_at}
+use Rattle.wire.specs.LogReading.{stream_at, mark_at}
 use Rattle.wire.specs.CallReading.{reply_at, lost_at, content_at}
 
 -- the window of a client
@@ -24,12 +25,12 @@ saved_window_of p = record { client = p.0; next = p.1.0; replies = p.1.1 }
 unfoldable pub saved_window_at : At SavedWindow
 saved_window_at bytes = made saved_window_of (both client_at (both count_at (list_at reply_at))) bytes
 
--- a stream with its openers
-abbrev pub saved_stream_of : StreamState × List ℕ → SavedStream
-saved_stream_of p = record { state = p.0; openers = p.1 }
+-- a stream with its openers and its mark
+abbrev pub saved_stream_of : StreamState × (List ℕ × Mark) → SavedStream
+saved_stream_of p = record { state = p.0; openers = p.1.0; mark = p.1.1 }
 
 unfoldable pub saved_stream_at : At SavedStream
-saved_stream_at bytes = made saved_stream_of (both stream_at (list_at (number_at 2))) bytes
+saved_stream_at bytes = made saved_stream_of (both stream_at (both (list_at (number_at 2)) mark_at)) bytes
 
 -- a stored alarm
 abbrev pub saved_alarm_of : ℕ × Notification → SavedAlarm

@@ -8,7 +8,7 @@ use Rattle.calls.specs.declared.saved.SavedReader.{SavedReader}
 use Rattle.calls.specs.declared.saved.Saved.{Saved}
 use Rattle.wire_code.specs.Spelling.{number_text, IsNumber, signed_text, IsSigned, flag_text, IsClient, IsCount, list_text, ListFits}
 use Rattle.wire.specs.NtfSpelling.{notification_text, NotificationFits, filter_set_text, FilterSetFits}
-use Rattle.wire.specs.LogSpelling.{stream_text, StreamFits}
+use Rattle.wire.specs.LogSpelling.{stream_text, StreamFits, mark_text, MarkFits}
 use Rattle.wire.specs.CallSpelling.{reply_text, ReplyFits, lost_text, LostFits, content_text, ContentFits}
 
 -- the window of a client
@@ -26,14 +26,15 @@ pub record SavedWindowInRange (window : SavedWindow) : Type 0 where
   pub client : IsClient window.client
   pub next : IsCount window.next
 
--- a stream with its openers
+-- a stream with its openers and its mark
 unfoldable pub saved_stream_text : SavedStream → List ℕ
 saved_stream_text stream =
-    stream_text stream.state ++ list_text (number_text 2) stream.openers
+    stream_text stream.state ++ (list_text (number_text 2) stream.openers ++ mark_text stream.mark)
 
 pub record SavedStreamFits (stream : SavedStream) : Type 0 where
   pub state : StreamFits stream.state
   pub openers : ListFits (IsNumber 2) stream.openers
+  pub mark : MarkFits stream.mark
 
 -- a stored alarm
 unfoldable pub saved_alarm_text : SavedAlarm → List ℕ

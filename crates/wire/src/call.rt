@@ -70,7 +70,8 @@ impl Wire for Status {
     }
 }
 
-/// Reads a call of a reader, or one that ends the use of the Notification Service, behind its tag.
+/// Reads a call of a reader, one that ends the use of the Notification Service, or one that sets a mask, behind its
+/// tag.
 fn read_reader_call(alloc: Global, tag: u8, bytes: &[u8]) -> Result<(Call, &[u8]), Trouble>
     ensures { Gives (λ found. (found.0, found.1.now)) result (reader_call_at tag bytes.now) }
 {
@@ -92,11 +93,15 @@ fn read_reader_call(alloc: Global, tag: u8, bytes: &[u8]) -> Result<(Call, &[u8]
         }
         12 => Ok((Call::ReaderEnd, bytes)),
         13 => Ok((Call::NtfFini, bytes)),
+        14 => {
+            let ((stream, mask), rest) = Wire::read_front(alloc, bytes)?;
+            Ok((Call::LogFilter { stream, mask }, rest))
+        }
         _ => Err(Trouble::from(Fault::before(bytes))),
     }
 }
 
-/// Reads any call of the Notification Service, behind its tag.
+/// Reads any call of the Notification Service, or one that sets a mask, behind its tag.
 fn read_ntf_call(alloc: Global, tag: u8, bytes: &[u8]) -> Result<(Call, &[u8]), Trouble>
     ensures { Gives (λ found. (found.0, found.1.now)) result (ntf_call_at tag bytes.now) }
 {
@@ -159,6 +164,7 @@ impl Wire for Call {
             Call::ReaderRead { direction } => spell_tagged(11, &direction, out),
             Call::ReaderEnd => spell_tag(12, out),
             Call::NtfFini => spell_tag(13, out),
+            Call::LogFilter { stream, mask } => spell_tagged(14, &(stream, mask), out),
         }
     }
 
@@ -213,6 +219,7 @@ impl Wire for Reply {
             Reply::Done => spell_tag(2, out),
             Reply::Sent { id } => spell_tagged(3, &id, out),
             Reply::Found { notification } => spell_tagged(4, &notification, out),
+            Reply::Marked { filtered, mark } => spell_tagged(5, &(filtered, mark), out),
         }
     }
 
@@ -232,6 +239,10 @@ impl Wire for Reply {
             4 => {
                 let (notification, rest) = Wire::read_front(alloc, rest)?;
                 Ok((Reply::Found { notification }, rest))
+            }
+            5 => {
+                let ((filtered, mark), rest) = Wire::read_front(alloc, rest)?;
+                Ok((Reply::Marked { filtered, mark }, rest))
             }
             _ => Err(Trouble::from(Fault::before(rest))),
         }

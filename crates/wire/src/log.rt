@@ -4,7 +4,7 @@ use crate::wire::Wire;
 use ais_values::{ClassId, Name, Seq, Text};
 use record_print::Header;
 use std::alloc::{AllocError, Global};
-use stream_config::{FullAction, LogFile, StreamAttrs, StreamName, StreamState};
+use stream_config::{FullAction, LogFile, Mark, StreamAttrs, StreamName, StreamState};
 use wire_code::{Fault, Trouble, read_first};
 
 impl Wire for FullAction {
@@ -184,6 +184,28 @@ impl Wire for StreamState {
             },
             rest,
         ))
+    }
+}
+
+impl Wire for Mark {
+    ghost use Rattle.wire.specs.LogSpelling.{mark_text, MarkFits};
+    ghost use Rattle.wire.specs.LogReading.{mark_at};
+
+    ghost text = { mark_text };
+
+    ghost Fits = { MarkFits };
+
+    ghost at = { mark_at };
+
+    #[tactic(auto, unfolding(crate::specs::LogSpelling::mark_text))]
+    fn spell(&self, out: &mut Vec<u8>) -> Result<(), AllocError> {
+        (&self.since, &self.mask).spell_parts(out)
+    }
+
+    #[tactic(auto, unfolding(crate::specs::LogReading::mark_at))]
+    fn read_front(alloc: Global, bytes: &[u8]) -> Result<(Mark, &[u8]), Trouble> {
+        let ((since, mask), rest) = Wire::read_front(alloc, bytes)?;
+        Ok((Mark { since, mask }, rest))
     }
 }
 

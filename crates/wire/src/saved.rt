@@ -52,13 +52,20 @@ impl Wire for SavedStream {
 
     #[tactic(auto, unfolding(crate::specs::SavedSpelling::saved_stream_text))]
     fn spell(&self, out: &mut Vec<u8>) -> Result<(), AllocError> {
-        (&self.state, &self.openers).spell_parts(out)
+        (&self.state, (&self.openers, &self.mark)).spell_parts(out)
     }
 
     #[tactic(auto, unfolding(crate::specs::SavedReading::saved_stream_at))]
     fn read_front(alloc: Global, bytes: &[u8]) -> Result<(SavedStream, &[u8]), Trouble> {
-        let ((state, openers), rest) = Wire::read_front(alloc, bytes)?;
-        Ok((SavedStream { state, openers }, rest))
+        let ((state, (openers, mark)), rest) = Wire::read_front(alloc, bytes)?;
+        Ok((
+            SavedStream {
+                state,
+                openers,
+                mark,
+            },
+            rest,
+        ))
     }
 }
 
