@@ -1,20 +1,21 @@
 -- What holds of one client's agent and view, as calls are sent and replies and items are taken.
-use Rattle.std.proofs.Common.{◌≡◌, ℕ, suc, ◌+◌, ◌<◌, ◌≤◌, ◌⊎◌, inl, inr, Bool, true, false, ◌||◌, ◌==◌, if◌then◌else◌, Some, List, [], ◌∷◌, ◌++◌, length, refl, ap, sym, ◌∙◌, subst, arith}
+use Rattle.std.proofs.Common.{◌≡◌, ℕ, suc, ◌+◌, ◌<◌, ◌≤◌, ◌⊎◌, inl, inr, Bool, true, false, ◌||◌, ◌==◌, if◌then◌else◌, Option, Some, None, List, [], ◌∷◌, ◌++◌, length, refl, ap, sym, ◌∙◌, subst, arith}
 use Rattle.std.specs.List.{AllByRecursion}
 use Rattle.std.proofs.lemmas.Bool.Decides.{leb_tells}
-use Rattle.cluster_facts.specs.Types.{Call, LogWrite, NtfSubscribe, NtfUnsubscribe, NtfFini, Reply, Refused, Status, Callback, Written}
+use Rattle.cluster_facts.specs.Types.{Call, LogWrite, NtfSubscribe, NtfUnsubscribe, NtfFini, Reply, Refused, Status, Callback, Written, MaskSet, StreamName, Mark}
 use Rattle.cluster_facts.specs.Lists.{Stands, EndsIn, IsNumbered, count_of, without}
 use Rattle.cluster_facts.specs.Service.{subscribes, asked_for, subscribed_after, subscribed}
-use Rattle.cluster_facts.specs.Agents.{Living, Agent, is_shut, log_after, ntf_after, living_after, after_call, kept_call, living_after_reply, callbacks_of, status_of, after_reply, find_living, living_after_item, after_item, all_but_oldest, oldest}
+use Rattle.cluster_facts.specs.Agents.{Living, Agent, is_shut, log_after, ntf_after, living_after, after_call, kept_call, living_after_reply, callbacks_of, status_of, after_reply, told_mark, given_by, changed_mask, asked_back, marks_with, find_living, living_after_item, after_item, all_but_oldest, oldest}
 use Rattle.cluster_facts.specs.Facts.{View, Keeps, Lives, IsClient, Fits}
 use Rattle.cluster_facts.specs.Facts.Keeps.{starts, waits, answered}
 use Rattle.cluster_facts.specs.Facts.Lives.{none as none_live, lives, refused}
-use Rattle.cluster_facts.specs.Facts.Fits.{empty, of_item, of_write}
+use Rattle.cluster_facts.specs.Facts.Fits.{empty, of_item, of_write, of_mask}
+use Rattle.cluster_facts.proofs.Marks.{last-taken}
 use Rattle.cluster_facts.proofs.Words.{by_test, Stands-left, Stands-right, Stands-append, Stands-without, All-map, All-without, EndsIn-cons, count_of-none}
 
 -- One reply more stands in the net.
 
-pub Keeps-hears : (reply : ℕ × Reply) {heard : List (ℕ × Reply)} {sent kept : List (ℕ × Call)} → Keeps heard sent kept → Keeps (reply ∷ heard) sent kept
+pub Keeps-hears : (reply : ℕ × Reply) {heard : List (ℕ × Reply)} {sent kept : List (ℕ × Call)} {told : List (StreamName × Mark)} → Keeps heard sent kept told → Keeps (reply ∷ heard) sent kept told
 Keeps-hears reply starts = starts
 Keeps-hears reply (waits call rest) = waits call (Keeps-hears reply rest)
 Keeps-hears reply (answered call answer stands rest) = answered call answer (inr stands) (Keeps-hears reply rest)
@@ -80,7 +81,9 @@ IsClient-call sent calls heard marks agent call open_ client =
         first = EndsIn-cons (agent.next, call) sent calls client.sends.first;
       };
       awaits = record {
+        told = client.awaits.told;
         keeps = waits (agent.next, call) client.awaits.keeps;
+        last = client.awaits.last;
         window = (omega arith, is_shut-opens agent.next agent.kept open_);
       };
       follows = record {
@@ -98,15 +101,6 @@ kept_call-stands number (first ∷ kept) call found =
     let P : Bool → Type 0 = λ b. (if b then Some first.1 else kept_call number kept) ≡ Some call → Stands (number, call) (first ∷ kept) in
     by_test P first.0 number (λ same here. let calls : first.1 ≡ call = cc in inl (λ i. (sym same i, sym calls i))) (λ different there. inr (kept_call-stands number kept call there)) found
 
-Keeps-reply : (number : ℕ) (reply : Reply) {heard : List (ℕ × Reply)} {sent kept : List (ℕ × Call)} → Stands (number, reply) heard → Keeps heard sent kept → Keeps heard sent (without (λ call. call.0 == number) kept)
-Keeps-reply number reply stands starts = starts
-Keeps-reply number reply {heard = heard} stands (waits {sent = sent} {kept = kept} call rest) =
-    let deeper = Keeps-reply number reply stands rest in
-    let P : Bool → Type 0 = λ b. Keeps heard (call ∷ sent) (if b then without (λ call. call.0 == number) kept else call ∷ without (λ call. call.0 == number) kept) in
-    let Q : ℕ → Type 0 = λ n. Stands (n, reply) heard in
-    by_test P call.0 number (λ same. answered call reply (subst Q (sym same) stands) deeper) (λ different. waits call deeper)
-Keeps-reply number reply stands (answered call answer told rest) = answered call answer told (Keeps-reply number reply stands rest)
-
 Lives-refused : (number : ℕ) (status : Status) {heard : List (ℕ × Reply)} {marks subscriptions : List (ℕ × ℕ)} {living : List Living} → Stands (number, Refused status) heard → Lives heard marks subscriptions living → Lives heard marks subscriptions (without (λ subscription. subscription.key == number) living)
 Lives-refused number status stands none_live = none_live
 Lives-refused number status {heard = heard} {marks = marks} stands (lives {subscriptions = subscriptions} {living = living} subscription next_is rest) =
@@ -120,28 +114,33 @@ Lives-reply : (number : ℕ) (reply : Reply) {heard : List (ℕ × Reply)} {mark
 Lives-reply number (Refused status) stands living = Lives-refused number status stands living
 Lives-reply number _ stands living = living
 
-pub IsClient-reply : (view : View) (agent : Agent) (number : ℕ) (call : Call) (reply : Reply) → Stands (number, reply) view.heard → IsClient view agent → IsClient view (after_reply number call reply agent)
-IsClient-reply view agent number call reply stands client = record {
-  sends = client.sends;
-  awaits = record {
-    keeps = Keeps-reply number reply stands client.awaits.keeps;
-    window = All-without (λ (call : ℕ × Call). agent.next ≤ call.0 + 32) (λ (call : ℕ × Call). call.0 == number) agent.kept client.awaits.window;
-  };
-  follows = record {
-    lives = Lives-reply number reply stands client.follows.lives;
-    counted = client.follows.counted;
-    known = client.follows.known;
-  };
-}
+pub IsClient-reply : (view : View) (agent : Agent) (number : ℕ) (call : Call) (reply : Reply) → Stands (number, reply) view.heard → kept_call number agent.kept ≡ Some call → IsClient view agent → IsClient view (after_reply number call reply agent)
+IsClient-reply view agent number call reply stands found client =
+    let taken = last-taken number call reply view.heard view.sent agent.kept client.awaits.told agent.marks client.sends.numbered stands found client.awaits.keeps client.awaits.last in
+    record {
+      sends = client.sends;
+      awaits = record {
+        told = taken.0;
+        keeps = taken.1;
+        last = taken.2;
+        window = All-without (λ (call : ℕ × Call). agent.next ≤ call.0 + 32) (λ (call : ℕ × Call). call.0 == number) agent.kept client.awaits.window;
+      };
+      follows = record {
+        lives = Lives-reply number reply stands client.follows.lives;
+        counted = client.follows.counted;
+        known = client.follows.known;
+      };
+    }
+
+Fits-given : (R : ℕ × ℕ → Callback → Type 0) (changed : Option (StreamName × ℕ)) (asked : Option ℕ) (status : Status) (marks : List (ℕ × ℕ)) (fed : List Callback) → Fits R marks fed → Fits R marks (given_by changed asked status ++ fed)
+Fits-given R (Some changed) asked status marks fed fits = of_mask changed.0 changed.1 asked fits
+Fits-given R None (Some invocation) status marks fed fits = of_write invocation status fits
+Fits-given R None None status marks fed fits = fits
 
 -- the callbacks of a reply stand before those that were taken
-pub Fits-reply : (R : ℕ × ℕ → Callback → Type 0) (call : Call) (reply : Reply) (marks : List (ℕ × ℕ)) (fed : List Callback) → Fits R marks fed → Fits R marks (callbacks_of call reply ++ fed)
-Fits-reply R (LogWrite stream invocation flags time header body) reply marks fed fits =
-    elim (flags == 1) as (λ b. Fits R marks ((if b then Written invocation (status_of reply) ∷ [] else []) ++ fed)) [
-      | true ↦ of_write invocation (status_of reply) fits
-      | false ↦ fits
-    ]
-Fits-reply R _ reply marks fed fits = fits
+pub Fits-reply : (R : ℕ × ℕ → Callback → Type 0) (seen : List (StreamName × Mark)) (call : Call) (reply : Reply) (marks : List (ℕ × ℕ)) (fed : List Callback) → Fits R marks fed → Fits R marks (callbacks_of seen call reply ++ fed)
+Fits-reply R seen call reply marks fed fits =
+    Fits-given R (changed_mask (told_mark call reply) seen) (asked_back call) (status_of reply) marks fed fits
 
 -- An item is taken.
 
@@ -225,7 +224,7 @@ IsClient-item view agent key number id content next known client = record {
 pub IsClient-hears : (view : View) (agent : Agent) (reply : ℕ × Reply) → IsClient view agent → IsClient (record { sent = view.sent; heard = reply ∷ view.heard; marks = view.marks; calls = view.calls }) agent
 IsClient-hears view agent reply client = record {
   sends = client.sends;
-  awaits = record { keeps = Keeps-hears reply client.awaits.keeps; window = client.awaits.window };
+  awaits = record { told = client.awaits.told; keeps = Keeps-hears reply client.awaits.keeps; last = client.awaits.last; window = client.awaits.window };
   follows = record { lives = Lives-hears reply client.follows.lives; counted = client.follows.counted; known = client.follows.known };
 }
 
@@ -248,6 +247,7 @@ pub Fits-map : (R S : ℕ × ℕ → Callback → Type 0) {marks : List (ℕ × 
 Fits-map R S step empty = empty
 Fits-map R S step (of_item mark callback here rest) = of_item mark callback (step mark callback here) (Fits-map R S step rest)
 Fits-map R S step (of_write invocation status rest) = of_write invocation status (Fits-map R S step rest)
+Fits-map R S step (of_mask name mask written rest) = of_mask name mask written (Fits-map R S step rest)
 
 -- the oldest goes from the end of one list to the front of the other
 pub oldest-append : {X : Type 0} (xs ys : List X) → all_but_oldest xs ++ (oldest xs ++ ys) ≡ xs ++ ys

@@ -4,7 +4,7 @@ use Rattle.cluster_facts.specs.Types.{Call, Reply, Item, Entry, Called, Receipte
 use Rattle.cluster_facts.specs.Lists.{Stands, EndsIn, IsNumbered}
 use Rattle.cluster_facts.specs.Messages.{Posting, Spelled, messages_in, sent_by, answers_to, receipts_of, calls_in, message_of}
 use Rattle.cluster_facts.specs.Service.{Plain, IsPlain, answers_in}
-use Rattle.cluster_facts.specs.Agents.{Living, Agent, fresh, fed_of, is_shut, after_call, after_reply, callbacks_of, find_living, after_item, callback_of, after_dispatch_all, after_dispatch_one}
+use Rattle.cluster_facts.specs.Agents.{Living, Agent, fresh, fed_of, is_shut, after_call, after_reply, kept_call, callbacks_of, find_living, after_item, callback_of, after_dispatch_all, after_dispatch_one}
 use Rattle.cluster_facts.specs.History.{MayFollow, time_of}
 use Rattle.cluster_facts.specs.World.{posted, with_agent, empty_world}
 use Rattle.cluster_facts.specs.Facts.{view_of, IsClient, Fits, IsToldItem, IsOfRun, Facts, IsSound}
@@ -43,17 +43,17 @@ call-new plain is_plain now accepted answered net agents client call facts =
     absurd (omega arith))
 
 -- An agent takes a reply that stands in the net.
-pub Facts-reply : (plain : Plain) (now : ℤ) (accepted answered : List Entry) (net : List Message) (agents : ℕ → Agent) (client number : ℕ) (call : Call) (reply : Reply) → Stands (number, reply) (answers_to client net) → Facts plain now accepted answered net agents → Facts plain now accepted answered net (with_agent client (after_reply number call reply (agents client)) agents)
-Facts-reply plain now accepted answered net agents client number call reply stands facts =
+pub Facts-reply : (plain : Plain) (now : ℤ) (accepted answered : List Entry) (net : List Message) (agents : ℕ → Agent) (client number : ℕ) (call : Call) (reply : Reply) → Stands (number, reply) (answers_to client net) → kept_call number (agents client).kept ≡ Some call → Facts plain now accepted answered net agents → Facts plain now accepted answered net (with_agent client (after_reply number call reply (agents client)) agents)
+Facts-reply plain now accepted answered net agents client number call reply stands found facts =
     let agent = agents client in
     let after = after_reply number call reply agent in
     let F : List Callback → Type 0 = λ fed. Fits (IsToldItem plain answered (sent_by client net) client) (receipts_of client net) fed in
     record {
       clients = each_client (λ other b. IsClient (view_of other net accepted) (if b then after else agents other)) client
-          (IsClient-reply (view_of client net accepted) agent number call reply stands (facts.clients client))
+          (IsClient-reply (view_of client net accepted) agent number call reply stands found (facts.clients client))
           (λ other. facts.clients other);
       told = each_client (λ other b. Fits (IsToldItem plain answered (sent_by other net) other) (receipts_of other net) (fed_of (if b then after else agents other))) client
-          (subst F (sym (append_assoc (callbacks_of call reply) agent.queue agent.handed)) (Fits-reply (IsToldItem plain answered (sent_by client net) client) call reply (receipts_of client net) (fed_of agent) (facts.told client)))
+          (subst F (sym (append_assoc (callbacks_of agent.marks call reply) agent.queue agent.handed)) (Fits-reply (IsToldItem plain answered (sent_by client net) client) agent.marks call reply (receipts_of client net) (fed_of agent) (facts.told client)))
           (λ other. facts.told other);
       run = facts.run;
       heard = facts.heard;
@@ -207,7 +207,7 @@ pub Facts-start : (plain : Plain) (now : ℤ) → Facts plain now [] [] [] (λ c
 Facts-start plain now = record {
   clients = λ client. record {
     sends = record { numbered = tt; next_is = refl; log_is = refl; ntf_is = refl; first = ([], refl) };
-    awaits = record { keeps = starts; window = tt };
+    awaits = record { told = []; keeps = starts; last = λ name. record { stands = inl refl; most = λ mark there. elim there [ ] }; window = tt };
     follows = record { lives = none_live; counted = tt; known = tt };
   };
   told = λ client. empty;

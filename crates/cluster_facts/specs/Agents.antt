@@ -1,11 +1,13 @@
 -- Words of public clauses: a client's agent: what it keeps, when it refuses, and what each of its events makes of it.
 use Rattle.std.specs.Prelude.{ℕ, zero, suc, ◌+◌, Bool, true, false, not, ◌&&◌, ◌||◌, ◌==◌, nat_le}
-use Rattle.std.specs.Prelude.{if◌then◌else◌, Option, Some, None, List, [], ◌∷◌, ◌++◌, length}
+use Rattle.std.specs.Prelude.{if◌then◌else◌, Option, Some, None, option_map, List, [], ◌∷◌, ◌++◌, length, nat_lt}
 use Rattle.ais_values.specs.Statuses.{release_a, supported_version}
 use Rattle.ais_values.specs.FirstRow.{first_row}
 use Rattle.cluster_facts.specs.Types.{Which, Log, Ntf, Version, Status, Success, VersionRefused, TryAgain, BadHandle, Ask, Start, Other, Call}
-use Rattle.cluster_facts.specs.Types.{LogInit, LogOpen, LogWrite, LogClose, LogFini, NtfInit, NtfSubscribe, NtfUnsubscribe, NtfFini, Reply}
-use Rattle.cluster_facts.specs.Types.{Refused, Content, Single, Losses, Callback, Written, Notified, Discarded, Message, Request, Receipt}
+use Rattle.cluster_facts.specs.Types.{LogInit, LogOpen, LogWrite, LogFilter, LogClose, LogFini, NtfInit, NtfSubscribe, NtfUnsubscribe, NtfFini, Reply}
+use Rattle.cluster_facts.specs.Types.{Refused, Marked, Mark, StreamName, Content, Single, Losses, Callback, Written, Notified, Discarded, MaskSet, Message, Request, Receipt}
+use Rattle.stream_config.specs.Equality.{same_name}
+use Rattle.stream_config.specs.Marks.{first_mark}
 use Rattle.cluster_facts.specs.Lists.{without}
 
 -- a subscription that lives in the agent: its key, its id, and the number of the item that comes next
@@ -27,10 +29,12 @@ pub record Agent : Type 0 where
   -- the callbacks taken and not handed out, and those handed out
   pub queue : List Callback
   pub handed : List Callback
+  -- the marks of streams that were told last, one of a name
+  pub marks : List (StreamName × Mark)
 
 -- an agent that was never called
 abbrev pub fresh : Agent
-fresh = record { next = 1; log_handle = false; ntf_handle = false; kept = []; living = []; queue = []; handed = [] }
+fresh = record { next = 1; log_handle = false; ntf_handle = false; kept = []; living = []; queue = []; handed = []; marks = [] }
 
 -- all callbacks ever taken
 abbrev pub fed_of : Agent → List Callback
@@ -48,6 +52,7 @@ abbrev pub service_of : Call → Which
 service_of LogInit = Log
 service_of (LogOpen stream create) = Log
 service_of (LogWrite stream invocation flags time header body) = Log
+service_of (LogFilter stream mask) = Log
 service_of (LogClose stream) = Log
 service_of LogFini = Log
 service_of _ = Ntf
@@ -110,6 +115,7 @@ after_call call agent = record {
   living = living_after agent.next call agent.living;
   queue = agent.queue;
   handed = agent.handed;
+  marks = agent.marks;
 }
 
 -- A reply is taken.
@@ -123,11 +129,52 @@ abbrev pub status_of : Reply → Status
 status_of (Refused status) = status
 status_of _ = Success
 
--- the callbacks that a reply gives: one for a write with flags 1, whatever its status
-abbrev pub callbacks_of : Call → Reply → List Callback
-callbacks_of (LogWrite stream invocation flags time header body) reply =
-    if flags == 1 then Written invocation (status_of reply) ∷ [] else []
-callbacks_of _ reply = []
+-- the invocation of a write that asked for a callback
+abbrev pub asked_back : Call → Option ℕ
+asked_back (LogWrite stream invocation flags time header body) = if flags == 1 then Some invocation else None
+asked_back _ = None
+
+-- the mark of a stream that was told last, or that of one that was never set
+abbrev pub mark_of : StreamName → List (StreamName × Mark) → Mark
+mark_of name [] = first_mark
+mark_of name (seen ∷ marks) = if same_name seen.0 name then seen.1 else mark_of name marks
+
+-- the stream of whose mark a call's reply tells
+abbrev pub stream_in : Call → Option StreamName
+stream_in (LogOpen stream create) = Some stream
+stream_in (LogWrite stream invocation flags time header body) = Some stream
+stream_in (LogFilter stream mask) = Some stream
+stream_in _ = None
+
+abbrev pub told_mark : Call → Reply → Option (StreamName × Mark)
+told_mark call (Marked filtered mark) = option_map (λ name. (name, mark)) (stream_in call)
+told_mark call _ = None
+
+-- a mark that is told is later than the last one of its stream
+abbrev pub is_later : List (StreamName × Mark) → StreamName × Mark → Bool
+is_later marks seen = nat_lt (mark_of seen.0 marks).since seen.1.since
+
+-- the marks once one is told
+abbrev pub marks_with : Option (StreamName × Mark) → List (StreamName × Mark) → List (StreamName × Mark)
+marks_with None marks = marks
+marks_with (Some seen) marks =
+    if is_later marks seen then seen ∷ without (λ other. same_name other.0 seen.0) marks else marks
+
+-- the mask of a stream that becomes another by what is told
+abbrev pub changed_mask : Option (StreamName × Mark) → List (StreamName × Mark) → Option (StreamName × ℕ)
+changed_mask None marks = None
+changed_mask (Some seen) marks =
+    if is_later marks seen && not (seen.1.mask == (mark_of seen.0 marks).mask) then Some (seen.0, seen.1.mask) else None
+
+abbrev pub given_by : Option (StreamName × ℕ) → Option ℕ → Status → List Callback
+given_by (Some changed) asked status = MaskSet changed.0 changed.1 asked ∷ []
+given_by None (Some invocation) status = Written invocation status ∷ []
+given_by None None status = []
+
+-- the callbacks that a reply gives to an agent that saw these marks: one where it changes a stream's mask, or where it is of a
+-- write with flags 1, whatever its status
+abbrev pub callbacks_of : List (StreamName × Mark) → Call → Reply → List Callback
+callbacks_of marks call reply = given_by (changed_mask (told_mark call reply) marks) (asked_back call) (status_of reply)
 
 -- callbacks want a place where a queue of this many places has none
 abbrev pub lacks_place : ℕ → List Callback → List Callback → Bool
@@ -146,8 +193,9 @@ after_reply number call reply agent = record {
   ntf_handle = agent.ntf_handle;
   kept = without (λ sent. sent.0 == number) agent.kept;
   living = living_after_reply number reply agent.living;
-  queue = callbacks_of call reply ++ agent.queue;
+  queue = callbacks_of agent.marks call reply ++ agent.queue;
   handed = agent.handed;
+  marks = marks_with (told_mark call reply) agent.marks;
 }
 
 -- An item is taken.
@@ -181,6 +229,7 @@ after_item key id content agent = record {
   living = living_after_item key agent.living;
   queue = callback_of id content ∷ agent.queue;
   handed = agent.handed;
+  marks = agent.marks;
 }
 
 -- What is sent again: the calls without reply by number, then the greatest receipt of each living subscription by key.

@@ -1,11 +1,13 @@
 -- Words of public clauses: what holds of history, net and agents between any two events.
-use Rattle.std.specs.Prelude.{◌≡◌, ℕ, suc, ◌+◌, ◌≤◌, ◌⊎◌, Bool, ℤ, List, [], ◌∷◌, length}
+use Rattle.std.specs.Prelude.{◌≡◌, ℕ, suc, ◌+◌, ◌≤◌, ◌⊎◌, Bool, ℤ, Option, List, [], ◌∷◌, ◌++◌, length, Some}
 use Rattle.std.specs.List.{AllByRecursion}
-use Rattle.cluster_facts.specs.Types.{Call, Reply, Refused, Status, Entry, Callback, Written, Message, Request, Answer, Delivery, Receipt}
+use Rattle.std.specs.Option.{option_to_list}
+use Rattle.stream_config.specs.Marks.{first_mark}
+use Rattle.cluster_facts.specs.Types.{Call, Reply, Refused, Status, Entry, Callback, Written, MaskSet, StreamName, Mark, Message, Request, Answer, Delivery, Receipt}
 use Rattle.cluster_facts.specs.Lists.{Stands, EndsIn, IsNumbered, IsCounted, count_of}
 use Rattle.cluster_facts.specs.Messages.{sent_by, answers_to, receipts_of, calls_in, message_of, messages_in}
 use Rattle.cluster_facts.specs.Service.{Plain, IsMade, answers_in, asked_for, subscribed}
-use Rattle.cluster_facts.specs.Agents.{Living, Agent, fresh, fed_of, log_after, ntf_after, callback_of}
+use Rattle.cluster_facts.specs.Agents.{Living, Agent, fresh, fed_of, log_after, ntf_after, callback_of, mark_of, told_mark}
 use Rattle.cluster_facts.specs.History.{IsLegal, accepted}
 use Rattle.cluster_facts.specs.World.{World}
 use Rattle.std.specs.Prelude.{false}
@@ -43,15 +45,22 @@ pub record Sends (sent calls : List (ℕ × Call)) (next : ℕ) (log_handle ntf_
   pub ntf_is : ntf_handle ≡ ntf_by sent
   pub first : EndsIn sent calls
 
--- of the calls that were sent, the agent keeps those that wait; the replies to the others stand in the net
-pub data Keeps (heard : List (ℕ × Reply)) : List (ℕ × Call) → List (ℕ × Call) → Type 0 where
-  starts : Keeps heard [] []
-  waits : {sent kept : List (ℕ × Call)} → (call : ℕ × Call) → Keeps heard sent kept → Keeps heard (call ∷ sent) (call ∷ kept)
-  answered : {sent kept : List (ℕ × Call)} → (call : ℕ × Call) → (reply : Reply) → Stands (call.0, reply) heard → Keeps heard sent kept
-      → Keeps heard (call ∷ sent) kept
+-- of the calls that were sent, the agent keeps those that wait; the replies to the others stand in the net, and told these marks
+pub data Keeps (heard : List (ℕ × Reply)) : List (ℕ × Call) → List (ℕ × Call) → List (StreamName × Mark) → Type 0 where
+  starts : Keeps heard [] [] []
+  waits : {sent kept : List (ℕ × Call)} {told : List (StreamName × Mark)} → (call : ℕ × Call) → Keeps heard sent kept told → Keeps heard (call ∷ sent) (call ∷ kept) told
+  answered : {sent kept : List (ℕ × Call)} {told : List (StreamName × Mark)} → (call : ℕ × Call) → (reply : Reply) → Stands (call.0, reply) heard → Keeps heard sent kept told
+      → Keeps heard (call ∷ sent) kept (option_to_list (told_mark call.1 reply) ++ told)
 
-pub record Awaits (sent : List (ℕ × Call)) (heard : List (ℕ × Reply)) (next : ℕ) (kept : List (ℕ × Call)) : Type 0 where
-  pub keeps : Keeps heard sent kept
+-- a stream's mark is of the greatest entry of those told of it, or is that of a stream of which none was told
+pub record IsLast (told : List (StreamName × Mark)) (name : StreamName) (last : Mark) : Type 0 where
+  pub stands : (last ≡ first_mark) ⊎ Stands (name, last) told
+  pub most : (mark : Mark) → Stands (name, mark) told → mark.since ≤ last.since
+
+pub record Awaits (sent : List (ℕ × Call)) (heard : List (ℕ × Reply)) (next : ℕ) (kept : List (ℕ × Call)) (marks : List (StreamName × Mark)) : Type 0 where
+  pub told : List (StreamName × Mark)
+  pub keeps : Keeps heard sent kept told
+  pub last : (name : StreamName) → IsLast told name (mark_of name marks)
   -- a call that is kept has a number above the next minus 33
   pub window : AllByRecursion (λ (call : ℕ × Call). next ≤ call.0 + 32) kept
 
@@ -72,7 +81,7 @@ pub record Follows (sent : List (ℕ × Call)) (heard : List (ℕ × Reply)) (ma
 
 pub record IsClient (view : View) (agent : Agent) : Type 0 where
   pub sends : Sends view.sent view.calls agent.next agent.log_handle agent.ntf_handle
-  pub awaits : Awaits view.sent view.heard agent.next agent.kept
+  pub awaits : Awaits view.sent view.heard agent.next agent.kept agent.marks
   pub follows : Follows view.sent view.heard view.marks agent.living
 
 -- the callback that came with a receipt is that of the item of the receipt's number, made for a subscription that was asked for
@@ -83,13 +92,15 @@ pub record IsToldItem (plain : Plain) (past : List Entry) (sent : List (ℕ × C
   pub made : IsMade plain past client mark.0 mark.1 content
   pub is : callback ≡ callback_of id content
 
--- the callbacks are, in order, those of the receipts, with those of writes between them
+-- the callbacks are, in order, those of the receipts, with those of replies between them
 pub data Fits (R : ℕ × ℕ → Callback → Type 0) : List (ℕ × ℕ) → List Callback → Type 0 where
   empty : Fits R [] []
   of_item : {marks : List (ℕ × ℕ)} {fed : List Callback} → (mark : ℕ × ℕ) → (callback : Callback) → R mark callback → Fits R marks fed
       → Fits R (mark ∷ marks) (callback ∷ fed)
   of_write : {marks : List (ℕ × ℕ)} {fed : List Callback} → (invocation : ℕ) → (status : Status) → Fits R marks fed
       → Fits R marks (Written invocation status ∷ fed)
+  of_mask : {marks : List (ℕ × ℕ)} {fed : List Callback} → (name : StreamName) → (mask : ℕ) → (written : Option ℕ) → Fits R marks fed
+      → Fits R marks (MaskSet name mask written ∷ fed)
 
 -- each message of the net belongs to the run: a reply is the service's to an entry whose work is done, and an item was made
 abbrev pub IsOfRun : Plain → List Entry → Message → Type 0

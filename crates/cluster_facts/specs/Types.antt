@@ -12,14 +12,16 @@ pub use Rattle.sub_queue.specs.declared.item.Item.{Item}
 pub use Rattle.calls.specs.declared.call.Ask.{Ask}
 pub use Rattle.calls.specs.declared.call.Ask.TheVariants.{Start, Plain as Other}
 pub use Rattle.calls.specs.declared.call.Call.{Call}
-pub use Rattle.calls.specs.declared.call.Call.TheVariants.{LogInit, LogOpen, LogWrite, LogClose, LogFini, NtfInit, NtfSend}
+pub use Rattle.calls.specs.declared.call.Call.TheVariants.{LogInit, LogOpen, LogWrite, LogFilter, LogClose, LogFini, NtfInit, NtfSend}
 pub use Rattle.calls.specs.declared.call.Call.TheVariants.{NtfSubscribe, NtfUnsubscribe, ReaderStart, ReaderRead, ReaderEnd, NtfFini}
+pub use Rattle.stream_config.specs.declared.mark.Mark.{Mark}
+pub use Rattle.stream_config.specs.declared.attrs.StreamName.{StreamName}
 pub use Rattle.calls.specs.declared.reply.Reply.{Reply}
-pub use Rattle.calls.specs.declared.reply.Reply.TheVariants.{Refused, Done, Sent, Found}
+pub use Rattle.calls.specs.declared.reply.Reply.TheVariants.{Refused, Done, Sent, Found, Marked}
 pub use Rattle.calls.specs.declared.entry.Entry.{Entry}
 pub use Rattle.calls.specs.declared.entry.Entry.TheVariants.{Called, Receipted}
 pub use Rattle.calls.specs.declared.reply.Callback.{Callback}
-pub use Rattle.calls.specs.declared.reply.Callback.TheVariants.{Written, Notified, Discarded}
+pub use Rattle.calls.specs.declared.reply.Callback.TheVariants.{Written, Notified, Discarded, FilterSet as MaskSet}
 pub use Rattle.wire.specs.declared.message.Message.{Message}
 pub use Rattle.wire.specs.declared.message.Message.TheVariants.{Request, Reply as Answer, Item as Delivery, Receipt}
 pub use Rattle.wire.specs.declared.message.WireWhy.{WireWhy}
