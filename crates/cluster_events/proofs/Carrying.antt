@@ -2,7 +2,7 @@
 use Rattle.std.proofs.Common.{◌≡◌, ℕ, zero, suc, ◌+◌, ◌≤◌, inl, inr, Bool, true, false, nat_le, if◌then◌else◌, Option, Some, None, List, [], ◌∷◌, ◌++◌, length, refl, ap, sym, ◌∙◌, subst, arith}
 use Rattle.std.specs.List.{AllByRecursion}
 use Rattle.std.proofs.lemmas.Bool.{cases_Bool}
-use Rattle.cluster_facts.specs.Types.{Call, Reply, Item, Entry, Called, Receipted, Message, Request, Answer, Delivery, Receipt}
+use Rattle.cluster_facts.specs.Types.{Call, Reply, Item, Entry, Called, Receipted, StreamName, Mark, Message, Request, Answer, Delivery, Receipt}
 use Rattle.cluster_facts.specs.Lists.{Stands, EndsIn, IsCounted, count_of}
 use Rattle.cluster_facts.specs.Messages.{Posting, Spelled, messages_in, sent_by, answers_to, receipts_of, message_of}
 use Rattle.cluster_facts.specs.Service.{Plain, IsPlain, IsMade, IsHeldItem, answers_in, is_new}
@@ -101,7 +101,7 @@ reply_at-stands number (first ∷ replies) reply found =
 
 -- What an agent sends again stands in the net.
 
-pub Keeps-sent : (x : ℕ × Call) {heard : List (ℕ × Reply)} {sent kept : List (ℕ × Call)} → Keeps heard sent kept → Stands x kept → Stands x sent
+pub Keeps-sent : (x : ℕ × Call) {heard : List (ℕ × Reply)} {sent kept : List (ℕ × Call)} {told : List (StreamName × Mark)} → Keeps heard sent kept told → Stands x kept → Stands x sent
 Keeps-sent x starts stands = elim stands [ ]
 Keeps-sent x (waits call rest) (inl same) = inl same
 Keeps-sent x (waits call rest) (inr stands) = inr (Keeps-sent x rest stands)
@@ -207,7 +207,7 @@ module _ {P : Type 0} (plain : Plain) (is_plain : IsPlain plain) (servers : Serv
   reply_by-goes place client number reply (Some call) world kept stands sound =
       let agent = world.agents client in
       let after = with_agent client (after_reply number call reply agent) world.agents in
-      let full = lacks_place world.places agent.queue (callbacks_of call reply) in
+      let full = lacks_place world.places agent.queue (callbacks_of agent.marks call reply) in
       let G : Bool → Type 0 = λ b. WorldGoes plain R world (record { state = record world { agents = if b then world.agents else after }; told = (if b then Ignored place because.Left else Replied client number call reply) ∷ [] }) in
       elim (cases_Bool full) [
         | inl is_full ↦ subst G (sym is_full) (world-ignored world place because.Left sound)
@@ -453,7 +453,7 @@ pub record IsTold (plain : Plain) (R : World → World → List Told → Type 0)
   pub ignored : (world : World) (place : ℕ) (why : Why) → R world world (Ignored place why ∷ [])
   pub answer : (world : World) (client number : ℕ) (reply : Reply) → R world (record world { net = Spelled (Answer client number reply) ∷ world.net }) (Posted (suc (length world.net)) (Answer client number reply) ∷ [])
   pub pushed : (world : World) (client key : ℕ) (item : Item) → R world (record world { net = Spelled (Delivery client key item) ∷ world.net }) (Posted (suc (length world.net)) (Delivery client key item) ∷ [])
-  pub reply : (world : World) (client number : ℕ) (call : Call) (reply : Reply) → IsSound plain world → kept_call number (world.agents client).kept ≡ Some call → lacks_place world.places (world.agents client).queue (callbacks_of call reply) ≡ false → Stands (Answer client number reply) (messages_in world.net) → R world (record world { agents = with_agent client (after_reply number call reply (world.agents client)) world.agents }) (Replied client number call reply ∷ [])
+  pub reply : (world : World) (client number : ℕ) (call : Call) (reply : Reply) → IsSound plain world → kept_call number (world.agents client).kept ≡ Some call → lacks_place world.places (world.agents client).queue (callbacks_of (world.agents client).marks call reply) ≡ false → Stands (Answer client number reply) (messages_in world.net) → R world (record world { agents = with_agent client (after_reply number call reply (world.agents client)) world.agents }) (Replied client number call reply ∷ [])
   pub item : (world : World) (client key : ℕ) (item : Item) (found : Living) → IsSound plain world → find_living key (world.agents client).living ≡ Some found → item.number ≡ found.next → nat_le world.places (length (world.agents client).queue) ≡ false → Stands (Delivery client key item) (messages_in world.net) → R world (record world { net = Spelled (Receipt client key item.number) ∷ world.net; agents = with_agent client (after_item key found.id item.content (world.agents client)) world.agents }) (Posted (suc (length world.net)) (Receipt client key item.number) ∷ [])
 
 -- With an acceptance and a drain it is carried through rounds.

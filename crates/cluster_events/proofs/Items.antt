@@ -5,7 +5,7 @@ use Rattle.cluster_facts.specs.Lists.{Stands, IsNumbered, IsCounted, count_of}
 use Rattle.cluster_facts.specs.Service.{Plain, subscribes, asked_for}
 use Rattle.cluster_facts.specs.Agents.{callback_of}
 use Rattle.cluster_facts.specs.Facts.{Fits, IsToldItem}
-use Rattle.cluster_facts.specs.Facts.Fits.{empty as none_fit, of_item as item_fits, of_write as write_fits}
+use Rattle.cluster_facts.specs.Facts.Fits.{empty as none_fit, of_item as item_fits, of_write as write_fits, of_mask as mask_fits}
 use Rattle.cluster_facts.proofs.Words.{by_test, Stands-append}
 use Rattle.cluster_facts.proofs.Clients.{subscribes-number, asked_for-number}
 use Rattle.cluster_events.specs.Taking.{items_in, taken_of, in_order, AreFirstItems}
@@ -95,6 +95,7 @@ fits-taken plain past sent client key (item_fits {marks = marks} {fed = fed} mar
     in
     subst (λ items. Taken plain past sent client key (count_of key (mark ∷ marks)) (taken_of key (mark ∷ marks) items)) (sym first) (takes-item plain past sent client key mark marks callback (items_in fed) counted told deeper)
 fits-taken plain past sent client key (write_fits invocation status rest) counted = fits-taken plain past sent client key rest counted
+fits-taken plain past sent client key (mask_fits name mask written rest) counted = fits-taken plain past sent client key rest counted
 
 -- Callbacks of items 1, 2, 3 and so on are the beginning of those of all items.
 

@@ -227,7 +227,7 @@ spends-reply : (plain : Plain) (world : World) (client number : ℕ) (call : Cal
 spends-reply plain world client number call reply sound kept =
     let agent = world.agents client in
     let fewer = without-fewer number call agent.kept kept in
-    let longer = length-append (callbacks_of call reply) agent.queue in
+    let longer = length-append (callbacks_of agent.marks call reply) agent.queue in
     let listed = used-listed plain client world sound (λ new. let none : kept_call number agent.kept ≡ None = ap (λ (a : Agent). kept_call number a.kept) new in cc) in
     let less : untaken world.places (after_reply number call reply agent) + 1 ≤ untaken world.places agent = omega arith in
     let all = all_untaken-less world.places 1 client (after_reply number call reply agent) world.agents world.clients listed less in

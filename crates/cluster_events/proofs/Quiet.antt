@@ -4,7 +4,7 @@ use Rattle.std.specs.List.{AllByRecursion}
 use Rattle.std.proofs.lemmas.Bool.Decides.{leb_tells}
 use Rattle.std.proofs.lemmas.Bool.{le-leb, cases_Bool}
 use Rattle.std.proofs.lemmas.Option.{slice_get_within}
-use Rattle.cluster_facts.specs.Types.{Call, Reply, Refused, Status, Item, Entry, Called, Receipted, Callback, Message, Request, Answer, Delivery, Receipt}
+use Rattle.cluster_facts.specs.Types.{Call, Reply, Refused, Status, Item, Entry, Called, Receipted, Callback, StreamName, Mark, Message, Request, Answer, Delivery, Receipt}
 use Rattle.cluster_facts.specs.Lists.{Stands, count_of}
 use Rattle.cluster_facts.specs.Messages.{messages_in, sent_by, answers_to, receipts_of, calls_in, message_of}
 use Rattle.cluster_facts.specs.Service.{Plain, IsPlain, IsHeldItem, answers_in, is_new, subscribed}
@@ -14,7 +14,7 @@ use Rattle.cluster_facts.specs.World.{World, with_agent, number_of}
 use Rattle.cluster_facts.specs.Facts.{Facts, IsSound, IsOfRun, IsToldItem, Fits, Keeps, Lives}
 use Rattle.cluster_facts.specs.Facts.Keeps.{starts, waits, answered}
 use Rattle.cluster_facts.specs.Facts.Lives.{none as none_live, lives, refused}
-use Rattle.cluster_facts.specs.Facts.Fits.{empty, of_item, of_write}
+use Rattle.cluster_facts.specs.Facts.Fits.{empty, of_item, of_write, of_mask}
 use Rattle.cluster_facts.proofs.Words.{by_test, Stands-left, Stands-right, All-at, All-map, All-of, All-append, IsNumbered-bound, IsNumbered-at, IsCounted-bound}
 use Rattle.cluster_facts.proofs.Clients.{kept_call-stands, find_living-found}
 use Rattle.cluster_facts.proofs.Posting.{answers_to-stands, answers_to-posted, receipts_of-stands, posted-stands}
@@ -36,7 +36,7 @@ use Rattle.ais_values.proofs.Basics.{eqb_self}
 -- What follows from the facts where nothing is in hand.
 
 -- a call that was sent is kept, or its reply stands in the net
-Keeps-cases : (x : ℕ × Call) {heard : List (ℕ × Reply)} {sent kept : List (ℕ × Call)} → Keeps heard sent kept → Stands x sent → Stands x kept ⊎ ((reply : Reply) × Stands (x.0, reply) heard)
+Keeps-cases : (x : ℕ × Call) {heard : List (ℕ × Reply)} {sent kept : List (ℕ × Call)} {told : List (StreamName × Mark)} → Keeps heard sent kept told → Stands x sent → Stands x kept ⊎ ((reply : Reply) × Stands (x.0, reply) heard)
 Keeps-cases x starts stands = elim stands [ ]
 Keeps-cases x (waits call rest) (inl same) = inl (inl same)
 Keeps-cases x (waits call rest) (inr stands) = elim (Keeps-cases x rest stands) [ inl kept ↦ inl (inr kept) | inr told ↦ inr told ]
@@ -145,6 +145,7 @@ Fits-at R mark (of_item first callback here rest) (inl same) =
     (callback, subst Q (sym same) here)
 Fits-at R mark (of_item first callback here rest) (inr stands) = Fits-at R mark rest stands
 Fits-at R mark (of_write invocation status rest) stands = Fits-at R mark rest stands
+Fits-at R mark (of_mask name mask written rest) stands = Fits-at R mark rest stands
 
 -- the number through which a subscription has a receipt is that of a receipt in the net
 through-posted : (plain : Plain) → IsPlain plain → (client key : ℕ) (net : List Message) (past : List Entry) → AllByRecursion (λ (entry : Entry). Stands (message_of entry) net) past → 1 ≤ plain.through past client key → Stands (Receipt client key (plain.through past client key)) net
@@ -185,7 +186,7 @@ all-three false b c p q r = p
 
 pub record SawRequest (plain : Plain) (past : List Entry) (agent : Agent) (places client number : ℕ) : Type 0 where
   pub not_new : judged_call past client number ≡ New → ⊥
-  pub left : (call : Call) (told : Reply) → kept_call number agent.kept ≡ Some call → judged_call past client number ≡ Repeat → reply_at number (answers_in plain client past) ≡ Some told → (reply : Reply) × Stands (number, reply) (answers_in plain client past) × (lacks_place places agent.queue (callbacks_of call reply) ≡ true)
+  pub left : (call : Call) (told : Reply) → kept_call number agent.kept ≡ Some call → judged_call past client number ≡ Repeat → reply_at number (answers_in plain client past) ≡ Some told → (reply : Reply) × Stands (number, reply) (answers_in plain client past) × (lacks_place places agent.queue (callbacks_of agent.marks call reply) ≡ true)
 
 abbrev pub SawBy : Plain → List Entry → (ℕ → Agent) → ℕ → Message → Type 0
 SawBy plain past agents places (Request client number call) = SawRequest plain past (agents client) places client number
@@ -246,7 +247,7 @@ module _ (plain : Plain) (is_plain : IsPlain plain) (world : World) (facts : Fac
   all-heard : (client : ℕ) → calls_in client world.core.answered ≡ sent_by client (messages_in world.net)
   all-heard client = heard-by client (facts.clients client).sends.first.0 (facts.clients client).sends.first.1
 
-  all-taken : (client number : ℕ) (call : Call) → kept_call number (world.agents client).kept ≡ Some call → (reply : Reply) × Stands (number, reply) (answers_in plain client world.core.answered) × (lacks_place world.places (world.agents client).queue (callbacks_of call reply) ≡ true)
+  all-taken : (client number : ℕ) (call : Call) → kept_call number (world.agents client).kept ≡ Some call → (reply : Reply) × Stands (number, reply) (answers_in plain client world.core.answered) × (lacks_place world.places (world.agents client).queue (callbacks_of (world.agents client).marks call reply) ≡ true)
   all-taken client number call kept =
       let past = world.core.answered in
       let own = facts.clients client in
@@ -358,13 +359,13 @@ loud-split (line ∷ second) first quiet =
     let cases : (b : Bool) → P b = elim [ true ↦ λ e. cc | false ↦ λ e. loud-split second first e ] in
     cases (is_progress line) quiet
 
-reply_by-quiet : (place client number : ℕ) (reply : Reply) (found : Option Call) (world : World) → is_loud (reply_by place client number reply found world).told ≡ false → ((reply_by place client number reply found world).state ≡ world) × ((call : Call) → found ≡ Some call → lacks_place world.places (world.agents client).queue (callbacks_of call reply) ≡ true)
+reply_by-quiet : (place client number : ℕ) (reply : Reply) (found : Option Call) (world : World) → is_loud (reply_by place client number reply found world).told ≡ false → ((reply_by place client number reply found world).state ≡ world) × ((call : Call) → found ≡ Some call → lacks_place world.places (world.agents client).queue (callbacks_of (world.agents client).marks call reply) ≡ true)
 reply_by-quiet place client number reply None world quiet = (refl, λ call is. cc)
 reply_by-quiet place client number reply (Some call) world quiet =
     let after = with_agent client (after_reply number call reply (world.agents client)) world.agents in
-    let full = lacks_place world.places (world.agents client).queue (callbacks_of call reply) in
-    let P : Bool → Type 0 = λ b. is_loud ((if b then Ignored place because.Left else Replied client number call reply) ∷ []) ≡ false → (record world { agents = if b then world.agents else after } ≡ world) × ((other : Call) → Some call ≡ Some other → lacks_place world.places (world.agents client).queue (callbacks_of other reply) ≡ true) in
-    let L : Call → Type 0 = λ c. lacks_place world.places (world.agents client).queue (callbacks_of c reply) ≡ true in
+    let full = lacks_place world.places (world.agents client).queue (callbacks_of (world.agents client).marks call reply) in
+    let P : Bool → Type 0 = λ b. is_loud ((if b then Ignored place because.Left else Replied client number call reply) ∷ []) ≡ false → (record world { agents = if b then world.agents else after } ≡ world) × ((other : Call) → Some call ≡ Some other → lacks_place world.places (world.agents client).queue (callbacks_of (world.agents client).marks other reply) ≡ true) in
+    let L : Call → Type 0 = λ c. lacks_place world.places (world.agents client).queue (callbacks_of (world.agents client).marks c reply) ≡ true in
     elim (cases_Bool full) [
       | inl is_full ↦ subst P (sym is_full) (λ q. (refl, λ other same. let is : call ≡ other = cc in subst L is is_full)) quiet
       | inr has_place ↦ subst P (sym has_place) (λ q. cc) quiet
@@ -373,7 +374,7 @@ reply_by-quiet place client number reply (Some call) world quiet =
 -- a reply that is delivered quietly leaves the world, and was left for want of a place if its call is unanswered
 record TakenQuietly (client number : ℕ) (world : World) (outcome : Outcome World) : Type 0 where
   state : outcome.state ≡ world
-  left : (call : Call) (reply : Reply) → kept_call number (world.agents client).kept ≡ Some call → reply_at number (answers_to client (messages_in world.net)) ≡ Some reply → lacks_place world.places (world.agents client).queue (callbacks_of call reply) ≡ true
+  left : (call : Call) (reply : Reply) → kept_call number (world.agents client).kept ≡ Some call → reply_at number (answers_to client (messages_in world.net)) ≡ Some reply → lacks_place world.places (world.agents client).queue (callbacks_of (world.agents client).marks call reply) ≡ true
 
 take_answer_by-quiet : (plain : Plain) (client number : ℕ) (found : Option Reply) (world : World) → reply_at number (answers_to client (messages_in world.net)) ≡ found → is_loud (take_answer_by plain client number found world).told ≡ false → TakenQuietly client number world (take_answer_by plain client number found world)
 take_answer_by-quiet plain client number None world is quiet = record { state = refl; left = λ call reply kept told. cc }
@@ -383,7 +384,7 @@ take_answer_by-quiet plain client number (Some reply) world is quiet =
       state = taken.0;
       left = λ call other kept told.
           let same : reply ≡ other = cc in
-          let L : Reply → Type 0 = λ r. lacks_place world.places (world.agents client).queue (callbacks_of call r) ≡ true in
+          let L : Reply → Type 0 = λ r. lacks_place world.places (world.agents client).queue (callbacks_of (world.agents client).marks call r) ≡ true in
           subst L same (taken.1 call kept);
     }
 
@@ -504,7 +505,7 @@ module _ {P : Type 0} (plain : Plain) (is_plain : IsPlain plain) (servers : Serv
 
   -- what a reply that is taken quietly tells of a world
   abbrev IsLeftIn : ℕ → ℕ → World → Type 0
-  IsLeftIn client number world = (call : Call) (reply : Reply) → kept_call number (world.agents client).kept ≡ Some call → reply_at number (answers_to client (messages_in world.net)) ≡ Some reply → lacks_place world.places (world.agents client).queue (callbacks_of call reply) ≡ true
+  IsLeftIn client number world = (call : Call) (reply : Reply) → kept_call number (world.agents client).kept ≡ Some call → reply_at number (answers_to client (messages_in world.net)) ≡ Some reply → lacks_place world.places (world.agents client).queue (callbacks_of (world.agents client).marks call reply) ≡ true
 
   request_after : (client number : ℕ) (call : Call) (base : World) (heard : Outcome (State P)) → IsAtRest plain Good heard.state → Same base heard.state.world → is_loud (turn_after (Request client number call) heard).told ≡ false → IsLeftIn client number heard.state.world × Same base (turn_after (Request client number call) heard).state.world
   request_after client number call base heard rest same quiet =

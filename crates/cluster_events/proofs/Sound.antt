@@ -105,7 +105,7 @@ listed-change plain client after world used sound =
 
 pub reply-sound : (plain : Plain) (client number : ℕ) (call : Call) (reply : Reply) (world : World) → kept_call number (world.agents client).kept ≡ Some call → Stands (Answer client number reply) (messages_in world.net) → IsSound plain world → IsSound plain (record world { agents = with_agent client (after_reply number call reply (world.agents client)) world.agents })
 reply-sound plain client number call reply world kept stands sound = record {
-  facts = Facts-reply plain world.now (accepted world.core) world.core.answered (messages_in world.net) world.agents client number call reply (answers_to-stands client number reply (messages_in world.net) stands) sound.facts;
+  facts = Facts-reply plain world.now (accepted world.core) world.core.answered (messages_in world.net) world.agents client number call reply (answers_to-stands client number reply (messages_in world.net) stands) kept sound.facts;
   listed = listed-change plain client (after_reply number call reply (world.agents client)) world (λ new. let none : kept_call number (world.agents client).kept ≡ None = ap (λ (agent : Agent). kept_call number agent.kept) new in cc) sound;
 }
 

@@ -1,19 +1,19 @@
 -- What lines say goes on from one event to the next.
-use Rattle.std.proofs.Common.{◌≡◌, ℕ, suc, ◌+◌, ◌<◌, Bool, true, false, ◌==◌, if◌then◌else◌, Some, None, List, [], ◌∷◌, ◌++◌, length, refl, ap, sym, ◌∙◌, subst, arith, append_assoc, append-nil, length-append}
+use Rattle.std.proofs.Common.{◌≡◌, ℕ, suc, ◌+◌, ◌<◌, Bool, true, false, ◌==◌, if◌then◌else◌, Option, Some, None, List, [], ◌∷◌, ◌++◌, length, refl, ap, sym, ◌∙◌, subst, arith, append_assoc, append-nil, length-append}
 use Rattle.std.specs.List.{AllByRecursion}
-use Rattle.cluster_facts.specs.Types.{Call, LogWrite, Reply, Item, Content, Single, Losses, Entry, Called, Callback, Written, Message, Request, Answer, Delivery, Receipt, WireWhy}
+use Rattle.cluster_facts.specs.Types.{Call, LogWrite, Reply, Item, Content, Single, Losses, Entry, Called, Callback, Written, Status, StreamName, Mark, Message, Request, Answer, Delivery, Receipt, WireWhy}
 use Rattle.cluster_facts.specs.Lists.{Stands, EndsIn, without}
 use Rattle.cluster_facts.specs.Messages.{Spelled, Raw, messages_in, sent_by}
 use Rattle.cluster_facts.specs.Service.{Plain, answers_in}
 use Rattle.cluster_facts.specs.Storage.{dealt_in}
-use Rattle.cluster_facts.specs.Agents.{Living, Agent, fed_of, kept_call, callbacks_of, after_call, after_reply, after_item, callback_of, status_of}
+use Rattle.cluster_facts.specs.Agents.{Living, Agent, fed_of, kept_call, callbacks_of, given_by, changed_mask, told_mark, asked_back, marks_with, after_call, after_reply, after_item, callback_of, status_of}
 use Rattle.cluster_facts.specs.History.{committed}
 use Rattle.cluster_facts.specs.World.{World, with_agent}
 use Rattle.cluster_facts.specs.Facts.{IsSound, IsOfRun}
 use Rattle.cluster_facts.proofs.Words.{by_test, each_client, All-at, All-map, All-append, EndsIn-same, EndsIn-stands, IsNumbered-bound}
 use Rattle.cluster_facts.proofs.Clients.{kept_call-stands}
 use Rattle.cluster_events.specs.Lines.{Told, Posted, Injected, Replied, Ignored, Why}
-use Rattle.cluster_events.specs.Saying.{gathered, post_in, entry_in, reply_in, deal_in, callback_in, write_in, replies_told, deals_told, writes_told, IsNumberedFrom, seconds, Grows, IsDone, IsOnce, TellsReplies, of_write, writes_in, Says}
+use Rattle.cluster_events.specs.Saying.{gathered, post_in, entry_in, reply_in, deal_in, callback_in, mark_in, write_in, replies_told, deals_told, marks_told, writes_told, IsNumberedFrom, seconds, Grows, IsDone, IsOnce, TellsReplies, of_write, writes_in, Says}
 use Rattle.cluster_events.proofs.Carrying.{IsTold, Keeps-sent, EndsIn-both}
 use Rattle.cluster_events.proofs.Dealing.{reply-dealt}
 
@@ -173,10 +173,37 @@ writes_in-append : (xs ys : List Callback) → writes_in (xs ++ ys) ≡ writes_i
 writes_in-append [] ys = refl
 writes_in-append (x ∷ xs) ys = ap (λ rest. of_write x ++ rest) (writes_in-append xs ys) ∙ sym (append_assoc (of_write x) (writes_in xs) (writes_in ys))
 
-writes_in-reply : (call : Call) (reply : Reply) → writes_in (callbacks_of call reply) ≡ callbacks_of call reply
-writes_in-reply (LogWrite stream invocation flags time header body) reply =
-    elim (flags == 1) as (λ b. writes_in (if b then Written invocation (status_of reply) ∷ [] else []) ≡ (if b then Written invocation (status_of reply) ∷ [] else [])) [ true ↦ refl | false ↦ refl ]
-writes_in-reply _ reply = refl
+writes_in-given : (changed : Option (StreamName × ℕ)) (asked : Option ℕ) (status : Status) → writes_in (given_by changed asked status) ≡ given_by changed asked status
+writes_in-given (Some changed) asked status = refl
+writes_in-given None (Some invocation) status = refl
+writes_in-given None None status = refl
+
+writes_in-reply : (marks : List (StreamName × Mark)) (call : Call) (reply : Reply) → writes_in (callbacks_of marks call reply) ≡ callbacks_of marks call reply
+writes_in-reply marks call reply = writes_in-given (changed_mask (told_mark call reply) marks) (asked_back call) (status_of reply)
+
+-- the marks that first and second lines tell, and the callbacks that they give
+
+pub marks_told-append : (client : ℕ) (marks : List (StreamName × Mark)) (second first : List Told) → marks_told client marks (second ++ first) ≡ marks_told client (marks_told client marks first) second
+marks_told-append client marks [] first = refl
+marks_told-append client marks (line ∷ second) first = ap (mark_in client line) (marks_told-append client marks second first)
+
+pub writes_told-append : (client : ℕ) (marks : List (StreamName × Mark)) (second first : List Told) → writes_told client marks (second ++ first) ≡ writes_told client (marks_told client marks first) second ++ writes_told client marks first
+writes_told-append client marks [] first = refl
+writes_told-append client marks (line ∷ second) first =
+    ap (λ m. write_in client line m ++ writes_told client marks (second ++ first)) (marks_told-append client marks second first)
+    ∙ ap (λ rest. write_in client line (marks_told client (marks_told client marks first) second) ++ rest) (writes_told-append client marks second first)
+    ∙ sym (append_assoc (write_in client line (marks_told client (marks_told client marks first) second)) (writes_told client (marks_told client marks first) second) (writes_told client marks first))
+
+pub marks-both : (client : ℕ) (one two three : List (StreamName × Mark)) (first second : List Told) → two ≡ marks_told client one first → three ≡ marks_told client two second → three ≡ marks_told client one (second ++ first)
+marks-both client one two three first second says more = more ∙ ap (λ m. marks_told client m second) says ∙ sym (marks_told-append client one second first)
+
+pub writes-both : (client : ℕ) (one two : List (StreamName × Mark)) (old middle new : List Callback) (first second : List Told) → two ≡ marks_told client one first → middle ≡ writes_told client one first ++ old → new ≡ writes_told client two second ++ middle → new ≡ writes_told client one (second ++ first) ++ old
+writes-both client one two old middle new first second marks says more =
+    more
+    ∙ ap (λ m. writes_told client m second ++ middle) marks
+    ∙ ap (λ rest. writes_told client (marks_told client one first) second ++ rest) says
+    ∙ sym (append_assoc (writes_told client (marks_told client one first) second) (writes_told client one first) old)
+    ∙ ap (λ front. front ++ old) (sym (writes_told-append client one second first))
 
 of_write-item : (id : ℕ) (content : Content) → of_write (callback_of id content) ≡ []
 of_write-item id (Single notification) = refl
@@ -192,6 +219,7 @@ says-net plain world message = record {
   answers = EndsIn-same world.core.answered;
   replies = λ client. TellsReplies-none (world.agents client) (world.agents client) (answers_in plain client world.core.answered) (λ number done. done);
   callbacks = λ client. Grows-same (world.agents client).handed;
+  marks = λ client. refl;
   writes = λ client. refl;
   deals = λ client. tt;
 }
@@ -203,6 +231,7 @@ Says-injected plain world bytes front why = record {
   answers = EndsIn-same world.core.answered;
   replies = λ client. TellsReplies-none (world.agents client) (world.agents client) (answers_in plain client world.core.answered) (λ number done. done);
   callbacks = λ client. Grows-same (world.agents client).handed;
+  marks = λ client. refl;
   writes = λ client. refl;
   deals = λ client. tt;
 }
@@ -214,6 +243,7 @@ Says-same plain world = record {
   answers = EndsIn-same world.core.answered;
   replies = λ client. TellsReplies-none (world.agents client) (world.agents client) (answers_in plain client world.core.answered) (λ number done. done);
   callbacks = λ client. Grows-same (world.agents client).handed;
+  marks = λ client. refl;
   writes = λ client. refl;
   deals = λ client. tt;
 }
@@ -225,6 +255,7 @@ Says-ignored plain world place why = record {
   answers = EndsIn-same world.core.answered;
   replies = λ client. TellsReplies-none (world.agents client) (world.agents client) (answers_in plain client world.core.answered) (λ number done. done);
   callbacks = λ client. Grows-same (world.agents client).handed;
+  marks = λ client. refl;
   writes = λ client. refl;
   deals = λ client. tt;
 }
@@ -244,8 +275,8 @@ Says-both plain one two three first second says more = record {
       let grown = dealt-ends plain client three.core.answered two.core.answered more.answers in
       let early = All-map Old New (deals_told client first) (λ deal stands. EndsIn-stands deal (dealt_in plain client three.core.answered) (dealt_in plain client two.core.answered) grown stands) (says.deals client) in
       subst (λ deals. AllByRecursion New deals) (sym (gathered-append (deal_in client) second first)) (All-append New (deals_told client second) (deals_told client first) (more.deals client) early);
-  writes = λ client.
-      more.writes client ∙ ap (λ rest. writes_told client second ++ rest) (says.writes client) ∙ sym (append_assoc (writes_told client second) (writes_told client first) (writes_in (fed_of (one.agents client)))) ∙ ap (λ lines. lines ++ writes_in (fed_of (one.agents client))) (sym (gathered-append (write_in client) second first));
+  marks = λ client. marks-both client (one.agents client).marks (two.agents client).marks (three.agents client).marks first second (says.marks client) (more.marks client);
+  writes = λ client. writes-both client (one.agents client).marks (two.agents client).marks (writes_in (fed_of (one.agents client))) (writes_in (fed_of (two.agents client))) (writes_in (fed_of (three.agents client))) first second (says.marks client) (says.writes client) (more.writes client);
 }
 
 says-reply : (plain : Plain) (world : World) (client number : ℕ) (call : Call) (reply : Reply) → IsSound plain world → kept_call number (world.agents client).kept ≡ Some call → Stands (Answer client number reply) (messages_in world.net) → Says plain world (record world { agents = with_agent client (after_reply number call reply (world.agents client)) world.agents }) (Replied client number call reply ∷ [])
@@ -263,8 +294,9 @@ says-reply plain world client number call reply sound kept stands =
       deals = each_client (λ other b. AllByRecursion (λ (deal : ℕ × Call × Reply). Stands deal (dealt_in plain other world.core.answered)) ((if b then (number, call, reply) ∷ [] else []) ++ [])) client
           (reply-dealt plain world client number call reply sound kept stands, tt)
           (λ other. tt);
-      writes = each_client (λ other b. writes_in (fed_of (if b then after else world.agents other)) ≡ ((if b then callbacks_of call reply else []) ++ []) ++ writes_in (fed_of (world.agents other))) client
-          (ap writes_in (append_assoc (callbacks_of call reply) agent.queue agent.handed) ∙ writes_in-append (callbacks_of call reply) (fed_of agent) ∙ ap (λ rest. rest ++ writes_in (fed_of agent)) (writes_in-reply call reply ∙ sym (append-nil (callbacks_of call reply))))
+      marks = each_client (λ other b. (if b then after else world.agents other).marks ≡ (if b then marks_with (told_mark call reply) (world.agents other).marks else (world.agents other).marks)) client refl (λ other. refl);
+      writes = each_client (λ other b. writes_in (fed_of (if b then after else world.agents other)) ≡ ((if b then callbacks_of (world.agents other).marks call reply else []) ++ []) ++ writes_in (fed_of (world.agents other))) client
+          (ap writes_in (append_assoc (callbacks_of agent.marks call reply) agent.queue agent.handed) ∙ writes_in-append (callbacks_of agent.marks call reply) (fed_of agent) ∙ ap (λ rest. rest ++ writes_in (fed_of agent)) (writes_in-reply agent.marks call reply ∙ sym (append-nil (callbacks_of agent.marks call reply))))
           (λ other. refl);
     }
 
@@ -281,6 +313,7 @@ says-item plain world client key item found =
           (λ other. TellsReplies-none (world.agents other) (world.agents other) (answers_in plain other world.core.answered) (λ number done. done));
       callbacks = each_client (λ other b. Grows (world.agents other).handed (if b then after else world.agents other).handed []) client (Grows-same agent.handed) (λ other. Grows-same (world.agents other).handed);
       deals = λ other. tt;
+      marks = each_client (λ other b. (if b then after else world.agents other).marks ≡ (world.agents other).marks) client refl (λ other. refl);
       writes = each_client (λ other b. writes_in (fed_of (if b then after else world.agents other)) ≡ writes_in (fed_of (world.agents other))) client
           (ap (λ rest. rest ++ writes_in (fed_of agent)) (of_write-item found.id item.content))
           (λ other. refl);
@@ -312,6 +345,7 @@ Says-send plain world client call clients =
           (TellsReplies-none agent after (answers_in plain client world.core.answered) (IsDone-call agent call))
           (λ other. TellsReplies-none (world.agents other) (world.agents other) (answers_in plain other world.core.answered) (λ number done. done));
       callbacks = each_client (λ other b. Grows (world.agents other).handed (if b then after else world.agents other).handed []) client (Grows-same agent.handed) (λ other. Grows-same (world.agents other).handed);
+      marks = each_client (λ other b. (if b then after else world.agents other).marks ≡ (world.agents other).marks) client refl (λ other. refl);
       writes = each_client (λ other b. writes_in (fed_of (if b then after else world.agents other)) ≡ writes_in (fed_of (world.agents other))) client refl (λ other. refl);
       deals = λ other. tt;
     }

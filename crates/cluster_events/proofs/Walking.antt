@@ -55,6 +55,7 @@ pub record HandsOut (callbacks : List Callback) (old new : Agent) : Type 0 where
   pub fed : fed_of new ≡ fed_of old
   pub next : new.next ≡ old.next
   pub kept : new.kept ≡ old.kept
+  pub marks : new.marks ≡ old.marks
 
 -- a relation between the worlds before and after a line of a kind and what the line tells
 abbrev pub ByKind : Type 1
@@ -139,13 +140,13 @@ module _ {P : Type 0} (plain : Plain) (is_plain : IsPlain plain) (shelf : Shelf)
   one-walks client (Some status) world is sound = by_kind.refused client status world sound is
   one-walks client None world is sound =
       let agent = world.agents client in
-      by_kind.handed client (oldest agent.queue) (after_dispatch_one agent) world sound is (record { handed = refl; fed = oldest-append agent.queue agent.handed; next = refl; kept = refl })
+      by_kind.handed client (oldest agent.queue) (after_dispatch_one agent) world sound is (record { handed = refl; fed = oldest-append agent.queue agent.handed; next = refl; kept = refl; marks = refl })
 
   all-walks : (client : ℕ) (status : Option Status) (world : World) → dispatch_refusal (world.agents client) ≡ status → IsSound plain world → R (Dispatches client) world (dispatch_all_by client status world).state (dispatch_all_by client status world).told
   all-walks client (Some status) world is sound = by_kind.refused client status world sound is
   all-walks client None world is sound =
       let agent = world.agents client in
-      by_kind.handed client agent.queue (after_dispatch_all agent) world sound is (record { handed = refl; fed = refl; next = refl; kept = refl })
+      by_kind.handed client agent.queue (after_dispatch_all agent) world sound is (record { handed = refl; fed = refl; next = refl; kept = refl; marks = refl })
 
   deliver_by-walks : (place : ℕ) (found : Option Posting) (state : State P) → posting_at place state.world.net ≡ found → IsSteady plain Good state → Walks Others state (deliver_by plain servers place found state)
   deliver_by-walks place None state is steady = refuse-walks state (line.Deliver place) steady

@@ -63,7 +63,7 @@ abbrev pub reply_by : ℕ → ℕ → ℕ → Reply → Option Call → World �
 reply_by place client number reply None world = telling world (Ignored place AnsweredReply)
 reply_by place client number reply (Some call) world =
     let agent = world.agents client in
-    let full = lacks_place world.places agent.queue (callbacks_of call reply) in
+    let full = lacks_place world.places agent.queue (callbacks_of agent.marks call reply) in
     record {
       state = record world { agents = if full then world.agents else with_agent client (after_reply number call reply agent) world.agents };
       told = (if full then Ignored place Left else Replied client number call reply) ∷ [];

@@ -60,7 +60,7 @@ ItemsInOrder plain world =
 
 -- the callbacks of writes that a client got are, in order, one for each `reply` line of a write that asked for one
 abbrev pub WritesCalledBack : World → List Told → Type 0
-WritesCalledBack world told = (client : ℕ) → writes_in (fed_of (world.agents client)) ≡ writes_told client told
+WritesCalledBack world told = (client : ℕ) → writes_in (fed_of (world.agents client)) ≡ writes_told client [] told
 
 -- what holds at the end of each line of a run
 pub record AtEnd (plain : Plain) (world : World) (told : List Told) : Type 0 where

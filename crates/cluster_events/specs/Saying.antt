@@ -1,12 +1,12 @@
 -- Words of public clauses: what the lines of events say of history, replies, callbacks and net.
 use Rattle.std.specs.Prelude.{◌≡◌, ℕ, suc, ◌+◌, ◌<◌, ◌==◌, if◌then◌else◌, None, List, [], ◌∷◌, ◌++◌, length}
 use Rattle.std.specs.List.{AllByRecursion}
-use Rattle.cluster_facts.specs.Types.{Call, Reply, Entry, Callback, Written}
+use Rattle.cluster_facts.specs.Types.{Call, Reply, Entry, Callback, Written, MaskSet, StreamName, Mark}
 use Rattle.cluster_facts.specs.Lists.{Stands, EndsIn}
 use Rattle.cluster_facts.specs.Messages.{Posting, Spelled, Raw}
 use Rattle.cluster_facts.specs.Service.{Plain, answers_in}
 use Rattle.cluster_facts.specs.Storage.{dealt_in}
-use Rattle.cluster_facts.specs.Agents.{Agent, fed_of, kept_call, callbacks_of}
+use Rattle.cluster_facts.specs.Agents.{Agent, fed_of, kept_call, callbacks_of, told_mark, marks_with}
 use Rattle.cluster_facts.specs.History.{committed}
 use Rattle.cluster_facts.specs.World.{World}
 use Rattle.cluster_events.specs.Lines.{Told, Posted, Injected, Committed, Replied, HandedOut}
@@ -37,9 +37,14 @@ abbrev pub callback_in : ℕ → Told → List (ℕ × Callback)
 callback_in client (HandedOut other number callback) = if other == client then (number, callback) ∷ [] else []
 callback_in client _ = []
 
-abbrev pub write_in : ℕ → Told → List Callback
-write_in client (Replied other number call reply) = if other == client then callbacks_of call reply else []
-write_in client _ = []
+-- the marks that a client has seen behind a line, and the callbacks that a line's reply gives it, from those seen before
+abbrev pub mark_in : ℕ → Told → List (StreamName × Mark) → List (StreamName × Mark)
+mark_in client (Replied other number call reply) marks = if other == client then marks_with (told_mark call reply) marks else marks
+mark_in client _ marks = marks
+
+abbrev pub write_in : ℕ → Told → List (StreamName × Mark) → List Callback
+write_in client (Replied other number call reply) marks = if other == client then callbacks_of marks call reply else []
+write_in client _ marks = []
 
 -- the `post` lines, the `acc` lines, and the client's `reply` and `callback` lines, each with its number; the calls of the client's
 -- `reply` lines with their numbers and replies; and the callbacks that these replies gave
@@ -58,8 +63,13 @@ deals_told client told = gathered (deal_in client) told
 abbrev pub callbacks_told : ℕ → List Told → List (ℕ × Callback)
 callbacks_told client told = gathered (callback_in client) told
 
-abbrev pub writes_told : ℕ → List Told → List Callback
-writes_told client told = gathered (write_in client) told
+abbrev pub marks_told : ℕ → List (StreamName × Mark) → List Told → List (StreamName × Mark)
+marks_told client marks [] = marks
+marks_told client marks (line ∷ told) = mark_in client line (marks_told client marks told)
+
+abbrev pub writes_told : ℕ → List (StreamName × Mark) → List Told → List Callback
+writes_told client marks [] = []
+writes_told client marks (line ∷ told) = write_in client line (marks_told client marks told) ++ writes_told client marks told
 
 -- lines are numbered on from a start
 abbrev pub IsNumberedFrom : {X : Type 0} → ℕ → List (ℕ × X) → Type 0
@@ -97,6 +107,7 @@ pub record TellsReplies (old new : Agent) (answers replies : List (ℕ × Reply)
 -- the callbacks of writes among a client's callbacks
 abbrev pub of_write : Callback → List Callback
 of_write (Written invocation status) = Written invocation status ∷ []
+of_write (MaskSet name mask written) = MaskSet name mask written ∷ []
 of_write _ = []
 
 abbrev pub writes_in : List Callback → List Callback
@@ -112,4 +123,5 @@ pub record Says (plain : Plain) (old new : World) (told : List Told) : Type 0 wh
   pub replies : (client : ℕ) → TellsReplies (old.agents client) (new.agents client) (answers_in plain client new.core.answered) (replies_told client told)
   pub deals : (client : ℕ) → AllByRecursion (λ (deal : ℕ × Call × Reply). Stands deal (dealt_in plain client new.core.answered)) (deals_told client told)
   pub callbacks : (client : ℕ) → Grows (old.agents client).handed (new.agents client).handed (callbacks_told client told)
-  pub writes : (client : ℕ) → writes_in (fed_of (new.agents client)) ≡ writes_told client told ++ writes_in (fed_of (old.agents client))
+  pub marks : (client : ℕ) → (new.agents client).marks ≡ marks_told client (old.agents client).marks told
+  pub writes : (client : ℕ) → writes_in (fed_of (new.agents client)) ≡ writes_told client (old.agents client).marks told ++ writes_in (fed_of (old.agents client))

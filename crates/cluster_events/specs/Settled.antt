@@ -16,7 +16,7 @@ pub record IsSettled (plain : Plain) (world : World) : Type 0 where
   -- its reply is taken, unless it gives a callback for which the client's queue lacks a place
   pub taken : (client number : ℕ) (call : Call) → kept_call number (world.agents client).kept ≡ Some call → (reply : Reply)
       × Stands (number, reply) (answers_in plain client world.core.answered)
-      × (lacks_place world.places (world.agents client).queue (callbacks_of call reply) ≡ true)
+      × (lacks_place world.places (world.agents client).queue (callbacks_of (world.agents client).marks call reply) ≡ true)
   -- no item is held, unless its client's queue is full
   pub held : (client key : ℕ) (item : Item) → Stands (Delivery client key item) (plain.held world.core.answered)
       → world.places ≤ length (world.agents client).queue

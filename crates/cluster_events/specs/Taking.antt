@@ -1,6 +1,6 @@
 -- Words of public clauses: what a client took of one subscription.
 use Rattle.std.specs.Prelude.{◌≡◌, ℕ, ◌==◌, if◌then◌else◌, List, [], ◌∷◌, ◌++◌, map}
-use Rattle.cluster_facts.specs.Types.{Call, Entry, Callback, Written}
+use Rattle.cluster_facts.specs.Types.{Call, Entry, Callback, Written, MaskSet}
 use Rattle.cluster_facts.specs.Lists.{Stands}
 use Rattle.cluster_facts.specs.Service.{Plain, asked_for}
 use Rattle.cluster_facts.specs.Agents.{callback_of}
@@ -8,6 +8,7 @@ use Rattle.cluster_facts.specs.Agents.{callback_of}
 -- the callbacks of items among those that a client got
 abbrev pub of_item : Callback → List Callback
 of_item (Written invocation status) = []
+of_item (MaskSet name mask written) = []
 of_item callback = callback ∷ []
 
 abbrev pub items_in : List Callback → List Callback
