@@ -16,7 +16,7 @@ use Rattle.stream_config.specs.Stamps.{stamp_after}
 use Rattle.stream_layout.specs.Carrying.{IsStamp, IsFitStream, IsFitEvent}
 use Rattle.record_print.specs.declared.record.LogRecord.{LogRecord}
 use Rattle.log_history.specs.Firsts.{change_first}
-use Rattle.log_history.specs.Changes.{LogChange, Began, Opened, Stored, Closed, Ended}
+use Rattle.log_history.specs.Changes.{LogChange, Began, Opened, Stored, Filtered, Closed, Ended}
 use Rattle.log_history.specs.Chronicle.{LogSetup, Stream, lives, is_living, files_had, length_next, chronicle}
 use Rattle.log_history.specs.Answers.{living_stream, lacks_room}
 use Rattle.log_history.specs.Rounds.{last_of}
@@ -138,13 +138,14 @@ stored-fit setup past legal name rec second can (Some stream) is room =
 -- **each event that a change brings can happen**
 pub events-fit : (setup : LogSetup) (past : List LogChange) (change : LogChange) → IsLogHistory setup (change ∷ past) → CanStamp setup past (second_in change) → AllByRecursion IsFitEvent (events_of change (table setup past))
 events-fit setup past (Began client) legal can = tt
-events-fit setup past (Opened client name None at) legal can = tt
-events-fit setup past (Opened client name (Some attrs) at) legal can =
+events-fit setup past (Opened client name None at number) legal can = tt
+events-fit setup past (Opened client name (Some attrs) at number) legal can =
     (fit-making name attrs (stamp_after (chronicle setup past).last at) (omega (arith, can.last, can.early)) (makes-stream setup past client name attrs legal.0.0 legal.0.1).passes, tt)
 events-fit setup past (Stored name rec at) legal can =
     subst (λ (found : Option OpenStream). AllByRecursion IsFitEvent (option_map_or (λ (stream : OpenStream). storing (chronicle setup past).last at rec stream.state ∷ []) found []))
     (sym (find-living name past (chronicle setup past).streams))
     (stored-fit setup past legal.1 name rec at can (living_stream setup past name) refl legal.0.1)
+events-fit setup past (Filtered client name mask number) legal can = tt
 events-fit setup past (Closed client name at) legal can =
     let streams = (table setup past).streams in
     let kept = fit-kept setup past legal.1 (omega (arith, can.last)) in

@@ -22,7 +22,7 @@ use Rattle.stream_layout.specs.Deeds.{calls_of_all, deeds_of}
 use Rattle.stream_layout.specs.Carrying.{IsFitEvent}
 use Rattle.stream_layout.proofs.NameLaws.{stamp_bound}
 use Rattle.log_history.specs.Firsts.{change_first}
-use Rattle.log_history.specs.Changes.{LogChange, Began, Opened, Stored, Closed, Ended}
+use Rattle.log_history.specs.Changes.{LogChange, Began, Opened, Stored, Filtered, Closed, Ended}
 use Rattle.log_history.specs.Chronicle.{LogSetup, Stream, new_stream, lives, is_living, is_due, is_idle, is_ending, with_record, last_with_record, with_end, all_ended, chronicle}
 use Rattle.log_history.specs.Legal.{IsSetup, IsLogHistory}
 use Rattle.log_history.specs.Files.{disk_files}
@@ -165,12 +165,12 @@ room-stored rec (Some stream) last second low early = by_case (is_due stream rec
 -- **the deeds of one more change make the files of a history with it**
 pub deeds-carry : (setup : LogSetup) (past : List LogChange) (change : LogChange) (files : Files) → IsLogHistory setup (change ∷ past) → CanStamp setup past (second_in change) → Holds (chronicle setup past).streams files → Holds (chronicle setup (change ∷ past)).streams (all_applied (calls_of_all (deeds_by setup change past)) files)
 deeds-carry setup past (Began client) files legal can holds = holds
-deeds-carry setup past (Opened client opened None second) files legal can holds = holds
-deeds-carry setup past (Opened client opened (Some attrs) second) files legal can holds =
+deeds-carry setup past (Opened client opened None second number) files legal can holds = holds
+deeds-carry setup past (Opened client opened (Some attrs) second number) files legal can holds =
     let now = chronicle setup past in
     let created = stamp_after now.last second in
     let passes = (makes-stream setup past client opened attrs legal.0.0 legal.0.1).passes in
-    let fit = (events-fit setup past (Opened client opened (Some attrs) second) legal can).0 in
+    let fit = (events-fit setup past (Opened client opened (Some attrs) second number) legal can).0 in
     subst (Holds (now.streams ++ new_stream opened attrs created ∷ [])) (sym (applied-first (made_stream (new_stream opened attrs created)) [] files))
     (made-carry now.streams opened attrs created files fit passes.some_rotated holds)
 deeds-carry setup past (Stored stored rec second) files legal can holds =
@@ -182,6 +182,7 @@ deeds-carry setup past (Stored stored rec second) files legal can holds =
     let Q : Option OpenStream → Type 0 = λ kept. Holds (chronicle setup (Stored stored rec second ∷ past)).streams (all_applied (calls_of_all (deeds_of_all (option_map_or (λ (stream : OpenStream). storing now.last second rec stream.state ∷ []) kept []))) files) in
     subst Q (sym found)
     (stored-carry stored now.last second rec past now.streams one files refl (room-stored rec one now.last second (omega (arith, can.last)) (omega (arith, can.early))) (omega (arith, can.last)) (stamped setup past) (keeping setup past legal.1) (subst P found fit) holds)
+deeds-carry setup past (Filtered client filtered mask number) files legal can holds = holds
 deeds-carry setup past (Closed client closed second) files legal can holds =
     let now = chronicle setup past in
     let fit = events-fit setup past (Closed client closed second) legal can in

@@ -16,7 +16,7 @@ use Rattle.stream_config.proofs.Equalities.{decides_name}
 use Rattle.stream_layout.specs.Carrying.{IsFitStream}
 use Rattle.log_history.specs.Names.{is_application}
 use Rattle.log_history.specs.Firsts.{change_first}
-use Rattle.log_history.specs.Changes.{LogChange, Began, Opened, Stored, Closed, Ended}
+use Rattle.log_history.specs.Changes.{LogChange, Began, Opened, Stored, Filtered, Closed, Ended}
 use Rattle.log_history.specs.Handles.{users, openers}
 use Rattle.log_history.specs.Chronicle.{LogSetup, Stream, new_stream, lives, is_empty, is_idle, is_ending, with_record, all_ended, chronicle}
 use Rattle.log_history.specs.Legal.{IsLogHistory}
@@ -41,14 +41,15 @@ without-rises client clients rises = IsRising-without nat_lt (λ other. other ==
 pub users-rise : (past : List LogChange) → IsRising nat_lt (users past)
 users-rise [] = tt
 users-rise (Began client ∷ past) = put-rises client (users past) (users-rise past)
+users-rise (Filtered client name mask number ∷ past) = users-rise past
 users-rise (Ended client second ∷ past) = without-rises client (users past) (users-rise past)
-users-rise (Opened client name making second ∷ past) = users-rise past
+users-rise (Opened client name making second number ∷ past) = users-rise past
 users-rise (Stored name rec second ∷ past) = users-rise past
 users-rise (Closed client name second ∷ past) = users-rise past
 
 pub openers-rise : (past : List LogChange) (name : StreamName) → IsRising nat_lt (openers past name)
 openers-rise [] name = tt
-openers-rise (Opened client opened making second ∷ past) name =
+openers-rise (Opened client opened making second number ∷ past) name =
     elim (same_name name opened) as (λ b. IsRising nat_lt (cond b (put nat_lt client (openers past name)) (openers past name))) [
       | true ↦ put-rises client (openers past name) (openers-rise past name)
       | false ↦ openers-rise past name
@@ -58,6 +59,7 @@ openers-rise (Closed client closed second ∷ past) name =
       | true ↦ without-rises client (openers past name) (openers-rise past name)
       | false ↦ openers-rise past name
     ]
+openers-rise (Filtered client filtered mask number ∷ past) name = openers-rise past name
 openers-rise (Ended client second ∷ past) name = without-rises client (openers past name) (openers-rise past name)
 openers-rise (Began client ∷ past) name = openers-rise past name
 openers-rise (Stored stored rec second ∷ past) name = openers-rise past name
@@ -75,14 +77,14 @@ some-put client (first ∷ clients) =
       | false ↦ elim (nat_lt first client) as (λ b. is_empty (cond b (first ∷ put nat_lt client clients) (client ∷ clients)) ≡ false) [ true ↦ refl | false ↦ refl ]
     ]
 
-some-opened : (past : List LogChange) (client : ℕ) (name : StreamName) (making : Option StreamAttrs) (second : ℕ) (stream : Stream) → HasSome past stream → HasSome (Opened client name making second ∷ past) stream
-some-opened past client name making second stream some = by_case (same_name stream.name name) where
+some-opened : (past : List LogChange) (client : ℕ) (name : StreamName) (making : Option StreamAttrs) (second number : ℕ) (stream : Stream) → HasSome past stream → HasSome (Opened client name making second number ∷ past) stream
+some-opened past client name making second number stream some = by_case (same_name stream.name name) where
   by_case : (b : Bool) → (is_application stream.name && is_empty (cond b (put nat_lt client (openers past stream.name)) (openers past stream.name))) ≡ false
   by_case true = and_right (is_application stream.name) (is_empty (put nat_lt client (openers past stream.name))) (some-put client (openers past stream.name))
   by_case false = some
 
-some-made : (past : List LogChange) (client : ℕ) (name : StreamName) (attrs : StreamAttrs) (second created : ℕ) → HasSome (Opened client name (Some attrs) second ∷ past) (new_stream name attrs created)
-some-made past client name attrs second created =
+some-made : (past : List LogChange) (client : ℕ) (name : StreamName) (attrs : StreamAttrs) (second number created : ℕ) → HasSome (Opened client name (Some attrs) second number ∷ past) (new_stream name attrs created)
+some-made past client name attrs second number created =
     ap (λ b. is_application name && is_empty (cond b (put nat_lt client (openers past name)) (openers past name))) ((decides_name name name).1 refl)
     ∙ and_right (is_application name) (is_empty (put nat_lt client (openers past name))) (some-put client (openers past name))
 
@@ -98,22 +100,26 @@ left-some past last second streams =
 pub all-opened : (setup : LogSetup) (past : List LogChange) → Each (HasSome past) (living (chronicle setup past).streams)
 all-opened setup [] = (refl, (refl, (refl, tt)))
 all-opened setup (Began client ∷ past) = all-opened setup past
-all-opened setup (Opened client name None second ∷ past) =
-    Each-weaker (HasSome past) (HasSome (Opened client name None second ∷ past)) (λ stream some. some-opened past client name None second stream some)
+all-opened setup (Opened client name None second number ∷ past) =
+    Each-weaker (HasSome past) (HasSome (Opened client name None second number ∷ past)) (λ stream some. some-opened past client name None second number stream some)
     (living (chronicle setup past).streams) (all-opened setup past)
-all-opened setup (Opened client name (Some attrs) second ∷ past) =
+all-opened setup (Opened client name (Some attrs) second number ∷ past) =
     let streams = (chronicle setup past).streams in
-    let now = Opened client name (Some attrs) second ∷ past in
+    let now = Opened client name (Some attrs) second number ∷ past in
     let made = new_stream name attrs (stamp_after (chronicle setup past).last second) in
     subst (Each (HasSome now)) (sym (filter-append lives streams (made ∷ [])))
     (Each-push (HasSome now) (living streams) made
-    (Each-weaker (HasSome past) (HasSome now) (λ stream some. some-opened past client name (Some attrs) second stream some) (living streams) (all-opened setup past))
-    (some-made past client name attrs second (stamp_after (chronicle setup past).last second)))
+    (Each-weaker (HasSome past) (HasSome now) (λ stream some. some-opened past client name (Some attrs) second number stream some) (living streams) (all-opened setup past))
+    (some-made past client name attrs second number (stamp_after (chronicle setup past).last second)))
 all-opened setup (Stored name rec second ∷ past) =
     let streams = (chronicle setup past).streams in
     let change = with_record (chronicle setup past).last second rec in
     subst (Each (HasSome past)) (sym (filter-change_first lives (λ stream. same_name stream.name name) change (λ _. refl) streams))
     (Each-change_first (HasSome past) (λ stream. same_name stream.name name) change (λ stream some. some) (living streams) (all-opened setup past))
+all-opened setup (Filtered client name mask number ∷ past) = all-filtered (living (chronicle setup past).streams) (all-opened setup past) where
+  all-filtered : (streams : List Stream) → Each (HasSome past) streams → Each (HasSome (Filtered client name mask number ∷ past)) streams
+  all-filtered [] each = tt
+  all-filtered (stream ∷ streams) each = (each.0, all-filtered streams each.1)
 all-opened setup (Closed client name second ∷ past) =
     left-some (Closed client name second ∷ past) (chronicle setup past).last second (chronicle setup past).streams
 all-opened setup (Ended client second ∷ past) =
@@ -162,8 +168,8 @@ few-left past last second streams few =
 pub few-living : (setup : LogSetup) (past : List LogChange) → IsLogHistory setup past → length (filter is_app (living (chronicle setup past).streams)) ≤ 64
 few-living setup [] legal = omega arith
 few-living setup (Began client ∷ past) legal = few-living setup past legal.1
-few-living setup (Opened client name None second ∷ past) legal = few-living setup past legal.1
-few-living setup (Opened client name (Some attrs) second ∷ past) legal =
+few-living setup (Opened client name None second number ∷ past) legal = few-living setup past legal.1
+few-living setup (Opened client name (Some attrs) second number ∷ past) legal =
     let streams = (chronicle setup past).streams in
     let made = new_stream name attrs (stamp_after (chronicle setup past).last second) in
     let crowd = (makes-stream setup past client name attrs legal.0.0 legal.0.1).room in
@@ -185,6 +191,7 @@ few-living setup (Stored name rec second ∷ past) legal =
     ∙ kept-count named change (λ _. refl) (living streams) in
     let before = few-living setup past legal.1 in
     omega (arith, same, before)
+few-living setup (Filtered client name mask number ∷ past) legal = few-living setup past legal.1
 few-living setup (Closed client name second ∷ past) legal =
     few-left (Closed client name second ∷ past) (chronicle setup past).last second (chronicle setup past).streams (few-living setup past legal.1)
 few-living setup (Ended client second ∷ past) legal =

@@ -1,5 +1,5 @@
 -- The answers after changes are those read of what is kept of them.
-use Rattle.std.proofs.Common.{◌≡◌, ℕ, ◌==◌, nat_lt, nat_le, true, false, not, ◌&&◌, ◌||◌, cond, List, [], ◌∷◌, refl, ap, sym, ◌∙◌}
+use Rattle.std.proofs.Common.{◌≡◌, ℕ, ◌==◌, nat_lt, nat_le, true, false, not, ◌&&◌, ◌||◌, cond, List, [], ◌∷◌, refl, ap, sym, ◌∙◌, Bool, is_some}
 use Rattle.std.specs.Prelude.{Option, Some, None, option_map, ℤ}
 use Rattle.std.specs.Option.{option_map_or}
 use Rattle.std.proofs.lemmas.Bool.{and_parts}
@@ -13,18 +13,22 @@ use Rattle.stream_config.specs.Attributes.{kind_of}
 use Rattle.stream_config.specs.AttributeTests.{have_one_place}
 use Rattle.record_print.specs.declared.record.Header.{Header}
 use Rattle.log_history.specs.Names.{is_application}
-use Rattle.log_history.specs.Changes.{LogChange, Began, Opened, Stored, Closed, Ended}
+use Rattle.log_history.specs.Changes.{LogChange, Began, Opened, Stored, Filtered, Closed, Ended}
 use Rattle.log_history.specs.Handles.{is_using, is_open, users, openers}
 use Rattle.log_history.specs.Chronicle.{LogSetup, Stream, lives, is_living, chronicle, files_had, length_next}
 use Rattle.log_history.specs.Rounds.{last_of}
 use Rattle.log_history.specs.Times.{record_at}
+use Rattle.stream_config.specs.declared.mark.Mark.{Mark}
+use Rattle.stream_config.specs.Marks.{first_mark}
+use Rattle.log_history.specs.Marks.{is_filtered, mark_after}
+use Rattle.ais_values.specs.declared.kind.StreamKind.{StreamKind}
 use Rattle.log_history.proofs.StepLaws.{bytes-standing}
 use Rattle.log_history.proofs.Reaching.{Passes}
 use Rattle.record_print.specs.declared.record.LogRecord.{LogRecord}
-use Rattle.log_history.specs.Answers.{answer, begin_rows, open_rows, write_rows, close_rows, end_rows, store_rows, lacks_room, living_stream, living_attrs, is_place_taken, is_crowded, is_full, begin_answer, open_answer, write_answer, close_answer, end_answer, store_answer, making_of}
+use Rattle.log_history.specs.Answers.{answer, begin_rows, open_rows, write_rows, filter_rows, close_rows, end_rows, store_rows, lacks_room, living_stream, living_attrs, is_place_taken, is_crowded, is_full, begin_answer, open_answer, write_answer, filter_answer, close_answer, end_answer, store_answer, making_of}
 use Rattle.log_history.specs.Legal.{IsLogHistory}
 use Rattle.log_history.specs.Table.{OpenStream, open_stream, table}
-use Rattle.log_history.specs.KeptAnswers.{kept_attrs, has_place, is_of_application, is_crowd, has_opener, lacks_room_in, is_filled, begin_status, open_status, write_status, close_status, end_status, store_status, making_in}
+use Rattle.log_history.specs.KeptAnswers.{kept_attrs, has_place, is_of_application, is_crowd, has_opener, lacks_room_in, is_filled, kept_mark, begin_status, open_status, write_status, filter_status, close_status, end_status, store_status, making_in}
 use Rattle.stream_config.proofs.Equalities.{decides_name}
 use Rattle.log_history.proofs.FirstLaws.{Each, Each-find, list_any-map, list_any-filter, count_by-map, count_by-filter}
 use Rattle.log_history.proofs.Reaching.{reached}
@@ -36,8 +40,9 @@ has-users [] client = refl
 has-users (Began one ∷ past) client = has-put client one (users past) ∙ ap (λ rest. one == client || rest) (has-users past client)
 has-users (Ended one second ∷ past) client =
     has-without client one (users past) ∙ ap (λ rest. not (one == client) && rest) (has-users past client)
-has-users (Opened one name making second ∷ past) client = has-users past client
+has-users (Opened one name making second number ∷ past) client = has-users past client
 has-users (Stored name rec second ∷ past) client = has-users past client
+has-users (Filtered one name mask number ∷ past) client = has-users past client
 has-users (Closed one name second ∷ past) client = has-users past client
 
 -- the list of openers of a name has those who have it open
@@ -45,11 +50,12 @@ pub has-openers : (past : List LogChange) (name : StreamName) (client : ℕ) →
 has-openers [] name client = refl
 has-openers (Began one ∷ past) name client = has-openers past name client
 has-openers (Stored stored rec second ∷ past) name client = has-openers past name client
-has-openers (Opened one opened making second ∷ past) name client =
+has-openers (Opened one opened making second number ∷ past) name client =
     elim (same_name name opened) as (λ b. has client (cond b (put nat_lt one (openers past name)) (openers past name)) ≡ (b && one == client || is_open past name client)) [
       | true ↦ has-put client one (openers past name) ∙ ap (λ rest. one == client || rest) (has-openers past name client)
       | false ↦ has-openers past name client
     ]
+has-openers (Filtered one filtered mask number ∷ past) name client = has-openers past name client
 has-openers (Closed one closed second ∷ past) name client =
     elim (same_name name closed) as (λ b. has client (cond b (without (λ other. other == one) (openers past name)) (openers past name)) ≡ (not (b && one == client) && is_open past name client)) [
       | true ↦ has-without client one (openers past name) ∙ ap (λ rest. not (one == client) && rest) (has-openers past name client)
@@ -127,12 +133,47 @@ module _ (setup : LogSetup) (past : List LogChange) where
       ap (λ using. answer (close_rows using (has_opener (table setup past).streams name client))) (has-users past client)
       ∙ ap (λ opened. answer (close_rows (is_using past client) opened)) (has-opener legal name client)
 
+  -- the mark of a stream that lives
+  pub kept-mark : (name : StreamName) → is_some (living_stream setup past name) ≡ true → kept_mark (table setup past).streams name ≡ mark_after past name
+  kept-mark name living =
+      ap (λ found. option_map_or (λ (stream : OpenStream). stream.mark) found first_mark) (find-living name past (chronicle setup past).streams)
+      ∙ by_found (living_stream setup past name) refl living where
+        by_found : (found : Option Stream) → living_stream setup past name ≡ found → is_some found ≡ true → option_map_or (λ (stream : OpenStream). stream.mark) (option_map (open_stream past) found) first_mark ≡ mark_after past name
+        by_found None none some = cc
+        by_found (Some stream) found some =
+            let named = (Each-find (λ (_ : Stream). Unit {0}) (is_living name) (chronicle setup past).streams stream (Each-all (chronicle setup past).streams) found).1 in
+            ap (mark_after past) ((decides_name stream.name name).0 (and_parts (lives stream) (same_name stream.name name) named).1)
+
+  -- who has a stream open keeps it living
+  pub open-living : IsLogHistory setup past → (name : StreamName) (client : ℕ) → is_open past name client ≡ true → is_some (living_stream setup past name) ≡ true
+  open-living legal name client opened = by_found (living_stream setup past name) refl where
+    by_found : (found : Option Stream) → living_stream setup past name ≡ found → is_some found ≡ true
+    by_found (Some stream) found = refl
+    by_found None none =
+        let nobody : has client (openers past name) ≡ false = ap (has client) ((reached setup past legal).unopened name none) in
+        let contradiction : true ≡ false = sym opened ∙ sym (has-openers past name client) ∙ nobody in
+        cc
+
+  -- no mask counts where the stream is not open
+  rows-mask : (using opened one other full : Bool) (kind : StreamKind) (flags : ℕ) (time : ℤ) (header : Header) → (opened ≡ true → one ≡ other) → answer (write_rows using opened one full kind flags time header) ≡ answer (write_rows using opened other full kind flags time header)
+  rows-mask false opened one other full kind flags time header same = refl
+  rows-mask true false one other full kind flags time header same = refl
+  rows-mask true true one other full kind flags time header same = ap (λ filtered. answer (write_rows true true filtered full kind flags time header)) (same refl)
+
   pub write-status : IsLogHistory setup past → (client : ℕ) (name : StreamName) (flags : ℕ) (time : ℤ) (header : Header) (body : List ℕ) (now : ℤ) → write_status (table setup past) client name flags time header body now ≡ write_answer setup past client name flags time header body now
   write-status legal client name flags time header body now =
       let rec = record_at time header body now in
-      ap (λ using. answer (write_rows using (has_opener (table setup past).streams name client) (is_filled (table setup past).streams name rec) (kind_of name) flags time header)) (has-users past client)
-      ∙ ap (λ opened. answer (write_rows (is_using past client) opened (is_filled (table setup past).streams name rec) (kind_of name) flags time header)) (has-opener legal name client)
-      ∙ ap (λ full. answer (write_rows (is_using past client) (is_open past name client) full (kind_of name) flags time header)) (is-filled legal name rec)
+      let kept = is_filtered (kept_mark (table setup past).streams name).mask header in
+      ap (λ using. answer (write_rows using (has_opener (table setup past).streams name client) kept (is_filled (table setup past).streams name rec) (kind_of name) flags time header)) (has-users past client)
+      ∙ ap (λ opened. answer (write_rows (is_using past client) opened kept (is_filled (table setup past).streams name rec) (kind_of name) flags time header)) (has-opener legal name client)
+      ∙ rows-mask (is_using past client) (is_open past name client) kept (is_filtered (mark_after past name).mask header) (is_filled (table setup past).streams name rec) (kind_of name) flags time header
+      (λ opened. ap (λ (mark : Mark). is_filtered mark.mask header) (kept-mark name (open-living legal name client opened)))
+      ∙ ap (λ full. answer (write_rows (is_using past client) (is_open past name client) (is_filtered (mark_after past name).mask header) full (kind_of name) flags time header)) (is-filled legal name rec)
+
+  pub filter-status : IsLogHistory setup past → (client : ℕ) (name : StreamName) (mask : ℕ) → filter_status (table setup past) client name mask ≡ filter_answer setup past client name mask
+  filter-status legal client name mask =
+      ap (λ using. answer (filter_rows using (has_opener (table setup past).streams name client) name mask)) (has-users past client)
+      ∙ ap (λ opened. answer (filter_rows (is_using past client) opened name mask)) (has-opener legal name client)
 
   pub open-status : (client : ℕ) (name : StreamName) (create : Option StreamAttrs) → open_status (table setup past) client name create ≡ open_answer setup past client name create
   open-status client name create =

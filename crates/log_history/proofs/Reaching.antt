@@ -12,7 +12,7 @@ use Rattle.stream_config.specs.Equality.{same_name}
 use Rattle.stream_config.specs.Stamps.{stamp_after}
 use Rattle.stream_config.proofs.Equalities.{decides_name}
 use Rattle.log_history.specs.Names.{is_application}
-use Rattle.log_history.specs.Changes.{LogChange, Began, Opened, Stored, Closed, Ended}
+use Rattle.log_history.specs.Changes.{LogChange, Began, Opened, Stored, Filtered, Closed, Ended}
 use Rattle.log_history.specs.Handles.{openers}
 use Rattle.log_history.specs.Chronicle.{LogSetup, Stream, Chronicle, new_stream, lives, is_living, is_empty, is_idle, is_ending, with_record, after_ends, chronicle}
 use Rattle.log_history.specs.Answers.{living_stream}
@@ -72,16 +72,16 @@ not-same one other differ = by_case (same_name other one) refl where
   by_case false is = is
 
 -- who opens a stream that lives leaves the others alone
-IsUnopened-opened : (past : List LogChange) (client : ℕ) (opened : StreamName) (second : ℕ) (streams : List Stream) → IsUnopened past streams → is_some (find (is_living opened) streams) ≡ true → IsUnopened (Opened client opened None second ∷ past) streams
-IsUnopened-opened past client opened second streams unopened living name none = by_case (same_name name opened) refl where
+IsUnopened-opened : (past : List LogChange) (client : ℕ) (opened : StreamName) (second number : ℕ) (streams : List Stream) → IsUnopened past streams → is_some (find (is_living opened) streams) ≡ true → IsUnopened (Opened client opened None second number ∷ past) streams
+IsUnopened-opened past client opened second number streams unopened living name none = by_case (same_name name opened) refl where
   by_case : (b : Bool) → same_name name opened ≡ b → cond b (put nat_lt client (openers past name)) (openers past name) ≡ []
   by_case true same =
       let found : is_some (find (is_living name) streams) ≡ true = ap (λ n. is_some (find (is_living n) streams)) ((decides_name name opened).0 same) ∙ living in
       let lost : false ≡ true = ap is_some (sym none) ∙ found in cc
   by_case false differ = unopened name none
 
-Reached-made : (past : List LogChange) (client : ℕ) (made : StreamName) (attrs : StreamAttrs) (second created : ℕ) (streams : List Stream) → Reached past streams → find (is_living made) streams ≡ None → PassesAttrs (kind_of made) attrs → Reached (Opened client made (Some attrs) second ∷ past) (streams ++ new_stream made attrs created ∷ [])
-Reached-made past client made attrs second created streams reached new passes = record {
+Reached-made : (past : List LogChange) (client : ℕ) (made : StreamName) (attrs : StreamAttrs) (second number created : ℕ) (streams : List Stream) → Reached past streams → find (is_living made) streams ≡ None → PassesAttrs (kind_of made) attrs → Reached (Opened client made (Some attrs) second number ∷ past) (streams ++ new_stream made attrs created ∷ [])
+Reached-made past client made attrs second number created streams reached new passes = record {
   single = λ name. AtMostOne-push (is_living name) streams stream (reached.single name) (λ is. ap (λ n. find (is_living n) streams) (sym ((decides_name made name).0 is)) ∙ new);
   unopened = unopened;
   passing = Each-push Passes streams stream reached.passing passes;
@@ -89,7 +89,7 @@ Reached-made past client made attrs second created streams reached new passes = 
   stream : Stream
   stream = new_stream made attrs created
 
-  unopened : IsUnopened (Opened client made (Some attrs) second ∷ past) (streams ++ new_stream made attrs created ∷ [])
+  unopened : IsUnopened (Opened client made (Some attrs) second number ∷ past) (streams ++ new_stream made attrs created ∷ [])
   unopened name none =
       let none_both = find-push (is_living name) streams (new_stream made attrs created) none in
       ap (λ b. cond b (put nat_lt client (openers past name)) (openers past name)) (not-same made name none_both.1)
@@ -106,18 +106,18 @@ reached setup [] legal = record { single = single; unopened = λ name none. refl
 reached setup (Began client ∷ past) legal =
     let before = reached setup past legal.1 in
     record { single = before.single; unopened = before.unopened; passing = before.passing }
-reached setup (Opened client name None second ∷ past) legal =
+reached setup (Opened client name None second number ∷ past) legal =
     let before = reached setup past legal.1 in
     record {
       single = before.single;
-      unopened = IsUnopened-opened past client name second (chronicle setup past).streams before.unopened legal.0.1;
+      unopened = IsUnopened-opened past client name second number (chronicle setup past).streams before.unopened legal.0.1;
       passing = before.passing;
     }
-reached setup (Opened client name (Some attrs) second ∷ past) legal =
+reached setup (Opened client name (Some attrs) second number ∷ past) legal =
     let before = reached setup past legal.1 in
     let new = none_is (living_stream setup past name) legal.0.0 in
     let makes = makes-stream setup past client name attrs legal.0.0 legal.0.1 in
-    Reached-made past client name attrs second (stamp_after (chronicle setup past).last second) (chronicle setup past).streams before new makes.passes
+    Reached-made past client name attrs second number (stamp_after (chronicle setup past).last second) (chronicle setup past).streams before new makes.passes
 reached setup (Stored name rec second ∷ past) legal =
     let before = reached setup past legal.1 in
     let streams = (chronicle setup past).streams in
@@ -127,6 +127,9 @@ reached setup (Stored name rec second ∷ past) legal =
       unopened = λ other none. before.unopened other (none_is (find (is_living other) streams) (sym (find-change_first_none (is_living other) (is_living name) change (λ _. refl) streams) ∙ ap is_some none));
       passing = Each-change_first Passes (is_living name) change (λ _ passes. passes) streams before.passing;
     }
+reached setup (Filtered client name mask number ∷ past) legal =
+    let before = reached setup past legal.1 in
+    record { single = before.single; unopened = before.unopened; passing = before.passing }
 reached setup (Closed client name second ∷ past) legal =
     let before = reached setup past legal.1 in
     Reached-ends (Closed client name second ∷ past) second (chronicle setup past) before.single

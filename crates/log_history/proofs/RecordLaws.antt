@@ -21,7 +21,7 @@ use Rattle.stream_layout.specs.Names.{log_name}
 use Rattle.client_set.specs.Members.{Stands}
 use Rattle.stream_layout.specs.Carrying.{entry_at}
 use Rattle.log_history.specs.Firsts.{change_first, before_first}
-use Rattle.log_history.specs.Changes.{LogChange, Began, Opened, Stored, Closed, Ended}
+use Rattle.log_history.specs.Changes.{LogChange, Began, Opened, Stored, Filtered, Closed, Ended}
 use Rattle.log_history.specs.Chronicle.{LogSetup, Stream, is_living, with_record, with_end, all_ended, chronicle, files_had, all_files}
 use Rattle.log_history.specs.Answers.{living_stream}
 use Rattle.log_history.specs.Table.{state_of, bytes_in}
@@ -155,9 +155,10 @@ grown-ends ends second last (first ∷ streams) index number bytes is = by_case 
 -- **a record keeps its number and its bytes whatever changes**
 pub record-kept : (setup : LogSetup) (past : List LogChange) (change : LogChange) (stream number : ℕ) (bytes : List ℕ) → record_in setup past stream number ≡ Some bytes → record_in setup (change ∷ past) stream number ≡ Some bytes
 record-kept setup past (Began client) stream number bytes is = is
-record-kept setup past (Opened client name None second) stream number bytes is = is
-record-kept setup past (Opened client name (Some attrs) second) stream number bytes is = grown-pushed (chronicle setup past).streams _ stream number bytes is
+record-kept setup past (Opened client name None second entry) stream number bytes is = is
+record-kept setup past (Opened client name (Some attrs) second entry) stream number bytes is = grown-pushed (chronicle setup past).streams _ stream number bytes is
 record-kept setup past (Stored name rec second) stream number bytes is = grown-record name (chronicle setup past).last second rec (chronicle setup past).streams stream number bytes is
+record-kept setup past (Filtered client name mask entry) stream number bytes is = is
 record-kept setup past (Closed client name second) stream number bytes is = grown-ends _ second (chronicle setup past).last (chronicle setup past).streams stream number bytes is
 record-kept setup past (Ended client second) stream number bytes is = grown-ends _ second (chronicle setup past).last (chronicle setup past).streams stream number bytes is
 

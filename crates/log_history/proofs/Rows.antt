@@ -1,6 +1,6 @@
 -- Worked rows.
 use Rattle.std.proofs.Common.{◌≡◌, ℕ, ◌+◌, ◌*◌, List, [], ◌∷◌, map, refl}
-use Rattle.std.specs.Prelude.{Some, None, pos, codes, is_some, false}
+use Rattle.std.specs.Prelude.{Some, None, pos, codes, is_some, true, false}
 use Rattle.ais_values.specs.declared.status.Status.TheVariants as status
 use Rattle.stream_config.specs.declared.attrs.FullAction.{FullAction}
 use Rattle.stream_config.specs.declared.attrs.FullAction.TheVariants.{Wrap, Halt, Rotate}
@@ -19,9 +19,12 @@ use Rattle.civil_time.specs.Stamps.{stamp_of}
 use Rattle.civil_time.specs.Fields.{civil_of, year_of, year_from, month_of, month_from}
 use Rattle.stream_layout.specs.Names.{stamped_name, log_name, cfg_name}
 use Rattle.stream_layout.specs.LogFiles.{entries_to, log_entries}
-use Rattle.log_history.specs.Changes.{LogChange, Began, Opened, Stored, Closed, Ended}
+use Rattle.log_history.specs.Changes.{LogChange, Began, Opened, Stored, Filtered, Closed, Ended}
 use Rattle.log_history.specs.Chronicle.{LogSetup}
-use Rattle.log_history.specs.Answers.{write_answer, living_stream}
+use Rattle.log_history.specs.Answers.{write_answer, filter_answer, living_stream}
+use Rattle.stream_config.specs.Marks.{lets_pass}
+use Rattle.log_history.specs.Marks.{mark_after}
+use Rattle.std.specs.List.{list_all}
 use Rattle.log_history.specs.Files.{file_at}
 use Rattle.log_history.specs.Places.{place_in}
 use Rattle.log_history.specs.AllNames.{names_ever}
@@ -53,7 +56,7 @@ rec body = record {
 }
 
 abbrev opened : List LogChange
-opened = Opened 1 System None start ∷ Began 1 ∷ []
+opened = Opened 1 System None start 2 ∷ Began 1 ∷ []
 
 abbrev written : List ℕ → List LogChange → List LogChange
 written body past = Stored System (rec body) start ∷ past
@@ -107,7 +110,7 @@ of_application file = record {
 }
 
 abbrev making : (name file : List ℕ) → List LogChange → List LogChange
-making name file past = Opened 1 (App name) (Some (of_application file)) start ∷ past
+making name file past = Opened 1 (App name) (Some (of_application file)) start 3 ∷ past
 
 abbrev both_ended : List LogChange
 both_ended = Ended 1 start ∷ making (codes "w") (codes "b") (making (codes "v") (codes "a") opened)
@@ -223,3 +226,22 @@ free_closed = refl
 free_behind : place_in (setup (freely 6 2 Rotate)) free_three 2 2 ≡ Some (codes "saLogSystem_20240101_000004.log", 3)
 unfolding stamped_name stamp_of civil_of year_of year_from month_of month_from printed_record pieces_of pieces_from part_with shown_parts
 free_behind = refl
+
+-- a mask that lets warnings alone pass: a notice is filtered, before the room counts; a write is ok and not stored
+abbrev masked : List LogChange
+masked = Filtered 1 System 8 5 ∷ two
+
+filtered : write_answer (setup (attrs 64 1 Halt)) masked 1 System 0 (pos 5) (rec []).header [] (pos 5) ≡ status.Ok
+filtered = refl
+
+mark_is : mark_after masked System ≡ record { since = 5; mask = 8 }
+mark_is = refl
+
+all_pass : list_all (lets_pass 127) (0 ∷ 1 ∷ 2 ∷ 3 ∷ 4 ∷ 5 ∷ 6 ∷ []) ≡ true
+all_pass = refl
+
+one_passes : map (lets_pass 8) (0 ∷ 1 ∷ 2 ∷ 3 ∷ 4 ∷ 5 ∷ 6 ∷ []) ≡ false ∷ false ∷ false ∷ true ∷ false ∷ false ∷ false ∷ []
+one_passes = refl
+
+not_set : filter_answer (setup (attrs 64 1 Halt)) masked 1 System 128 ≡ status.InvalidParam
+not_set = refl

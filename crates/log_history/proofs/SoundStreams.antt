@@ -6,7 +6,7 @@ use Rattle.std.specs.List.{find}
 use Rattle.stream_config.specs.declared.attrs.StreamName.TheVariants as name
 use Rattle.stream_config.specs.Stamps.{stamp_after}
 use Rattle.log_history.specs.Firsts.{change_first}
-use Rattle.log_history.specs.Changes.{LogChange, Began, Opened, Stored, Closed, Ended}
+use Rattle.log_history.specs.Changes.{LogChange, Began, Opened, Stored, Filtered, Closed, Ended}
 use Rattle.log_history.specs.Chronicle.{LogSetup, Stream, new_stream, lives, is_living, files_had, length_next, is_due, is_ending, with_record, last_with_record, last_of_ends, chronicle}
 use Rattle.log_history.specs.Rounds.{last_of}
 use Rattle.log_history.specs.Answers.{lacks_room}
@@ -54,8 +54,8 @@ sound setup [] legal =
       ),
     )
 sound setup (Began client ∷ past) legal = sound setup past legal.1
-sound setup (Opened client opened None second ∷ past) legal = sound setup past legal.1
-sound setup (Opened client opened (Some attrs) second ∷ past) legal =
+sound setup (Opened client opened None second number ∷ past) legal = sound setup past legal.1
+sound setup (Opened client opened (Some attrs) second number ∷ past) legal =
     let last = (chronicle setup past).last in
     let streams = (chronicle setup past).streams in
     let later = stamp_after last second in
@@ -77,6 +77,7 @@ sound setup (Stored stored rec second ∷ past) legal =
     (sym (ap (λ f. option_map_or (λ (s : Stream). lacks_room s.attrs (last_of (files_had s)).bytes (length_next s rec)) f false) found) ∙ legal.0.1)
     is.0))
     (Each-both (IsSoundStream last) Passes streams (sound setup past legal.1) (reached setup past legal.1).passing)
+sound setup (Filtered client filtered mask number ∷ past) legal = sound setup past legal.1
 sound setup (Closed client closed second ∷ past) legal =
     let last = (chronicle setup past).last in
     let streams = (chronicle setup past).streams in

@@ -8,7 +8,7 @@ use Rattle.std.proofs.lemmas.List.Elements.{filter-append}
 use Rattle.stream_config.specs.Stamps.{stamp_after}
 use Rattle.record_print.specs.declared.record.LogRecord.{LogRecord}
 use Rattle.log_history.specs.Firsts.{change_first}
-use Rattle.log_history.specs.Changes.{LogChange, Began, Opened, Stored, Closed, Ended}
+use Rattle.log_history.specs.Changes.{LogChange, Began, Opened, Stored, Filtered, Closed, Ended}
 use Rattle.log_history.specs.Stamps.{second_in}
 use Rattle.log_history.specs.Chronicle.{LogSetup, Stream, new_stream, lives, is_living, is_due, is_idle, is_ending, with_record, last_with_record, with_end, all_ended, last_of_ends, chronicle}
 
@@ -104,9 +104,9 @@ pub stamp-room : (setup : LogSetup) (past : List LogChange) → setup.start ≤ 
 stamp-room setup [] early timely = record { few = omega arith; bound = omega (arith, early) }
 stamp-room setup (Began client ∷ past) early timely =
     room-unchanged (length past) (chronicle setup past).last (living_count (chronicle setup past).streams) (stamp-room setup past early timely.1)
-stamp-room setup (Opened client opened None second ∷ past) early timely =
+stamp-room setup (Opened client opened None second number ∷ past) early timely =
     room-unchanged (length past) (chronicle setup past).last (living_count (chronicle setup past).streams) (stamp-room setup past early timely.1)
-stamp-room setup (Opened client opened (Some attrs) second ∷ past) early timely =
+stamp-room setup (Opened client opened (Some attrs) second number ∷ past) early timely =
     let room = stamp-room setup past early timely.1 in
     let last = (chronicle setup past).last in
     let streams = (chronicle setup past).streams in
@@ -122,6 +122,8 @@ stamp-room setup (Stored stored rec second ∷ past) early timely =
     living-changed (is_living stored) (with_record last second rec) (λ stream. refl) streams in
     let bound = room-stored rec (find (is_living stored) streams) last second (length past) (living_count streams) timely.0 room in
     record { few = omega (arith, counted, room.few); bound = omega (arith, counted, bound) }
+stamp-room setup (Filtered client filtered mask number ∷ past) early timely =
+    room-unchanged (length past) (chronicle setup past).last (living_count (chronicle setup past).streams) (stamp-room setup past early timely.1)
 stamp-room setup (Closed client closed second ∷ past) early timely =
     HasRoom-at (length past + 1) (suc (length past)) (chronicle setup (Closed client closed second ∷ past)).last (living_count (chronicle setup (Closed client closed second ∷ past)).streams) (omega arith)
     (room-ended (Closed client closed second ∷ past) second (length past) (chronicle setup past).last (chronicle setup past).streams timely.0 (stamp-room setup past early timely.1))

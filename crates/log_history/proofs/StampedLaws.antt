@@ -10,7 +10,7 @@ use Rattle.stream_config.specs.declared.attrs.StreamName.TheVariants as name
 use Rattle.stream_config.specs.Stamps.{stamp_after}
 use Rattle.record_print.specs.declared.record.LogRecord.{LogRecord}
 use Rattle.log_history.specs.Firsts.{change_first}
-use Rattle.log_history.specs.Changes.{LogChange, Began, Opened, Stored, Closed, Ended}
+use Rattle.log_history.specs.Changes.{LogChange, Began, Opened, Stored, Filtered, Closed, Ended}
 use Rattle.log_history.specs.Chronicle.{LogSetup, Stream, new_stream, lives, is_living, is_due, is_idle, with_record, last_with_record, with_end, all_ended, last_of_ends, chronicle}
 use Rattle.log_history.specs.Stamps.{stamps_of_full, stamps_in, stamps_of_all}
 use Rattle.log_history.proofs.OnceLaws.{AreStamps, AreNew, inserted, none-new, one-new, two-new}
@@ -157,11 +157,12 @@ stamped setup [] =
     let two = made alarm notification (first ∷ []) name.Notification setup.notification (omega arith) one in
     made notification system (first ∷ new_stream name.Notification setup.notification notification ∷ []) name.System setup.system (omega arith) two
 stamped setup (Began client ∷ past) = stamped setup past
-stamped setup (Opened client opened None second ∷ past) = stamped setup past
-stamped setup (Opened client opened (Some attrs) second ∷ past) =
+stamped setup (Opened client opened None second number ∷ past) = stamped setup past
+stamped setup (Opened client opened (Some attrs) second number ∷ past) =
     made (chronicle setup past).last (stamp_after (chronicle setup past).last second) (chronicle setup past).streams opened attrs (omega arith) (stamped setup past)
 stamped setup (Stored stored rec second ∷ past) =
     stored-stamps stored (chronicle setup past).last second rec (chronicle setup past).streams (find (is_living stored) (chronicle setup past).streams) refl (stamped setup past)
+stamped setup (Filtered client filtered mask number ∷ past) = stamped setup past
 stamped setup (Closed client closed second ∷ past) =
     ended-stamps (is_idle (Closed client closed second ∷ past)) second (chronicle setup past).last [] (chronicle setup past).streams (stamped setup past)
 stamped setup (Ended client second ∷ past) =

@@ -16,12 +16,14 @@ use Rattle.stream_config.specs.Events.{state_after}
 use Rattle.stream_config.specs.Stamps.{stamp_after}
 use Rattle.stream_config.proofs.Equalities.{decides_name}
 use Rattle.log_history.specs.Firsts.{change_first}
-use Rattle.log_history.specs.Changes.{LogChange, Began, Opened, Stored, Closed, Ended}
+use Rattle.log_history.specs.Changes.{LogChange, Began, Opened, Stored, Filtered, Closed, Ended}
 use Rattle.log_history.specs.Handles.{users, openers}
+use Rattle.stream_config.specs.declared.mark.Mark.{Mark}
+use Rattle.log_history.specs.Marks.{mark_after}
 use Rattle.log_history.specs.Chronicle.{LogSetup, Stream, Chronicle, new_stream, lives, is_living, length_next, is_due, is_idle, is_ending, with_record, last_with_record, all_ended, last_of_ends, after_ends, chronicle}
 use Rattle.log_history.specs.Answers.{living_stream}
 use Rattle.log_history.specs.Legal.{IsLogHistory}
-use Rattle.log_history.specs.Table.{OpenStream, LogTable, state_of, open_stream, table, is_named, with_opener, without_opener, new_state, is_changing, last_after_due, storing, with_stored, has_nobody, last_after_ends, kept_streams, closed_streams, left_streams, opened_stream, table_after}
+use Rattle.log_history.specs.Table.{OpenStream, LogTable, state_of, open_stream, table, is_named, with_opener, with_mark, without_opener, new_state, is_changing, last_after_due, storing, with_stored, has_nobody, last_after_ends, kept_streams, closed_streams, left_streams, opened_stream, table_after}
 use Rattle.log_history.proofs.FirstLaws.{none_is, Each, Each-find, Each-weaker, Each-filter, AtMostOne, AtMostOne-filter, find-filter, filter-change_first, find-map, filter-map, map-change_first, map-beside, map-at_first}
 use Rattle.log_history.proofs.AnswerLaws.{makes-stream}
 use Rattle.log_history.proofs.EndLaws.{filter-all_ended}
@@ -50,18 +52,18 @@ find-living name past streams =
     ∙ ap (option_map (open_stream past)) (sym (find-filter lives (is_called name) streams))
 
 -- who opens a stream that lives joins its openers alone
-opened-streams : (past : List LogChange) (client : ℕ) (name : StreamName) (second : ℕ) (streams : List Stream) → AtMostOne (is_living name) streams → map (open_stream (Opened client name None second ∷ past)) (living streams) ≡ change_first (is_named name) (with_opener client) (map (open_stream past) (living streams))
-opened-streams past client name second streams single =
-    map-at_first (open_stream past) (is_called name) (is_named name) (λ _. refl) (open_stream (Opened client name None second ∷ past)) (with_opener client)
-    (λ stream is. ap (λ b. let opened : OpenStream = record { state = state_of stream; openers = cond b (put nat_lt client (openers past stream.name)) (openers past stream.name) } in opened) is)
-    (λ stream is. ap (λ b. let opened : OpenStream = record { state = state_of stream; openers = cond b (put nat_lt client (openers past stream.name)) (openers past stream.name) } in opened) is)
+opened-streams : (past : List LogChange) (client : ℕ) (name : StreamName) (second number : ℕ) (streams : List Stream) → AtMostOne (is_living name) streams → map (open_stream (Opened client name None second number ∷ past)) (living streams) ≡ change_first (is_named name) (with_opener client) (map (open_stream past) (living streams))
+opened-streams past client name second number streams single =
+    map-at_first (open_stream past) (is_called name) (is_named name) (λ _. refl) (open_stream (Opened client name None second number ∷ past)) (with_opener client)
+    (λ stream is. ap (λ b. let opened : OpenStream = record { state = state_of stream; openers = cond b (put nat_lt client (openers past stream.name)) (openers past stream.name); mark = mark_after past stream.name } in opened) is)
+    (λ stream is. ap (λ b. let opened : OpenStream = record { state = state_of stream; openers = cond b (put nat_lt client (openers past stream.name)) (openers past stream.name); mark = mark_after past stream.name } in opened) is)
     (living streams) (AtMostOne-filter lives (is_called name) streams single)
 
 pub closed-streams : (past : List LogChange) (client : ℕ) (name : StreamName) (second : ℕ) (streams : List Stream) → AtMostOne (is_living name) streams → map (open_stream (Closed client name second ∷ past)) (living streams) ≡ closed_streams client name (map (open_stream past) (living streams))
 closed-streams past client name second streams single =
     map-at_first (open_stream past) (is_called name) (is_named name) (λ _. refl) (open_stream (Closed client name second ∷ past)) (without_opener client)
-    (λ stream is. ap (λ b. let closed : OpenStream = record { state = state_of stream; openers = cond b (without (λ other. other == client) (openers past stream.name)) (openers past stream.name) } in closed) is)
-    (λ stream is. ap (λ b. let closed : OpenStream = record { state = state_of stream; openers = cond b (without (λ other. other == client) (openers past stream.name)) (openers past stream.name) } in closed) is)
+    (λ stream is. ap (λ b. let closed : OpenStream = record { state = state_of stream; openers = cond b (without (λ other. other == client) (openers past stream.name)) (openers past stream.name); mark = mark_after past stream.name } in closed) is)
+    (λ stream is. ap (λ b. let closed : OpenStream = record { state = state_of stream; openers = cond b (without (λ other. other == client) (openers past stream.name)) (openers past stream.name); mark = mark_after past stream.name } in closed) is)
     (living streams) (AtMostOne-filter lives (is_called name) streams single)
 
 pub left-streams : (past : List LogChange) (client second : ℕ) (streams : List Stream) → map (open_stream (Ended client second ∷ past)) streams ≡ left_streams client (map (open_stream past) streams)
@@ -70,38 +72,49 @@ left-streams past client second (stream ∷ streams) =
     ap (λ rest. open_stream (Ended client second ∷ past) stream ∷ rest) (left-streams past client second streams)
 
 -- a stream that is made stands behind the others, which stay as they are
-made-streams : (past : List LogChange) (client : ℕ) (name : StreamName) (attrs : StreamAttrs) (second created : ℕ) (streams : List Stream) → find (is_living name) streams ≡ None → openers past name ≡ [] → 1 ≤ attrs.rotated → map (open_stream (Opened client name (Some attrs) second ∷ past)) (living (streams ++ new_stream name attrs created ∷ [])) ≡ map (open_stream past) (living streams) ++ opened_stream client name attrs created ∷ []
-made-streams past client name attrs second created streams new nobody some =
-    let now = open_stream (Opened client name (Some attrs) second ∷ past) in
+made-streams : (past : List LogChange) (client : ℕ) (name : StreamName) (attrs : StreamAttrs) (second number created : ℕ) (streams : List Stream) → find (is_living name) streams ≡ None → openers past name ≡ [] → 1 ≤ attrs.rotated → map (open_stream (Opened client name (Some attrs) second number ∷ past)) (living (streams ++ new_stream name attrs created ∷ [])) ≡ map (open_stream past) (living streams) ++ opened_stream client name attrs created number ∷ []
+made-streams past client name attrs second number created streams new nobody some =
+    let now = open_stream (Opened client name (Some attrs) second number ∷ past) in
     let stream = new_stream name attrs created in
+    let made_mark : Mark = record { since = number; mask = 127 } in
     let none : find (is_called name) (living streams) ≡ None = sym (find-filter lives (is_called name) streams) ∙ new in
     let others : map now (living streams) ≡ map (open_stream past) (living streams) =
     map-beside (open_stream past) (is_called name) (is_named name) (λ _. refl) now
-    (λ other is. ap (λ b. let opened : OpenStream = record { state = state_of other; openers = cond b (put nat_lt client (openers past other.name)) (openers past other.name) } in opened) is)
+    (λ other is. ap (λ b. let opened : OpenStream = record { state = state_of other; openers = cond b (put nat_lt client (openers past other.name)) (openers past other.name); mark = cond b (record { since = number; mask = 127 }) (mark_after past other.name) } in opened) is)
     (living streams) none in
     let made_openers : cond (same_name name name) (put nat_lt client (openers past name)) (openers past name) ≡ client ∷ [] =
     ap (λ b. cond b (put nat_lt client (openers past name)) (openers past name)) ((decides_name name name).1 refl) ∙ ap (put nat_lt client) nobody in
-    let made : now stream ≡ opened_stream client name attrs created =
-    ap (λ (state : StreamState). let opened : OpenStream = record { state = state; openers = cond (same_name name name) (put nat_lt client (openers past name)) (openers past name) } in opened) (made-is name attrs created some)
-    ∙ ap (λ (clients : List ℕ). let opened : OpenStream = record { state = new_state name attrs created; openers = clients } in opened) made_openers in
+    let made : now stream ≡ opened_stream client name attrs created number =
+    ap (λ (state : StreamState). let opened : OpenStream = record { state = state; openers = cond (same_name name name) (put nat_lt client (openers past name)) (openers past name); mark = cond (same_name name name) made_mark (mark_after past name) } in opened) (made-is name attrs created some)
+    ∙ ap (λ (clients : List ℕ). let opened : OpenStream = record { state = new_state name attrs created; openers = clients; mark = cond (same_name name name) made_mark (mark_after past name) } in opened) made_openers
+    ∙ ap (λ b. let opened : OpenStream = record { state = new_state name attrs created; openers = client ∷ []; mark = cond b made_mark (mark_after past name) } in opened) ((decides_name name name).1 refl) in
     ap (map now) (filter-append lives streams (stream ∷ []))
     ∙ map-append now (living streams) (stream ∷ [])
     ∙ ap (λ front. front ++ now stream ∷ []) others
     ∙ ap (λ last. map (open_stream past) (living streams) ++ last ∷ []) made
 
 -- a record stored in a stream that lives is stored in what is kept of it
-stored-stream : (past past' : List LogChange) (last second : ℕ) (rec : LogRecord) (stream : Stream) → openers past' stream.name ≡ openers past stream.name → Passes stream → stream.ended ≡ None → HasFull stream → open_stream past' (with_record last second rec stream) ≡ with_stored last second rec (open_stream past stream)
-stored-stream past past' last second rec stream same passes living full =
-    ap (λ (state : StreamState). let opened : OpenStream = record { state = state; openers = openers past' stream.name } in opened) (state-recorded last second rec stream passes.sizes passes.some_rotated living full)
-    ∙ ap (λ (clients : List ℕ). let opened : OpenStream = record { state = state_after (storing last second rec (state_of stream)); openers = clients } in opened) same
+stored-stream : (past past' : List LogChange) (last second : ℕ) (rec : LogRecord) (stream : Stream) → openers past' stream.name ≡ openers past stream.name → mark_after past' stream.name ≡ mark_after past stream.name → Passes stream → stream.ended ≡ None → HasFull stream → open_stream past' (with_record last second rec stream) ≡ with_stored last second rec (open_stream past stream)
+stored-stream past past' last second rec stream same marked passes living full =
+    ap (λ (state : StreamState). let opened : OpenStream = record { state = state; openers = openers past' stream.name; mark = mark_after past' stream.name } in opened) (state-recorded last second rec stream passes.sizes passes.some_rotated living full)
+    ∙ ap (λ (clients : List ℕ). let opened : OpenStream = record { state = state_after (storing last second rec (state_of stream)); openers = clients; mark = mark_after past' stream.name } in opened) same
+    ∙ ap (λ (mark : Mark). let opened : OpenStream = record { state = state_after (storing last second rec (state_of stream)); openers = openers past stream.name; mark = mark } in opened) marked
+
+-- a mask that is set is the mark of its stream alone
+filtered-streams : (past : List LogChange) (client : ℕ) (name : StreamName) (mask number : ℕ) (streams : List Stream) → AtMostOne (is_living name) streams → map (open_stream (Filtered client name mask number ∷ past)) (living streams) ≡ change_first (is_named name) (with_mark (record { since = number; mask = mask })) (map (open_stream past) (living streams))
+filtered-streams past client name mask number streams single =
+    map-at_first (open_stream past) (is_called name) (is_named name) (λ _. refl) (open_stream (Filtered client name mask number ∷ past)) (with_mark (record { since = number; mask = mask }))
+    (λ stream is. ap (λ b. let filtered : OpenStream = record { state = state_of stream; openers = openers past stream.name; mark = cond b (record { since = number; mask = mask }) (mark_after past stream.name) } in filtered) is)
+    (λ stream is. ap (λ b. let filtered : OpenStream = record { state = state_of stream; openers = openers past stream.name; mark = cond b (record { since = number; mask = mask }) (mark_after past stream.name) } in filtered) is)
+    (living streams) (AtMostOne-filter lives (is_called name) streams single)
 
 -- the attributes pass, and as many files are full as the records ask for
 abbrev pub KeepsFull : Stream → Type 0
 KeepsFull stream = Passes stream × HasFull stream
 
 -- the streams once a record is stored
-stored-streams : (past past' : List LogChange) (name : StreamName) (last second : ℕ) (rec : LogRecord) (streams : List Stream) → ((other : StreamName) → openers past' other ≡ openers past other) → Each KeepsFull streams → map (open_stream past') (living (change_first (is_living name) (with_record last second rec) streams)) ≡ change_first (is_named name) (with_stored last second rec) (map (open_stream past) (living streams))
-stored-streams past past' name last second rec streams same passing =
+stored-streams : (past past' : List LogChange) (name : StreamName) (last second : ℕ) (rec : LogRecord) (streams : List Stream) → ((other : StreamName) → openers past' other ≡ openers past other) → ((other : StreamName) → mark_after past' other ≡ mark_after past other) → Each KeepsFull streams → map (open_stream past') (living (change_first (is_living name) (with_record last second rec) streams)) ≡ change_first (is_named name) (with_stored last second rec) (map (open_stream past) (living streams))
+stored-streams past past' name last second rec streams same marked passing =
     let kept : Each (λ stream. KeepsFull stream × (lives stream ≡ true)) (living streams) = Each-filter KeepsFull lives streams passing in
     ap (map (open_stream past')) (filter-change_first lives (is_called name) (with_record last second rec) (λ _. refl) streams)
     ∙ map-change_first (open_stream past') (is_called name) (is_named name) (λ _. refl) (λ stream. KeepsFull stream × (lives stream ≡ true)) (with_record last second rec) (with_stored last second rec)
@@ -110,12 +123,13 @@ stored-streams past past' name last second rec streams same passing =
       map-same : (these : List Stream) → map (open_stream past') these ≡ map (open_stream past) these
       map-same [] = refl
       map-same (stream ∷ these) =
-          ap (λ (clients : List ℕ). let first : OpenStream = record { state = state_of stream; openers = clients } in first ∷ map (open_stream past') these) (same stream.name)
+          ap (λ (clients : List ℕ). let first : OpenStream = record { state = state_of stream; openers = clients; mark = mark_after past' stream.name } in first ∷ map (open_stream past') these) (same stream.name)
+          ∙ ap (λ (mark : Mark). let first : OpenStream = record { state = state_of stream; openers = openers past stream.name; mark = mark } in first ∷ map (open_stream past') these) (marked stream.name)
           ∙ ap (λ rest. open_stream past stream ∷ rest) (map-same these)
 
       stored-again : (stream : Stream) → KeepsFull stream × (lives stream ≡ true) → open_stream past' (with_record last second rec stream) ≡ with_stored last second rec (open_stream past' stream)
       stored-again stream holds =
-          stored-stream past' past' last second rec stream refl holds.0.0 (none_from stream.ended holds.1) holds.0.1
+          stored-stream past' past' last second rec stream refl refl holds.0.0 (none_from stream.ended holds.1) holds.0.1
 
 -- the last stamp once a record is stored
 pub changing-is : (rec : LogRecord) (stream : Stream) → Passes stream → is_changing (state_of stream) rec ≡ is_due stream rec
@@ -156,25 +170,30 @@ ended-table setup past second before kept is = (
 -- **one more change carries what is kept as it should**
 pub table-after : (setup : LogSetup) (change : LogChange) (past : List LogChange) → IsLogHistory setup (change ∷ past) → table setup (change ∷ past) ≡ table_after change (table setup past)
 table-after setup (Began client) past legal = refl
-table-after setup (Opened client name None second) past legal =
+table-after setup (Opened client name None second number) past legal =
     let before = reached setup past legal.1 in
     let now = chronicle setup past in
     same_table now.last now.last (users past) (users past) _ _ refl refl
-    (opened-streams past client name second now.streams (before.single name))
-table-after setup (Opened client name (Some attrs) second) past legal =
+    (opened-streams past client name second number now.streams (before.single name))
+table-after setup (Opened client name (Some attrs) second number) past legal =
     let before = reached setup past legal.1 in
     let now = chronicle setup past in
     let new = none_is (living_stream setup past name) legal.0.0 in
     let makes = makes-stream setup past client name attrs legal.0.0 legal.0.1 in
     same_table (stamp_after now.last second) (stamp_after now.last second) (users past) (users past) _ _ refl refl
-    (made-streams past client name attrs second (stamp_after now.last second) now.streams new (before.unopened name new) makes.passes.some_rotated)
+    (made-streams past client name attrs second number (stamp_after now.last second) now.streams new (before.unopened name new) makes.passes.some_rotated)
 table-after setup (Stored name rec second) past legal =
     let before = reached setup past legal.1 in
     let now = chronicle setup past in
     let last = now.last in
     same_table _ _ (users past) (users past) _ _ (stored-last past name now.last second rec now.streams before.passing) refl
-    (stored-streams past (Stored name rec second ∷ past) name now.last second rec now.streams (λ _. refl)
+    (stored-streams past (Stored name rec second ∷ past) name now.last second rec now.streams (λ _. refl) (λ _. refl)
     (Each-both Passes HasFull now.streams before.passing (Each-weaker (IsSoundStream last) HasFull (λ stream is. is.count) now.streams (sound setup past legal.1))))
+table-after setup (Filtered client name mask number) past legal =
+    let before = reached setup past legal.1 in
+    let now = chronicle setup past in
+    same_table now.last now.last (users past) (users past) _ _ refl refl
+    (filtered-streams past client name mask number now.streams (before.single name))
 table-after setup (Closed client name second) past legal =
     let before = reached setup past legal.1 in
     let now = chronicle setup past in

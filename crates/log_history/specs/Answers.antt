@@ -1,5 +1,5 @@
 -- Words of public clauses: the answers of the log service, each by a table whose first row that holds decides.
-use Rattle.std.specs.Prelude.{ℕ, nat_lt, nat_le, Bool, true, false, not, ◌&&◌, List, [], ◌∷◌, Option, Some, None, option_map, unwrap_or, is_some}
+use Rattle.std.specs.Prelude.{ℕ, nat_lt, nat_le, Bool, true, false, not, ◌&&◌, ◌||◌, List, [], ◌∷◌, Option, Some, None, option_map, unwrap_or, is_some}
 use Rattle.std.specs.Prelude.{is_none, ℤ}
 use Rattle.std.specs.Option.{option_map_or}
 use Rattle.std.specs.List.{find, list_any, count_by}
@@ -7,6 +7,7 @@ use Rattle.ais_values.specs.FirstRow.{first_row}
 use Rattle.ais_values.specs.declared.kind.StreamKind.{StreamKind}
 use Rattle.ais_values.specs.declared.status.Status.{Status}
 use Rattle.ais_values.specs.declared.status.Status.TheVariants as status
+use Rattle.format_expr.specs.Language.{is_notified}
 use Rattle.stream_config.specs.declared.attrs.StreamAttrs.{StreamAttrs}
 use Rattle.stream_config.specs.declared.attrs.StreamName.{StreamName}
 use Rattle.record_print.specs.declared.record.Header.{Header}
@@ -21,6 +22,7 @@ use Rattle.stream_config.specs.Equality.{same_attrs}
 use Rattle.stream_config.specs.Sizes.{has_room}
 use Rattle.log_history.specs.Changes.{LogChange}
 use Rattle.log_history.specs.Handles.{is_using, is_open}
+use Rattle.log_history.specs.Marks.{is_filtered, mark_after}
 use Rattle.log_history.specs.Chronicle.{LogSetup, Stream, lives, is_living, files_had, length_next, chronicle}
 use Rattle.log_history.specs.Rounds.{last_of}
 use Rattle.log_history.specs.Times.{record_at}
@@ -49,13 +51,21 @@ open_rows using living taken crowded name (Some attrs) =
     ∷ (crowded, status.NoResources)
     ∷ []
 
-abbrev pub write_rows : (using opened full : Bool) → StreamKind → (flags : ℕ) (time : ℤ) → Header → List (Bool × Status)
-write_rows using opened full kind flags time header =
+abbrev pub write_rows : (using opened filtered full : Bool) → StreamKind → (flags : ℕ) (time : ℤ) → Header → List (Bool × Status)
+write_rows using opened filtered full kind flags time header =
     (not using, status.BadHandle)
     ∷ (not opened, status.BadHandle)
     ∷ (nat_lt 1 flags, status.BadFlags)
     ∷ (not (can_write kind time header), status.InvalidParam)
+    ∷ (filtered, status.Ok)
     ∷ (full, status.NoSpace)
+    ∷ []
+
+abbrev pub filter_rows : (using opened : Bool) → StreamName → (mask : ℕ) → List (Bool × Status)
+filter_rows using opened name mask =
+    (not using, status.BadHandle)
+    ∷ (not opened, status.BadHandle)
+    ∷ (is_notified (kind_of name) || nat_lt 127 mask, status.InvalidParam)
     ∷ []
 
 abbrev pub close_rows : (using opened : Bool) → List (Bool × Status)
@@ -111,8 +121,12 @@ open_answer setup past client name create =
 -- the record that would be written is that of this moment
 abbrev pub write_answer : LogSetup → List LogChange → (client : ℕ) → StreamName → (flags : ℕ) (time : ℤ) → Header → (body : List ℕ) → (now : ℤ) → Status
 write_answer setup past client name flags time header body now =
-    answer (write_rows (is_using past client) (is_open past name client) (is_full setup past name (record_at time header body now))
+    answer (write_rows (is_using past client) (is_open past name client) (is_filtered (mark_after past name).mask header)
+    (is_full setup past name (record_at time header body now))
     (kind_of name) flags time header)
+
+abbrev pub filter_answer : LogSetup → List LogChange → (client : ℕ) → StreamName → (mask : ℕ) → Status
+filter_answer setup past client name mask = answer (filter_rows (is_using past client) (is_open past name client) name mask)
 
 abbrev pub close_answer : LogSetup → List LogChange → (client : ℕ) → StreamName → Status
 close_answer setup past client name = answer (close_rows (is_using past client) (is_open past name client))

@@ -12,7 +12,7 @@ use Rattle.stream_config.specs.Fit.{changes_file}
 use Rattle.stream_config.specs.Stamps.{stamp_after}
 use Rattle.log_history.specs.Names.{is_application}
 use Rattle.log_history.specs.Firsts.{change_first}
-use Rattle.log_history.specs.Changes.{LogChange, Began, Opened, Stored, Closed, Ended}
+use Rattle.log_history.specs.Changes.{LogChange, Began, Opened, Stored, Filtered, Closed, Ended}
 use Rattle.log_history.specs.Handles.{openers}
 use Rattle.log_history.specs.Lengths.{record_length, lengths_from}
 use Rattle.log_history.specs.Rounds.{Round, rounds_of, last_of, front_of}
@@ -150,12 +150,13 @@ beginning setup =
 -- what the changes made of the streams
 abbrev pub chronicle : LogSetup → List LogChange → Chronicle
 chronicle setup [] = beginning setup
-chronicle setup (Opened client name (Some attrs) second ∷ past) = after_making name attrs second (chronicle setup past)
-chronicle setup (Opened client name None second ∷ past) = chronicle setup past
+chronicle setup (Opened client name (Some attrs) second number ∷ past) = after_making name attrs second (chronicle setup past)
+chronicle setup (Opened client name None second number ∷ past) = chronicle setup past
 chronicle setup (Stored name rec second ∷ past) = after_record name rec second (chronicle setup past)
 chronicle setup (Closed client name second ∷ past) =
     after_ends (Closed client name second ∷ past) second (chronicle setup past)
 chronicle setup (Ended client second ∷ past) = after_ends (Ended client second ∷ past) second (chronicle setup past)
+chronicle setup (Filtered client name mask number ∷ past) = chronicle setup past
 chronicle setup (Began client ∷ past) = chronicle setup past
 
 -- the full files with their stamps

@@ -15,7 +15,7 @@ is_using (_ ∷ past) client = is_using past client
 -- the client opened the stream of that name, and neither closed it nor ended since
 abbrev pub is_open : List LogChange → StreamName → ℕ → Bool
 is_open [] name client = false
-is_open (Opened one opened making second ∷ past) name client =
+is_open (Opened one opened making second number ∷ past) name client =
     same_name name opened && one == client || is_open past name client
 is_open (Closed one closed second ∷ past) name client =
     not (same_name name closed && one == client) && is_open past name client
@@ -32,7 +32,7 @@ users (_ ∷ past) = users past
 -- the clients that have the stream of that name open, rising
 abbrev pub openers : List LogChange → StreamName → List ℕ
 openers [] name = []
-openers (Opened client opened making second ∷ past) name =
+openers (Opened client opened making second number ∷ past) name =
     if same_name name opened then put nat_lt client (openers past name) else openers past name
 openers (Closed client closed second ∷ past) name =
     if same_name name closed then without (λ other. other == client) (openers past name) else openers past name

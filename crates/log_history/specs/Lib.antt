@@ -1,5 +1,6 @@
 pub mod Changes
 pub mod Handles
+pub mod Marks
 pub mod Lengths
 pub mod Rounds
 pub mod Chronicle

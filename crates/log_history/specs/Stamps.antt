@@ -1,7 +1,7 @@
 -- Words of public clauses: the stamps of a service, and the seconds of what happened to it.
 use Rattle.std.specs.Prelude.{ℕ, ◌+◌, ◌≤◌, ℤ, pos, ◌≤ℤ◌, List, [], ◌∷◌, ◌++◌, length}
 use Rattle.std.specs.Option.{option_to_list}
-use Rattle.log_history.specs.Changes.{LogChange, Began, Opened, Stored, Closed, Ended}
+use Rattle.log_history.specs.Changes.{LogChange, Began, Opened, Stored, Filtered, Closed, Ended}
 use Rattle.log_history.specs.Chronicle.{LogSetup, Stream, chronicle}
 use Rattle.log_history.specs.Table.{table}
 
@@ -13,8 +13,9 @@ pub record IsStampUpTo (last stamp : ℤ) : Type 0 where
 -- the second at which a change was accepted; a beginning tells none
 abbrev pub second_in : LogChange → ℕ
 second_in (Began client) = 0
-second_in (Opened client name making second) = second
+second_in (Opened client name making second number) = second
 second_in (Stored name rec second) = second
+second_in (Filtered client name mask number) = 0
 second_in (Closed client name second) = second
 second_in (Ended client second) = second
 

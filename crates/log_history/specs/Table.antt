@@ -6,6 +6,7 @@ use Rattle.client_set.specs.Rising.{put, without}
 use Rattle.format_expr.specs.Reading.{pieces_of}
 use Rattle.stream_config.specs.declared.attrs.StreamAttrs.{StreamAttrs}
 use Rattle.stream_config.specs.declared.attrs.StreamName.{StreamName}
+use Rattle.stream_config.specs.declared.mark.Mark.{Mark}
 use Rattle.stream_config.specs.declared.state.StreamState.{StreamState}
 use Rattle.stream_config.specs.declared.event.Stamps.{Stamps}
 use Rattle.stream_config.specs.declared.event.StreamEvent.{StreamEvent}
@@ -18,15 +19,17 @@ use Rattle.stream_config.specs.Fit.{changes_file}
 use Rattle.stream_config.specs.Stamps.{stamp_after}
 use Rattle.log_history.specs.Names.{is_application}
 use Rattle.log_history.specs.Firsts.{change_first}
-use Rattle.log_history.specs.Changes.{LogChange, Began, Opened, Stored, Closed, Ended}
+use Rattle.log_history.specs.Changes.{LogChange, Began, Opened, Stored, Filtered, Closed, Ended}
 use Rattle.log_history.specs.Handles.{users, openers}
+use Rattle.log_history.specs.Marks.{mark_after}
 use Rattle.log_history.specs.Lengths.{record_length}
 use Rattle.log_history.specs.Chronicle.{LogSetup, Stream, lives, is_empty, chronicle, all_files}
 
--- a living stream, and the clients that have it open, rising
+-- a living stream, the clients that have it open, rising, and its mark
 pub record OpenStream : Type 0 where
   pub state : StreamState
   pub openers : List ℕ
+  pub mark : Mark
 
 -- the last stamp, the clients that use the service, rising, and the living streams in order of creation
 pub record LogTable : Type 0 where
@@ -44,7 +47,7 @@ state_of stream = record {
 }
 
 abbrev pub open_stream : List LogChange → Stream → OpenStream
-open_stream past stream = record { state = state_of stream; openers = openers past stream.name }
+open_stream past stream = record { state = state_of stream; openers = openers past stream.name; mark = mark_after past stream.name }
 
 -- what is kept of changes
 abbrev pub table : LogSetup → List LogChange → LogTable
@@ -60,11 +63,14 @@ abbrev pub is_named : StreamName → OpenStream → Bool
 is_named name stream = same_name stream.state.name name
 
 abbrev pub with_opener : ℕ → OpenStream → OpenStream
-with_opener client stream = record { state = stream.state; openers = put nat_lt client stream.openers }
+with_opener client stream = record { state = stream.state; openers = put nat_lt client stream.openers; mark = stream.mark }
+
+abbrev pub with_mark : Mark → OpenStream → OpenStream
+with_mark mark stream = record { state = stream.state; openers = stream.openers; mark = mark }
 
 abbrev pub without_opener : ℕ → OpenStream → OpenStream
 without_opener client stream =
-    record { state = stream.state; openers = without (λ other. other == client) stream.openers }
+    record { state = stream.state; openers = without (λ other. other == client) stream.openers; mark = stream.mark }
 
 abbrev pub new_state : StreamName → StreamAttrs → (created : ℕ) → StreamState
 new_state name attrs created = record {
@@ -104,7 +110,7 @@ storing last second rec state = event.Stored state (bytes_in state rec) (due_sta
 
 abbrev pub with_stored : (last second : ℕ) → LogRecord → OpenStream → OpenStream
 with_stored last second rec stream =
-    record { state = state_after (storing last second rec stream.state); openers = stream.openers }
+    record { state = state_after (storing last second rec stream.state); openers = stream.openers; mark = stream.mark }
 
 abbrev pub has_nobody : OpenStream → Bool
 has_nobody stream = is_application stream.state.name && is_empty stream.openers
@@ -133,23 +139,29 @@ closed_streams client name streams = change_first (is_named name) (without_opene
 abbrev pub left_streams : ℕ → List OpenStream → List OpenStream
 left_streams client streams = map (without_opener client) streams
 
-abbrev pub opened_stream : ℕ → StreamName → StreamAttrs → (created : ℕ) → OpenStream
-opened_stream client name attrs created = record { state = new_state name attrs created; openers = client ∷ [] }
+abbrev pub opened_stream : ℕ → StreamName → StreamAttrs → (created number : ℕ) → OpenStream
+opened_stream client name attrs created number =
+    record { state = new_state name attrs created; openers = client ∷ []; mark = record { since = number; mask = 127 } }
 
 abbrev pub table_after : LogChange → LogTable → LogTable
 table_after (Began client) kept =
     record { last = kept.last; users = put nat_lt client kept.users; streams = kept.streams }
-table_after (Opened client name None second) kept =
+table_after (Opened client name None second number) kept =
     record { last = kept.last; users = kept.users; streams = change_first (is_named name) (with_opener client) kept.streams }
-table_after (Opened client name (Some attrs) second) kept = record {
+table_after (Opened client name (Some attrs) second number) kept = record {
   last = stamp_after kept.last second;
   users = kept.users;
-  streams = kept.streams ++ opened_stream client name attrs (stamp_after kept.last second) ∷ [];
+  streams = kept.streams ++ opened_stream client name attrs (stamp_after kept.last second) number ∷ [];
 }
 table_after (Stored name rec second) kept = record {
   last = option_map_or (λ (stream : OpenStream). last_after_due kept.last second rec stream.state) (find (is_named name) kept.streams) kept.last;
   users = kept.users;
   streams = change_first (is_named name) (with_stored kept.last second rec) kept.streams;
+}
+table_after (Filtered client name mask number) kept = record {
+  last = kept.last;
+  users = kept.users;
+  streams = change_first (is_named name) (with_mark (record { since = number; mask = mask })) kept.streams;
 }
 table_after (Closed client name second) kept = record {
   last = last_after_ends kept.last second (closed_streams client name kept.streams);
@@ -165,10 +177,11 @@ table_after (Ended client second) kept = record {
 -- what a change does to streams, in order
 abbrev pub events_of : LogChange → LogTable → List StreamEvent
 events_of (Began client) kept = []
-events_of (Opened client name None second) kept = []
-events_of (Opened client name (Some attrs) second) kept =
+events_of (Opened client name None second number) kept = []
+events_of (Opened client name (Some attrs) second number) kept =
     event.Made (new_state name attrs (stamp_after kept.last second)) ∷ []
 events_of (Stored name rec second) kept =
     option_map_or (λ (stream : OpenStream). storing kept.last second rec stream.state ∷ []) (find (is_named name) kept.streams) []
+events_of (Filtered client name mask number) kept = []
 events_of (Closed client name second) kept = ends_in kept.last second (closed_streams client name kept.streams)
 events_of (Ended client second) kept = ends_in kept.last second (left_streams client kept.streams)
