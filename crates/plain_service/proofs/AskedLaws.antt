@@ -53,7 +53,7 @@ module _ (setup : Setup) (past : Past) (sender seq : ℕ) (now : ℤ) (notificat
   after answered = past_after setup past sender seq now (NtfSend notification) answered
 
   abbrev told : Status → Reply
-  told answered = reply_by answered (ok_reply setup past sender (NtfSend notification))
+  told answered = reply_by answered (ok_reply setup past sender now (NtfSend notification))
 
   send-asked : (before : List Lost) (answered : Status) → before ≡ map mark_of (asked_while past.ntf client key) → before ++ mark_asked (sub_at past.ntf client key) notification (told answered) ≡ map mark_of (asked_while (after answered).ntf client key)
   send-asked before status.Ok is =

@@ -9,7 +9,7 @@ use Rattle.record_print.specs.declared.record.LogRecord.{LogRecord}
 use Rattle.calls.specs.declared.entry.Entry.{Entry}
 use Rattle.calls.specs.declared.entry.Entry.TheVariants.{Called, Receipted}
 use Rattle.stream_layout.proofs.FitSteps as steps
-use Rattle.log_history.specs.Changes.{LogChange, Began, Opened, Stored, Closed, Ended}
+use Rattle.log_history.specs.Changes.{LogChange, Began, Opened, Stored, Filtered, Closed, Ended}
 use Rattle.log_history.specs.Chronicle.{Stream, with_record, chronicle}
 use Rattle.log_history.specs.Legal.{IsLogHistory}
 use Rattle.log_history.specs.Places.{first_of}
@@ -62,7 +62,8 @@ first-grows setup (Stored name.Alarm rec second) past legal =
 first-grows setup (Stored name.Notification rec second) past legal = beside setup (Stored name.Notification rec second) past (omega arith)
 first-grows setup (Stored name.System rec second) past legal = beside setup (Stored name.System rec second) past (omega arith)
 first-grows setup (Stored (name.App own) rec second) past legal = beside setup (Stored (name.App own) rec second) past (omega arith)
-first-grows setup (Opened client opened making second) past legal = beside setup (Opened client opened making second) past refl
+first-grows setup (Opened client opened making second number) past legal = beside setup (Opened client opened making second number) past refl
+first-grows setup (Filtered client name mask number) past legal = beside setup (Filtered client name mask number) past refl
 first-grows setup (Began client) past legal = beside setup (Began client) past refl
 first-grows setup (Closed client closed second) past legal = beside setup (Closed client closed second) past refl
 first-grows setup (Ended client second) past legal = beside setup (Ended client second) past refl

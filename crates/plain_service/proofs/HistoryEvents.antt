@@ -1,5 +1,5 @@
 -- Each event that an entry of a history brings to a stream can happen to it.
-use Rattle.std.proofs.Common.{◌≡◌, ℕ, ◌<◌, ◌≤◌, List, [], ◌∷◌, length, refl, arith, leb→le}
+use Rattle.std.proofs.Common.{◌≡◌, ℕ, ◌<◌, ◌≤◌, Bool, true, false, cond, List, [], ◌∷◌, length, refl, arith, leb→le}
 use Rattle.std.specs.Prelude.{Option, Some, None, filter, ℤ, pos, negsuc}
 use Rattle.std.specs.Option.{option_map_or}
 use Rattle.std.specs.List.{cons_option, AllByRecursion}
@@ -8,14 +8,16 @@ use Rattle.ais_values.specs.declared.status.Status.{Status}
 use Rattle.ais_values.specs.declared.status.Status.TheVariants as status
 use Rattle.stream_layout.specs.Carrying.{IsFitEvent}
 use Rattle.calls.specs.declared.call.Call.{Call}
-use Rattle.calls.specs.declared.call.Call.TheVariants.{LogInit, LogOpen, LogWrite, LogClose, LogFini, NtfSend}
+use Rattle.calls.specs.declared.call.Call.TheVariants.{LogInit, LogOpen, LogWrite, LogFilter, LogClose, LogFini, NtfSend}
 use Rattle.calls.specs.declared.entry.Entry.{Entry}
 use Rattle.calls.specs.declared.entry.Entry.TheVariants.{Called, Receipted}
 use Rattle.log_history.specs.Changes.{LogChange}
+use Rattle.log_history.specs.Changes.{LogChange as log}
 use Rattle.log_history.specs.Chronicle.{lives, chronicle}
 use Rattle.log_history.specs.Legal.{IsLogHistory}
 use Rattle.log_history.specs.Table.{open_stream, table, events_of}
-use Rattle.log_history.specs.Times.{second_of}
+use Rattle.log_history.specs.Marks.{is_filtered, mark_after}
+use Rattle.log_history.specs.Times.{second_of, record_at}
 use Rattle.plain_service.specs.Setups.{Setup, log_setup, IsMoment}
 use Rattle.plain_service.specs.Pasts.{Past}
 use Rattle.plain_service.specs.Answers.{status_of}
@@ -34,7 +36,12 @@ second-bound (negsuc n) is = absurd is.from.le
 timely-called : (setup : Setup) (past : Past) (client seq : ℕ) (now : ℤ) (call : Call) → second_of now ≤ 9000000000 → AreTimely past.log → AreTimely (past_after setup past client seq now call status.Ok).log
 timely-called setup past client seq now LogInit early timely = (omega arith, timely)
 timely-called setup past client seq now (LogOpen name create) early timely = (early, timely)
-timely-called setup past client seq now (LogWrite name invocation flags time header body) early timely = (early, timely)
+timely-called setup past client seq now (LogWrite name invocation flags time header body) early timely =
+    by_case (is_filtered (mark_after past.log name).mask header) where
+      by_case : (filtered : Bool) → AreTimely (cons_option (cond filtered None (Some (log.Stored name (record_at time header body now) (second_of now)))) past.log)
+      by_case true = timely
+      by_case false = (early, timely)
+timely-called setup past client seq now (LogFilter name mask) early timely = (omega arith, timely)
 timely-called setup past client seq now (LogClose name) early timely = (early, timely)
 timely-called setup past client seq now LogFini early timely = (early, timely)
 timely-called setup past client seq now (NtfSend notification) early timely = (early, timely)

@@ -24,13 +24,13 @@ found-untold : (found : Option Notification) (ids : List ℕ) → id_told (found
 found-untold None ids = refl
 found-untold (Some alarm) ids = refl
 
-id-called : (setup : Setup) (past : Past) (client seq : ℕ) (now : ℤ) (call : Call) (ids : List ℕ) → last_id past.ntf ≡ length ids → last_id (past_after setup past client seq now call status.Ok).ntf ≡ length (id_told (ok_reply setup past client call) ids)
+id-called : (setup : Setup) (past : Past) (client seq : ℕ) (now : ℤ) (call : Call) (ids : List ℕ) → last_id past.ntf ≡ length ids → last_id (past_after setup past client seq now call status.Ok).ntf ≡ length (id_told (ok_reply setup past client now call) ids)
 id-called setup past client seq now (NtfSend notification) ids is = omega (arith, is)
 id-called setup past client seq now (ReaderRead direction) ids is =
     is ∙ ap length (sym (found-untold (read_by (reader_of past.readings client) direction (alarms_stored setup past)) ids))
 id-called setup past client seq now _ ids is = is
 
-id-answered : (setup : Setup) (past : Past) (client seq : ℕ) (now : ℤ) (call : Call) (ids : List ℕ) (answered : Status) → last_id past.ntf ≡ length ids → last_id (past_after setup past client seq now call answered).ntf ≡ length (id_told (reply_by answered (ok_reply setup past client call)) ids)
+id-answered : (setup : Setup) (past : Past) (client seq : ℕ) (now : ℤ) (call : Call) (ids : List ℕ) (answered : Status) → last_id past.ntf ≡ length ids → last_id (past_after setup past client seq now call answered).ntf ≡ length (id_told (reply_by answered (ok_reply setup past client now call)) ids)
 id-answered setup past client seq now call ids status.Ok is = id-called setup past client seq now call ids is
 id-answered setup past client seq now call ids _ is = is
 
@@ -42,20 +42,20 @@ last_id-told setup (Called client seq now call ∷ past) =
     id-answered setup (past_of setup past) client seq now call (ids_told setup past) (status_of setup (past_of setup past) client now call) (last_id-told setup past)
 last_id-told setup (Receipted client key through now ∷ past) = last_id-told setup past
 
-not-told : (setup : Setup) (past : Past) (client : ℕ) (call : Call) (answered : Status) (id : ℕ) → reply_by answered (ok_reply setup past client call) ≡ Sent id → id ≡ last_id past.ntf + 1
-not-told setup past client (NtfSend notification) status.Ok id is = cc
-not-told setup past client (ReaderRead direction) status.Ok id is = by_case (read_by (reader_of past.readings client) direction (alarms_stored setup past)) is where
+not-told : (setup : Setup) (past : Past) (client : ℕ) (now : ℤ) (call : Call) (answered : Status) (id : ℕ) → reply_by answered (ok_reply setup past client now call) ≡ Sent id → id ≡ last_id past.ntf + 1
+not-told setup past client now (NtfSend notification) status.Ok id is = cc
+not-told setup past client now (ReaderRead direction) status.Ok id is = by_case (read_by (reader_of past.readings client) direction (alarms_stored setup past)) is where
   by_case : (found : Option Notification) → found_reply found ≡ Sent id → id ≡ last_id past.ntf + 1
   by_case None none = cc
   by_case (Some alarm) other = cc
-not-told setup past client _ status.Ok id is = cc
-not-told setup past client call _ id is = cc
+not-told setup past client now _ status.Ok id is = cc
+not-told setup past client now call _ id is = cc
 
 -- **a send that is answered ok is told the number of those before it, and one**
 pub id-next : (setup : Setup) (past : List Entry) (client : ℕ) (now : ℤ) (call : Call) (id : ℕ) → reply_of setup past client now call ≡ Sent id → id ≡ length (ids_told setup past) + 1
 unfolding reply_of
 id-next setup past client now call id is =
-    not-told setup (past_of setup past) client call (status_of setup (past_of setup past) client now call) id is ∙ ap (λ n. n + 1) (last_id-told setup past)
+    not-told setup (past_of setup past) client now call (status_of setup (past_of setup past) client now call) id is ∙ ap (λ n. n + 1) (last_id-told setup past)
 
 counted-told : (setup : Setup) (past : List Entry) (client : ℕ) (now : ℤ) (call : Call) (told : Reply) → reply_of setup past client now call ≡ told → AreCounted (ids_told setup past) → AreCounted (id_told told (ids_told setup past))
 counted-told setup past client now call (Sent id) is counted = (id-next setup past client now call id is, counted)

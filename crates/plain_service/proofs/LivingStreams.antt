@@ -3,7 +3,7 @@ use Rattle.std.proofs.Common.{◌≡◌, ℕ, suc, ◌≤◌, true, List, [], �
 use Rattle.std.specs.Prelude.{Some, None, filter}
 use Rattle.std.specs.List.{AllByRecursion}
 use Rattle.stream_config.specs.Stamps.{stamp_after}
-use Rattle.log_history.specs.Changes.{LogChange, Began, Opened, Stored, Closed, Ended}
+use Rattle.log_history.specs.Changes.{LogChange, Began, Opened, Stored, Filtered, Closed, Ended}
 use Rattle.log_history.specs.Chronicle.{LogSetup, Stream, new_stream, lives, is_living, is_ending, with_record, chronicle}
 use Rattle.log_history.specs.Legal.{IsLogHistory}
 use Rattle.log_history.proofs.EndLaws.{Each-all_ended}
@@ -25,15 +25,17 @@ module _ (past : List LogChange) where
 few-records : (setup : LogSetup) (past : List LogChange) → Each (HasFew (length past)) (chronicle setup past).streams
 few-records setup [] = (omega arith, (omega arith, (omega arith, tt)))
 few-records setup (Began client ∷ past) = few-later past (chronicle setup past).streams (few-records setup past)
-few-records setup (Opened client opened None second ∷ past) =
+few-records setup (Opened client opened None second number ∷ past) =
     few-later past (chronicle setup past).streams (few-records setup past)
-few-records setup (Opened client opened (Some attrs) second ∷ past) =
+few-records setup (Opened client opened (Some attrs) second number ∷ past) =
     let made = new_stream opened attrs (stamp_after (chronicle setup past).last second) in
     Each-push (HasFew (suc (length past))) (chronicle setup past).streams made (few-later past (chronicle setup past).streams (few-records setup past)) (omega arith)
 few-records setup (Stored stored rec second ∷ past) =
     let count = length past in
     Each-becoming (HasFew count) (HasFew (suc count)) (is_living stored) (with_record (chronicle setup past).last second rec) (λ stream le. omega (arith, le))
     (λ stream le. omega (arith, le, length-append stream.records (rec ∷ []))) (chronicle setup past).streams (few-records setup past)
+few-records setup (Filtered client filtered mask number ∷ past) =
+    few-later past (chronicle setup past).streams (few-records setup past)
 few-records setup (Closed client closed second ∷ past) =
     Each-all_ended (HasFew (suc (length past))) (λ stamp stream le. le) (is_ending (Closed client closed second ∷ past)) (chronicle setup past).last second (chronicle setup past).streams
     (few-later past (chronicle setup past).streams (few-records setup past))

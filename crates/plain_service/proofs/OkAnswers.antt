@@ -19,13 +19,21 @@ close-ok true true ok = (refl, refl)
 close-ok true false ok = cc
 close-ok false opened ok = cc
 
-pub write-ok : (using opened flagged writes full : Bool) → answer ((not using, status.BadHandle) ∷ (not opened, status.BadHandle) ∷ (flagged, status.BadFlags) ∷ (not writes, status.InvalidParam) ∷ (full, status.NoSpace) ∷ []) ≡ status.Ok → (using ≡ true) × (opened ≡ true) × (writes ≡ true) × (full ≡ false)
-write-ok false opened flagged writes full ok = cc
-write-ok true false flagged writes full ok = cc
-write-ok true true true writes full ok = cc
-write-ok true true false false full ok = cc
-write-ok true true false true true ok = cc
-write-ok true true false true false ok = (refl, refl, refl, refl)
+-- where it is not filtered, there is room
+pub write-ok : (using opened flagged writes filtered full : Bool) → answer ((not using, status.BadHandle) ∷ (not opened, status.BadHandle) ∷ (flagged, status.BadFlags) ∷ (not writes, status.InvalidParam) ∷ (filtered, status.Ok) ∷ (full, status.NoSpace) ∷ []) ≡ status.Ok → (using ≡ true) × (opened ≡ true) × (writes ≡ true) × (filtered ≡ false → full ≡ false)
+write-ok false opened flagged writes filtered full ok = cc
+write-ok true false flagged writes filtered full ok = cc
+write-ok true true true writes filtered full ok = cc
+write-ok true true false false filtered full ok = cc
+write-ok true true false true true full ok = (refl, refl, refl, λ passes. absurd (cc))
+write-ok true true false true false true ok = cc
+write-ok true true false true false false ok = (refl, refl, refl, λ _. refl)
+
+pub filter-ok : (using opened refused : Bool) → answer ((not using, status.BadHandle) ∷ (not opened, status.BadHandle) ∷ (refused, status.InvalidParam) ∷ []) ≡ status.Ok → (using ≡ true) × (opened ≡ true) × (refused ≡ false)
+filter-ok false opened refused ok = cc
+filter-ok true false refused ok = cc
+filter-ok true true true ok = cc
+filter-ok true true false ok = (refl, refl, refl)
 
 -- an open of a stream that lives
 pub open-ok : (using missing : Bool) → answer ((not using, status.BadHandle) ∷ (missing, status.NotExist) ∷ []) ≡ status.Ok → (using ≡ true) × (missing ≡ false)

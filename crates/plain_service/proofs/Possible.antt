@@ -2,53 +2,52 @@
 use Rattle.std.proofs.Common.{◌≡◌, ℕ, ◌+◌, ◌<◌, ◌≤◌, ◌==◌, nat_lt, nat_le, Bool, true, false, ◌&&◌, ◌||◌, cond, List, [], ◌∷◌, ◌++◌, length, refl, ap, sym, ◌∙◌, subst, arith}
 use Rattle.std.specs.Prelude.{Option, Some, None, option_map, is_some, is_none, ℤ}
 use Rattle.std.specs.Option.{option_map_or}
-use Rattle.std.specs.List.{list_any}
+use Rattle.std.specs.List.{list_any, cons_option}
 use Rattle.std.proofs.lemmas.Bool.{leb-false}
 use Rattle.std.proofs.lemmas.Bool.Decides.{nat_tests}
 use Rattle.ais_values.specs.declared.status.Status.{Status}
 use Rattle.ais_values.specs.declared.status.Status.TheVariants as status
 use Rattle.stream_config.specs.declared.attrs.StreamAttrs.{StreamAttrs}
-use Rattle.stream_config.specs.declared.attrs.StreamName.{StreamName}
 use Rattle.stream_config.specs.declared.attrs.StreamName.TheVariants as name
 use Rattle.stream_config.specs.Attributes.{kind_of}
 use Rattle.stream_config.specs.Equality.{same_name}
+use Rattle.format_expr.specs.Language.{is_notified}
 use Rattle.record_print.specs.Records.{can_write}
 use Rattle.ntf_types.specs.SoundTests.{is_sound}
 use Rattle.ntf_filters.specs.FitTests.{is_fit}
 use Rattle.alarm_view.specs.Alarms.{kept_alarm}
 use Rattle.alarm_view.specs.declared.alarm.KeptAlarm.{KeptAlarm}
 use Rattle.calls.specs.declared.call.Call.{Call}
-use Rattle.calls.specs.declared.call.Call.TheVariants.{LogInit, LogOpen, LogWrite, LogClose, LogFini, NtfInit, NtfSend, NtfSubscribe, NtfUnsubscribe, NtfFini}
+use Rattle.calls.specs.declared.call.Call.TheVariants.{LogInit, LogOpen, LogWrite, LogFilter, LogClose, LogFini, NtfInit, NtfSend, NtfSubscribe, NtfUnsubscribe, NtfFini}
 use Rattle.calls.specs.declared.entry.Entry.{Entry}
 use Rattle.calls.specs.declared.entry.Entry.TheVariants.{Called, Receipted}
-use Rattle.client_set.specs.Members.{has}
 use Rattle.log_history.specs.Changes.{LogChange}
 use Rattle.log_history.specs.Changes.{LogChange as log}
 use Rattle.log_history.specs.Handles.{is_using, is_open}
 use Rattle.log_history.specs.Chronicle.{LogSetup, Stream}
 use Rattle.log_history.specs.Answers.{living_stream, is_full}
 use Rattle.log_history.specs.Legal.{IsLogHistory}
+use Rattle.log_history.specs.Marks.{is_filtered, mark_after}
 use Rattle.log_history.specs.Times.{second_of, record_at}
-use Rattle.log_history.proofs.Reaching.{reached}
-use Rattle.log_history.proofs.KeptLaws.{has-openers}
+use Rattle.log_history.proofs.KeptLaws.{open-living}
 use Rattle.ntf_history.specs.Changes.{NtfChange}
 use Rattle.ntf_history.specs.Changes as ntf
 use Rattle.ntf_history.specs.Subscriptions.{has_id, subs, is_known}
 use Rattle.ntf_history.specs.StoredAlarms.{is_alarm, alarms_sent}
 use Rattle.ntf_history.specs.Possible.{HaveNumbersBelow, ArePossible}
 use Rattle.plain_service.specs.Setups.{Setup, log_setup}
-use Rattle.plain_service.specs.Pasts.{Past}
+use Rattle.plain_service.specs.Pasts.{Past, counted}
 use Rattle.plain_service.specs.Alarms.{accepted_notification, stream_for, record_for, taken_by}
 use Rattle.plain_service.specs.Answers.{status_of}
 use Rattle.plain_service.specs.Changing.{past_after, past_of}
 use Rattle.plain_service.specs.Replies.{calls_of, next_number}
 use Rattle.plain_service.specs.Legal.{IsHistory}
 use Rattle.plain_service.proofs.WellKnown.{stored_in, stored_in-bound, living-alarm, living-notification, taken-alarm, taken-notification}
-use Rattle.plain_service.proofs.OkAnswers.{begin-ok, end-ok, close-ok, write-ok, open-ok, create-ok, send-ok, subscribe-ok}
+use Rattle.plain_service.proofs.OkAnswers.{begin-ok, end-ok, close-ok, write-ok, filter-ok, open-ok, create-ok, send-ok, subscribe-ok}
 use Rattle.ais_values.proofs.Basics.{pair_same}
 
 -- a call that is refused changes nothing
-pub past_after-by : (P : Past → Type 0) (setup : Setup) (past : Past) (client seq : ℕ) (now : ℤ) (call : Call) (answered : Status) → P past → (answered ≡ status.Ok → P (past_after setup past client seq now call status.Ok)) → P (past_after setup past client seq now call answered)
+pub past_after-by : (P : Past → Type 0) (setup : Setup) (past : Past) (client seq : ℕ) (now : ℤ) (call : Call) (answered : Status) → P (counted past) → (answered ≡ status.Ok → P (past_after setup past client seq now call status.Ok)) → P (past_after setup past client seq now call answered)
 past_after-by P setup past client seq now call status.Ok before ok = ok refl
 past_after-by P setup past client seq now call _ before ok = before
 
@@ -58,18 +57,9 @@ making-none : (living : Option Stream) → option_map_or {T = Stream} {U = Optio
 making-none None = refl
 making-none (Some stream) = refl
 
-some-attrs : (living : Option Stream) → is_none (option_map (λ (stream : Stream). stream.attrs) living) ≡ false → is_some living ≡ true
+pub some-attrs : (living : Option Stream) → is_none (option_map (λ (stream : Stream). stream.attrs) living) ≡ false → is_some living ≡ true
 some-attrs None is = cc
 some-attrs (Some stream) is = refl
-
--- a stream that is open for somebody lives
-open-lives : (setup : LogSetup) (past : List LogChange) → IsLogHistory setup past → (stream : StreamName) (client : ℕ) → is_open past stream client ≡ true → is_some (living_stream setup past stream) ≡ true
-open-lives setup past legal stream client opened = by_case (living_stream setup past stream) refl where
-  by_case : (living : Option Stream) → living_stream setup past stream ≡ living → is_some living ≡ true
-  by_case None none =
-      let nobody : false ≡ true = ap (has client) (sym ((reached setup past legal).unopened stream none)) ∙ has-openers past stream client ∙ opened in
-      absurd (cc)
-  by_case (Some found) is = refl
 
 -- the streams of notifications live
 pub lives-for : (setup : LogSetup) (past : List LogChange) (alarm : Bool) → is_some (living_stream setup past (cond alarm name.Alarm name.Notification)) ≡ true
@@ -80,16 +70,21 @@ pub log-follows : (setup : Setup) (past : Past) (client seq : ℕ) (now : ℤ) (
 log-follows setup past client seq now LogInit legal ok = (begin-ok (is_using past.log client) ok, legal)
 log-follows setup past client seq now (LogOpen stream None) legal ok =
     let told = open-ok (is_using past.log client) (is_none (option_map (λ (s : Stream). s.attrs) (living_stream (log_setup setup) past.log stream))) ok in
-    subst (λ making. IsLogHistory (log_setup setup) (log.Opened client stream making (second_of now) ∷ past.log))
+    subst (λ making. IsLogHistory (log_setup setup) (log.Opened client stream making (second_of now) (past.number + 1) ∷ past.log))
     (sym (making-none (living_stream (log_setup setup) past.log stream)))
     ((told.0, some-attrs (living_stream (log_setup setup) past.log stream) told.1), legal)
 log-follows setup past client seq now (LogOpen stream (Some attrs)) legal ok = by_case (living_stream (log_setup setup) past.log stream) refl where
-  by_case : (living : Option Stream) → living_stream (log_setup setup) past.log stream ≡ living → IsLogHistory (log_setup setup) (log.Opened client stream (option_map_or (λ (_ : Stream). None) living (Some attrs)) (second_of now) ∷ past.log)
+  by_case : (living : Option Stream) → living_stream (log_setup setup) past.log stream ≡ living → IsLogHistory (log_setup setup) (log.Opened client stream (option_map_or (λ (_ : Stream). None) living (Some attrs)) (second_of now) (past.number + 1) ∷ past.log)
   by_case None none = ((ap is_some none, ok), legal)
   by_case (Some found) is = ((create-ok (is_using past.log client) _ _ _ stream attrs ok, ap is_some is), legal)
 log-follows setup past client seq now (LogWrite stream invocation flags time header body) legal ok =
-    let told = write-ok (is_using past.log client) (is_open past.log stream client) (nat_lt 1 flags) (can_write (kind_of stream) time header) (is_full (log_setup setup) past.log stream (record_at time header body now)) ok in
-    ((open-lives (log_setup setup) past.log legal stream client told.1, told.3), legal)
+    let told = write-ok (is_using past.log client) (is_open past.log stream client) (nat_lt 1 flags) (can_write (kind_of stream) time header) (is_filtered (mark_after past.log stream).mask header) (is_full (log_setup setup) past.log stream (record_at time header body now)) ok in
+    by_case (is_filtered (mark_after past.log stream).mask header) (open-living (log_setup setup) past.log legal stream client told.1) told.3 where
+      by_case : (filtered : Bool) → is_some (living_stream (log_setup setup) past.log stream) ≡ true → (filtered ≡ false → is_full (log_setup setup) past.log stream (record_at time header body now) ≡ false) → IsLogHistory (log_setup setup) (cons_option (cond filtered None (Some (log.Stored stream (record_at time header body now) (second_of now)))) past.log)
+      by_case true living fits = legal
+      by_case false living fits = ((living, fits refl), legal)
+log-follows setup past client seq now (LogFilter stream mask) legal ok =
+    (((filter-ok (is_using past.log client) (is_open past.log stream client) (is_notified (kind_of stream) || nat_lt 127 mask) ok).0, ok), legal)
 log-follows setup past client seq now (LogClose stream) legal ok =
     (close-ok (is_using past.log client) (is_open past.log stream client) ok, legal)
 log-follows setup past client seq now LogFini legal ok = (end-ok (is_using past.log client) ok, legal)
@@ -133,7 +128,11 @@ HaveNumbersBelow-push number (alarm ∷ alarms) last below lt = (below.0, HaveNu
 
 pub alarms-below : (setup : Setup) (past : Past) (client seq : ℕ) (now : ℤ) (call : Call) → HaveNumbersBelow (stored_in name.Alarm past.log) (alarms_sent past.ntf) → HaveNumbersBelow (stored_in name.Alarm (past_after setup past client seq now call status.Ok).log) (alarms_sent (past_after setup past client seq now call status.Ok).ntf)
 alarms-below setup past client seq now (LogWrite stream invocation flags time header body) below =
-    HaveNumbersBelow-weaker (stored_in name.Alarm past.log) (stored_in name.Alarm past.log + cond (same_name name.Alarm stream) 1 0) (alarms_sent past.ntf) (omega arith) below
+    by_case (is_filtered (mark_after past.log stream).mask header) where
+      by_case : (filtered : Bool) → HaveNumbersBelow (stored_in name.Alarm (cons_option (cond filtered None (Some (log.Stored stream (record_at time header body now) (second_of now)))) past.log)) (alarms_sent past.ntf)
+      by_case true = below
+      by_case false =
+          HaveNumbersBelow-weaker (stored_in name.Alarm past.log) (stored_in name.Alarm past.log + cond (same_name name.Alarm stream) 1 0) (alarms_sent past.ntf) (omega arith) below
 alarms-below setup past client seq now (NtfSend notification) below = by_case (is_alarm notification.body) where
   stored : ℕ
   stored = stored_in name.Alarm past.log
@@ -199,6 +198,11 @@ pub record HasPossible (setup : Setup) (entries : List Entry) (past : Past) : Ty
 
 log-count : (setup : Setup) (past : Past) (client seq : ℕ) (now : ℤ) (call : Call) → length (past_after setup past client seq now call status.Ok).log ≤ length past.log + 1
 log-count setup past client seq now LogInit = omega arith
+log-count setup past client seq now (LogWrite stream invocation flags time header body) =
+    by_case (is_filtered (mark_after past.log stream).mask header) where
+      by_case : (filtered : Bool) → length (cons_option (cond filtered None (Some (log.Stored stream (record_at time header body now) (second_of now)))) past.log) ≤ length past.log + 1
+      by_case true = omega arith
+      by_case false = omega arith
 log-count setup past client seq now call = omega arith
 
 ntf-count : (setup : Setup) (past : Past) (client seq : ℕ) (now : ℤ) (call : Call) → length (past_after setup past client seq now call status.Ok).ntf ≤ length past.ntf + 1

@@ -8,16 +8,19 @@ use Rattle.ais_values.specs.declared.status.Status.{Status}
 use Rattle.ais_values.specs.declared.status.Status.TheVariants as status
 use Rattle.calls.specs.declared.call.Call.{Call}
 use Rattle.calls.specs.declared.call.Call.TheVariants.{LogWrite, NtfSend}
+use Rattle.calls.specs.declared.reply.Reply.TheVariants.{Marked}
 use Rattle.calls.specs.declared.reply.Reply.{Reply}
 use Rattle.calls.specs.declared.entry.Entry.{Entry}
 use Rattle.calls.specs.declared.entry.Entry.TheVariants.{Called, Receipted}
+use Rattle.stream_config.specs.declared.mark.Mark.{Mark}
 use Rattle.log_history.specs.Changes.{LogChange, Stored}
 use Rattle.log_history.specs.Chronicle.{LogSetup, Stream, chronicle}
 use Rattle.log_history.specs.Answers.{living_stream}
 use Rattle.log_history.specs.Legal.{IsLogHistory}
 use Rattle.log_history.specs.Places.{record_in, stream_number}
 use Rattle.log_history.specs.Table.{state_of, bytes_in}
-use Rattle.log_history.specs.Times.{record_at}
+use Rattle.log_history.specs.Marks.{is_filtered, mark_after}
+use Rattle.log_history.specs.Times.{record_at, second_of}
 use Rattle.log_history.proofs.RecordLaws.{record-stands, record-kept, record-stored, record-new, record-apart}
 use Rattle.log_history.proofs.StampLaws.{stamp-room}
 use Rattle.plain_service.specs.Setups.{Setup, log_setup}
@@ -126,15 +129,19 @@ stored-ok _ (NtfSend notification) told is = cc
 stored-ok _ call told is = cc
 
 -- a call that stores makes a record
-record-made : (setup : Setup) (past : Past) (client : ℕ) (now : ℤ) (call : Call) (told : Reply) → is_stored call told ≡ true → IsLogHistory (log_setup setup) (cons_option (log_change setup past client now call) past.log) → (stored : StoredRecord) × (record_by (log_setup setup) past.log (log_change setup past client now call) ≡ Some stored)
-record-made setup past client now (LogWrite name invocation flags time header body) told is legal =
-    let living = some_of (living_stream (log_setup setup) past.log name) legal.0.0 in
-    (_, ap (option_map (next_record (stream_number (log_setup setup) past.log name) (λ stream. bytes_in (state_of stream) (record_at time header body now)))) living.1)
-record-made setup past client now (NtfSend notification) told is legal =
+record-made : (setup : Setup) (past : Past) (client : ℕ) (now : ℤ) (call : Call) → is_stored call (ok_reply setup past client now call) ≡ true → IsLogHistory (log_setup setup) (cons_option (log_change setup past client now call) past.log) → (stored : StoredRecord) × (record_by (log_setup setup) past.log (log_change setup past client now call) ≡ Some stored)
+record-made setup past client now (LogWrite name invocation flags time header body) is legal =
+    by_case (is_filtered (mark_after past.log name).mask header) (mark_after (cons_option (log_change setup past client now (LogWrite name invocation flags time header body)) past.log) name) is legal where
+      by_case : (filtered : Bool) (mark : Mark) → is_stored (LogWrite name invocation flags time header body) (Marked filtered mark) ≡ true → IsLogHistory (log_setup setup) (cons_option (cond filtered None (Some (Stored name (record_at time header body now) (second_of now)))) past.log) → (stored : StoredRecord) × (record_by (log_setup setup) past.log (cond filtered None (Some (Stored name (record_at time header body now) (second_of now)))) ≡ Some stored)
+      by_case true mark stored history = cc
+      by_case false mark stored history =
+          let living = some_of (living_stream (log_setup setup) past.log name) history.0.0 in
+          (_, ap (option_map (next_record (stream_number (log_setup setup) past.log name) (λ stream. bytes_in (state_of stream) (record_at time header body now)))) living.1)
+record-made setup past client now (NtfSend notification) is legal =
     let name = stream_for notification.body in
     let living = some_of (living_stream (log_setup setup) past.log name) legal.0.0 in
     (_, ap (option_map (next_record (stream_number (log_setup setup) past.log name) (λ stream. bytes_in (state_of stream) (record_for now (accepted_notification past now notification))))) living.1)
-record-made setup past client now call told is legal = cc
+record-made setup past client now call is legal = cc
 
 -- **a call that was answered as stored has a record**
 pub record-told : (setup : Setup) (client seq : ℕ) (now : ℤ) (call : Call) (entries : List Entry) → IsHistory setup (Called client seq now call ∷ entries) → is_stored call (reply_of setup entries client now call) ≡ true → (stored : StoredRecord) × (record_of setup (Called client seq now call ∷ entries) client seq ≡ Some stored)
@@ -142,9 +149,10 @@ unfolding record_of reply_of
 record-told setup client seq now call entries history is =
     let past = past_of setup entries in
     let change = log_change setup past client now call in
-    let ok = stored-ok (status_of setup past client now call) call (ok_reply setup past client call) is in
+    let ok = stored-ok (status_of setup past client now call) call (ok_reply setup past client now call) is in
     let legal : IsLogHistory (log_setup setup) (cons_option (if_ok (status_of setup past client now call) change) past.log) = (possible setup (Called client seq now call ∷ entries) history).log in
-    let made = record-made setup past client now call (reply_by (status_of setup past client now call) (ok_reply setup past client call)) is
+    let made = record-made setup past client now call
+    (subst (λ answered. is_stored call (reply_by answered (ok_reply setup past client now call)) ≡ true) ok is)
     (subst (λ answered. IsLogHistory (log_setup setup) (cons_option (if_ok answered change) past.log)) ok legal) in
     let own : (client == client && seq == seq) ≡ true = grind (arith, nat_tests) in (
       made.0,

@@ -42,11 +42,11 @@ length-replies setup client (Receipted caller key through now ∷ past) = length
 -- a call that the table refuses is told so, and another is told what an ok call is told
 pub reply-refused : (setup : Setup) (past : List Entry) (client : ℕ) (now : ℤ) (call : Call) (refusal : Status) → refusal ≢ status.Ok → status_of setup (past_of setup past) client now call ≡ refusal → reply_of setup past client now call ≡ Refused refusal
 unfolding reply_of
-reply-refused setup past client now call refusal not_ok is = ap (λ s. reply_by s (ok_reply setup (past_of setup past) client call)) is ∙ refused refusal not_ok where
-  refused : (s : Status) → s ≢ status.Ok → reply_by s (ok_reply setup (past_of setup past) client call) ≡ Refused s
+reply-refused setup past client now call refusal not_ok is = ap (λ s. reply_by s (ok_reply setup (past_of setup past) client now call)) is ∙ refused refusal not_ok where
+  refused : (s : Status) → s ≢ status.Ok → reply_by s (ok_reply setup (past_of setup past) client now call) ≡ Refused s
   refused status.Ok never = absurd (never refl)
   refused _ never = refl
 
-pub reply-ok : (setup : Setup) (past : List Entry) (client : ℕ) (now : ℤ) (call : Call) → status_of setup (past_of setup past) client now call ≡ status.Ok → reply_of setup past client now call ≡ ok_reply setup (past_of setup past) client call
+pub reply-ok : (setup : Setup) (past : List Entry) (client : ℕ) (now : ℤ) (call : Call) → status_of setup (past_of setup past) client now call ≡ status.Ok → reply_of setup past client now call ≡ ok_reply setup (past_of setup past) client now call
 unfolding reply_of
-reply-ok setup past client now call is = ap (λ s. reply_by s (ok_reply setup (past_of setup past) client call)) is
+reply-ok setup past client now call is = ap (λ s. reply_by s (ok_reply setup (past_of setup past) client now call)) is

@@ -6,8 +6,10 @@ use Rattle.ais_values.specs.declared.status.Status.TheVariants as status
 use Rattle.stream_config.specs.declared.attrs.FullAction.{FullAction}
 use Rattle.stream_config.specs.declared.attrs.FullAction.TheVariants.{Halt, Rotate}
 use Rattle.stream_config.specs.declared.attrs.StreamAttrs.{StreamAttrs}
+use Rattle.stream_config.specs.declared.attrs.StreamName.TheVariants as name
 use Rattle.stream_config.specs.WellKnown.{default_attrs}
 use Rattle.record_print.specs.Printing.{printed_record}
+use Rattle.record_print.specs.declared.record.Header.TheVariants.{Generic}
 use Rattle.format_expr.specs.Reading.{pieces_of, pieces_from}
 use Rattle.format_expr.specs.Tokens.{part_with, shown_parts}
 use Rattle.ntf_types.specs.declared.notification.Body.TheVariants.{Alarm}
@@ -19,14 +21,15 @@ use Rattle.ntf_filters.specs.FitTests.{is_fit}
 use Rattle.sub_queue.specs.declared.item.Lost.{Lost}
 use Rattle.sub_queue.specs.declared.item.Content.TheVariants.{Notified, Discarded}
 use Rattle.calls.specs.declared.call.Call.{Call}
-use Rattle.calls.specs.declared.call.Call.TheVariants.{LogInit, NtfInit, NtfSend, NtfSubscribe, NtfUnsubscribe, ReaderStart, ReaderRead, ReaderEnd, NtfFini}
-use Rattle.calls.specs.declared.reply.Reply.TheVariants.{Refused, Sent, Found}
+use Rattle.calls.specs.declared.call.Call.TheVariants.{LogInit, LogOpen, LogWrite, LogFilter, NtfInit, NtfSend, NtfSubscribe, NtfUnsubscribe, ReaderStart, ReaderRead, ReaderEnd, NtfFini}
+use Rattle.calls.specs.declared.reply.Reply.TheVariants.{Refused, Sent, Found, Marked}
 use Rattle.calls.specs.declared.entry.Entry.{Entry}
 use Rattle.calls.specs.declared.entry.Entry.TheVariants.{Called, Receipted}
 use Rattle.calls.specs.declared.entry.Held.{Held}
 use Rattle.plain_service.specs.Setups.{Setup}
 use Rattle.plain_service.specs.Replies.{reply_of, next_number}
 use Rattle.plain_service.specs.Items.{items_of, held_for, made_for, through_for, is_new_receipt}
+use Rattle.plain_service.specs.Records.{record_of}
 use Rattle.plain_service.specs.Asked.{sub_for, sends_asked, sends_dropped}
 
 -- 2024-01-01T00:00:00 UTC
@@ -188,6 +191,42 @@ both_stand = refl
 first_gone : reply_of (freely 3 Rotate) rotated 1 now (ReaderRead 1) ≡ Refused status.NotExist
 unfolding reply_of is_fit is_sound admits admits_option admits_common admits_body printed_record pieces_of pieces_from part_with shown_parts
 first_gone = refl
+
+-- two clients have the system stream open; the fifth entry sets a mask that lets warnings alone pass, and a notice is filtered
+abbrev both_open : List Entry
+both_open =
+    called 2 (LogOpen name.System None) (called 2 LogInit (called 1 (LogOpen name.System None) (called 1 LogInit [])))
+
+abbrev masked : List Entry
+masked = called 1 (LogFilter name.System 8) both_open
+
+abbrev write : (severity : ℕ) → Call
+write severity =
+    LogWrite name.System 7 1 now (Generic (record { vendor = 0; major = 0; minor = 0 }) (codes "u") severity) (codes "x")
+
+mask_set : reply_of setup both_open 1 now (LogFilter name.System 8) ≡ Marked false (record { since = 5; mask = 8 })
+unfolding reply_of
+mask_set = refl
+
+notice_filtered : reply_of setup masked 2 now (write 6) ≡ Marked true (record { since = 5; mask = 8 })
+unfolding reply_of
+notice_filtered = refl
+
+notice_gone : record_of setup (called 2 (write 6) masked) 2 3 ≡ None
+unfolding record_of
+notice_gone = refl
+
+warning_written : reply_of setup masked 2 now (write 3) ≡ Marked false (record { since = 5; mask = 8 })
+unfolding reply_of
+warning_written = refl
+
+no_such_mask : reply_of setup both_open 1 now (LogFilter name.System 128) ≡ Refused status.InvalidParam
+unfolding reply_of
+no_such_mask = refl
+
+none_open : reply_of setup both_open 1 now (LogFilter name.Alarm 1) ≡ Refused status.BadHandle
+unfolding reply_of
+none_open = refl
 
 -- a service that is not begun refuses, and one that is begun is not begun again
 not_begun : reply_of setup [] 1 now (NtfUnsubscribe 1) ≡ Refused status.BadHandle

@@ -1,5 +1,5 @@
 -- What is kept after one more entry of a history is what the entry's change makes of what was kept before.
-use Rattle.std.proofs.Common.{◌≡◌, ℕ, List, ◌∷◌, refl}
+use Rattle.std.proofs.Common.{◌≡◌, ℕ, List, [], ◌∷◌, length, refl, arith}
 use Rattle.std.specs.Prelude.{Option, Some, None, ℤ}
 use Rattle.std.specs.Option.{option_map_or}
 use Rattle.std.specs.List.{cons_option}
@@ -21,6 +21,12 @@ use Rattle.plain_service.specs.Changing.{past_of, ntf_change, if_ok}
 use Rattle.plain_service.specs.Legal.{IsHistory}
 use Rattle.plain_service.specs.Storing.{log_change_by}
 use Rattle.plain_service.proofs.Possible.{possible}
+
+-- each entry is counted
+pub count-is : (setup : Setup) (entries : List Entry) → (past_of setup entries).number ≡ length entries
+count-is setup [] = refl
+count-is setup (Called client seq now call ∷ entries) = omega (arith, count-is setup entries)
+count-is setup (Receipted client key through now ∷ entries) = omega (arith, count-is setup entries)
 
 log-option : (setup : LogSetup) (past : List LogChange) (change : Option LogChange) → IsLogHistory setup (cons_option change past) → table setup (cons_option change past) ≡ option_map_or (λ c. table_after c (table setup past)) change (table setup past)
 log-option setup past None legal = refl

@@ -12,7 +12,7 @@ use Rattle.stream_config.specs.Stamps.{stamp_after}
 use Rattle.record_print.specs.declared.record.LogRecord.{LogRecord}
 use Rattle.log_history.specs.Names.{is_application}
 use Rattle.log_history.specs.Firsts.{change_first}
-use Rattle.log_history.specs.Changes.{LogChange, Began, Opened, Stored, Closed, Ended}
+use Rattle.log_history.specs.Changes.{LogChange, Began, Opened, Stored, Filtered, Closed, Ended}
 use Rattle.log_history.specs.Handles.{openers}
 use Rattle.log_history.specs.Chronicle.{LogSetup, Stream, Chronicle, new_stream, lives, is_living, is_empty, is_ending, with_record, with_end, all_ended, after_ends, chronicle}
 use Rattle.log_history.specs.Answers.{living_stream}
@@ -183,11 +183,12 @@ well_known setup [] = record {
   system_is = record { named = refl; living = refl; attributes = refl; counted = refl };
 }
 well_known setup (Began client ∷ past) = well_known setup past
-well_known setup (Opened client opened None second ∷ past) = well_known setup past
-well_known setup (Opened client opened (Some attrs) second ∷ past) =
+well_known setup (Opened client opened None second number ∷ past) = well_known setup past
+well_known setup (Opened client opened (Some attrs) second number ∷ past) =
     HaveWell-made setup (stored_in name.Alarm past) (stored_in name.Notification past) (stored_in name.System past) (new_stream opened attrs (stamp_after (chronicle setup past).last second)) (chronicle setup past).streams (well_known setup past)
 well_known setup (Stored other rec second ∷ past) =
     HaveWell-stored setup (stored_in name.Alarm past) (stored_in name.Notification past) (stored_in name.System past) (chronicle setup past).last second rec other (chronicle setup past).streams (well_known setup past)
+well_known setup (Filtered client filtered mask number ∷ past) = well_known setup past
 well_known setup (Closed client closed second ∷ past) =
     HaveWell-ends setup (stored_in name.Alarm past) (stored_in name.Notification past) (stored_in name.System past) second (Closed client closed second ∷ past) (chronicle setup past) (well_known setup past)
 well_known setup (Ended client second ∷ past) =
@@ -204,8 +205,9 @@ alarm-beside setup (Stored name.Alarm rec second) past beside = absurd (omega (a
 alarm-beside setup (Stored name.Notification rec second) past beside = refl
 alarm-beside setup (Stored name.System rec second) past beside = refl
 alarm-beside setup (Stored (name.App own) rec second) past beside = refl
-alarm-beside setup (Opened client opened None second) past beside = refl
-alarm-beside setup (Opened client opened (Some attrs) second) past beside = refl
+alarm-beside setup (Opened client opened None second number) past beside = refl
+alarm-beside setup (Opened client opened (Some attrs) second number) past beside = refl
+alarm-beside setup (Filtered client filtered mask number) past beside = refl
 alarm-beside setup (Began client) past beside = refl
 alarm-beside setup (Closed client closed second) past beside = refl
 alarm-beside setup (Ended client second) past beside = refl
@@ -246,7 +248,8 @@ at-most-one false = omega arith
 pub stored_in-bound : (name : StreamName) (past : List LogChange) → stored_in name past ≤ length past
 stored_in-bound name [] = omega arith
 stored_in-bound name (Began client ∷ past) = omega (arith, stored_in-bound name past)
-stored_in-bound name (Opened client opened making second ∷ past) = omega (arith, stored_in-bound name past)
+stored_in-bound name (Opened client opened making second number ∷ past) = omega (arith, stored_in-bound name past)
+stored_in-bound name (Filtered client filtered mask number ∷ past) = omega (arith, stored_in-bound name past)
 stored_in-bound name (Stored other rec second ∷ past) = omega (arith, stored_in-bound name past, at-most-one (same_name name other))
 stored_in-bound name (Closed client closed second ∷ past) = omega (arith, stored_in-bound name past)
 stored_in-bound name (Ended client second ∷ past) = omega (arith, stored_in-bound name past)

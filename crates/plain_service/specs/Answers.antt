@@ -5,10 +5,11 @@ use Rattle.std.specs.Option.{option_map_or}
 use Rattle.ais_values.specs.declared.status.Status.{Status}
 use Rattle.stream_config.specs.Attributes.{kind_of}
 use Rattle.calls.specs.declared.call.Call.{Call}
-use Rattle.calls.specs.declared.call.Call.TheVariants.{LogInit, LogOpen, LogWrite, LogClose, LogFini, NtfInit, NtfSend}
+use Rattle.calls.specs.declared.call.Call.TheVariants.{LogInit, LogOpen, LogWrite, LogFilter, LogClose, LogFini, NtfInit, NtfSend}
 use Rattle.calls.specs.declared.call.Call.TheVariants.{NtfSubscribe, NtfUnsubscribe, ReaderStart, ReaderRead, ReaderEnd, NtfFini}
 use Rattle.log_history.specs.Handles.{is_using, is_open}
-use Rattle.log_history.specs.Answers.{answer, begin_rows, open_rows, write_rows, close_rows, end_rows, living_attrs, is_place_taken, is_crowded, is_full}
+use Rattle.log_history.specs.Answers.{answer, begin_rows, open_rows, write_rows, filter_rows, close_rows, end_rows, living_attrs, is_place_taken, is_crowded, is_full}
+use Rattle.log_history.specs.Marks.{is_filtered, mark_after}
 use Rattle.log_history.specs.Times.{record_at}
 use Rattle.ntf_history.specs.Rows as ntf
 use Rattle.plain_service.specs.Setups.{Setup, log_setup}
@@ -22,8 +23,10 @@ rows_of setup past client now (LogOpen name create) =
     open_rows (is_using past.log client) (living_attrs (log_setup setup) past.log name)
     (option_map_or (is_place_taken (log_setup setup) past.log) create false) (is_crowded (log_setup setup) past.log) name create
 rows_of setup past client now (LogWrite name invocation flags time header body) =
-    write_rows (is_using past.log client) (is_open past.log name client)
+    write_rows (is_using past.log client) (is_open past.log name client) (is_filtered (mark_after past.log name).mask header)
     (is_full (log_setup setup) past.log name (record_at time header body now)) (kind_of name) flags time header
+rows_of setup past client now (LogFilter name mask) =
+    filter_rows (is_using past.log client) (is_open past.log name client) name mask
 rows_of setup past client now (LogClose name) = close_rows (is_using past.log client) (is_open past.log name client)
 rows_of setup past client now LogFini = end_rows (is_using past.log client)
 rows_of setup past client now NtfInit = ntf.begin_rows past.ntf client

@@ -1,5 +1,5 @@
 -- Words of public clauses: what each entry of a history changes. A history is a list of entries, the newest first.
-use Rattle.std.specs.Prelude.{ℕ, ℤ, List, [], ◌∷◌, Option, Some, None}
+use Rattle.std.specs.Prelude.{ℕ, ◌+◌, ℤ, if◌then◌else◌, List, [], ◌∷◌, Option, Some, None}
 use Rattle.std.specs.List.{cons_option}
 use Rattle.std.specs.Prelude.{option_map}
 use Rattle.ais_values.specs.declared.status.Status.{Status}
@@ -7,8 +7,9 @@ use Rattle.ais_values.specs.declared.status.Status.TheVariants as status
 use Rattle.ntf_types.specs.declared.notification.Notification.{Notification}
 use Rattle.stream_config.specs.declared.attrs.StreamAttrs.{StreamAttrs}
 use Rattle.stream_config.specs.declared.attrs.StreamName.{StreamName}
+use Rattle.stream_config.specs.declared.mark.Mark.{Mark}
 use Rattle.calls.specs.declared.call.Call.{Call}
-use Rattle.calls.specs.declared.call.Call.TheVariants.{LogInit, LogOpen, LogWrite, LogClose, LogFini, NtfInit, NtfSend}
+use Rattle.calls.specs.declared.call.Call.TheVariants.{LogInit, LogOpen, LogWrite, LogFilter, LogClose, LogFini, NtfInit, NtfSend}
 use Rattle.calls.specs.declared.call.Call.TheVariants.{NtfSubscribe, NtfUnsubscribe, ReaderStart, ReaderRead, ReaderEnd, NtfFini}
 use Rattle.calls.specs.declared.entry.Entry.{Entry}
 use Rattle.calls.specs.declared.entry.Entry.TheVariants.{Called, Receipted}
@@ -17,6 +18,7 @@ use Rattle.alarm_view.specs.Nearest.{cursor_before, cursor_after}
 use Rattle.log_history.specs.Changes.{LogChange}
 use Rattle.log_history.specs.Changes.{LogChange as log}
 use Rattle.log_history.specs.Answers.{making_of}
+use Rattle.log_history.specs.Marks.{is_filtered, mark_after}
 use Rattle.log_history.specs.Times.{second_of, record_at}
 use Rattle.ntf_history.specs.Changes.{NtfChange}
 use Rattle.ntf_history.specs.Changes.{NtfChange as ntf}
@@ -28,24 +30,25 @@ use Rattle.plain_service.specs.Pasts.{Past, no_past}
 use Rattle.plain_service.specs.Alarms.{accepted_notification, stream_for, record_for, taken_by, alarms_stored}
 use Rattle.plain_service.specs.Answers.{status_of}
 
--- what an ok call changes in the Log Service, by what an open makes and how a notification is accepted; a send stores its notification's
--- record
+-- what an ok call changes in the Log Service, by what an open makes, how a notification is accepted, the marks of streams, and the
+-- number of its entry; a write that is filtered changes nothing, and a send stores its notification's record
 abbrev pub log_change_with : (making : StreamName → Option StreamAttrs → Option StreamAttrs) (accepting : ℤ → Notification → Notification)
-    (client : ℕ) (now : ℤ) → Call → Option LogChange
-log_change_with making accepting client now LogInit = Some (log.Began client)
-log_change_with making accepting client now (LogOpen name create) =
-    Some (log.Opened client name (making name create) (second_of now))
-log_change_with making accepting client now (LogWrite name invocation flags time header body) =
-    Some (log.Stored name (record_at time header body now) (second_of now))
-log_change_with making accepting client now (LogClose name) = Some (log.Closed client name (second_of now))
-log_change_with making accepting client now LogFini = Some (log.Ended client (second_of now))
-log_change_with making accepting client now (NtfSend notification) =
+    (marking : StreamName → Mark) (client number : ℕ) (now : ℤ) → Call → Option LogChange
+log_change_with making accepting marking client number now LogInit = Some (log.Began client)
+log_change_with making accepting marking client number now (LogOpen name create) =
+    Some (log.Opened client name (making name create) (second_of now) number)
+log_change_with making accepting marking client number now (LogWrite name invocation flags time header body) =
+    if is_filtered (marking name).mask header then None else Some (log.Stored name (record_at time header body now) (second_of now))
+log_change_with making accepting marking client number now (LogFilter name mask) = Some (log.Filtered client name mask number)
+log_change_with making accepting marking client number now (LogClose name) = Some (log.Closed client name (second_of now))
+log_change_with making accepting marking client number now LogFini = Some (log.Ended client (second_of now))
+log_change_with making accepting marking client number now (NtfSend notification) =
     Some (log.Stored (stream_for notification.body) (record_for now (accepting now notification)) (second_of now))
-log_change_with making accepting client now _ = None
+log_change_with making accepting marking client number now _ = None
 
 abbrev pub log_change : Setup → Past → (client : ℕ) (now : ℤ) → Call → Option LogChange
 log_change setup past client now call =
-    log_change_with (making_of (log_setup setup) past.log) (accepted_notification past) client now call
+    log_change_with (making_of (log_setup setup) past.log) (accepted_notification past) (mark_after past.log) client (past.number + 1) now call
 
 -- what an ok call changes in the Notification Service, by how many records a stream has taken; the number of a call that subscribes is the
 -- subscription's key
@@ -84,6 +87,7 @@ past_after setup past client seq now call answered = record {
   log = cons_option (if_ok answered (log_change setup past client now call)) past.log;
   ntf = cons_option (if_ok answered (ntf_change setup past client seq now call)) past.ntf;
   readings = cons_option (if_ok answered (reader_change setup past client call)) past.readings;
+  number = past.number + 1;
 }
 
 -- all that happened, with a call
@@ -97,6 +101,7 @@ past_received past client key through = record {
   log = past.log;
   ntf = ntf.Receipted client key through ∷ past.ntf;
   readings = past.readings;
+  number = past.number + 1;
 }
 
 -- what the entries of a history changed

@@ -5,8 +5,12 @@ use Rattle.std.specs.List.{AllByRecursion}
 use Rattle.client_set.specs.Members.{has}
 use Rattle.client_set.specs.Rising.{IsRising}
 use Rattle.ais_values.specs.Codes.{all_differ}
+use Rattle.format_expr.specs.Language.{is_notified}
+use Rattle.stream_config.specs.declared.attrs.StreamName.{StreamName}
 use Rattle.stream_config.specs.declared.attrs.StreamName.TheVariants as name
+use Rattle.stream_config.specs.declared.mark.Mark.{Mark}
 use Rattle.stream_config.specs.declared.state.StreamState.{StreamState}
+use Rattle.stream_config.specs.Marks.{first_mark}
 use Rattle.stream_config.specs.Attributes.{kind_of, PassesAttrs}
 use Rattle.stream_config.specs.AttributeTests.{have_one_place}
 use Rattle.stream_config.specs.Equality.{same_name}
@@ -52,8 +56,14 @@ pub record HaveFitWindows (saved : Saved) : Type 0 where
   pub clients : AreClients (map (λ (window : SavedWindow). window.client) saved.windows)
   pub each : AllByRecursion (IsFitWindow saved.number) saved.windows
 
--- a living stream: its attributes pass, users have it open, its files are those of so many records, and no more were taken than
--- entries accepted
+-- the mark of a stream: there is such a mask, and such an entry; the alarm and the notification stream were never set
+pub record IsFitMark (number : ℕ) (stream : StreamName) (mark : Mark) : Type 0 where
+  pub mask : mark.mask ≤ 127
+  pub since : mark.since ≤ number
+  pub unset : is_notified (kind_of stream) ≡ true → mark ≡ first_mark
+
+-- a living stream: its attributes pass, users have it open, its files are those of so many records, no more were taken than entries
+-- accepted, and its mark is fit
 pub record IsFitStream (saved : Saved) (stream : SavedStream) : Type 0 where
   pub attributes : PassesAttrs (kind_of stream.state.name) stream.state.attrs
   pub openers : AreClients stream.openers
@@ -61,6 +71,7 @@ pub record IsFitStream (saved : Saved) (stream : SavedStream) : Type 0 where
   pub files : HasFitFiles stream.state
   pub stamps : AllByRecursion (IsStampUpTo saved.last_stamp) (stamps_of stream.state.files)
   pub taken : stream.state.taken ≤ saved.number
+  pub mark : IsFitMark saved.number stream.state.name stream.mark
 
 -- a stream of an application lives while somebody has it open
 pub record IsOfApplication (stream : SavedStream) : Type 0 where

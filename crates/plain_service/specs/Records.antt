@@ -4,7 +4,7 @@ use Rattle.disk_model.specs.Disk.{Files}
 use Rattle.calls.specs.declared.call.Call.{Call}
 use Rattle.calls.specs.declared.call.Call.TheVariants.{LogWrite, NtfSend}
 use Rattle.calls.specs.declared.reply.Reply.{Reply}
-use Rattle.calls.specs.declared.reply.Reply.TheVariants.{Done, Sent}
+use Rattle.calls.specs.declared.reply.Reply.TheVariants.{Marked, Sent}
 use Rattle.calls.specs.declared.entry.Entry.{Entry}
 use Rattle.calls.specs.declared.entry.Entry.TheVariants.{Called, Receipted}
 use Rattle.log_history.specs.Changes.{LogChange, Stored}
@@ -51,8 +51,8 @@ place_of setup past stored = log.place_in (log_setup setup) (past_of setup past)
 abbrev pub IsAt : StoredRecord → List ℕ × ℕ → Files → Type 0
 IsAt stored place files = log.IsAt stored.bytes place files
 
--- a reply says that the call stored a record
+-- a reply says that the call stored a record: a write that is filtered stores none
 abbrev pub is_stored : Call → Reply → Bool
-is_stored (LogWrite name invocation flags time header body) Done = true
+is_stored (LogWrite name invocation flags time header body) (Marked false mark) = true
 is_stored (NtfSend notification) (Sent id) = true
 is_stored _ _ = false

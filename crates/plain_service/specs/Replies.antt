@@ -1,16 +1,19 @@
 -- Words of public clauses: replies, and what is kept of the calls of each client.
-use Rattle.std.specs.Prelude.{◌≡◌, ⊤, ◌++◌, ℕ, ◌+◌, ℤ, nat_lt, ◌==◌, if◌then◌else◌, List, [], ◌∷◌, length, take, reverse, map, Option, Some, None}
+use Rattle.std.specs.Prelude.{◌≡◌, ⊤, ◌++◌, ℕ, ◌+◌, ℤ, nat_lt, ◌==◌, Bool, false, if◌then◌else◌, List, [], ◌∷◌, length, take, reverse, map, Option, Some, None}
+use Rattle.std.specs.List.{cons_option}
 use Rattle.client_set.specs.Rising.{put}
 use Rattle.ais_values.specs.declared.status.Status.{Status}
 use Rattle.ais_values.specs.declared.status.Status.TheVariants as status
 use Rattle.ntf_types.specs.declared.notification.Notification.{Notification}
 use Rattle.calls.specs.declared.call.Call.{Call}
-use Rattle.calls.specs.declared.call.Call.TheVariants.{NtfSend, ReaderRead}
+use Rattle.calls.specs.declared.call.Call.TheVariants.{LogOpen, LogWrite, LogFilter, NtfSend, ReaderRead}
 use Rattle.calls.specs.declared.reply.Reply.{Reply}
-use Rattle.calls.specs.declared.reply.Reply.TheVariants.{Refused, Done, Sent, Found}
+use Rattle.calls.specs.declared.reply.Reply.TheVariants.{Refused, Done, Sent, Found, Marked}
 use Rattle.calls.specs.declared.entry.Entry.{Entry}
 use Rattle.calls.specs.declared.entry.Entry.TheVariants.{Called, Receipted}
 use Rattle.calls.specs.declared.saved.SavedWindow.{SavedWindow}
+use Rattle.stream_config.specs.declared.attrs.StreamName.{StreamName}
+use Rattle.log_history.specs.Marks.{is_filtered, mark_after}
 use Rattle.ntf_history.specs.Changes.{last_id}
 use Rattle.ntf_history.specs.Readers.{reader_of}
 use Rattle.ntf_history.specs.Rows.{read_by}
@@ -18,19 +21,30 @@ use Rattle.plain_service.specs.Setups.{Setup}
 use Rattle.plain_service.specs.Pasts.{Past}
 use Rattle.plain_service.specs.Alarms.{alarms_stored}
 use Rattle.plain_service.specs.Answers.{status_of}
-use Rattle.plain_service.specs.Changing.{past_of}
+use Rattle.plain_service.specs.Changing.{past_of, log_change}
 
 -- the reply with the alarm that was read
 abbrev pub found_reply : Option Notification → Reply
 found_reply None = Done
 found_reply (Some alarm) = Found alarm
 
--- what an ok call is told: a send its notification's id, a read the alarm, and all others nothing more
-abbrev pub ok_reply : Setup → Past → (client : ℕ) → Call → Reply
-ok_reply setup past client (NtfSend notification) = Sent (last_id past.ntf + 1)
-ok_reply setup past client (ReaderRead direction) =
+-- the reply with the mark that a stream has once the call is made
+abbrev pub marked_reply : Setup → Past → (client : ℕ) (now : ℤ) → Call → (filtered : Bool) → StreamName → Reply
+marked_reply setup past client now call filtered name =
+    Marked filtered (mark_after (cons_option (log_change setup past client now call) past.log) name)
+
+-- what an ok call is told: an open, a write and one that sets a mask the stream's mark, a write also whether it was filtered; a send
+-- its notification's id, a read the alarm, and all others nothing more
+abbrev pub ok_reply : Setup → Past → (client : ℕ) (now : ℤ) → Call → Reply
+ok_reply setup past client now (LogOpen name create) = marked_reply setup past client now (LogOpen name create) false name
+ok_reply setup past client now (LogWrite name invocation flags time header body) =
+    marked_reply setup past client now (LogWrite name invocation flags time header body)
+    (is_filtered (mark_after past.log name).mask header) name
+ok_reply setup past client now (LogFilter name mask) = marked_reply setup past client now (LogFilter name mask) false name
+ok_reply setup past client now (NtfSend notification) = Sent (last_id past.ntf + 1)
+ok_reply setup past client now (ReaderRead direction) =
     found_reply (read_by (reader_of past.readings client) direction (alarms_stored setup past))
-ok_reply setup past client _ = Done
+ok_reply setup past client now _ = Done
 
 -- the reply of a status
 abbrev pub reply_by : Status → Reply → Reply
@@ -39,7 +53,7 @@ reply_by refusal told = Refused refusal
 
 -- the reply to a client's call, accepted at a moment after all that happened
 abbrev pub reply_after : Setup → Past → (client : ℕ) (now : ℤ) → Call → Reply
-reply_after setup past client now call = reply_by (status_of setup past client now call) (ok_reply setup past client call)
+reply_after setup past client now call = reply_by (status_of setup past client now call) (ok_reply setup past client now call)
 
 -- the reply to a client's call, accepted at a moment after a history
 unfoldable pub reply_of : Setup → List Entry → (client : ℕ) (now : ℤ) → Call → Reply

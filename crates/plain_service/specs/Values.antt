@@ -18,9 +18,9 @@ use Rattle.plain_service.specs.Alarms.{alarms_stored}
 use Rattle.plain_service.specs.Changing.{past_of}
 use Rattle.plain_service.specs.Replies.{windows_of}
 
--- a living stream, with its attributes, its files and those that have it open
+-- a living stream, with its attributes and its files, those that have it open, and its mark
 abbrev pub saved_stream : OpenStream → SavedStream
-saved_stream stream = record { state = stream.state; openers = stream.openers }
+saved_stream stream = record { state = stream.state; openers = stream.openers; mark = stream.mark }
 
 -- a stored alarm, with the number of its record
 abbrev pub saved_alarm : KeptAlarm → SavedAlarm

@@ -40,7 +40,7 @@ pub fn law_of_replies()
         answered ≢ status.Ok → reply_of setup past client now call ≡ Refused answered }
     ensures told { (setup : Setup) (past : List EntryOf) (client : ℕ) (now : ℤ) (call : CallOf) →
         status_of setup (past_of setup past) client now call ≡ status.Ok →
-        reply_of setup past client now call ≡ ok_reply setup (past_of setup past) client call }
+        reply_of setup past client now call ≡ ok_reply setup (past_of setup past) client now call }
 {}
 
 /// The ids that sends are told are 1, 2, 3 and so on: the next is one above the count of those
