@@ -1,5 +1,5 @@
 -- The stored alarms after one more call are what the call makes of those stored before.
-use Rattle.std.proofs.Common.{◌≡◌, ℕ, ◌≤◌, nat_le, Bool, true, false, cond, List, [], ◌∷◌, ◌++◌, refl, ap, sym, ◌∙◌}
+use Rattle.std.proofs.Common.{◌≡◌, ℕ, ◌+◌, ◌≤◌, nat_le, Bool, true, false, cond, List, [], ◌∷◌, ◌++◌, refl, ap, sym, ◌∙◌}
 use Rattle.std.specs.Prelude.{Option, Some, None, option_map, ℤ}
 use Rattle.std.specs.Option.{option_map_or}
 use Rattle.std.specs.List.{cons_option}
@@ -13,14 +13,15 @@ use Rattle.record_print.specs.declared.record.LogRecord.{LogRecord}
 use Rattle.alarm_view.specs.declared.alarm.KeptAlarm.{KeptAlarm}
 use Rattle.alarm_view.specs.Alarms.{kept_alarm, from_record}
 use Rattle.calls.specs.declared.call.Call.{Call}
-use Rattle.calls.specs.declared.call.Call.TheVariants.{LogInit, LogOpen, LogWrite, LogClose, LogFini, NtfInit, NtfSend, NtfSubscribe, NtfUnsubscribe, ReaderStart, ReaderRead, ReaderEnd, NtfFini}
+use Rattle.calls.specs.declared.call.Call.TheVariants.{LogInit, LogOpen, LogWrite, LogFilter, LogClose, LogFini, NtfInit, NtfSend, NtfSubscribe, NtfUnsubscribe, ReaderStart, ReaderRead, ReaderEnd, NtfFini}
 use Rattle.log_history.specs.Answers.{making_of}
 use Rattle.log_history.specs.Changes.{LogChange}
 use Rattle.log_history.specs.Changes.{LogChange as log}
 use Rattle.log_history.specs.Chronicle.{chronicle}
 use Rattle.log_history.specs.Legal.{IsLogHistory}
 use Rattle.log_history.specs.Table.{OpenStream, open_stream, table}
-use Rattle.log_history.specs.Times.{second_of}
+use Rattle.log_history.specs.Marks.{is_filtered, mark_after}
+use Rattle.log_history.specs.Times.{second_of, record_at}
 use Rattle.log_history.proofs.TableLaws.{find-living}
 use Rattle.ntf_history.specs.Changes.{NtfChange}
 use Rattle.ntf_history.specs.Changes.{NtfChange as ntf}
@@ -88,8 +89,13 @@ unstored setup past change beside = ap (λ first. stored_alarms first past.ntf) 
 pub alarms-ok : (setup : Setup) (past : Past) (client seq : ℕ) (now : ℤ) (call : Call) → IsLogHistory (log_setup setup) past.log → alarms_stored setup (past_after setup past client seq now call status.Ok) ≡ alarms_after (log_change setup past client now call) (ntf_change setup past client seq now call) (table (log_setup setup) (cons_option (log_change setup past client now call) past.log)).streams (alarms_stored setup past)
 alarms-ok setup past client seq now LogInit legal = unstored setup past (log.Began client) refl
 alarms-ok setup past client seq now (LogOpen stream create) legal =
-    unstored setup past (log.Opened client stream (making_of (log_setup setup) past.log stream create) (second_of now)) refl
-alarms-ok setup past client seq now (LogWrite stream invocation flags time header body) legal = after-stored setup stream _ _ None past legal
+    unstored setup past (log.Opened client stream (making_of (log_setup setup) past.log stream create) (second_of now) (past.number + 1)) refl
+alarms-ok setup past client seq now (LogWrite stream invocation flags time header body) legal =
+    by_case (is_filtered (mark_after past.log stream).mask header) where
+      by_case : (filtered : Bool) → stored_alarms (first_standing setup (cons_option (cond filtered None (Some (log.Stored stream (record_at time header body now) (second_of now)))) past.log)) past.ntf ≡ alarms_after (cond filtered None (Some (log.Stored stream (record_at time header body now) (second_of now)))) None (table (log_setup setup) (cons_option (cond filtered None (Some (log.Stored stream (record_at time header body now) (second_of now)))) past.log)).streams (alarms_stored setup past)
+      by_case true = refl
+      by_case false = after-stored setup stream _ _ None past legal
+alarms-ok setup past client seq now (LogFilter stream mask) legal = unstored setup past (log.Filtered client stream mask (past.number + 1)) refl
 alarms-ok setup past client seq now (LogClose stream) legal = unstored setup past (log.Closed client stream (second_of now)) refl
 alarms-ok setup past client seq now LogFini legal = unstored setup past (log.Ended client (second_of now)) refl
 alarms-ok setup past client seq now NtfInit legal = refl

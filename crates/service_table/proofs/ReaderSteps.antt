@@ -12,7 +12,7 @@ use Rattle.alarm_view.specs.Nearest.{cursor_before, cursor_after}
 use Rattle.client_set.specs.Rising.{put, without}
 use Rattle.client_set.proofs.RisingLaws.{map-put, map-without}
 use Rattle.calls.specs.declared.call.Call.{Call}
-use Rattle.calls.specs.declared.call.Call.TheVariants.{LogInit, LogOpen, LogWrite, LogClose, LogFini, NtfInit, NtfSend, NtfSubscribe, NtfUnsubscribe, ReaderStart, ReaderRead, ReaderEnd, NtfFini}
+use Rattle.calls.specs.declared.call.Call.TheVariants.{LogInit, LogOpen, LogWrite, LogFilter, LogClose, LogFini, NtfInit, NtfSend, NtfSubscribe, NtfUnsubscribe, ReaderStart, ReaderRead, ReaderEnd, NtfFini}
 use Rattle.calls.specs.declared.saved.SavedReader.{SavedReader}
 use Rattle.ntf_history.specs.Readers.{Reader, ReaderChange, reader_of, reader_first, is_reader_of, move, readers}
 use Rattle.ntf_history.specs.Readers.{ReaderChange as reading}
@@ -62,6 +62,7 @@ readers-ok setup past client NtfFini = stopped client past.readings
 readers-ok setup past client LogInit = refl
 readers-ok setup past client (LogOpen stream create) = refl
 readers-ok setup past client (LogWrite stream invocation flags time header body) = refl
+readers-ok setup past client (LogFilter stream mask) = refl
 readers-ok setup past client (LogClose stream) = refl
 readers-ok setup past client LogFini = refl
 readers-ok setup past client NtfInit = refl

@@ -1,13 +1,16 @@
 -- What is kept after one more entry of a history is what the entry makes of what was kept before.
 use Rattle.std.proofs.Common.{◌≡◌, ℕ, ◌+◌, List, [], ◌∷◌, length, map, refl, ap, sym, ◌∙◌, arith}
-use Rattle.std.specs.Prelude.{ℤ}
+use Rattle.std.specs.Prelude.{ℤ, Option}
 use Rattle.std.specs.Option.{option_map_or}
+use Rattle.ais_values.specs.declared.status.Status.{Status}
+use Rattle.ais_values.specs.declared.status.Status.TheVariants as status
 use Rattle.stream_config.specs.declared.event.StreamEvent.{StreamEvent}
 use Rattle.alarm_view.specs.declared.alarm.KeptAlarm.{KeptAlarm}
 use Rattle.calls.specs.declared.call.Call.{Call}
 use Rattle.calls.specs.declared.entry.Entry.{Entry}
 use Rattle.calls.specs.declared.entry.Entry.TheVariants.{Called, Receipted}
 use Rattle.calls.specs.declared.saved.SavedReader.{SavedReader}
+use Rattle.log_history.specs.Changes.{LogChange}
 use Rattle.log_history.specs.Table.{LogTable, table, events_of}
 use Rattle.ntf_history.specs.Tables.{NtfTable, table_of}
 use Rattle.ntf_history.specs.Readers.{readers}
@@ -21,7 +24,7 @@ use Rattle.log_history.specs.Deeds.{deeds_of_all}
 use Rattle.plain_service.specs.Storing.{events_by, deeds_of}
 use Rattle.plain_service.specs.Values.{saved_reader}
 use Rattle.plain_service.proofs.Possible.{possible}
-use Rattle.plain_service.proofs.StepLaws.{log-step, ntf-step, receipt-step}
+use Rattle.plain_service.proofs.StepLaws.{count-is, log-step, ntf-step, receipt-step}
 use Rattle.service_table.specs.declared.caller.ClientWindow.{ClientWindow}
 use Rattle.service_table.specs.Tables.{ServiceTable}
 use Rattle.service_table.specs.Answering.{status_in, reply_in}
@@ -52,16 +55,21 @@ same_parts number number' log log' ntf ntf' alarms alarms' readings readings' wi
     ∙ ap (λ x. of_parts number' log' ntf' alarms' x windows) e
     ∙ ap (λ x. of_parts number' log' ntf' alarms' readings' x) f
 
+-- a change counts where the answer is ok
+changed-same : (answered : Status) (one other : Option LogChange) → (answered ≡ status.Ok → one ≡ other) → if_ok answered one ≡ if_ok answered other
+changed-same status.Ok one other same = same refl
+changed-same _ one other same = refl
+
 module _ (setup : Setup) (entries : List Entry) (history : IsHistory setup entries) where
   pub reply-is : (client : ℕ) (now : ℤ) (call : Call) → reply_in (service_of setup entries) client now call ≡ reply_of setup entries client now call
   unfolding service_of reply_of
-  reply-is client now call = reply-with setup entries (past_of setup entries) (possible setup entries history).log client now call
+  reply-is client now call = reply-with setup entries (past_of setup entries) (possible setup entries history).log (count-is setup entries) client now call
 
   log-changed : (client : ℕ) (now : ℤ) (call : Call) → if_ok (status_in (table_with setup entries (past_of setup entries)) client now call) (log_change_in (table_with setup entries (past_of setup entries)) client now call) ≡ if_ok (status_of setup (past_of setup entries) client now call) (log_change setup (past_of setup entries) client now call)
   log-changed client now call =
       let past = past_of setup entries in
       ap (λ status. if_ok status (log_change_in (table_with setup entries past) client now call)) (status-with setup entries past (possible setup entries history).log client now call)
-      ∙ ap (if_ok (status_of setup past client now call)) (log-change setup entries past client now call)
+      ∙ changed-same (status_of setup past client now call) _ _ (log-change setup entries past (possible setup entries history).log (count-is setup entries) client now call)
 
   ntf-changed : (client seq : ℕ) (now : ℤ) (call : Call) → if_ok (status_in (table_with setup entries (past_of setup entries)) client now call) (ntf_change_in (table_with setup entries (past_of setup entries)) client seq now call) ≡ if_ok (status_of setup (past_of setup entries) client now call) (ntf_change setup (past_of setup entries) client seq now call)
   ntf-changed client seq now call =
@@ -106,7 +114,7 @@ call-step setup client seq now call entries history =
     ∙ ap (λ s. where_ok s (readers_after kept.alarms client call kept.readers) kept.readers) (sym old) in
     let windows_are : map (caller_of setup (Called client seq now call ∷ entries)) (callers (Called client seq now call ∷ entries)) ≡ answered client (reply_in kept client now call) kept.windows =
     windows-called setup client seq now call entries
-    ∙ ap (λ reply. answered client reply kept.windows) (sym (reply-with setup entries past (possible setup entries history.1).log client now call)) in
+    ∙ ap (λ reply. answered client reply kept.windows) (sym (reply-with setup entries past (possible setup entries history.1).log (count-is setup entries) client now call)) in
     let number_is : length (Called client seq now call ∷ entries) ≡ length entries + 1 = omega arith in
     same_parts _ _ _ _ _ _ _ _ _ _ _ _ number_is log_is ntf_is alarms_are readers_are windows_are
 

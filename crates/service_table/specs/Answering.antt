@@ -1,5 +1,5 @@
 -- Words of bodies, and of public clauses of the crates above: what each call is answered, read of what is kept.
-use Rattle.std.specs.Prelude.{ℕ, ◌+◌, ℤ, nat_le, Bool, List, length, Option, option_map, is_some, is_none}
+use Rattle.std.specs.Prelude.{ℕ, ◌+◌, ℤ, nat_le, Bool, false, List, length, Option, option_map, is_some, is_none}
 use Rattle.ais_values.specs.declared.status.Status.{Status}
 use Rattle.ntf_types.specs.declared.notification.Notification.{Notification}
 use Rattle.ntf_types.specs.SoundTests.{is_sound}
@@ -8,12 +8,14 @@ use Rattle.alarm_view.specs.declared.alarm.KeptAlarm.{KeptAlarm}
 use Rattle.alarm_view.specs.Modes.{mode_of}
 use Rattle.client_set.specs.Members.{has}
 use Rattle.calls.specs.declared.call.Call.{Call}
-use Rattle.calls.specs.declared.call.Call.TheVariants.{LogInit, LogOpen, LogWrite, LogClose, LogFini, NtfInit, NtfSend, NtfSubscribe, NtfUnsubscribe}
+use Rattle.calls.specs.declared.call.Call.TheVariants.{LogInit, LogOpen, LogWrite, LogFilter, LogClose, LogFini, NtfInit, NtfSend, NtfSubscribe, NtfUnsubscribe}
 use Rattle.calls.specs.declared.call.Call.TheVariants.{ReaderStart, ReaderRead, ReaderEnd, NtfFini}
 use Rattle.calls.specs.declared.reply.Reply.{Reply}
-use Rattle.calls.specs.declared.reply.Reply.TheVariants.{Done, Sent}
+use Rattle.calls.specs.declared.reply.Reply.TheVariants.{Done, Sent, Marked}
 use Rattle.calls.specs.declared.saved.SavedReader.{SavedReader}
-use Rattle.log_history.specs.KeptAnswers.{is_filled, begin_status, open_status, write_status, close_status, end_status}
+use Rattle.log_history.specs.Marks.{is_filtered}
+use Rattle.log_history.specs.KeptAnswers.{is_filled, kept_mark, opened_mark, making_in}
+use Rattle.log_history.specs.KeptAnswers.{begin_status, open_status, write_status, filter_status, close_status, end_status}
 use Rattle.ntf_history.specs.Rows.{answer, send_by, start_rows_by, read_rows_by, stop_rows_by, start_by, read_by}
 use Rattle.ntf_service.specs.State.{begin_answer, end_answer, subscribe_answer, unsubscribe_answer}
 use Rattle.ntf_history.specs.Tables.{NtfTable}
@@ -55,6 +57,7 @@ abbrev pub status_in : ServiceTable → (client : ℕ) (now : ℤ) → Call → 
 status_in kept client now LogInit = begin_status kept.log client
 status_in kept client now (LogOpen name create) = open_status kept.log client name create
 status_in kept client now (LogWrite name invocation flags time header body) = write_status kept.log client name flags time header body now
+status_in kept client now (LogFilter name mask) = filter_status kept.log client name mask
 status_in kept client now (LogClose name) = close_status kept.log client name
 status_in kept client now LogFini = end_status kept.log client
 status_in kept client now NtfInit = begin_answer client kept.ntf
@@ -70,6 +73,11 @@ status_in kept client now NtfFini = end_answer client kept.ntf
 
 -- what an ok call is told
 abbrev pub told_in : ServiceTable → (client : ℕ) → Call → Reply
+told_in kept client (LogOpen name create) =
+    Marked false (opened_mark (making_in kept.log.streams name create) (kept.number + 1) (kept_mark kept.log.streams name))
+told_in kept client (LogWrite name invocation flags time header body) =
+    Marked (is_filtered (kept_mark kept.log.streams name).mask header) (kept_mark kept.log.streams name)
+told_in kept client (LogFilter name mask) = Marked false (record { since = kept.number + 1; mask = mask })
 told_in kept client (NtfSend notification) = Sent (kept.ntf.last_id + 1)
 told_in kept client (ReaderRead direction) =
     found_reply (read_in (reader_for client kept.readers) direction kept.alarms)

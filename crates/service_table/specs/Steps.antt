@@ -21,7 +21,7 @@ use Rattle.calls.specs.declared.saved.SavedReader.{SavedReader}
 use Rattle.log_history.specs.Changes.{LogChange}
 use Rattle.log_history.specs.Changes.{LogChange as log}
 use Rattle.log_history.specs.Table.{OpenStream, LogTable, table_after, events_of}
-use Rattle.log_history.specs.KeptAnswers.{kept_stream, making_in}
+use Rattle.log_history.specs.KeptAnswers.{kept_stream, kept_mark, making_in}
 use Rattle.ntf_history.specs.Changes.{NtfChange}
 use Rattle.ntf_history.specs.Changes.{NtfChange as ntf}
 use Rattle.ntf_history.specs.StoredAlarms.{is_alarm}
@@ -38,7 +38,8 @@ taken_in streams name = option_map_or (λ (stream : OpenStream). stream.state.ta
 
 -- what an ok call changes in the Log Service
 abbrev pub log_change_in : ServiceTable → (client : ℕ) (now : ℤ) → Call → Option LogChange
-log_change_in kept client now call = log_change_with (making_in kept.log.streams) (accepted_in kept.ntf) client now call
+log_change_in kept client now call =
+    log_change_with (making_in kept.log.streams) (accepted_in kept.ntf) (kept_mark kept.log.streams) client (kept.number + 1) now call
 
 -- what an ok call changes in the Notification Service
 abbrev pub ntf_change_in : ServiceTable → (client seq : ℕ) (now : ℤ) → Call → Option NtfChange

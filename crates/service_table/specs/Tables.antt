@@ -72,7 +72,7 @@ kept_window saved = record {
 }
 
 abbrev pub kept_stream_of : SavedStream → OpenStream
-kept_stream_of saved = record { state = saved.state; openers = saved.openers }
+kept_stream_of saved = record { state = saved.state; openers = saved.openers; mark = saved.mark }
 
 abbrev pub kept_alarm_of : SavedAlarm → KeptAlarm
 kept_alarm_of saved = record { number = saved.k; notification = saved.notification }
