@@ -11,11 +11,11 @@ use Rattle.stream_config.specs.Fit.{first_standing}
 use Rattle.stream_config.specs.Stamps.{stamp_after}
 use Rattle.record_print.specs.declared.record.LogRecord.{LogRecord}
 use Rattle.log_history.specs.Names.{is_application}
-use Rattle.log_history.specs.Changes.{LogChange, Began, Opened, Stored, Closed, Ended}
+use Rattle.log_history.specs.Changes.{LogChange, Began, Opened, Stored, Filtered, Closed, Ended}
 use Rattle.log_history.specs.Firsts.{change_first}
 use Rattle.log_history.specs.Times.{second_of}
 use Rattle.log_history.specs.KeptAnswers.{kept_stream}
-use Rattle.log_history.specs.Table.{OpenStream, LogTable, is_named, with_opener, without_opener, kept_streams, closed_streams, left_streams, opened_stream, table_after}
+use Rattle.log_history.specs.Table.{OpenStream, LogTable, is_named, with_opener, with_mark, without_opener, kept_streams, closed_streams, left_streams, opened_stream, table_after}
 use Rattle.ntf_types.specs.declared.notification.Notification.{Notification}
 use Rattle.ntf_types.specs.SoundTests.{is_sound}
 use Rattle.ntf_types.proofs.SoundLaws.{is_sound-decides}
@@ -119,11 +119,13 @@ StoresNone _ = Unit {0}
 
 stands-after : (kept : LogTable) (change : LogChange) → StandInOrder kept.streams → StoresNone change → (number : ℕ) → IsStandingIn kept.streams number → IsStandingIn (table_after change kept).streams number
 stands-after kept (Began client) order none number stands = stands
-stands-after kept (Opened client stream None second) order none number stands =
+stands-after kept (Opened client stream None second entry) order none number stands =
     standing-changed stream (with_opener client) (λ _. refl) kept.streams number stands
-stands-after kept (Opened client stream (Some attrs) second) order none number stands =
-    standing-pushed kept.streams (opened_stream client stream attrs (stamp_after kept.last second)) number stands
+stands-after kept (Opened client stream (Some attrs) second entry) order none number stands =
+    standing-pushed kept.streams (opened_stream client stream attrs (stamp_after kept.last second) entry) number stands
 stands-after kept (Stored stream rec second) order none number stands = absurd none
+stands-after kept (Filtered client stream mask entry) order none number stands =
+    standing-changed stream (with_mark (record { since = entry; mask = mask })) (λ _. refl) kept.streams number stands
 stands-after kept (Closed client stream second) order none number stands =
     standing-kept (closed_streams client stream kept.streams) number (order-changed stream (without_opener client) (λ _. refl) kept.streams order)
     (standing-changed stream (without_opener client) (λ _. refl) kept.streams number stands)

@@ -15,7 +15,7 @@ use Rattle.log_history.specs.KeptAnswers.{kept_stream}
 use Rattle.ntf_history.specs.Changes.{NtfChange}
 use Rattle.ntf_history.specs.Tables.{NtfTable, after_change}
 use Rattle.calls.specs.declared.call.Call.{Call}
-use Rattle.calls.specs.declared.call.Call.TheVariants.{LogInit, LogOpen, LogWrite, LogClose, LogFini, NtfInit, NtfSend, NtfSubscribe, NtfUnsubscribe, ReaderStart, ReaderRead, ReaderEnd, NtfFini}
+use Rattle.calls.specs.declared.call.Call.TheVariants.{LogInit, LogOpen, LogWrite, LogFilter, LogClose, LogFini, NtfInit, NtfSend, NtfSubscribe, NtfUnsubscribe, ReaderStart, ReaderRead, ReaderEnd, NtfFini}
 use Rattle.plain_service.specs.Setups.{IsMoment}
 use Rattle.plain_service.specs.Changing.{if_ok}
 use Rattle.service_table.specs.Tables.{ServiceTable}
@@ -72,6 +72,7 @@ fit-by _ change kept events ok refused fit = let none : events ≡ [] = refused 
 abbrev pub IsLogOnly : Call → Type 0
 IsLogOnly LogInit = Unit {0}
 IsLogOnly (LogOpen stream create) = Unit {0}
+IsLogOnly (LogFilter stream mask) = Unit {0}
 IsLogOnly (LogClose stream) = Unit {0}
 IsLogOnly LogFini = Unit {0}
 IsLogOnly _ = ⊥
@@ -79,6 +80,7 @@ IsLogOnly _ = ⊥
 log-ok : (kept : ServiceTable) (client seq : ℕ) (now : ℤ) (call : Call) → IsLogOnly call → with_log kept (logged (log_change_in kept client now call) kept.log) ≡ changed kept client seq now call status.Ok
 log-ok kept client seq now LogInit alone = refl
 log-ok kept client seq now (LogOpen stream create) alone = refl
+log-ok kept client seq now (LogFilter stream mask) alone = refl
 log-ok kept client seq now (LogClose stream) alone = refl
 log-ok kept client seq now LogFini alone = refl
 log-ok kept client seq now (LogWrite stream invocation flags time header body) alone = absurd alone

@@ -7,11 +7,12 @@ use Rattle.std.proofs.lemmas.List.{length-map}
 use Rattle.stream_config.specs.declared.attrs.StreamName.{StreamName}
 use Rattle.stream_config.specs.declared.event.StreamEvent.TheVariants as event
 use Rattle.stream_config.specs.Fit.{stamps_of}
+use Rattle.stream_config.specs.Marks.{first_mark}
 use Rattle.stream_config.specs.Stamps.{stamp_after}
 use Rattle.stream_layout.specs.Carrying.{IsFitStream, IsFitEvent}
 use Rattle.record_print.specs.declared.record.LogRecord.{LogRecord}
-use Rattle.log_history.specs.Changes.{LogChange, Began, Opened, Stored, Closed, Ended}
-use Rattle.log_history.specs.Table.{OpenStream, LogTable, is_named, without_opener, is_changing, storing, has_nobody, ends_in, closed_streams, left_streams, events_of, opened_stream}
+use Rattle.log_history.specs.Changes.{LogChange, Began, Opened, Stored, Filtered, Closed, Ended}
+use Rattle.log_history.specs.Table.{OpenStream, LogTable, is_named, without_opener, is_changing, storing, has_nobody, ends_in, closed_streams, left_streams, events_of, new_state}
 use Rattle.log_history.specs.KeptAnswers.{kept_stream, lacks_room_in}
 use Rattle.log_history.proofs.EventLaws.{length-changed, stamps-are, due-stamps}
 use Rattle.log_history.proofs.StreamLaws.{stamp-is}
@@ -20,7 +21,7 @@ use Rattle.plain_service.proofs.ListLaws.{each-weaker, each-mapped, each-change_
 use Rattle.service_fit.specs.Fit.{IsFitState}
 use Rattle.service_fit.proofs.FileSteps.{can-take}
 use Rattle.service_fit.proofs.LogFit.{IsFitInside, few-streams}
-use Rattle.service_fit.proofs.LogSteps.{CanChange, fit-new, filled-is}
+use Rattle.service_fit.proofs.LogSteps.{CanChange, fit-new, first-fits, filled-is}
 
 fit-state : (last number : ℕ) (stream : OpenStream) → last ≤ 20000000100 → IsFitState last number stream → IsFitStream stream.state
 fit-state last number stream le fit = record {
@@ -51,7 +52,7 @@ fit-ends last number second most (stream ∷ streams) up le early each =
 
 unopened : (last number client : ℕ) (stream : OpenStream) → IsFitState last number stream → IsFitState last number (without_opener client stream)
 unopened last number client stream is =
-    record { attributes = is.attributes; files = is.files; stamps = is.stamps; taken = is.taken }
+    record { attributes = is.attributes; files = is.files; stamps = is.stamps; taken = is.taken; mark = is.mark }
 
 -- what holds of each stream holds of the one of a name
 pub find-fit : (last number : ℕ) (stream : StreamName) (streams : List OpenStream) (s : OpenStream) → AllByRecursion (IsFitState last number) streams → kept_stream streams stream ≡ Some s → IsFitState last number s
@@ -69,10 +70,12 @@ stored-fit number second rec kept stream few early can fit (Some s) is each =
 -- **the events of a change can happen**
 pub events-fit : (number : ℕ) (kept : LogTable) (change : LogChange) → number < 4000000000 → second_in change ≤ 9000000000 → CanChange kept change → IsFitInside number kept → AllByRecursion IsFitEvent (events_of change kept)
 events-fit number kept (Began client) few early can fit = tt
-events-fit number kept (Opened client stream None second) few early can fit = tt
-events-fit number kept (Opened client stream (Some attrs) second) few early can fit =
+events-fit number kept (Opened client stream None second entry) few early can fit = tt
+events-fit number kept (Opened client stream (Some attrs) second entry) few early can fit =
     let last = stamp_after kept.last second in
-    (record { stream = fit-state last number (opened_stream client stream attrs last) (omega (arith, fit.room, few, early)) (fit-new client last last number stream attrs (omega arith) can); fresh = refl }, tt)
+    let new : OpenStream = record { state = new_state stream attrs last; openers = client ∷ []; mark = first_mark } in
+    (record { stream = fit-state last number new (omega (arith, fit.room, few, early)) (fit-new client last last number stream attrs first_mark (omega arith) can (first-fits number stream)); fresh = refl }, tt)
+events-fit number kept (Filtered client stream mask entry) few early can fit = tt
 events-fit number kept (Stored stream rec second) few early can fit =
     stored-fit number second rec kept stream few early can fit (kept_stream kept.streams stream) refl fit.each
 events-fit number kept (Closed client stream second) few early can fit =

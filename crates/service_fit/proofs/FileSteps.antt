@@ -6,6 +6,8 @@ use Rattle.std.specs.List.{AllByRecursion}
 use Rattle.std.proofs.lemmas.Int.{ints}
 use Rattle.std.proofs.lemmas.Bool.{and_parts, and_from}
 use Rattle.ais_values.proofs.Basics.{AllByRecursion-append}
+use Rattle.stream_config.specs.declared.attrs.StreamName.{StreamName}
+use Rattle.stream_config.specs.declared.mark.Mark.{Mark}
 use Rattle.stream_config.specs.declared.event.Stamps.{Stamps}
 use Rattle.stream_config.specs.declared.event.StreamEvent.TheVariants.{Stored}
 use Rattle.stream_config.specs.declared.state.LogFile.{LogFile}
@@ -22,6 +24,7 @@ use Rattle.log_history.specs.Stamps.{IsStampUpTo}
 use Rattle.log_history.specs.Table.{OpenStream, bytes_in, length_in, is_changing, due_stamps, last_after_due, with_stored}
 use Rattle.log_history.proofs.StepLaws.{record-long, length-is}
 use Rattle.log_history.proofs.StreamLaws.{stamp-up-to, up-to-lt, room-left, due-is}
+use Rattle.plain_service.specs.Fitness.{IsFitMark}
 use Rattle.plain_service.proofs.ListLaws.{each-weaker}
 use Rattle.service_fit.specs.Fit.{IsFitState}
 
@@ -49,6 +52,10 @@ stamps-drop P zero files each = each
 stamps-drop P (suc k) [] each = each
 stamps-drop P (suc k) (file ∷ files) each = stamps-drop P k files (all-behind P (option_to_list file.closed) (stamps_of files) each.1)
 
+-- a mark stays fit as entries are accepted
+later-mark : (number : ℕ) (name : StreamName) (mark : Mark) → IsFitMark number name mark → IsFitMark (number + 1) name mark
+later-mark number name mark is = record { mask = is.mask; since = omega (arith, is.since); unset = is.unset }
+
 module _ (last second number : ℕ) (rec : LogRecord) (stream : OpenStream) (ready : IsFitState last number stream) (room : lacks_room_in stream.state rec ≡ false) where
   abbrev two : Stamps
   two = record { closed = pos (stamp_after last second); created = pos (stamp_after (stamp_after last second) second) }
@@ -67,12 +74,13 @@ module _ (last second number : ℕ) (rec : LogRecord) (stream : OpenStream) (rea
         changes = due-is (is_changing stream.state rec) two ∙ ap (changes_file attrs at) (sym long);
       }
 
-  by_due : (due : Bool) → CanStore stream.state (bytes_in stream.state rec) (cond due (Some two) None) → IsFitState (cond due (stamp_after (stamp_after last second) second) last) (number + 1) (record { state = state_after (Stored stream.state (bytes_in stream.state rec) (cond due (Some two) None)); openers = stream.openers })
+  by_due : (due : Bool) → CanStore stream.state (bytes_in stream.state rec) (cond due (Some two) None) → IsFitState (cond due (stamp_after (stamp_after last second) second) last) (number + 1) (record { state = state_after (Stored stream.state (bytes_in stream.state rec) (cond due (Some two) None)); openers = stream.openers; mark = stream.mark })
   by_due false can = record {
     attributes = ready.attributes;
     files = fit-none stream.state (bytes_in stream.state rec) can;
     stamps = subst (AllByRecursion (IsStampUpTo (pos last))) (sym (stamps-with (next_offset stream.state) (length (bytes_in stream.state rec)) stream.state.files)) ready.stamps;
     taken = omega (arith, ready.taken);
+    mark = later-mark number stream.state.name stream.mark ready.mark;
   }
   by_due true can =
       let attrs = stream.state.attrs in
@@ -95,6 +103,7 @@ module _ (last second number : ℕ) (rec : LogRecord) (stream : OpenStream) (rea
         files = fit-some stream.state (bytes_in stream.state rec) two can later;
         stamps = stamps-drop (IsStampUpTo (pos created)) (length (shut ++ fresh ∷ []) - most_files attrs.action attrs.rotated) (shut ++ fresh ∷ []) stamped;
         taken = omega (arith, ready.taken);
+        mark = later-mark number stream.state.name stream.mark ready.mark;
       }
 
   -- **a stream with one record more**
@@ -107,4 +116,5 @@ later-stream last later number stream le ready = record {
   files = ready.files;
   stamps = each-weaker (IsStampUpTo (pos last)) (IsStampUpTo (pos later)) (up-to-later last later le) (stamps_of stream.state.files) ready.stamps;
   taken = omega (arith, ready.taken);
+  mark = later-mark number stream.state.name stream.mark ready.mark;
 }

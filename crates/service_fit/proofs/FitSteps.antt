@@ -1,11 +1,12 @@
 -- A call or a receipt leaves a fit value.
-use Rattle.std.proofs.Common.{◌≡◌, ℕ, ◌+◌, ◌<◌, ◌≤◌, refl, arith}
+use Rattle.std.proofs.Common.{◌≡◌, ℕ, ◌+◌, ◌<◌, ◌≤◌, Bool, true, false, cond, refl, arith}
 use Rattle.std.specs.Prelude.{Option, Some, None, ℤ}
 use Rattle.ais_values.specs.declared.status.Status.{Status}
 use Rattle.ais_values.specs.declared.status.Status.TheVariants as status
 use Rattle.client_set.specs.Members.{has}
 use Rattle.log_history.specs.Changes.{LogChange, Opened}
-use Rattle.log_history.specs.KeptAnswers.{is_filled, making_in}
+use Rattle.log_history.specs.KeptAnswers.{is_filled, kept_mark, making_in}
+use Rattle.log_history.specs.Marks.{is_filtered}
 use Rattle.log_history.specs.Stamps.{second_in}
 use Rattle.log_history.specs.Times.{second_of, record_at}
 use Rattle.log_history.specs.Table.{LogTable}
@@ -13,7 +14,7 @@ use Rattle.ntf_types.specs.SoundTests.{is_sound}
 use Rattle.ntf_history.specs.Changes.{NtfChange}
 use Rattle.ntf_history.specs.Changes.NtfChange.{Receipted}
 use Rattle.calls.specs.declared.call.Call.{Call}
-use Rattle.calls.specs.declared.call.Call.TheVariants.{LogInit, LogOpen, LogWrite, LogClose, LogFini, NtfInit, NtfSend, NtfSubscribe, NtfUnsubscribe, ReaderStart, ReaderRead, ReaderEnd, NtfFini}
+use Rattle.calls.specs.declared.call.Call.TheVariants.{LogInit, LogOpen, LogWrite, LogFilter, LogClose, LogFini, NtfInit, NtfSend, NtfSubscribe, NtfUnsubscribe, ReaderStart, ReaderRead, ReaderEnd, NtfFini}
 use Rattle.calls.specs.declared.reply.Reply.{Reply}
 use Rattle.plain_service.specs.Setups.{IsMoment}
 use Rattle.plain_service.specs.Alarms.{stream_for, record_for}
@@ -27,7 +28,7 @@ use Rattle.service_table.specs.Steps.{log_change_in, ntf_change_in, logged, noti
 use Rattle.service_fit.specs.Laws.{CanGoOn, CanComeNext}
 use Rattle.service_fit.proofs.AlarmsFit.{AreFitAlarms, alarms-same, alarms-written, alarms-sent}
 use Rattle.service_fit.proofs.LogFit.{IsFitInside, alarm-first}
-use Rattle.service_fit.proofs.LogSteps.{same-log, fit-log}
+use Rattle.service_fit.proofs.LogSteps.{IsEntered, same-log, fit-log}
 use Rattle.service_fit.proofs.NtfFit.{IsFitNtf, ntf-same, fit-ntf}
 use Rattle.service_fit.proofs.OkCalls.{CanOption, JoinsOption, NotifiesOption, call-can, call-joins, call-notifies}
 use Rattle.service_fit.proofs.ReadersFit.{fit-readers}
@@ -36,28 +37,34 @@ use Rattle.service_fit.proofs.WindowsFit.{called-later, callers-later, callers-a
 
 -- the log
 
-abbrev IsEarly : Option LogChange → Type 0
-IsEarly None = Unit {0}
-IsEarly (Some change) = second_in change ≤ 9000000000
+-- a change comes at such a second, by such an entry
+abbrev IsTimely : (number : ℕ) → Option LogChange → Type 0
+IsTimely number None = Unit {0}
+IsTimely number (Some change) = (second_in change ≤ 9000000000) × IsEntered number change
 
-early-call : (kept : ServiceTable) (client : ℕ) (now : ℤ) (call : Call) → second_of now ≤ 9000000000 → IsEarly (log_change_in kept client now call)
-early-call kept client now LogInit early = omega arith
-early-call kept client now (LogOpen stream create) early = early
-early-call kept client now (LogWrite stream invocation flags time header body) early = early
-early-call kept client now (LogClose stream) early = early
-early-call kept client now LogFini early = early
-early-call kept client now NtfInit early = tt
-early-call kept client now (NtfSend notification) early = early
-early-call kept client now (NtfSubscribe id filters) early = tt
-early-call kept client now (NtfUnsubscribe id) early = tt
-early-call kept client now (ReaderStart mode value filters) early = tt
-early-call kept client now (ReaderRead direction) early = tt
-early-call kept client now ReaderEnd early = tt
-early-call kept client now NtfFini early = tt
+timely-call : (kept : ServiceTable) (client : ℕ) (now : ℤ) (call : Call) → second_of now ≤ 9000000000 → IsTimely (kept.number + 1) (log_change_in kept client now call)
+timely-call kept client now LogInit early = (omega arith, tt)
+timely-call kept client now (LogOpen stream create) early = (early, omega arith)
+timely-call kept client now (LogWrite stream invocation flags time header body) early =
+    by_case (is_filtered (kept_mark kept.log.streams stream).mask header) where
+      by_case : (filtered : Bool) → IsTimely (kept.number + 1) (cond filtered None (Some (LogChange.Stored stream (record_at time header body now) (second_of now))))
+      by_case true = tt
+      by_case false = (early, tt)
+timely-call kept client now (LogFilter stream mask) early = (omega arith, omega arith)
+timely-call kept client now (LogClose stream) early = (early, tt)
+timely-call kept client now LogFini early = (early, tt)
+timely-call kept client now NtfInit early = tt
+timely-call kept client now (NtfSend notification) early = (early, tt)
+timely-call kept client now (NtfSubscribe id filters) early = tt
+timely-call kept client now (NtfUnsubscribe id) early = tt
+timely-call kept client now (ReaderStart mode value filters) early = tt
+timely-call kept client now (ReaderRead direction) early = tt
+timely-call kept client now ReaderEnd early = tt
+timely-call kept client now NtfFini early = tt
 
-fit-logged : (number : ℕ) (kept : LogTable) (change : Option LogChange) → IsEarly change → CanOption kept change → JoinsOption kept change → IsFitInside number kept → IsFitInside (number + 1) (logged change kept)
-fit-logged number kept None early can joins fit = same-log number kept fit
-fit-logged number kept (Some change) early can joins fit = fit-log number kept fit change early can joins
+fit-logged : (number : ℕ) (kept : LogTable) (change : Option LogChange) → IsTimely (number + 1) change → CanOption kept change → JoinsOption kept change → IsFitInside number kept → IsFitInside (number + 1) (logged change kept)
+fit-logged number kept None timely can joins fit = same-log number kept fit
+fit-logged number kept (Some change) timely can joins fit = fit-log number kept fit change timely.0 can joins timely.1
 
 -- the notifications
 
@@ -72,10 +79,16 @@ fit-notified kept client reply (Some change) few can fit =
 fit-alarms : (kept : ServiceTable) (client seq : ℕ) (now : ℤ) (call : Call) → IsFitTable kept → IsMoment now → status_in kept client now call ≡ status.Ok → let later = logged (log_change_in kept client now call) kept.log in IsFitInside (kept.number + 1) later → AreFitAlarms later.streams (notified (ntf_change_in kept client seq now call) kept.ntf).last_id (alarms_after (log_change_in kept client now call) (ntf_change_in kept client seq now call) later.streams kept.alarms)
 fit-alarms kept client seq now LogInit fit moment ok log = fit.alarms
 fit-alarms kept client seq now (LogOpen stream create) fit moment ok log =
-    alarms-same kept.log (Opened client stream (making_in kept.log.streams stream create) (second_of now)) kept.ntf.last_id kept.alarms fit.log.order tt fit.alarms
+    alarms-same kept.log (Opened client stream (making_in kept.log.streams stream create) (second_of now) (kept.number + 1)) kept.ntf.last_id kept.alarms fit.log.order tt fit.alarms
 fit-alarms kept client seq now (LogWrite stream invocation flags time header body) fit moment ok log =
-    alarms-written kept.log stream (record_at time header body now) (second_of now) kept.ntf.last_id kept.alarms
-    (alarm-first (kept.number + 1) (logged (log_change_in kept client now (LogWrite stream invocation flags time header body)) kept.log) log) fit.alarms
+    by_case (is_filtered (kept_mark kept.log.streams stream).mask header) log where
+      by_case : (filtered : Bool) → IsFitInside (kept.number + 1) (logged (cond filtered None (Some (LogChange.Stored stream (record_at time header body now) (second_of now)))) kept.log) → AreFitAlarms (logged (cond filtered None (Some (LogChange.Stored stream (record_at time header body now) (second_of now)))) kept.log).streams kept.ntf.last_id (alarms_after (cond filtered None (Some (LogChange.Stored stream (record_at time header body now) (second_of now)))) None (logged (cond filtered None (Some (LogChange.Stored stream (record_at time header body now) (second_of now)))) kept.log).streams kept.alarms)
+      by_case true later = fit.alarms
+      by_case false later =
+          alarms-written kept.log stream (record_at time header body now) (second_of now) kept.ntf.last_id kept.alarms
+          (alarm-first (kept.number + 1) (logged (Some (LogChange.Stored stream (record_at time header body now) (second_of now))) kept.log) later) fit.alarms
+fit-alarms kept client seq now (LogFilter stream mask) fit moment ok log =
+    alarms-same kept.log (LogChange.Filtered client stream mask (kept.number + 1)) kept.ntf.last_id kept.alarms fit.log.order tt fit.alarms
 fit-alarms kept client seq now (LogClose stream) fit moment ok log =
     alarms-same kept.log (LogChange.Closed client stream (second_of now)) kept.ntf.last_id kept.alarms fit.log.order tt fit.alarms
 fit-alarms kept client seq now LogFini fit moment ok log =
@@ -99,7 +112,7 @@ module _ (kept : ServiceTable) (client seq : ℕ) (now : ℤ) (call : Call) (rep
   fit-ok ok =
       let change = log_change_in kept client now call in
       let sent = ntf_change_in kept client seq now call in
-      let log = fit-logged kept.number kept.log change (early-call kept client now call (second-bound now moment)) (call-can kept client now call ok) (call-joins kept client now call caller ok) fit.log in
+      let log = fit-logged kept.number kept.log change (timely-call kept client now call (second-bound now moment)) (call-can kept client now call ok) (call-joins kept client now call caller ok) fit.log in
       record {
         few = omega (arith, few);
         log = log;

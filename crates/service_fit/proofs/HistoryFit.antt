@@ -6,6 +6,7 @@ use Rattle.stream_config.specs.declared.attrs.StreamName.TheVariants as name
 use Rattle.stream_config.specs.declared.state.StreamState.{StreamState}
 use Rattle.stream_config.specs.Attributes.{kind_of, PassesAttrs}
 use Rattle.stream_config.specs.AttributeTests.{have_one_place}
+use Rattle.stream_config.specs.Marks.{first_mark}
 use Rattle.stream_config.specs.Stamps.{stamp_after}
 use Rattle.log_history.specs.Chronicle.{LogSetup, new_stream}
 use Rattle.log_history.specs.Legal.{IsSetup}
@@ -31,14 +32,14 @@ use Rattle.service_table.proofs.WindowSteps.{window-kept}
 use Rattle.service_fit.specs.Fit.{IsFitState}
 use Rattle.service_fit.proofs.FitSteps.{fit-status, fit-received}
 use Rattle.service_fit.proofs.LogFit.{IsFitInside}
-use Rattle.service_fit.proofs.LogSteps.{reopened, fit-new}
+use Rattle.service_fit.proofs.LogSteps.{reopened, fit-new, first-fits}
 use Rattle.service_fit.proofs.ValueFit.{IsFitTable, value-of}
 
 -- a stream as it is made
-fit-made : (last created : ℕ) (stream : StreamName) (attrs : StreamAttrs) → created ≤ last → PassesAttrs (kind_of stream) attrs → IsFitState last 0 (record { state = state_of (new_stream stream attrs created); openers = [] })
+fit-made : (last created : ℕ) (stream : StreamName) (attrs : StreamAttrs) → created ≤ last → PassesAttrs (kind_of stream) attrs → IsFitState last 0 (record { state = state_of (new_stream stream attrs created); openers = []; mark = first_mark })
 fit-made last created stream attrs le passes =
-    subst (λ (state : StreamState). let one : OpenStream = record { state = state; openers = [] } in IsFitState last 0 one) (sym (made-is stream attrs created passes.some_rotated))
-    (reopened last 0 (record { state = new_state stream attrs created; openers = 0 ∷ [] }) [] (fit-new 0 last created 0 stream attrs le passes))
+    subst (λ (state : StreamState). let one : OpenStream = record { state = state; openers = []; mark = first_mark } in IsFitState last 0 one) (sym (made-is stream attrs created passes.some_rotated))
+    (reopened last 0 (record { state = new_state stream attrs created; openers = 0 ∷ []; mark = first_mark }) [] (fit-new 0 last created 0 stream attrs first_mark le passes (first-fits 0 stream)))
 
 -- the log of a service that nobody has used
 

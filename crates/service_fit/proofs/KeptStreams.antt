@@ -13,13 +13,14 @@ use Rattle.client_set.specs.Rising.{put, without, IsRising}
 use Rattle.client_set.proofs.RisingLaws.{IsOrder-nat_lt, IsRising-put, IsRising-without, has-put, has-without}
 use Rattle.stream_config.specs.declared.attrs.StreamAttrs.{StreamAttrs}
 use Rattle.stream_config.specs.declared.attrs.StreamName.{StreamName}
+use Rattle.stream_config.specs.declared.mark.Mark.{Mark}
 use Rattle.stream_config.specs.AttributeTests.{have_one_place}
 use Rattle.stream_config.specs.Stamps.{stamp_after}
 use Rattle.record_print.specs.declared.record.LogRecord.{LogRecord}
 use Rattle.log_history.specs.Names.{is_application}
-use Rattle.log_history.specs.Changes.{Began, Opened, Stored, Closed, Ended}
+use Rattle.log_history.specs.Changes.{Began, Opened, Stored, Filtered, Closed, Ended}
 use Rattle.log_history.specs.KeptAnswers.{has_place, is_of_application}
-use Rattle.log_history.specs.Table.{OpenStream, LogTable, is_named, has_nobody, with_opener, without_opener, with_stored, closed_streams, left_streams, kept_streams, opened_stream, table_after}
+use Rattle.log_history.specs.Table.{OpenStream, LogTable, is_named, has_nobody, with_opener, with_mark, without_opener, with_stored, closed_streams, left_streams, kept_streams, opened_stream, table_after}
 use Rattle.log_history.proofs.FitTableLaws.{some-put}
 use Rattle.plain_service.specs.Fitness.{AreClients, IsAmong}
 use Rattle.plain_service.specs.Legal.{IsClient}
@@ -124,17 +125,17 @@ module _ (kept : LogTable) (sound : IsSoundLog kept) where
     places = sound.places;
   }
 
-  pub sound-opened : (client : ℕ) (name : StreamName) (second : ℕ) → IsClient client → IsAmong kept.users client → IsSoundLog (table_after (Opened client name None second) kept)
-  sound-opened client name second caller user = record {
+  pub sound-opened : (client : ℕ) (name : StreamName) (second number : ℕ) → IsClient client → IsAmong kept.users client → IsSoundLog (table_after (Opened client name None second number) kept)
+  sound-opened client name second number caller user = record {
     users = sound.users;
     each = each-change_first (IsUsed kept.users) (is_named name) (with_opener client) (λ stream is. IsUsed-opened client kept.users stream caller user is) kept.streams sound.each;
     few = omega (arith, count-changed is_of_application (is_named name) (with_opener client) (λ _. refl) kept.streams, sound.few);
     places = differ-changed have_one_spot (is_named name) (with_opener client) (λ _ _. refl) (λ _ _. refl) kept.streams ∙ sound.places;
   }
 
-  pub sound-made : (client : ℕ) (name : StreamName) (attrs : StreamAttrs) (second : ℕ) → IsClient client → IsAmong kept.users client → length (filter is_of_application kept.streams) < 64 → has_place kept.streams attrs ≡ false → IsSoundLog (table_after (Opened client name (Some attrs) second) kept)
-  sound-made client name attrs second caller user room free =
-      let made = opened_stream client name attrs (stamp_after kept.last second) in
+  pub sound-made : (client : ℕ) (name : StreamName) (attrs : StreamAttrs) (second number : ℕ) → IsClient client → IsAmong kept.users client → length (filter is_of_application kept.streams) < 64 → has_place kept.streams attrs ≡ false → IsSoundLog (table_after (Opened client name (Some attrs) second number) kept)
+  sound-made client name attrs second number caller user room free =
+      let made = opened_stream client name attrs (stamp_after kept.last second) number in
       let counted : length (filter is_of_application (kept.streams ++ made ∷ [])) ≡ length (filter is_of_application kept.streams) + length (filter is_of_application (made ∷ [])) =
       ap length (filter-append is_of_application kept.streams (made ∷ [])) ∙ length-append (filter is_of_application kept.streams) (filter is_of_application (made ∷ [])) in
       record {
@@ -155,6 +156,17 @@ module _ (kept : LogTable) (sound : IsSoundLog kept) where
     few = omega (arith, count-changed is_of_application (is_named name) (with_stored kept.last second rec) (λ _. refl) kept.streams, sound.few);
     places = differ-changed have_one_spot (is_named name) (with_stored kept.last second rec) (λ _ _. refl) (λ _ _. refl) kept.streams ∙ sound.places;
   }
+
+  pub sound-filtered : (client : ℕ) (name : StreamName) (mask number : ℕ) → IsSoundLog (table_after (Filtered client name mask number) kept)
+  sound-filtered client name mask number =
+      let mark : Mark = record { since = number; mask = mask } in
+      record {
+        users = sound.users;
+        each = each-change_first (IsUsed kept.users) (is_named name) (with_mark mark)
+            (λ stream is. record { rising = is.rising; clients = is.clients; users = is.users; somebody = is.somebody }) kept.streams sound.each;
+        few = omega (arith, count-changed is_of_application (is_named name) (with_mark mark) (λ _. refl) kept.streams, sound.few);
+        places = differ-changed have_one_spot (is_named name) (with_mark mark) (λ _ _. refl) (λ _ _. refl) kept.streams ∙ sound.places;
+      }
 
   pub sound-closed : (client : ℕ) (name : StreamName) (second : ℕ) → IsSoundLog (table_after (Closed client name second) kept)
   sound-closed client name second =

@@ -114,7 +114,7 @@ module _ (number : ℕ) (kept : LogTable) (fit : IsFitLog number kept) where
       few = omega (arith, count-others kept.streams order-is, count-saved, fit.streams.few);
       places = sym (differ-mapped saved_stream stand_at_one_place have_one_spot (λ _ _. refl) kept.streams) ∙ fit.streams.places;
     };
-    each = each-weaker IsFitOne (IsFitState kept.last number) (λ stream is. record { attributes = is.attributes; files = is.files; stamps = is.stamps; taken = is.taken }) kept.streams each-fit;
+    each = each-weaker IsFitOne (IsFitState kept.last number) (λ stream is. record { attributes = is.attributes; files = is.files; stamps = is.stamps; taken = is.taken; mark = is.mark }) kept.streams each-fit;
     order = order-is;
     names = sym (differ-mapped saved_stream have_one_saved_name have_one_name (λ _ _. refl) kept.streams) ∙ fit.streams.names;
     room = omega (arith, count-others kept.streams order-is, count-saved, fit.stamp.to);
@@ -163,7 +163,7 @@ module _ (number : ℕ) (kept : LogTable) (fit : IsFitInside number kept) where
       places = differ-mapped saved_stream stand_at_one_place have_one_spot (λ _ _. refl) kept.streams ∙ fit.sound.places;
       each = each-mapped (IsFitStream (log_alone number kept)) saved_stream kept.streams
           (each-weaker (λ stream. IsUsed kept.users stream × IsFitState kept.last number stream) (λ stream. IsFitStream (log_alone number kept) (saved_stream stream))
-          (λ stream is. record { attributes = is.1.attributes; openers = record { rising = is.0.rising; each = is.0.clients }; users = is.0.users; files = is.1.files; stamps = is.1.stamps; taken = is.1.taken }) kept.streams
+          (λ stream is. record { attributes = is.1.attributes; openers = record { rising = is.0.rising; each = is.0.clients }; users = is.0.users; files = is.1.files; stamps = is.1.stamps; taken = is.1.taken; mark = is.1.mark }) kept.streams
           (each-both (IsUsed kept.users) (IsFitState kept.last number) kept.streams fit.sound.each fit.each));
     };
     stamp = record {

@@ -8,33 +8,37 @@ use Rattle.ais_values.specs.Codes.{all_differ}
 use Rattle.stream_config.specs.declared.attrs.StreamAttrs.{StreamAttrs}
 use Rattle.stream_config.specs.declared.attrs.StreamName.{StreamName}
 use Rattle.stream_config.specs.declared.attrs.StreamName.TheVariants as name
+use Rattle.format_expr.specs.Language.{is_notified}
+use Rattle.stream_config.specs.declared.mark.Mark.{Mark}
 use Rattle.stream_config.specs.Attributes.{kind_of, PassesAttrs}
 use Rattle.stream_config.specs.Equality.{same_name}
+use Rattle.stream_config.specs.Marks.{first_mark}
+use Rattle.stream_config.proofs.Equalities.{decides_name}
 use Rattle.stream_config.specs.Stamps.{stamp_after}
 use Rattle.record_print.specs.declared.record.LogRecord.{LogRecord}
 use Rattle.log_history.specs.Names.{is_application}
 use Rattle.log_history.specs.Firsts.{change_first}
 use Rattle.log_history.specs.Chronicle.{is_empty}
-use Rattle.log_history.specs.Changes.{LogChange, Began, Opened, Stored, Closed, Ended}
+use Rattle.log_history.specs.Changes.{LogChange, Began, Opened, Stored, Filtered, Closed, Ended}
 use Rattle.log_history.specs.FitTables.{have_one_name}
 use Rattle.log_history.specs.KeptAnswers.{kept_stream, has_place, lacks_room_in, is_filled, is_of_application}
 use Rattle.log_history.specs.Stamps.{second_in}
-use Rattle.log_history.specs.Table.{OpenStream, LogTable, is_named, with_opener, without_opener, is_changing, last_after_due, with_stored, has_nobody, last_after_ends, kept_streams, closed_streams, left_streams, opened_stream, table_after}
+use Rattle.log_history.specs.Table.{OpenStream, LogTable, is_named, with_opener, with_mark, without_opener, is_changing, last_after_due, with_stored, has_nobody, last_after_ends, kept_streams, closed_streams, left_streams, new_state, opened_stream, table_after}
 use Rattle.log_history.proofs.EventLaws.{length-changed}
 use Rattle.log_history.proofs.SoundStreams.{due-grows}
 use Rattle.log_history.proofs.StreamLaws.{stamp-up-to, fit-made as fit-new_state}
-use Rattle.plain_service.specs.Fitness.{IsAmong}
+use Rattle.plain_service.specs.Fitness.{IsAmong, IsFitMark}
 use Rattle.plain_service.specs.Legal.{IsClient}
 use Rattle.plain_service.proofs.ListLaws.{each-weaker, each-push, each-filter, each-change_first, each-mapped, none-each, any-none, differ-changed, differ-filtered, differ-pushed, differ-mapped}
 use Rattle.service_table.specs.Steps.{taken_in}
-use Rattle.service_fit.proofs.KeptStreams.{IsSoundLog, sound-began, sound-opened, sound-made, sound-stored, sound-closed, sound-ended}
+use Rattle.service_fit.proofs.KeptStreams.{IsSoundLog, sound-began, sound-opened, sound-made, sound-stored, sound-filtered, sound-closed, sound-ended}
 use Rattle.service_fit.specs.Fit.{IsFitState, IsAlarmFirst, alarm_count}
 use Rattle.service_fit.proofs.FileSteps.{fit-stored, later-stream}
 use Rattle.service_fit.proofs.LogFit.{StandInOrder, IsFitInside, few-streams}
 
 -- what the events of a change of the log need beside what is kept
 abbrev pub CanChange : LogTable → LogChange → Type 0
-CanChange kept (Opened client stream (Some attrs) second) = PassesAttrs (kind_of stream) attrs
+CanChange kept (Opened client stream (Some attrs) second number) = PassesAttrs (kind_of stream) attrs
 CanChange kept (Stored stream rec second) = is_filled kept.streams stream rec ≡ false
 CanChange kept _ = Unit {0}
 
@@ -50,9 +54,16 @@ pub record CanMake (kept : LogTable) (client : ℕ) (stream : StreamName) (attrs
 -- what else a change needs so that what it leaves is fit
 abbrev pub CanJoin : LogTable → LogChange → Type 0
 CanJoin kept (Began client) = IsClient client
-CanJoin kept (Opened client stream None second) = IsClient client × IsAmong kept.users client
-CanJoin kept (Opened client stream (Some attrs) second) = CanMake kept client stream attrs
+CanJoin kept (Opened client stream None second number) = IsClient client × IsAmong kept.users client
+CanJoin kept (Opened client stream (Some attrs) second number) = CanMake kept client stream attrs
+CanJoin kept (Filtered client stream mask number) = (is_notified (kind_of stream) ≡ false) × (mask ≤ 127)
 CanJoin kept _ = Unit {0}
+
+-- the entry that made a stream or set its mask is one of so many
+abbrev pub IsEntered : (number : ℕ) → LogChange → Type 0
+IsEntered number (Opened client stream making second entry) = entry ≤ number
+IsEntered number (Filtered client stream mask entry) = entry ≤ number
+IsEntered number _ = Unit {0}
 
 -- lists with one element changed
 
@@ -171,13 +182,37 @@ ends-room second bound kept last (s ∷ streams) room early =
           omega (arith, later)
 
 -- a stream that is made
-pub fit-new : (client last created number : ℕ) (stream : StreamName) (attrs : StreamAttrs) → created ≤ last → PassesAttrs (kind_of stream) attrs → IsFitState last number (opened_stream client stream attrs created)
-fit-new client last created number stream attrs le passes = record {
+pub fit-new : (client last created number : ℕ) (stream : StreamName) (attrs : StreamAttrs) (mark : Mark) → created ≤ last → PassesAttrs (kind_of stream) attrs → IsFitMark number stream mark → IsFitState last number (record { state = new_state stream attrs created; openers = client ∷ []; mark = mark })
+fit-new client last created number stream attrs mark le passes marked = record {
   attributes = passes;
   files = fit-new_state stream attrs created passes.some_rotated;
   stamps = (stamp-up-to last created le, tt);
   taken = omega arith;
+  mark = marked;
 }
+
+-- the mark of a stream that was never set, and one that an entry gave to a stream of no notifications
+
+pub first-fits : (number : ℕ) (stream : StreamName) → IsFitMark number stream first_mark
+first-fits number stream = record { mask = omega arith; since = omega arith; unset = λ _. refl }
+
+set-fits : (number entry mask : ℕ) (stream : StreamName) → is_notified (kind_of stream) ≡ false → mask ≤ 127 → entry ≤ number → IsFitMark number stream (record { since = entry; mask = mask })
+set-fits number entry mask stream other low entered =
+    record { mask = low; since = entered; unset = λ notified. absurd (let e : false ≡ true = sym other ∙ notified in cc) }
+
+of-application : (stream : StreamName) → is_application stream ≡ true → is_notified (kind_of stream) ≡ false
+of-application name.Alarm is = cc
+of-application name.Notification is = cc
+of-application name.System is = cc
+of-application (name.App own) is = refl
+
+-- the first one that passes a test
+found-passes : {X : Type 0} (test : X → Bool) (xs : List X) (x : X) → find test xs ≡ Some x → test x ≡ true
+found-passes test [] x is = cc
+found-passes test (y ∷ ys) x is = by_case (test y) refl is (found-passes test ys x) where
+  by_case : (b : Bool) → test y ≡ b → cond b (Some y) (find test ys) ≡ Some x → (find test ys ≡ Some x → test x ≡ true) → test x ≡ true
+  by_case true passes here behind = let same : y ≡ x = cc in ap test (sym same) ∙ passes
+  by_case false fails there behind = behind there
 
 pub filled-is : (streams : List OpenStream) (stream : StreamName) (rec : LogRecord) (s : OpenStream) → is_filled streams stream rec ≡ false → kept_stream streams stream ≡ Some s → lacks_room_in s.state rec ≡ false
 filled-is streams stream rec s room found =
@@ -192,9 +227,9 @@ ends-fit number second last streams early each few room =
       omega (arith, ends-room second (9000000103 + 2 * number) 0 last streams (omega (arith, room)) (omega (arith, few, early))),
     )
 
-pub reopened : (last number : ℕ) (s : OpenStream) (openers : List ℕ) → IsFitState last number s → IsFitState last number (record { state = s.state; openers = openers })
+pub reopened : (last number : ℕ) (s : OpenStream) (openers : List ℕ) → IsFitState last number s → IsFitState last number (record { state = s.state; openers = openers; mark = s.mark })
 reopened last number s openers is =
-    record { attributes = is.attributes; files = is.files; stamps = is.stamps; taken = is.taken }
+    record { attributes = is.attributes; files = is.files; stamps = is.stamps; taken = is.taken; mark = is.mark }
 
 module _ (number : ℕ) (kept : LogTable) (fit : IsFitInside number kept) where
   later-each : (later : ℕ) → kept.last ≤ later → AllByRecursion (IsFitState later (number + 1)) kept.streams
@@ -220,9 +255,9 @@ module _ (number : ℕ) (kept : LogTable) (fit : IsFitInside number kept) where
     room = omega (arith, fit.room);
   }
 
-  fit-opened : (client : ℕ) (stream : StreamName) (second : ℕ) → IsClient client → IsAmong kept.users client → IsFitInside (number + 1) (table_after (Opened client stream None second) kept)
-  fit-opened client stream second caller user = record {
-    sound = sound-opened kept fit.sound client stream second caller user;
+  fit-opened : (client : ℕ) (stream : StreamName) (second entry : ℕ) → IsClient client → IsAmong kept.users client → IsFitInside (number + 1) (table_after (Opened client stream None second entry) kept)
+  fit-opened client stream second entry caller user = record {
+    sound = sound-opened kept fit.sound client stream second entry caller user;
     each = each-change_first (IsFitState kept.last (number + 1)) (is_named stream) (with_opener client) (λ s is. reopened kept.last (number + 1) s (with_opener client s).openers is) kept.streams
         (later-each kept.last (omega arith));
     order = order-changed stream (with_opener client) (λ _. refl) kept.streams fit.order;
@@ -230,14 +265,15 @@ module _ (number : ℕ) (kept : LogTable) (fit : IsFitInside number kept) where
     room = omega (arith, fit.room, length-changed (is_named stream) (with_opener client) kept.streams);
   }
 
-  fit-made : (client : ℕ) (stream : StreamName) (attrs : StreamAttrs) (second : ℕ) → second ≤ 9000000000 → PassesAttrs (kind_of stream) attrs → CanMake kept client stream attrs → IsFitInside (number + 1) (table_after (Opened client stream (Some attrs) second) kept)
-  fit-made client stream attrs second early passes can =
+  fit-made : (client : ℕ) (stream : StreamName) (attrs : StreamAttrs) (second entry : ℕ) → second ≤ 9000000000 → PassesAttrs (kind_of stream) attrs → CanMake kept client stream attrs → entry ≤ number + 1 → IsFitInside (number + 1) (table_after (Opened client stream (Some attrs) second entry) kept)
+  fit-made client stream attrs second entry early passes can entered =
       let last = stamp_after kept.last second in
-      let new = opened_stream client stream attrs last in
+      let new = opened_stream client stream attrs last entry in
+      let marked = set-fits (number + 1) entry 127 stream (of-application stream can.named) (omega arith) entered in
       let count : length (kept.streams ++ new ∷ []) ≡ length kept.streams + 1 = length-append kept.streams (new ∷ []) in
       record {
-        sound = sound-made kept fit.sound client stream attrs second can.caller can.user can.room can.free;
-        each = each-push (IsFitState last (number + 1)) kept.streams new (later-each last (omega arith)) (fit-new client last last (number + 1) stream attrs (omega arith) passes);
+        sound = sound-made kept fit.sound client stream attrs second entry can.caller can.user can.room can.free;
+        each = each-push (IsFitState last (number + 1)) kept.streams new (later-each last (omega arith)) (fit-new client last last (number + 1) stream attrs new.mark (omega arith) passes marked);
         order = order-pushed kept.streams new can.named fit.order;
         names = differ-pushed have_one_name kept.streams new fit.names (any-none (is_named stream) kept.streams (none-each (is_named stream) kept.streams can.new));
         room = omega (arith, fit.room, few-streams number kept fit, count, early);
@@ -262,6 +298,25 @@ module _ (number : ℕ) (kept : LogTable) (fit : IsFitInside number kept) where
         names = differ-changed have_one_name (is_named stream) change (λ _ _. refl) (λ _ _. refl) kept.streams ∙ fit.names;
         room = omega (arith, stored-few kept.last second (9000000105 + 2 * number - length kept.streams) rec found (omega (arith, fit.room, few)) (omega (arith, few, early)), fit.room, few, same);
       }
+
+  fit-filtered : (client : ℕ) (stream : StreamName) (mask entry : ℕ) → is_notified (kind_of stream) ≡ false → mask ≤ 127 → entry ≤ number + 1 → IsFitInside (number + 1) (table_after (Filtered client stream mask entry) kept)
+  fit-filtered client stream mask entry other low entered =
+      let mark : Mark = record { since = entry; mask = mask } in
+      record {
+        sound = sound-filtered kept fit.sound client stream mask entry;
+        each = all-first (IsFitState kept.last number) (IsFitState kept.last (number + 1)) (is_named stream) (with_mark mark)
+            (λ s. later-stream kept.last kept.last number s (omega arith)) kept.streams
+            (λ s is fit_one. marked s mark
+            (set-fits (number + 1) entry mask s.state.name (ap (λ n. is_notified (kind_of n)) ((decides_name s.state.name stream).0 (found-passes (is_named stream) kept.streams s is)) ∙ other) low entered)
+            (later-stream kept.last kept.last number s (omega arith) fit_one))
+            fit.each;
+        order = order-changed stream (with_mark mark) (λ _. refl) kept.streams fit.order;
+        names = differ-changed have_one_name (is_named stream) (with_mark mark) (λ _ _. refl) (λ _ _. refl) kept.streams ∙ fit.names;
+        room = omega (arith, fit.room, length-changed (is_named stream) (with_mark mark) kept.streams);
+      } where
+        marked : (s : OpenStream) (mark : Mark) → IsFitMark (number + 1) s.state.name mark → IsFitState kept.last (number + 1) s → IsFitState kept.last (number + 1) (with_mark mark s)
+        marked s mark fits is =
+            record { attributes = is.attributes; files = is.files; stamps = is.stamps; taken = is.taken; mark = fits }
 
   fit-left : (later : LogTable) (second : ℕ) (left : List OpenStream) → second ≤ 9000000000 → later.last ≡ last_after_ends kept.last second left → later.streams ≡ kept_streams left → length left ≡ length kept.streams → AllByRecursion (IsFitState kept.last number) left → StandInOrder left → all_differ have_one_name left ≡ true → IsSoundLog later → IsFitInside (number + 1) later
   fit-left later second left early last streams same each order names sound =
@@ -295,10 +350,11 @@ module _ (number : ℕ) (kept : LogTable) (fit : IsFitInside number kept) where
       (sound-ended kept fit.sound client second)
 
   -- **the log after a change**
-  pub fit-log : (change : LogChange) → second_in change ≤ 9000000000 → CanChange kept change → CanJoin kept change → IsFitInside (number + 1) (table_after change kept)
-  fit-log (Began client) early can joins = fit-began client joins
-  fit-log (Opened client stream None second) early can joins = fit-opened client stream second joins.0 joins.1
-  fit-log (Opened client stream (Some attrs) second) early can joins = fit-made client stream attrs second early can joins
-  fit-log (Stored stream rec second) early can joins = fit-recorded stream rec second early can
-  fit-log (Closed client stream second) early can joins = fit-closed client stream second early
-  fit-log (Ended client second) early can joins = fit-ended client second early
+  pub fit-log : (change : LogChange) → second_in change ≤ 9000000000 → CanChange kept change → CanJoin kept change → IsEntered (number + 1) change → IsFitInside (number + 1) (table_after change kept)
+  fit-log (Began client) early can joins entered = fit-began client joins
+  fit-log (Opened client stream None second entry) early can joins entered = fit-opened client stream second entry joins.0 joins.1
+  fit-log (Opened client stream (Some attrs) second entry) early can joins entered = fit-made client stream attrs second entry early can joins entered
+  fit-log (Stored stream rec second) early can joins entered = fit-recorded stream rec second early can
+  fit-log (Filtered client stream mask entry) early can joins entered = fit-filtered client stream mask entry joins.0 joins.1 entered
+  fit-log (Closed client stream second) early can joins entered = fit-closed client stream second early
+  fit-log (Ended client second) early can joins entered = fit-ended client second early

@@ -18,7 +18,7 @@ use Rattle.alarm_view.specs.Modes.{mode_of}
 use Rattle.ntf_history.specs.Rows.{asks_for_alarms, start_by}
 use Rattle.ntf_history.proofs.FitLaws.{length-put, length-without}
 use Rattle.calls.specs.declared.call.Call.{Call}
-use Rattle.calls.specs.declared.call.Call.TheVariants.{LogInit, LogOpen, LogWrite, LogClose, LogFini, NtfInit, NtfSend, NtfSubscribe, NtfUnsubscribe, ReaderStart, ReaderRead, ReaderEnd, NtfFini}
+use Rattle.calls.specs.declared.call.Call.TheVariants.{LogInit, LogOpen, LogWrite, LogFilter, LogClose, LogFini, NtfInit, NtfSend, NtfSubscribe, NtfUnsubscribe, ReaderStart, ReaderRead, ReaderEnd, NtfFini}
 use Rattle.calls.specs.declared.saved.SavedReader.{SavedReader}
 use Rattle.plain_service.specs.Fitness.{IsAmong}
 use Rattle.plain_service.specs.Legal.{IsClient}
@@ -99,6 +99,7 @@ fit-readers kept client seq now NtfInit caller ok fit = readers-begun client kep
 fit-readers kept client seq now LogInit caller ok fit = fit
 fit-readers kept client seq now (LogOpen stream create) caller ok fit = fit
 fit-readers kept client seq now (LogWrite stream invocation flags time header body) caller ok fit = fit
+fit-readers kept client seq now (LogFilter stream mask) caller ok fit = fit
 fit-readers kept client seq now (LogClose stream) caller ok fit = fit
 fit-readers kept client seq now LogFini caller ok fit = fit
 fit-readers kept client seq now (NtfSend notification) caller ok fit = fit

@@ -47,7 +47,7 @@ module _ (kept : ServiceTable) where
       few = fit.streams.few;
       names = fit.streams.names;
       places = fit.streams.places;
-      each = each-weaker (IsFitStream (saved_table kept)) (IsFitStream (log_alone kept.number kept.log)) (λ stream is. record { attributes = is.attributes; openers = is.openers; users = is.users; files = is.files; stamps = is.stamps; taken = is.taken }) (map saved_stream kept.log.streams) fit.streams.each;
+      each = each-weaker (IsFitStream (saved_table kept)) (IsFitStream (log_alone kept.number kept.log)) (λ stream is. record { attributes = is.attributes; openers = is.openers; users = is.users; files = is.files; stamps = is.stamps; taken = is.taken; mark = is.mark }) (map saved_stream kept.log.streams) fit.streams.each;
     };
     stamp = record { from = fit.stamp.from; to = fit.stamp.to };
   }
@@ -60,7 +60,7 @@ module _ (kept : ServiceTable) where
     few = fit.streams.few;
     names = fit.streams.names;
     places = fit.streams.places;
-    each = each-weaker (IsFitStream (log_alone kept.number kept.log)) (IsFitStream (saved_table kept)) (λ stream is. record { attributes = is.attributes; openers = is.openers; users = is.users; files = is.files; stamps = is.stamps; taken = is.taken }) (map saved_stream kept.log.streams) fit.streams.each;
+    each = each-weaker (IsFitStream (log_alone kept.number kept.log)) (IsFitStream (saved_table kept)) (λ stream is. record { attributes = is.attributes; openers = is.openers; users = is.users; files = is.files; stamps = is.stamps; taken = is.taken; mark = is.mark }) (map saved_stream kept.log.streams) fit.streams.each;
   }
 
   stamp-of : IsFitLog kept.number kept.log → HasFitStamp (saved_table kept)

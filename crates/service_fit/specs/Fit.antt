@@ -8,7 +8,7 @@ use Rattle.log_history.specs.Table.{OpenStream, LogTable}
 use Rattle.log_history.specs.Stamps.{IsStampUpTo}
 use Rattle.alarm_view.specs.declared.alarm.KeptAlarm.{KeptAlarm}
 use Rattle.calls.specs.declared.saved.Saved.{Saved}
-use Rattle.plain_service.specs.Fitness.{HaveFitStreams, HasFitStamp}
+use Rattle.plain_service.specs.Fitness.{IsFitMark, HaveFitStreams, HasFitStamp}
 use Rattle.plain_service.specs.Values.{saved_stream}
 
 -- a living stream, by the last stamp and the number of entries
@@ -17,6 +17,7 @@ pub record IsFitState (last number : ℕ) (stream : OpenStream) : Type 0 where
   pub files : HasFitFiles stream.state
   pub stamps : AllByRecursion (IsStampUpTo (pos last)) (stamps_of stream.state.files)
   pub taken : stream.state.taken ≤ number
+  pub mark : IsFitMark number stream.state.name stream.mark
 
 -- the alarm stream stands first, and its attributes pass
 abbrev pub IsAlarmFirst : List OpenStream → Type 0
