@@ -20,7 +20,7 @@ use Rattle.stream_layout.specs.Repeating.{IsSettled, AllSettled}
 use Rattle.record_print.specs.declared.record.LogRecord.{LogRecord}
 use Rattle.calls.specs.declared.entry.Entry.{Entry}
 use Rattle.calls.specs.declared.entry.Entry.TheVariants.{Called, Receipted}
-use Rattle.log_history.specs.Changes.{LogChange, Began, Opened, Stored, Closed, Ended}
+use Rattle.log_history.specs.Changes.{LogChange, Began, Opened, Stored, Filtered, Closed, Ended}
 use Rattle.log_history.specs.Chronicle.{LogSetup, Stream, new_stream, lives, is_living, chronicle}
 use Rattle.log_history.specs.Deeds.{deeds_of_all, deeds_by, made_stream}
 use Rattle.log_history.specs.Files.{disk_files, records_of, log_entries_of}
@@ -123,8 +123,8 @@ ending-again last second streams files stamps fit =
 -- **the deeds of one more change**
 pub change-again : (setup : LogSetup) (past : List LogChange) (change : LogChange) → IsLogHistory setup (change ∷ past) → CanStamp setup past (second_in change) → IsRepeatable (calls_of_all (deeds_by setup change past)) (disk_files setup past)
 change-again setup past (Began client) legal can = nothing-again (disk_files setup past)
-change-again setup past (Opened client opened None second) legal can = nothing-again (disk_files setup past)
-change-again setup past (Opened client opened (Some attrs) second) legal can =
+change-again setup past (Opened client opened None second number) legal can = nothing-again (disk_files setup past)
+change-again setup past (Opened client opened (Some attrs) second number) legal can =
     let made = made_stream (new_stream opened attrs (stamp_after (chronicle setup past).last second)) in
     alone-again made (disk_files setup past) (made-again (new_state opened attrs (stamp_after (chronicle setup past).last second)) (disk_files setup past))
 change-again setup past (Stored stored rec second) legal can =
@@ -135,6 +135,7 @@ change-again setup past (Stored stored rec second) legal can =
     let Q : Option OpenStream → Type 0 = λ kept. IsRepeatable (calls_of_all (deeds_of_all (option_map_or (λ (stream : OpenStream). storing now.last second rec stream.state ∷ []) kept []))) (disk_files setup past) in
     subst Q (sym found)
     (stored-option past now.last second rec (λ (stream : Stream). same_name stream.name stored) now.streams (find (is_living stored) now.streams) (disk_files setup past) refl (omega (arith, can.last)) (stamped setup past) (reached setup past legal.1).passing (sound setup past legal.1) (subst P found fit) (disk-holds setup past))
+change-again setup past (Filtered client filtered mask number) legal can = nothing-again (disk_files setup past)
 change-again setup past (Closed client closed second) legal can =
     let last = (chronicle setup past).last in
     let kept = (table setup past).streams in

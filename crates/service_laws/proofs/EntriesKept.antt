@@ -22,7 +22,7 @@ use Rattle.stream_layout.proofs.NameLaws.{stamp_bound}
 use Rattle.calls.specs.declared.entry.Entry.{Entry}
 use Rattle.calls.specs.declared.entry.Entry.TheVariants.{Called, Receipted}
 use Rattle.log_history.specs.AllNames.{names_of_full, names_in}
-use Rattle.log_history.specs.Changes.{LogChange, Began, Opened, Stored, Closed, Ended}
+use Rattle.log_history.specs.Changes.{LogChange, Began, Opened, Stored, Filtered, Closed, Ended}
 use Rattle.log_history.specs.Chronicle.{LogSetup, Stream, new_stream, lives, is_living, is_ending, with_record, with_end, all_ended, chronicle}
 use Rattle.log_history.specs.Deeds.{deeds_of_all, deeds_by, made_stream}
 use Rattle.log_history.specs.Files.{records_of, disk_files}
@@ -177,12 +177,12 @@ module _ (setup : LogSetup) (past : List LogChange) (legal : IsLogHistory setup 
 pub change-kept : (setup : LogSetup) (past : List LogChange) (change : LogChange) → IsLogHistory setup (change ∷ past) → CanStamp setup past (second_in change) → (s k : ℕ) (bytes : List ℕ) (spot after : List ℕ × ℕ) → record_in setup past s k ≡ Some bytes → place_in setup past s k ≡ Some spot → place_in setup (change ∷ past) s k ≡ Some after → IsAt bytes spot (disk_files setup past) → IsAt bytes after (disk_files setup (change ∷ past)) → IsKeptBy bytes spot after (disk_files setup past) (disk_files setup (change ∷ past)) (calls_of_all (deeds_by setup change past))
 change-kept setup past (Began client) legal can s k bytes spot after record_is at then was is =
     kept-nothing bytes spot after (disk_files setup past) (disk_files setup (Began client ∷ past)) was is
-change-kept setup past (Opened client opened None second) legal can s k bytes spot after record_is at then was is =
-    kept-nothing bytes spot after (disk_files setup past) (disk_files setup (Opened client opened None second ∷ past)) was is
-change-kept setup past (Opened client opened (Some attrs) second) legal can s k bytes spot after record_is at then was is =
+change-kept setup past (Opened client opened None second number) legal can s k bytes spot after record_is at then was is =
+    kept-nothing bytes spot after (disk_files setup past) (disk_files setup (Opened client opened None second number ∷ past)) was is
+change-kept setup past (Opened client opened (Some attrs) second number) legal can s k bytes spot after record_is at then was is =
     let last = (chronicle setup past).last in
     let created = stamp_after last second in
-    let new = disk_files setup (Opened client opened (Some attrs) second ∷ past) in
+    let new = disk_files setup (Opened client opened (Some attrs) second number ∷ past) in
     let place = place-stream (chronicle setup past).streams s k spot at in
     let older = old-name last (chronicle setup past).streams s place.stream spot.0 (stamped setup past) place.there (place-name place.stream k spot place.is) in
     kept-alone bytes spot after (disk_files setup past) new was is (made_stream (new_stream opened attrs created))
@@ -205,6 +205,8 @@ change-kept setup past (Stored stored rec second) legal can s k bytes spot after
           (kept-stored setup past legal.1 low s k bytes spot after new stored rec second stream is_found fits.0 record_is place later was is)
     ] in
     subst Q (sym found) (one (find (is_living stored) now.streams) refl (subst P found fit))
+change-kept setup past (Filtered client filtered mask number) legal can s k bytes spot after record_is at then was is =
+    kept-nothing bytes spot after (disk_files setup past) (disk_files setup (Filtered client filtered mask number ∷ past)) was is
 change-kept setup past (Closed client closed second) legal can s k bytes spot after record_is at then was is =
     let now = chronicle setup past in
     let low : now.last ≤ 20000000100 = omega (arith, can.last) in

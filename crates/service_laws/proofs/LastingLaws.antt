@@ -27,7 +27,7 @@ use Rattle.cluster_facts.specs.Messages.{calls_in}
 use Rattle.cluster_facts.specs.Service.{answers_in, subscribed}
 use Rattle.cluster_facts.proofs.Words.{by_test, All-at, All-map}
 use Rattle.plain_service.specs.Setups.{Setup}
-use Rattle.plain_service.specs.Pasts.{Past}
+use Rattle.plain_service.specs.Pasts.{Past, counted}
 use Rattle.plain_service.specs.Answers.{status_of}
 use Rattle.plain_service.specs.Changing.{past_after, past_with, past_received, past_of}
 use Rattle.plain_service.specs.Items.{lasts_for}
@@ -108,10 +108,10 @@ asked-later past after number call reply calls answers sub next before user aske
   known = omega (arith, before.known);
 }
 
-own-refused : (setup : Setup) (past : Past) (client number : ℕ) (now : ℤ) (call : Call) (calls : List (ℕ × Call)) (answers : List (ℕ × Reply)) (reply : Reply) → (status_of setup past client now call ≡ status.Ok → ⊥) → number ≡ suc (length calls) → AllAsked client past calls answers → AllAsked client past ((number, call) ∷ calls) ((number, reply) ∷ answers)
+own-refused : (setup : Setup) (past : Past) (client number : ℕ) (now : ℤ) (call : Call) (calls : List (ℕ × Call)) (answers : List (ℕ × Reply)) (reply : Reply) → (status_of setup past client now call ≡ status.Ok → ⊥) → number ≡ suc (length calls) → AllAsked client past calls answers → AllAsked client (counted past) ((number, call) ∷ calls) ((number, reply) ∷ answers)
 own-refused setup past client number now call calls answers reply refused next all sub stands mine =
     let before = all sub stands mine in
-    asked-later past past number call reply calls answers sub next before before.user
+    asked-later past (counted past) number call reply calls answers sub next before before.user
     (asked-refused setup past client number now calls call refused sub stands mine (ap (is_using past.ntf) (sym mine) ∙ before.user) before.asked)
 
 -- a subscription that is made
@@ -126,14 +126,14 @@ new-asked past after client number id filters calls answers sub made next told u
           let le : number ≤ length calls = All-at (λ (answer : ℕ × Reply). answer.0 ≤ length calls) (number, Refused refusal) answers told there in absurd (omega (arith, le, next))
 
 -- a call of the client that is answered ok
-own-ok : (setup : Setup) (past : Past) (client number : ℕ) (now : ℤ) (call : Call) (calls : List (ℕ × Call)) (answers : List (ℕ × Reply)) → status_of setup past client now call ≡ status.Ok → number ≡ suc (length calls) → AllByRecursion (λ (told : ℕ × Reply). told.0 ≤ length calls) answers → AllAsked client past calls answers → AllAsked client (past_after setup past client number now call status.Ok) ((number, call) ∷ calls) ((number, ok_reply setup past client call) ∷ answers)
+own-ok : (setup : Setup) (past : Past) (client number : ℕ) (now : ℤ) (call : Call) (calls : List (ℕ × Call)) (answers : List (ℕ × Reply)) → status_of setup past client now call ≡ status.Ok → number ≡ suc (length calls) → AllByRecursion (λ (told : ℕ × Reply). told.0 ≤ length calls) answers → AllAsked client past calls answers → AllAsked client (past_after setup past client number now call status.Ok) ((number, call) ∷ calls) ((number, ok_reply setup past client now call) ∷ answers)
 own-ok setup past client number now NtfInit calls answers ok next told all sub stands mine =
     let before = all sub stands mine in
     asked-later past (past_after setup past client number now NtfInit status.Ok) number NtfInit Done calls answers sub next before
     (or_right (client == sub.client) (is_using past.ntf sub.client) before.user) before.asked
 own-ok setup past client number now (NtfSend notification) calls answers ok next told all sub stands mine =
     let before = all sub stands mine in
-    asked-later past (past_after setup past client number now (NtfSend notification) status.Ok) number (NtfSend notification) (ok_reply setup past client (NtfSend notification)) calls answers sub next before before.user before.asked
+    asked-later past (past_after setup past client number now (NtfSend notification) status.Ok) number (NtfSend notification) (ok_reply setup past client now (NtfSend notification)) calls answers sub next before before.user before.asked
 own-ok setup past client number now (NtfSubscribe id filters) calls answers ok next told all sub stands mine =
     let after = past_after setup past client number now (NtfSubscribe id filters) status.Ok in
     let new : Sub = record { client = client; key = number; id = id; filters = filters } in
@@ -153,9 +153,9 @@ own-ok setup past client number now NtfFini calls answers ok next told all sub s
     let own = same-test sub.client client mine in absurd (cc)
 own-ok setup past client number now call calls answers ok next told all sub stands mine =
     let before = all sub stands mine in
-    asked-later past (past_after setup past client number now call status.Ok) number call (ok_reply setup past client call) calls answers sub next before before.user before.asked
+    asked-later past (past_after setup past client number now call status.Ok) number call (ok_reply setup past client now call) calls answers sub next before before.user before.asked
 
-own-called : (setup : Setup) (past : Past) (client number : ℕ) (now : ℤ) (call : Call) (calls : List (ℕ × Call)) (answers : List (ℕ × Reply)) → number ≡ suc (length calls) → AllByRecursion (λ (told : ℕ × Reply). told.0 ≤ length calls) answers → AllAsked client past calls answers → (answered : Status) → status_of setup past client now call ≡ answered → AllAsked client (past_after setup past client number now call answered) ((number, call) ∷ calls) ((number, reply_by answered (ok_reply setup past client call)) ∷ answers)
+own-called : (setup : Setup) (past : Past) (client number : ℕ) (now : ℤ) (call : Call) (calls : List (ℕ × Call)) (answers : List (ℕ × Reply)) → number ≡ suc (length calls) → AllByRecursion (λ (told : ℕ × Reply). told.0 ≤ length calls) answers → AllAsked client past calls answers → (answered : Status) → status_of setup past client now call ≡ answered → AllAsked client (past_after setup past client number now call answered) ((number, call) ∷ calls) ((number, reply_by answered (ok_reply setup past client now call)) ∷ answers)
 own-called setup past client number now call calls answers next told all status.Ok is =
     own-ok setup past client number now call calls answers is next told all
 own-called setup past client number now call calls answers next told all refusal is =
@@ -223,7 +223,8 @@ own-step setup client number now call entries before numbered =
 beside-step : (setup : Setup) (client number : ℕ) (now : ℤ) (call : Call) (entries : List Entry) (caller : ℕ) → (caller ≡ client → ⊥) → (IsNumbered (calls_in client entries) → AllAsked client (past_of setup entries) (calls_in client entries) (answers_in (plain_of setup) client entries)) → Step setup client number now call entries caller false
 beside-step setup client number now call entries caller apart before numbered =
     past_after-by (λ after. AllAsked client after (calls_in client entries) (answers_in (plain_of setup) client entries)) setup (past_of setup entries) caller number now call (status_of setup (past_of setup entries) caller now call)
-    (before numbered) (λ ok. beside-ok setup (past_of setup entries) caller client number now call (calls_in client entries) (answers_in (plain_of setup) client entries) apart (before numbered))
+    (λ sub stands mine. let kept = before numbered sub stands mine in asked-beside (past_of setup entries) (counted (past_of setup entries)) (calls_in client entries) (answers_in (plain_of setup) client entries) sub kept kept.user)
+    (λ ok. beside-ok setup (past_of setup entries) caller client number now call (calls_in client entries) (answers_in (plain_of setup) client entries) apart (before numbered))
 
 all-asked : (setup : Setup) (client : ℕ) (entries : List Entry) → IsNumbered (calls_in client entries) → AllAsked client (past_of setup entries) (calls_in client entries) (answers_in (plain_of setup) client entries)
 all-asked setup client [] numbered = λ sub stands mine. absurd stands

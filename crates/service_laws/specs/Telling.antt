@@ -7,7 +7,7 @@ use Rattle.sub_queue.specs.Items.{mark_of}
 use Rattle.calls.specs.declared.call.Call.{Call}
 use Rattle.calls.specs.declared.entry.Entry.{Entry}
 use Rattle.calls.specs.declared.reply.Callback.{Callback}
-use Rattle.calls.specs.declared.reply.Callback.TheVariants.{Written, Notified, Discarded}
+use Rattle.calls.specs.declared.reply.Callback.TheVariants.{Written, Notified, Discarded, FilterSet}
 use Rattle.ntf_history.specs.Subscriptions.{Extends}
 use Rattle.plain_service.specs.Setups.{Setup}
 use Rattle.plain_service.specs.Asked.{sends_asked, sends_dropped, lower_id}
@@ -19,6 +19,7 @@ use Rattle.service_laws.specs.PlainOf.{plain_of}
 -- the marks of the notifications that a callback tells, by themselves or as lost, in order
 abbrev pub marks_told : Callback → List Lost
 marks_told (Written invocation status) = []
+marks_told (FilterSet name mask written) = []
 marks_told (Notified id notification) = mark_of notification ∷ []
 marks_told (Discarded id lost) = lost
 
@@ -35,7 +36,7 @@ pub record TellSends (setup : Setup) (past : List Entry) (client key : ℕ) (cal
   pub once : IsRising lower_id (flat_map marks_told callbacks)
 
 -- what a client of these calls was fed are the callbacks of the items with these marks, a subscription's key and a number that goes
--- through 1, 2, 3 and so on of each, with those of writes between them; the newest comes first
+-- through 1, 2, 3 and so on of each, with those of replies between them; the newest comes first
 pub record IsFedBy (setup : Setup) (past : List Entry) (sent : List (ℕ × Call)) (client : ℕ) (marks : List (ℕ × ℕ)) (fed : List Callback) : Type 0 where
   pub numbered : IsNumbered sent
   pub counted : IsCounted marks
