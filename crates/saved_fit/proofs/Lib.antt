@@ -1,3 +1,4 @@
+pub mod MarkLaws
 pub mod RisingLaws
 pub mod FileLaws
 pub mod FillingLaws

@@ -4,14 +4,15 @@ ghost use Rattle.std.specs.List.{AllByRecursion, list_any};
 ghost use Rattle.ais_values.specs.Codes.{all_differ};
 ghost use Rattle.client_set.specs.Rising.{IsRising};
 ghost use Rattle.stream_config.specs.Attributes.{kind_of, PassesAttrs};
-ghost use Rattle.plain_service.specs.Fitness.{IsFitStream, IsOfApplication, have_one_name, stand_at_one_place, HaveFitStreams, HasFitStamp};
-ghost use Rattle.saved_fit.specs.Streams.{IsCalled, BeginsWell, AreFitOthers};
+ghost use Rattle.format_expr.specs.Language.{is_notified};
+ghost use Rattle.plain_service.specs.Fitness.{IsFitMark, IsFitStream, IsOfApplication, have_one_name, stand_at_one_place, HaveFitStreams, HasFitStamp};
+ghost use Rattle.saved_fit.specs.Streams.{IsCalled, BeginsWell, AreFitOthers, passes_mark};
 
 use crate::clients::{are_among, are_clients};
 use crate::files::{are_stamps, has_fit_files};
 use crate::judging::{Judged, all_fit};
 use calls::{Saved, SavedStream};
-use stream_config::{StreamName, StreamState, check_attrs, have_one_place};
+use stream_config::{Mark, StreamName, StreamState, check_attrs, have_one_place};
 
 /// Whether a stream has that name, if there is one.
 fn is_called(stream: Option<&SavedStream>, name: &StreamName) -> bool
@@ -131,6 +132,28 @@ fn passes(state: &StreamState) -> bool
     check_attrs(state.name.kind(), &state.attrs).is_ok()
 }
 
+/// Whether the stream has the records of notifications.
+fn is_notified(name: &StreamName) -> bool
+    ensures { result ≡ is_notified (kind_of name.now) }
+{
+    matches!(name, StreamName::Alarm | StreamName::Notification)
+}
+
+/// Whether a mark passes, of the stream of this name and once so many entries were accepted.
+fn passes_mark(number: u64, name: &StreamName, mark: Mark) -> bool
+    ensures { result ≡ passes_mark number name.now mark }
+{
+    mark.mask <= 127
+        && (mark.since <= number && (!is_notified(name) || (mark.since == 0 && mark.mask == 127)))
+}
+
+/// Whether the mark of the stream of this name is fit, once so many entries were accepted.
+fn is_fit_mark(number: u64, name: &StreamName, mark: Mark) -> bool
+    ensures { IsTrue result ↔ IsFitMark number name.now mark }
+{
+    passes_mark(number, name, mark)
+}
+
 /// Whether a stream is fit, of a value whose users rise.
 fn is_fit_stream(saved: &Saved, stream: &SavedStream) -> bool
     requires { IsRising nat_lt saved.now.log_users }
@@ -143,6 +166,7 @@ fn is_fit_stream(saved: &Saved, stream: &SavedStream) -> bool
         && has_fit_files(&stream.state)
         && are_stamps(saved.last_stamp, stream.state.files.as_slice())
         && u64::from(stream.state.taken) <= saved.number
+        && is_fit_mark(saved.number, &stream.state.name, stream.mark)
 }
 
 impl Judged for SavedStream {
