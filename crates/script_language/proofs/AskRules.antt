@@ -4,9 +4,9 @@ use Rattle.std.specs.Prelude.{codes}
 use Rattle.ais_values.specs.Times.{unknown_time}
 use Rattle.ais_values.specs.declared.kind.Which.{Which}
 use Rattle.calls.specs.declared.call.Ask.TheVariants.{Start, Plain}
-use Rattle.calls.specs.declared.call.Call.TheVariants.{LogOpen, LogWrite, LogClose, LogFini, NtfSend, NtfSubscribe, NtfUnsubscribe, ReaderStart, ReaderRead, ReaderEnd, NtfFini}
-use Rattle.script_language.specs.Asks.{IsInit, IsOpen, IsWrite, IsClose, log_forms, IsSend, IsSubscribe, IsUnsubscribe, IsReader, IsRead, ntf_forms}
-use Rattle.script_language.specs.AskReading.{init_at, open_at, write_at, close_at, log_readers, send_at, subscribe_at, unsubscribe_at, reader_at, read_at, ntf_readers}
+use Rattle.calls.specs.declared.call.Call.TheVariants.{LogOpen, LogWrite, LogFilter, LogClose, LogFini, NtfSend, NtfSubscribe, NtfUnsubscribe, ReaderStart, ReaderRead, ReaderEnd, NtfFini}
+use Rattle.script_language.specs.Asks.{IsInit, IsOpen, IsWrite, IsClose, IsFilter, log_forms, IsSend, IsSubscribe, IsUnsubscribe, IsReader, IsRead, ntf_forms}
+use Rattle.script_language.specs.AskReading.{init_at, open_at, write_at, close_at, filter_at, log_readers, send_at, subscribe_at, unsubscribe_at, reader_at, read_at, ntf_readers}
 use Rattle.script_grammar.proofs.Rules.Beginning.{Ends, Begins}
 use Rattle.script_grammar.proofs.Rules.{Beginning, Rule, TableRule, known_rule, word_rule, part_rule, no_form_rule, form_rule, maybe_part_rule, unless_part_rule, anything}
 use Rattle.script_language.proofs.ValueRules.{number32_rule, number64_rule, signed64_rule, version_rule, quoted_rule}
@@ -45,8 +45,15 @@ close_rule =
     part_rule stream_rule (λ stream.
     known_rule (Plain (LogClose stream))) refl
 
+pub filter_rule : Rule filter_at IsFilter (Ends ∷ []) stream_starts
+unfolding filter_at IsFilter
+filter_rule =
+    part_rule stream_rule (λ stream.
+    word_rule (codes " mask=") refl (part_rule number32_rule (λ mask.
+    known_rule (Plain (LogFilter stream mask))) refl)) refl
+
 abbrev pub log_starts : List Beginning
-log_starts = Begins (codes "init ") ∷ Begins (codes "open ") ∷ Begins (codes "write ") ∷ Begins (codes "close ") ∷ Begins (codes "fini") ∷ []
+log_starts = Begins (codes "init ") ∷ Begins (codes "open ") ∷ Begins (codes "write ") ∷ Begins (codes "close ") ∷ Begins (codes "filter ") ∷ Begins (codes "fini") ∷ []
 
 pub log_table : TableRule log_readers log_forms (Ends ∷ []) log_starts
 log_table =
@@ -54,7 +61,8 @@ log_table =
     form_rule (codes "open ") open_rule (
     form_rule (codes "write ") write_rule (
     form_rule (codes "close ") close_rule (
-    form_rule (codes "fini") (known_rule (Plain LogFini)) no_form_rule refl) refl) refl) refl) refl
+    form_rule (codes "filter ") filter_rule (
+    form_rule (codes "fini") (known_rule (Plain LogFini)) no_form_rule refl) refl) refl) refl) refl) refl
 
 pub send_rule : Rule send_at IsSend (Ends ∷ []) kind_starts
 unfolding send_at IsSend

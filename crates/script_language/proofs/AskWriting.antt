@@ -3,8 +3,8 @@ use Rattle.std.proofs.Common.{◌++◌, refl}
 use Rattle.std.specs.Prelude.{codes}
 use Rattle.ais_values.specs.declared.kind.Which.{Which}
 use Rattle.calls.specs.declared.call.Ask.TheVariants.{Start, Plain}
-use Rattle.calls.specs.declared.call.Call.TheVariants.{LogOpen, LogWrite, LogClose, LogFini, NtfSend, NtfSubscribe, NtfUnsubscribe, ReaderStart, ReaderRead, ReaderEnd, NtfFini}
-use Rattle.script_language.specs.Asks.{IsInit, IsOpen, IsWrite, IsClose, log_forms, IsSend, IsSubscribe, IsUnsubscribe, IsReader, IsRead, ntf_forms}
+use Rattle.calls.specs.declared.call.Call.TheVariants.{LogOpen, LogWrite, LogFilter, LogClose, LogFini, NtfSend, NtfSubscribe, NtfUnsubscribe, ReaderStart, ReaderRead, ReaderEnd, NtfFini}
+use Rattle.script_language.specs.Asks.{IsInit, IsOpen, IsWrite, IsClose, IsFilter, log_forms, IsSend, IsSubscribe, IsUnsubscribe, IsReader, IsRead, ntf_forms}
 use Rattle.script_grammar.proofs.Writing.{WritesBehind, WritesForms, written_known, written_word, written_part, written_no_form, written_form, number_written, signed_written, quoted_written, maybe_written}
 use Rattle.script_language.specs.Printing.{call_text, ask_text}
 use Rattle.script_language.proofs.ValueWriting.{version_written, known_time_written}
@@ -43,6 +43,13 @@ close_written =
     written_part stream_written (λ stream.
     written_known (Plain (LogClose stream)) refl)
 
+filter_written : WritesBehind (λ rest. codes "filter " ++ rest) IsFilter ask_text
+unfolding IsFilter call_text
+filter_written =
+    written_part stream_written (λ stream.
+    written_word (codes " mask=") (written_part number_written (λ mask.
+    written_known (Plain (LogFilter stream mask)) refl)))
+
 pub log_writing : WritesForms (λ rest. rest) log_forms ask_text
 unfolding call_text
 log_writing =
@@ -50,7 +57,8 @@ log_writing =
     written_form (codes "open ") open_written (
     written_form (codes "write ") write_written (
     written_form (codes "close ") close_written (
-    written_form (codes "fini") (written_known (Plain LogFini) refl) written_no_form))))
+    written_form (codes "filter ") filter_written (
+    written_form (codes "fini") (written_known (Plain LogFini) refl) written_no_form)))))
 
 send_written : WritesBehind (λ rest. codes "send " ++ rest) IsSend ask_text
 unfolding IsSend call_text

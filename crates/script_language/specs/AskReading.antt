@@ -4,7 +4,7 @@ use Rattle.ais_values.specs.Times.{unknown_time}
 use Rattle.ais_values.specs.declared.kind.Which.{Which}
 use Rattle.calls.specs.declared.call.Ask.{Ask}
 use Rattle.calls.specs.declared.call.Ask.TheVariants.{Start, Plain}
-use Rattle.calls.specs.declared.call.Call.TheVariants.{LogOpen, LogWrite, LogClose, LogFini, NtfSend, NtfSubscribe}
+use Rattle.calls.specs.declared.call.Call.TheVariants.{LogOpen, LogWrite, LogFilter, LogClose, LogFini, NtfSend, NtfSubscribe}
 use Rattle.calls.specs.declared.call.Call.TheVariants.{NtfUnsubscribe, ReaderStart, ReaderRead, ReaderEnd, NtfFini}
 use Rattle.script_grammar.specs.Reading.{known, word, part, maybe, unless}
 use Rattle.script_grammar.specs.ValueReading.{quoted_at}
@@ -33,12 +33,16 @@ write_at =
 unfoldable pub close_at : List ℕ → Option (Ask × List ℕ)
 close_at = part stream_at (λ stream. known (Plain (LogClose stream)))
 
+unfoldable pub filter_at : List ℕ → Option (Ask × List ℕ)
+filter_at = part stream_at (λ stream. word (codes " mask=") (part number32_at (λ mask. known (Plain (LogFilter stream mask)))))
+
 abbrev pub log_readers : List (List ℕ × (List ℕ → Option (Ask × List ℕ)))
 log_readers =
     (codes "init ", init_at service.Log)
     ∷ (codes "open ", open_at)
     ∷ (codes "write ", write_at)
     ∷ (codes "close ", close_at)
+    ∷ (codes "filter ", filter_at)
     ∷ (codes "fini", known (Plain LogFini))
     ∷ []
 

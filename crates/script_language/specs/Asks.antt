@@ -5,7 +5,7 @@ use Rattle.ais_values.specs.declared.kind.Which.{Which}
 use Rattle.ais_values.specs.declared.kind.Which.TheVariants as service
 use Rattle.calls.specs.declared.call.Ask.{Ask}
 use Rattle.calls.specs.declared.call.Ask.TheVariants.{Start, Plain}
-use Rattle.calls.specs.declared.call.Call.TheVariants.{LogOpen, LogWrite, LogClose, LogFini, NtfSend, NtfSubscribe}
+use Rattle.calls.specs.declared.call.Call.TheVariants.{LogOpen, LogWrite, LogFilter, LogClose, LogFini, NtfSend, NtfSubscribe}
 use Rattle.calls.specs.declared.call.Call.TheVariants.{NtfUnsubscribe, ReaderStart, ReaderRead, ReaderEnd, NtfFini}
 use Rattle.script_grammar.specs.Grammar.{Known, Word, Part, Maybe, Unless}
 use Rattle.script_grammar.specs.Values.{IsQuoted}
@@ -37,6 +37,10 @@ IsWrite =
 unfoldable pub IsClose : Ask → List ℕ → Type 0
 IsClose = Part IsStream (λ stream. Known (Plain (LogClose stream)))
 
+-- filter STREAM mask=N
+unfoldable pub IsFilter : Ask → List ℕ → Type 0
+IsFilter = Part IsStream (λ stream. Word (codes " mask=") (Part IsNumber32 (λ mask. Known (Plain (LogFilter stream mask)))))
+
 -- what a client asks of the Log Service
 abbrev pub log_forms : List (List ℕ × (Ask → List ℕ → Type 0))
 log_forms =
@@ -44,6 +48,7 @@ log_forms =
     ∷ (codes "open ", IsOpen)
     ∷ (codes "write ", IsWrite)
     ∷ (codes "close ", IsClose)
+    ∷ (codes "filter ", IsFilter)
     ∷ (codes "fini", Known (Plain LogFini))
     ∷ []
 

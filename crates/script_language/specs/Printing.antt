@@ -223,6 +223,7 @@ call_text (call.LogWrite stream invocation flags time header body) = joined (
     ∷ []
     )
 call_text (call.LogClose stream) = joined (codes "close " ∷ stream_text stream ∷ [])
+call_text (call.LogFilter stream mask) = joined (codes "filter " ∷ stream_text stream ∷ codes " mask=" ∷ decimal mask ∷ [])
 call_text call.LogFini = codes "fini"
 call_text call.NtfInit = codes "init"
 call_text (call.NtfSend note) = joined (codes "send " ∷ note_text note ∷ [])
