@@ -4,6 +4,8 @@ use Rattle.std.specs.List.{list_any}
 use Rattle.std.proofs.Math.Seq.{drop-cons}
 use Rattle.stream_config.specs.declared.attrs.StreamAttrs.{StreamAttrs}
 use Rattle.stream_config.specs.declared.attrs.StreamName.TheVariants as name
+use Rattle.stream_config.specs.declared.mark.Mark.{Mark}
+use Rattle.stream_config.specs.Marks.{first_mark}
 use Rattle.stream_config.specs.declared.state.StreamState.{StreamState}
 use Rattle.std.specs.Prelude.{ℤ, pos, unsigned_abs, map}
 use mir.Val.{SFits}
@@ -29,36 +31,39 @@ busy-sound (stream ∷ streams) sound =
     ap (λ b. b || list_any has_nobody streams) sound.0.opened ∙ busy-sound streams sound.1
 
 -- so many streams were made again, and these states are left
-pub record AreJoined (states : List StreamState) (openers : List (List ℕ)) (came rest : List StreamState) (left : ℕ) (made : List OpenStream) : Type 0 where
+pub record AreJoined (states : List StreamState) (openers : List (List ℕ)) (marks : List Mark) (came rest : List StreamState) (left : ℕ) (made : List OpenStream) : Type 0 where
   pub parts : came ++ rest ≡ states
   pub count : left ≡ length rest
   pub places : length made ≡ length came
-  pub all : made ++ joined_streams rest (drop (length came) openers) ≡ joined_streams states openers
+  pub all : made ++ joined_streams rest (drop (length came) openers) (drop (length came) marks) ≡ joined_streams states openers marks
 
--- while a state is left, the openers at that place are its own
-pub AreJoined-within : (states : List StreamState) (openers : List (List ℕ)) (came rest : List StreamState) (left : ℕ) (made : List OpenStream) → AreJoined states openers came rest left made → length states ≡ length openers → (state : StreamState) (others : List StreamState) → rest ≡ state ∷ others → length made < length openers
-AreJoined-within states openers came rest left made joined same state others is =
+-- while a state is left, the openers and the mark at that place are its own
+pub AreJoined-within : (states : List StreamState) (openers : List (List ℕ)) (marks : List Mark) (came rest : List StreamState) (left : ℕ) (made : List OpenStream) → AreJoined states openers marks came rest left made → (state : StreamState) (others : List StreamState) → rest ≡ state ∷ others → length made < length states
+AreJoined-within states openers marks came rest left made joined state others is =
     let all = ap length joined.parts in
     let both = length-append came rest in
     let some = ap length is in
     let made_is = joined.places in
     omega arith
 
-next-all : (states : List StreamState) (openers : List (List ℕ)) (came rest : List StreamState) (left : ℕ) (made : List OpenStream) → AreJoined states openers came rest left made → (state : StreamState) (others : List StreamState) (clients : List ℕ) → rest ≡ state ∷ others → length made < length openers → clients ≡ get_or openers (length made) clients → (let stream : OpenStream = record { state = state; openers = clients } in made ++ stream ∷ joined_streams others (drop (suc (length came)) openers) ≡ joined_streams states openers)
-next-all states openers came rest left made joined state others clients is within read =
-    let stream : OpenStream = record { state = state; openers = clients } in
-    let front : drop (length made) openers ≡ clients ∷ drop (suc (length made)) openers =
-    drop-cons openers (length made) clients within ∙ ap (λ first. first ∷ drop (suc (length made)) openers) (sym read) in
-    let at : drop (length came) openers ≡ clients ∷ drop (suc (length came)) openers =
-    ap (λ n. drop n openers) (sym joined.places) ∙ front ∙ ap (λ n. clients ∷ drop (suc n) openers) joined.places in
-    ap (λ back. made ++ back) (sym (ap (λ these. joined_streams these (drop (length came) openers)) is ∙ ap (joined_streams (state ∷ others)) at)) ∙ joined.all
+front-at : {X : Type 0} (xs : List X) (made came : ℕ) (x : X) → made ≡ came → made < length xs → x ≡ get_or xs made x → drop came xs ≡ x ∷ drop (suc came) xs
+front-at xs made came x same within read =
+    subst (λ n. drop n xs ≡ x ∷ drop (suc n) xs) same (drop-cons xs made x within ∙ ap (λ first. first ∷ drop (suc made) xs) (sym read))
+
+next-all : (states : List StreamState) (openers : List (List ℕ)) (marks : List Mark) (came rest : List StreamState) (left : ℕ) (made : List OpenStream) → AreJoined states openers marks came rest left made → (state : StreamState) (others : List StreamState) (clients : List ℕ) (mark : Mark) → rest ≡ state ∷ others → length made < length openers → length made < length marks → clients ≡ get_or openers (length made) clients → mark ≡ get_or marks (length made) mark → (let stream : OpenStream = record { state = state; openers = clients; mark = mark } in made ++ stream ∷ joined_streams others (drop (suc (length came)) openers) (drop (suc (length came)) marks) ≡ joined_streams states openers marks)
+next-all states openers marks came rest left made joined state others clients mark is within within_marks read read_mark =
+    let at = front-at openers (length made) (length came) clients joined.places within read in
+    let at_mark = front-at marks (length made) (length came) mark joined.places within_marks read_mark in
+    ap (λ back. made ++ back) (sym (ap (λ these. joined_streams these (drop (length came) openers) (drop (length came) marks)) is
+    ∙ ap (λ these. joined_streams (state ∷ others) these (drop (length came) marks)) at
+    ∙ ap (joined_streams (state ∷ others) (clients ∷ drop (suc (length came)) openers)) at_mark)) ∙ joined.all
 
 -- the stream that is made next is sound
-pub AreJoined-sound : (states : List StreamState) (openers : List (List ℕ)) (came rest : List StreamState) (left : ℕ) (made : List OpenStream) → AreJoined states openers came rest left made → AreSoundStreams (joined_streams states openers) → (state : StreamState) (others : List StreamState) (clients : List ℕ) → rest ≡ state ∷ others → length made < length openers → clients ≡ get_or openers (length made) clients → (let stream : OpenStream = record { state = state; openers = clients } in IsSoundStream stream)
-AreJoined-sound states openers came rest left made joined sound state others clients is within read =
-    let stream : OpenStream = record { state = state; openers = clients } in
-    sound-at made (joined_streams others (drop (suc (length came)) openers)) stream
-    (subst (λ (streams : List OpenStream). AreSoundStreams streams) (sym (next-all states openers came rest left made joined state others clients is within read)) sound)
+pub AreJoined-sound : (states : List StreamState) (openers : List (List ℕ)) (marks : List Mark) (came rest : List StreamState) (left : ℕ) (made : List OpenStream) → AreJoined states openers marks came rest left made → AreSoundStreams (joined_streams states openers marks) → (state : StreamState) (others : List StreamState) (clients : List ℕ) (mark : Mark) → rest ≡ state ∷ others → length made < length openers → length made < length marks → clients ≡ get_or openers (length made) clients → mark ≡ get_or marks (length made) mark → (let stream : OpenStream = record { state = state; openers = clients; mark = mark } in IsSoundStream stream)
+AreJoined-sound states openers marks came rest left made joined sound state others clients mark is within within_marks read read_mark =
+    let stream : OpenStream = record { state = state; openers = clients; mark = mark } in
+    sound-at made (joined_streams others (drop (suc (length came)) openers) (drop (suc (length came)) marks)) stream
+    (subst (λ (streams : List OpenStream). AreSoundStreams streams) (sym (next-all states openers marks came rest left made joined state others clients mark is within within_marks read read_mark)) sound)
 
 -- the well-known streams, by the attributes and the stamps with which they are made
 pub wells-are : (start : ℕ) (wells : List StreamAttrs) (alarm notification system : StreamAttrs) (first second third : ℕ) → AreWells wells → alarm ≡ get_or wells 0 alarm → notification ≡ get_or wells 1 notification → system ≡ get_or wells 2 system → first ≡ start → second ≡ second_stamp start → third ≡ third_stamp start → unopened_stream name.Alarm alarm first ∷ unopened_stream name.Notification notification second ∷ unopened_stream name.System system third ∷ [] ≡ well_streams start wells
@@ -75,7 +80,7 @@ three-behind front one two all a b c first second third = rw (third, second, fir
 -- the streams of a service to which nothing happened yet
 start-streams : (setup : LogSetup) → IsSetup setup → (table setup []).streams ≡ well_streams setup.start (setup.alarm ∷ setup.notification ∷ setup.system ∷ [])
 start-streams setup sound =
-    let opened : StreamState → OpenStream = λ state. record { state = state; openers = [] } in
+    let opened : StreamState → OpenStream = λ state. record { state = state; openers = []; mark = first_mark } in
     let alarm = λ (created : ℕ). state_of (new_stream name.Alarm setup.alarm created) in
     let second = second_stamp setup.start in
     let third = third_stamp setup.start in

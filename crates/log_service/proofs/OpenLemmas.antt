@@ -56,16 +56,16 @@ pub making-passes : (kept : LogTable) (client : ℕ) (name : StreamName) (create
 making-passes kept client name create ok attrs is = (makes-new kept client name create attrs ok is).passes
 
 -- an opened stream is the change that was made
-pub made-opened : (last now : ℤ) (client : ℕ) (name : StreamName) (making : Option StreamAttrs) (old new : List OpenStream) (users : List ℕ) (kept : LogTable) (opened : ℤ × List StreamEvent) (stamp : ℤ) (events : List StreamEvent) → table_with (unsigned_abs last) users old ≡ kept → OpensIn last now client name making old new opened → stamp ≡ opened.0 → events ≡ opened.1 → Made (Opened client name making (second_of now)) kept (table_with (unsigned_abs stamp) users new) events
-made-opened last now client name None old new users kept opened stamp events kept_is opens stamp_is events_are =
+pub made-opened : (last now : ℤ) (client number : ℕ) (name : StreamName) (making : Option StreamAttrs) (old new : List OpenStream) (users : List ℕ) (kept : LogTable) (opened : ℤ × List StreamEvent) (stamp : ℤ) (events : List StreamEvent) → table_with (unsigned_abs last) users old ≡ kept → OpensIn last now client number name making old new opened → stamp ≡ opened.0 → events ≡ opened.1 → Made (Opened client name making (second_of now) number) kept (table_with (unsigned_abs stamp) users new) events
+made-opened last now client number name None old new users kept opened stamp events kept_is opens stamp_is events_are =
     let after = table_with (unsigned_abs stamp) users new in
-    subst (λ (k : LogTable). Made (Opened client name None (second_of now)) k after events) kept_is (record {
+    subst (λ (k : LogTable). Made (Opened client name None (second_of now) number) k after events) kept_is (record {
       now = ap (λ (n : ℕ). table_with n users new) (ap unsigned_abs (stamp_is ∙ opens.stamp)) ∙ ap (table_with (unsigned_abs last) users) opens.streams;
       done = events_are ∙ opens.events;
     })
-made-opened last now client name (Some attrs) old new users kept opened stamp events kept_is opens stamp_is events_are =
+made-opened last now client number name (Some attrs) old new users kept opened stamp events kept_is opens stamp_is events_are =
     let after = table_with (unsigned_abs stamp) users new in
-    subst (λ (k : LogTable). Made (Opened client name (Some attrs) (second_of now)) k after events) kept_is (record {
+    subst (λ (k : LogTable). Made (Opened client name (Some attrs) (second_of now) number) k after events) kept_is (record {
       now = ap (λ (n : ℕ). table_with n users new) (ap unsigned_abs (stamp_is ∙ opens.stamp)) ∙ ap (table_with (stamp_after (unsigned_abs last) (second_of now)) users) opens.streams;
       done = events_are ∙ opens.events;
     })
@@ -87,8 +87,8 @@ made-fits last now stamp moment is =
     let bound = stamp-bound (unsigned_abs last) (second_of now) 19999999000 true (abs-bound last 19999999000 moment.last_from moment.last_to) (second-bound now time) (omega arith) in
     subst (λ (z : ℤ). SFits w64 z) (sym is) (record { sfits = omega arith })
 
-pub kept-open : (last now : ℤ) (client : ℕ) (name : StreamName) (making : Option StreamAttrs) (old new : List OpenStream) (opened : ℤ × List StreamEvent) → IsMoment last now → AreFew old → list_any has_nobody old ≡ false → ((attrs : StreamAttrs) → making ≡ Some attrs → MakesNew old name attrs) → OpensIn last now client name making old new opened → IsKeptOpen opened.0 new
-kept-open last now client name None old new opened moment few busy makes opens =
+pub kept-open : (last now : ℤ) (client number : ℕ) (name : StreamName) (making : Option StreamAttrs) (old new : List OpenStream) (opened : ℤ × List StreamEvent) → IsMoment last now → AreFew old → list_any has_nobody old ≡ false → ((attrs : StreamAttrs) → making ≡ Some attrs → MakesNew old name attrs) → OpensIn last now client number name making old new opened → IsKeptOpen opened.0 new
+kept-open last now client number name None old new opened moment few busy makes opens =
     let stamp_is = opens.stamp in
     record {
       fits = subst (λ (z : ℤ). SFits w64 z) (sym stamp_is) (moment-fits last now moment);
@@ -96,10 +96,10 @@ kept-open last now client name None old new opened moment few busy makes opens =
       few = subst (λ (streams : List OpenStream). AreFew streams) (sym opens.streams) (AreFew-changed (with_opener client) (λ _. refl) (is_named name) old few);
       busy = ap (list_any has_nobody) opens.streams ∙ busy-changed (with_opener client) (λ stream _. joined-busy client stream) (is_named name) old busy;
     }
-kept-open last now client name (Some attrs) old new opened moment few busy makes opens =
+kept-open last now client number name (Some attrs) old new opened moment few busy makes opens =
     let stamp_is = opens.stamp in
     let told = makes attrs refl in
-    let stream = opened_stream client name attrs (stamp_after (unsigned_abs last) (second_of now)) in
+    let stream = opened_stream client name attrs (stamp_after (unsigned_abs last) (second_of now)) number in
     record {
       fits = made-fits last now opened.0 moment stamp_is;
       from = subst (λ (z : ℤ). pos 0 ≤ℤ z) (sym stamp_is) (pos-from _);

@@ -1,5 +1,5 @@
 -- The first element that passes a test, by its place.
-use Rattle.std.proofs.Common.{◌≡◌, ℕ, ◌+◌, ◌<◌, ◌≤◌, suc, Bool, true, false, not, cond, ltb, List, [], ◌∷◌, ◌++◌, length, get_or, set, take, drop, map, append-nil, subst, refl, ap, sym, ◌∙◌, arith}
+use Rattle.std.proofs.Common.{◌≡◌, ℕ, ◌+◌, ◌<◌, ◌≤◌, zero, suc, Bool, true, false, not, cond, ltb, List, [], ◌∷◌, ◌++◌, length, get_or, set, take, drop, map, append-nil, subst, refl, ap, sym, ◌∙◌, arith}
 use Rattle.std.specs.Prelude.{Some, None}
 use Rattle.std.proofs.Math.ListN.{drop_of_length-le}
 use Rattle.std.proofs.lemmas.List.{take_all}
@@ -76,3 +76,9 @@ module _ {X : Type 0} (test : X → Bool) where
 pub map-whole : {X : Type 0} (f : X → X) (xs now : List X) (place : ℕ) → length xs ≤ place → now ≡ map f (take place xs) ++ drop place xs → now ≡ map f xs
 map-whole f xs now place past is =
     is ∙ ap (λ front. map f front ++ drop place xs) (take_all place xs past) ∙ ap (λ back. map f xs ++ back) (drop_of_length-le xs past) ∙ append-nil (map f xs)
+
+-- within bounds what is read does not depend on what stands for nothing
+pub read-same : {X : Type 0} (xs : List X) (at : ℕ) (d : X) → at < length xs → get_or xs at d ≡ get_or xs at (get_or xs at d)
+read-same [] at d within = absurd (omega (arith, within))
+read-same (x ∷ xs) zero d within = refl
+read-same (x ∷ xs) (suc at) d within = read-same xs at d (omega (arith, within))

@@ -6,7 +6,7 @@ use Rattle.std.specs.List.{find}
 use Rattle.std.specs.Int.{is_negative}
 use Rattle.std.specs.Ordering.{int_eq}
 use Rattle.std.proofs.lemmas.Bool.Decides.{nat_tests}
-use Rattle.std.proofs.lemmas.Bool.{and_parts, le-ltb}
+use Rattle.std.proofs.lemmas.Bool.{and_parts, leb-true, le-ltb}
 use Rattle.ais_values.specs.Times.{unknown_time}
 use Rattle.ais_values.specs.TimeTests.{is_time}
 use Rattle.ais_values.specs.Events.{is_event_type}
@@ -27,50 +27,59 @@ use mir.Val.{SFits}
 use Rattle.log_history.specs.Times.{filled_time, filled_header, record_at}
 use Rattle.log_history.specs.Table.{OpenStream, LogTable, is_named, last_after_due}
 use Rattle.log_history.specs.Changes.{Stored}
-use Rattle.log_service.specs.State.{Made}
+use Rattle.log_service.specs.State.{Made, HasSeverity}
 use Rattle.log_service.specs.Moments.{second_of}
 use Rattle.log_service.specs.Changing.{StoresIn}
 use Rattle.log_service.proofs.EndLemmas.{pos-from}
 
 -- an ok write may be written
-pub write-rows : (using opened full : Bool) (kind : StreamKind) (flags : ℕ) (time : ℤ) (header : Header) → answer (write_rows using opened full kind flags time header) ≡ status.Ok → can_write kind time header ≡ true
-write-rows using opened full kind flags time header ok =
-    told using opened (nat_lt 1 flags) (can_write kind time header) full ok where
-      told : (u o f w l : Bool) → answer ((not u, status.BadHandle) ∷ (not o, status.BadHandle) ∷ (f, status.BadFlags) ∷ (not w, status.InvalidParam) ∷ (l, status.NoSpace) ∷ []) ≡ status.Ok → w ≡ true
-      told false o f w l is = absurd cc
-      told true false f w l is = absurd cc
-      told true true true w l is = absurd cc
-      told true true false false l is = absurd cc
-      told true true false true l is = refl
+pub write-rows : (using opened filtered full : Bool) (kind : StreamKind) (flags : ℕ) (time : ℤ) (header : Header) → answer (write_rows using opened filtered full kind flags time header) ≡ status.Ok → can_write kind time header ≡ true
+write-rows using opened filtered full kind flags time header ok =
+    told using opened (nat_lt 1 flags) (can_write kind time header) filtered full ok where
+      told : (u o f w p l : Bool) → answer ((not u, status.BadHandle) ∷ (not o, status.BadHandle) ∷ (f, status.BadFlags) ∷ (not w, status.InvalidParam) ∷ (p, status.Ok) ∷ (l, status.NoSpace) ∷ []) ≡ status.Ok → w ≡ true
+      told false o f w p l is = absurd cc
+      told true false f w p l is = absurd cc
+      told true true true w p l is = absurd cc
+      told true true false false p l is = absurd cc
+      told true true false true p l is = refl
 
--- and it has room
-pub write-room : (using opened full : Bool) (kind : StreamKind) (flags : ℕ) (time : ℤ) (header : Header) → answer (write_rows using opened full kind flags time header) ≡ status.Ok → full ≡ false
-write-room using opened full kind flags time header ok =
-    told using opened (nat_lt 1 flags) (can_write kind time header) full ok where
-      told : (u o f w l : Bool) → answer ((not u, status.BadHandle) ∷ (not o, status.BadHandle) ∷ (f, status.BadFlags) ∷ (not w, status.InvalidParam) ∷ (l, status.NoSpace) ∷ []) ≡ status.Ok → l ≡ false
-      told false o f w l is = absurd cc
-      told true false f w l is = absurd cc
-      told true true true w l is = absurd cc
-      told true true false false l is = absurd cc
-      told true true false true true is = absurd cc
-      told true true false true false is = refl
+-- and where it is not filtered it has room
+pub write-room : (using opened filtered full : Bool) (kind : StreamKind) (flags : ℕ) (time : ℤ) (header : Header) → answer (write_rows using opened filtered full kind flags time header) ≡ status.Ok → filtered ≡ false → full ≡ false
+write-room using opened filtered full kind flags time header ok =
+    told using opened (nat_lt 1 flags) (can_write kind time header) filtered full ok where
+      told : (u o f w p l : Bool) → answer ((not u, status.BadHandle) ∷ (not o, status.BadHandle) ∷ (f, status.BadFlags) ∷ (not w, status.InvalidParam) ∷ (p, status.Ok) ∷ (l, status.NoSpace) ∷ []) ≡ status.Ok → p ≡ false → l ≡ false
+      told false o f w p l is passes = absurd cc
+      told true false f w p l is passes = absurd cc
+      told true true true w p l is passes = absurd cc
+      told true true false false p l is passes = absurd cc
+      told true true false true true l is passes = absurd cc
+      told true true false true false true is passes = absurd cc
+      told true true false true false false is passes = refl
+
+-- its severity is one of the seven
+pub severity-fits : (kind : StreamKind) (time : ℤ) (header : Header) → can_write kind time header ≡ true → HasSeverity header
+severity-fits kind time (Ntf id event_type object notifier class event_time) may = tt
+severity-fits kind time (Generic class user severity) may =
+    let can = (and_parts (is_time time) (not (is_notified kind) && nat_le severity 6) may).1 in
+    leb-true severity 6 (and_parts (not (is_notified kind)) (nat_le severity 6) can).1
 
 pub store-room : (full : Bool) → answer (store_rows full) ≡ status.Ok → full ≡ false
 store-room true is = absurd cc
 store-room false is = refl
 
--- where no earlier row holds, the room decides
-pub write-decides : (using opened full : Bool) (kind : StreamKind) (flags : ℕ) (time : ℤ) (header : Header) → using ≡ true → opened ≡ true → flags ≤ 1 → can_write kind time header ≡ true
-    → cond full status.NoSpace status.Ok ≡ answer (write_rows using opened full kind flags time header)
-write-decides using opened full kind flags time header uses opens low may =
-    told using opened (nat_lt 1 flags) (can_write kind time header) full uses opens (le-ltb 1 flags low) may where
-      told : (u o f w l : Bool) → u ≡ true → o ≡ true → f ≡ false → w ≡ true → cond l status.NoSpace status.Ok ≡ answer ((not u, status.BadHandle) ∷ (not o, status.BadHandle) ∷ (f, status.BadFlags) ∷ (not w, status.InvalidParam) ∷ (l, status.NoSpace) ∷ [])
-      told false o f w l a b c d = cc
-      told true false f w l a b c d = cc
-      told true true true w l a b c d = cc
-      told true true false false l a b c d = cc
-      told true true false true true a b c d = refl
-      told true true false true false a b c d = refl
+-- where no earlier row holds, the mask and then the room decides
+pub write-decides : (using opened filtered full : Bool) (kind : StreamKind) (flags : ℕ) (time : ℤ) (header : Header) → using ≡ true → opened ≡ true → flags ≤ 1 → can_write kind time header ≡ true
+    → cond filtered status.Ok (cond full status.NoSpace status.Ok) ≡ answer (write_rows using opened filtered full kind flags time header)
+write-decides using opened filtered full kind flags time header uses opens low may =
+    told using opened (nat_lt 1 flags) (can_write kind time header) filtered full uses opens (le-ltb 1 flags low) may where
+      told : (u o f w p l : Bool) → u ≡ true → o ≡ true → f ≡ false → w ≡ true → cond p status.Ok (cond l status.NoSpace status.Ok) ≡ answer ((not u, status.BadHandle) ∷ (not o, status.BadHandle) ∷ (f, status.BadFlags) ∷ (not w, status.InvalidParam) ∷ (p, status.Ok) ∷ (l, status.NoSpace) ∷ [])
+      told false o f w p l a b c d = cc
+      told true false f w p l a b c d = cc
+      told true true true w p l a b c d = cc
+      told true true false false p l a b c d = cc
+      told true true false true true l a b c d = refl
+      told true true false true false true a b c d = refl
+      told true true false true false false a b c d = refl
 
 pub not-negative : (z : ℤ) → pos 0 ≤ℤ z → is_negative z ≡ false
 not-negative (pos n) from = grind (arith, nat_tests)

@@ -2,6 +2,7 @@
 use Rattle.std.specs.Prelude.{◌≡◌, ℕ, ℤ, pos, List, [], ◌∷◌, map}
 use Rattle.ais_values.specs.declared.kind.StreamKind.TheVariants as kind
 use Rattle.stream_config.specs.Attributes.{PassesAttrs}
+use Rattle.stream_config.specs.Marks.{first_mark}
 use Rattle.stream_config.specs.Stamps.{stamp_after}
 use Rattle.stream_config.specs.declared.attrs.StreamAttrs.{StreamAttrs}
 use Rattle.stream_config.specs.declared.attrs.StreamName.{StreamName}
@@ -10,9 +11,9 @@ use Rattle.stream_config.specs.declared.event.StreamEvent.{StreamEvent}
 use Rattle.log_history.specs.Table.{OpenStream, new_state}
 use Rattle.log_service.specs.State.{made_event}
 
--- a new stream that nobody has open
+-- a new stream that nobody has open, and whose mask was never set
 abbrev pub unopened_stream : StreamName → StreamAttrs → (created : ℕ) → OpenStream
-unopened_stream name attrs created = record { state = new_state name attrs created; openers = [] }
+unopened_stream name attrs created = record { state = new_state name attrs created; openers = []; mark = first_mark }
 
 -- the attributes of the three streams pass
 abbrev pub AreWells : List StreamAttrs → Type 0

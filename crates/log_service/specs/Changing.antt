@@ -37,11 +37,11 @@ pub record IsFiling (last now : ℤ) (rec : LogRecord) (state : StreamState) (st
   pub files_are : files ≡ (state_after (storing (unsigned_abs last) (second_of now) rec state)).files
 
 -- the streams once a client has made one, with the last stamp then and the events
-pub record MakesIn (last now : ℤ) (client : ℕ) (name : StreamName) (attrs : StreamAttrs)
+pub record MakesIn (last now : ℤ) (client number : ℕ) (name : StreamName) (attrs : StreamAttrs)
     (old new : List OpenStream) (made : ℤ × List StreamEvent) : Type 0 where
   pub stamp : made.0 ≡ pos (stamp_after (unsigned_abs last) (second_of now))
   pub events : made.1 ≡ Made (new_state name attrs (stamp_after (unsigned_abs last) (second_of now))) ∷ []
-  pub streams : new ≡ old ++ opened_stream client name attrs (stamp_after (unsigned_abs last) (second_of now)) ∷ []
+  pub streams : new ≡ old ++ opened_stream client name attrs (stamp_after (unsigned_abs last) (second_of now)) number ∷ []
 
 -- the streams once a client has joined the openers of one
 pub record JoinsIn (last : ℤ) (client : ℕ) (name : StreamName) (old new : List OpenStream) (joined : ℤ × List StreamEvent) : Type 0 where
@@ -50,9 +50,9 @@ pub record JoinsIn (last : ℤ) (client : ℕ) (name : StreamName) (old new : Li
   pub streams : new ≡ change_first (is_named name) (with_opener client) old
 
 -- the streams once a client has opened one, which lived or not
-abbrev pub OpensIn : (last now : ℤ) (client : ℕ) → StreamName → (making : Option StreamAttrs) → (old new : List OpenStream) → ℤ × List StreamEvent → Type 0
-OpensIn last now client name (Some attrs) old new opened = MakesIn last now client name attrs old new opened
-OpensIn last now client name None old new opened = JoinsIn last client name old new opened
+abbrev pub OpensIn : (last now : ℤ) (client number : ℕ) → StreamName → (making : Option StreamAttrs) → (old new : List OpenStream) → ℤ × List StreamEvent → Type 0
+OpensIn last now client number name (Some attrs) old new opened = MakesIn last now client number name attrs old new opened
+OpensIn last now client number name None old new opened = JoinsIn last client name old new opened
 
 -- the streams once a record is stored in the one of this name, with the last stamp then and the events
 pub record StoresIn (last now : ℤ) (name : StreamName) (rec : LogRecord) (old new : List OpenStream) (stored : ℤ × List StreamEvent) : Type 0 where

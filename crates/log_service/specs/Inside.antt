@@ -6,7 +6,7 @@ use Rattle.log_history.specs.Table.{OpenStream}
 use Rattle.log_service.specs.declared.live.LiveStream.TheInside.{Inside}
 
 abbrev pub stream_of : Inside → OpenStream
-stream_of inside = record { state = inside.state; openers = inside.openers }
+stream_of inside = record { state = inside.state; openers = inside.openers; mark = inside.mark }
 
 -- the attributes pass, the expression is what their text is read as, and every file but the first began with a record
 pub record IsKeptStream (inside : Inside) : Type 0 where

@@ -1,17 +1,18 @@
 -- Words of public clauses: what a planned call tells, what it makes of the state, and when it can be made.
-use Rattle.std.specs.Prelude.{◌≡◌, ◌≢◌, ◌<◌, ◌≤◌, ◌+◌, ℕ, ◌==◌, false, pos, ◌≤ℤ◌, unsigned_abs, List, [], ◌∷◌, ◌++◌, length}
+use Rattle.std.specs.Prelude.{◌≡◌, ◌≢◌, ◌<◌, ◌≤◌, ◌+◌, ℕ, ◌==◌, Bool, false, Option, Some, pos, ◌≤ℤ◌, unsigned_abs, List, [], ◌∷◌, ◌++◌, length}
 use Rattle.std.specs.List.{list_any}
 use Rattle.ais_values.specs.declared.status.Status.{Status}
 use Rattle.ais_values.specs.declared.status.Status.TheVariants as status
 use Rattle.client_set.specs.Edits.{change_at}
 use Rattle.client_set.specs.Rising.{without}
+use Rattle.stream_config.specs.declared.mark.Mark.{Mark}
 use Rattle.stream_config.specs.declared.state.LogFile.{LogFile}
 use Rattle.log_history.specs.Changes.{LogChange}
-use Rattle.log_history.specs.Table.{OpenStream, LogTable, has_nobody, kept_streams, closed_streams, left_streams}
-use Rattle.log_service.specs.State.{Made, Left, AreFew, table_with}
+use Rattle.log_history.specs.Table.{OpenStream, LogTable, with_mark, has_nobody, kept_streams, closed_streams, left_streams}
+use Rattle.log_service.specs.State.{Came, Left, Tells, AreFew, table_with}
 use Rattle.log_service.specs.declared.step.Step.{Step}
 use Rattle.log_service.specs.declared.plan.Doing.{Doing}
-use Rattle.log_service.specs.declared.plan.Doing.TheVariants.{Stay, Begin, Join, Make, Store, Leave, End}
+use Rattle.log_service.specs.declared.plan.Doing.TheVariants.{Stay, Begin, Join, Make, Store, Set, Leave, End}
 use Rattle.log_service.specs.declared.plan.LogPlan.{LogPlan}
 
 -- what the planned call is answered and does to streams
@@ -19,12 +20,13 @@ abbrev pub step_of : LogPlan → Step
 step_of plan = plan.step
 
 abbrev pub with_openers : List ℕ → OpenStream → OpenStream
-with_openers openers stream = record { state = stream.state; openers = openers }
+with_openers openers stream = record { state = stream.state; openers = openers; mark = stream.mark }
 
 abbrev pub with_files : (taken opened : ℕ) → List LogFile → OpenStream → OpenStream
 with_files taken opened files stream = record {
   state = record { name = stream.state.name; attrs = stream.state.attrs; taken = taken; opened = opened; files = files };
   openers = stream.openers;
+  mark = stream.mark;
 }
 
 -- the living streams once that is done
@@ -34,6 +36,7 @@ streams_after (Begin users) streams = streams
 streams_after (Join place openers) streams = change_at (with_openers openers) streams place
 streams_after (Make stream) streams = streams ++ stream ∷ []
 streams_after (Store place taken opened files) streams = change_at (with_files taken opened files) streams place
+streams_after (Set place mark) streams = change_at (with_mark mark) streams place
 streams_after (Leave name client) streams = kept_streams (closed_streams client name streams)
 streams_after (End client) streams = kept_streams (left_streams client streams)
 
@@ -47,6 +50,7 @@ users_after _ users = users
 abbrev pub CanDo : Doing → List OpenStream → Type 0
 CanDo (Join place openers) streams = place < length streams
 CanDo (Store place taken opened files) streams = (place < length streams) × (opened ≤ taken + 1)
+CanDo (Set place mark) streams = place < length streams
 CanDo _ streams = Unit {0}
 
 -- what the planned call makes of a state
@@ -61,9 +65,18 @@ pub record CanCommit (before : LogTable) (plan : LogPlan) : Type 0 where
   pub few : AreFew (streams_after plan.doing before.streams)
   pub busy : list_any has_nobody (streams_after plan.doing before.streams) ≡ false
 
--- the plan, for this state, of a call that is answered so, and that makes this change where it is ok
-pub record Plans (before : LogTable) (answered : Status) (change : LogChange) (plan : LogPlan) : Type 0 where
+-- the plan with a mark told
+abbrev pub marked_plan : Mark → LogPlan → LogPlan
+marked_plan mark plan = record {
+  step = record { status = plan.step.status; filtered = plan.step.filtered; mark = Some mark; events = plan.step.events };
+  last = plan.last;
+  doing = plan.doing;
+}
+
+-- the plan, for this state, of a call that is answered so, and that tells this and makes this change where it is ok
+pub record Plans (before : LogTable) (answered : Status) (filtered : Bool) (mark : Option Mark) (change : LogChange) (plan : LogPlan) : Type 0 where
   pub answer : plan.step.status ≡ answered
-  pub ok : plan.step.status ≡ status.Ok → Made change before (planned plan before) plan.step.events
+  pub told : Tells filtered mark plan.step
+  pub ok : plan.step.status ≡ status.Ok → Came filtered change before (planned plan before) plan.step.events
   pub refused : plan.step.status ≢ status.Ok → Left before (planned plan before) plan.step.events
   pub can : CanCommit before plan

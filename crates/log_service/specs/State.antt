@@ -1,7 +1,8 @@
 -- Words of public clauses: when a call can come, what it did, and of which parts a state can be made.
-use Rattle.std.specs.Prelude.{◌≡◌, ◌+◌, ◌<◌, ◌≤◌, ℕ, suc, nat_lt, true, false, ℤ, pos, ◌≤ℤ◌, if◌then◌else◌, List, [], ◌∷◌, map}
+use Rattle.std.specs.Prelude.{◌≡◌, ◌≢◌, ◌+◌, ◌<◌, ◌≤◌, ℕ, suc, nat_lt, Bool, true, false, Option, None, ℤ, pos, ◌≤ℤ◌, if◌then◌else◌, List, [], ◌∷◌, map}
 use Rattle.std.specs.List.{AllByRecursion}
 use Rattle.std.specs.Option.{ForSome}
+use Rattle.ais_values.specs.declared.status.Status.TheVariants as status
 use Rattle.ais_values.specs.declared.kind.StreamKind.{StreamKind}
 use Rattle.ais_values.specs.declared.kind.StreamKind.TheVariants.{Alarm}
 use Rattle.client_set.specs.Rising.{IsRising}
@@ -10,6 +11,7 @@ use Rattle.stream_config.specs.Attributes.{kind_of, PassesAttrs}
 use Rattle.stream_config.specs.declared.attrs.StreamName.{StreamName}
 use Rattle.stream_config.specs.declared.attrs.StreamName.TheVariants as name
 use Rattle.stream_config.specs.declared.attrs.StreamAttrs.{StreamAttrs}
+use Rattle.stream_config.specs.declared.mark.Mark.{Mark}
 use Rattle.stream_config.specs.declared.state.StreamState.{StreamState}
 use Rattle.stream_config.specs.declared.event.StreamEvent.{StreamEvent}
 use Rattle.stream_config.specs.declared.event.StreamEvent.TheVariants as event
@@ -23,6 +25,7 @@ use Rattle.log_history.specs.Legal.{IsSetup}
 use Rattle.log_history.specs.Table.{OpenStream, LogTable, has_nobody, table, table_after, events_of}
 use Rattle.log_history.specs.KeptAnswers.{kept_stream, is_of_application}
 use Rattle.log_service.specs.Moments.{second_of}
+use Rattle.log_service.specs.declared.step.Step.{Step}
 
 -- what is kept, and for how many streams more there is room
 pub record KeptLog : Type 0 where
@@ -48,6 +51,21 @@ pub record Made (change : LogChange) (old new : LogTable) (events : List StreamE
 pub record Left (old new : LogTable) (events : List StreamEvent) : Type 0 where
   pub now : new ≡ old
   pub done : events ≡ []
+
+-- what an ok call came to, whose record may be filtered: then nothing changed
+abbrev pub Came : (filtered : Bool) → LogChange → (old new : LogTable) → List StreamEvent → Type 0
+Came false change old new events = Made change old new events
+Came true change old new events = Left old new events
+
+-- what a call tells beside its answer, where it is ok: whether its record was filtered, and its stream's mark
+pub record Tells (filtered : Bool) (mark : Option Mark) (step : Step) : Type 0 where
+  pub ok : step.status ≡ status.Ok → (step.filtered ≡ filtered) × (step.mark ≡ mark)
+  pub refused : step.status ≢ status.Ok → (step.filtered ≡ false) × (step.mark ≡ None)
+
+-- a severity is one of the seven
+abbrev pub HasSeverity : Header → Type 0
+HasSeverity (Ntf id event_type object notifier class event_time) = Unit {0}
+HasSeverity (Generic class user severity) = severity ≤ 6
 
 -- the stream for the records of notifications of a kind: alarms have their own
 abbrev pub stream_of_kind : StreamKind → StreamName
@@ -85,11 +103,10 @@ pub record HasBegun (setup : LogSetup) (made : LogTable × List StreamEvent) : T
 
 -- the state with these parts
 
-abbrev pub joined_streams : List StreamState → List (List ℕ) → List OpenStream
-joined_streams [] openers = []
-joined_streams (state ∷ states) [] = []
-joined_streams (state ∷ states) (clients ∷ openers) =
-    record { state = state; openers = clients } ∷ joined_streams states openers
+abbrev pub joined_streams : List StreamState → List (List ℕ) → List Mark → List OpenStream
+joined_streams (state ∷ states) (clients ∷ openers) (mark ∷ marks) =
+    record { state = state; openers = clients; mark = mark } ∷ joined_streams states openers marks
+joined_streams _ _ _ = []
 
 abbrev pub table_with : ℕ → List ℕ → List OpenStream → LogTable
 table_with last users streams = record { last = last; users = users; streams = streams }

@@ -11,7 +11,7 @@ use crate::live::LiveStream;
 use ais_values::{Duplicate, Seq};
 use client_set::ClientSet;
 use std::alloc::{AllocError, Global};
-use stream_config::{StreamAttrs, StreamEvent, StreamName, StreamState, stamp};
+use stream_config::{Mark, StreamAttrs, StreamEvent, StreamName, StreamState, stamp};
 
 /// How many nanoseconds a second has.
 const NANOSECONDS: i64 = 1_000_000_000;
@@ -75,7 +75,14 @@ fn add_well(
         ≡ events.old ++ made_event (unopened_stream name attrs.now (unsigned_abs created)) ∷ []) }
 {
     let attrs = attrs.copy(alloc)?;
-    let stream = LiveStream::make(alloc, name, attrs, created, ClientSet::new(alloc))?;
+    let stream = LiveStream::make(
+        alloc,
+        name,
+        attrs,
+        created,
+        ClientSet::new(alloc),
+        Mark::first(),
+    )?;
     push_made(alloc, streams, events, stream)
 }
 
@@ -122,22 +129,23 @@ pub(crate) fn wells(
     Ok((last, streams, events))
 }
 
-/// Puts the stream of a state and its openers behind the others.
+/// Puts the stream of a state, its openers and its mark behind the others.
 fn push_rebuilt(
     alloc: Global,
     streams: &mut Vec<LiveStream>,
     state: StreamState,
     openers: &[u16],
+    mark: Mark,
 ) -> Result<(), AllocError>
     requires passes { PassesAttrs (kind_of state.name) state.attrs }
     requires few { state.opened ≤ state.taken + 1 }
     requires rising { IsRising nat_lt openers.now }
     ensures { OnOk result (streams.new.items
-        ≡ streams.old.items ++ record { state = state; openers = openers.now } ∷ []) }
+        ≡ streams.old.items ++ record { state = state; openers = openers.now; mark = mark } ∷ []) }
 {
     match openers.to_vec(alloc) {
         Ok(clients) => {
-            let stream = LiveStream::rebuild(alloc, state, ClientSet::from_rising(clients))?;
+            let stream = LiveStream::rebuild(alloc, state, ClientSet::from_rising(clients), mark)?;
             streams.push(stream)?;
             Ok(())
         }
@@ -148,20 +156,25 @@ fn push_rebuilt(
     }
 }
 
-/// The streams of these states and openers.
+/// The streams of these states, openers and marks.
 pub(crate) fn rebuilt(
     alloc: Global,
     states: Seq<StreamState>,
     openers: &[Seq<u16>],
+    marks: &[Mark],
 ) -> Result<Vec<LiveStream>, AllocError>
     requires lengths { length states ≡ length openers.now }
-    requires sound { AreSoundStreams (joined_streams states openers.now) }
-    ensures { IfOk result (λ streams. streams.items ≡ joined_streams states openers.now) }
+    requires marks { length states ≡ length marks.now }
+    requires sound { AreSoundStreams (joined_streams states openers.now marks.now) }
+    ensures { IfOk result (λ streams. streams.items
+        ≡ joined_streams states openers.now marks.now) }
 {
     let mut streams = Vec::new(alloc);
     for state in states.into_vec() {
-        let clients = openers[streams.len()].as_slice();
-        push_rebuilt(alloc, &mut streams, state, clients)?;
+        let place = streams.len();
+        let clients = openers[place].as_slice();
+        let mark = marks[place];
+        push_rebuilt(alloc, &mut streams, state, clients, mark)?;
     }
     Ok(streams)
 }

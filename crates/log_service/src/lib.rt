@@ -4,9 +4,11 @@
 
 mod begin;
 mod files;
+mod filtering;
 mod law;
 mod live;
 mod plan;
+mod reading;
 mod records;
 mod state;
 mod step;

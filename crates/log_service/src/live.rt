@@ -11,7 +11,7 @@ ghost use Rattle.stream_config.specs.Events.{current_file};
 ghost use Rattle.record_print.specs.Lengths.{HasParts};
 ghost use Rattle.record_print.specs.declared.record.LogRecord.{LogRecord as RecordOf};
 ghost use Rattle.log_history.specs.Answers.{lacks_room};
-ghost use Rattle.log_history.specs.Table.{OpenStream, is_named, without_opener, has_nobody, new_state, length_in, storing};
+ghost use Rattle.log_history.specs.Table.{OpenStream, is_named, with_mark, without_opener, has_nobody, new_state, length_in, storing};
 ghost use Rattle.log_history.specs.KeptAnswers.{is_of_application};
 ghost use Rattle.log_service.specs.Moments.{IsMoment, second_of};
 ghost use Rattle.log_service.specs.Changing.{IsFiling};
@@ -26,15 +26,16 @@ use record_print::{Header, LogRecord, parts_length, print_record, printed_length
 use std::alloc::{AllocError, Global};
 use std::marker::Model;
 use stream_config::{
-    FullAction, LogFile, StreamAttrs, StreamEvent, StreamName, StreamState, current_of, has_room,
-    have_one_place,
+    FullAction, LogFile, Mark, StreamAttrs, StreamEvent, StreamName, StreamState, current_of,
+    has_room, have_one_place,
 };
 
-/// A living stream, the clients that have it open, and its expression, which was read when the stream was made.
+/// A living stream, the clients that have it open, its mark, and its expression, which was read when the stream was made.
 #[derive(Drop)]
 pub(crate) struct LiveStream {
     state: StreamState,
     openers: ClientSet,
+    mark: Mark,
     expr: Expr,
 }
 
@@ -94,15 +95,18 @@ impl LiveStream {
         alloc: Global,
         state: StreamState,
         openers: ClientSet,
+        mark: Mark,
     ) -> Result<LiveStream, AllocError>
         requires passes { PassesAttrs (kind_of state.name) state.attrs }
         requires few { state.opened ≤ state.taken + 1 }
-        ensures { IfOk result (λ stream. stream ≡ record { state = state; openers = openers }) }
+        ensures { IfOk result (λ stream. stream
+            ≡ record { state = state; openers = openers; mark = mark }) }
     {
         match expression(alloc, &state.name, &state.attrs) {
             Ok(expr) => Ok(LiveStream {
                 state,
                 openers,
+                mark,
                 expr,
             }),
             Err(error) => {
@@ -119,14 +123,18 @@ impl LiveStream {
         attrs: StreamAttrs,
         created: i64,
         openers: ClientSet,
+        mark: Mark,
     ) -> Result<LiveStream, AllocError>
         requires passes { PassesAttrs (kind_of name) attrs }
         requires stamp { pos 0 ≤ℤ created }
-        ensures { IfOk result (λ stream. stream
-            ≡ record { state = new_state name attrs (unsigned_abs created); openers = openers }) }
+        ensures { IfOk result (λ stream. stream ≡ record {
+          state = new_state name attrs (unsigned_abs created);
+          openers = openers;
+          mark = mark;
+        }) }
     {
         let state = new_state(alloc, name, attrs, created)?;
-        LiveStream::rebuild(alloc, state, openers)
+        LiveStream::rebuild(alloc, state, openers, mark)
     }
 
     /// What stands of the stream.
@@ -141,6 +149,20 @@ impl LiveStream {
         ensures { result.now ≡ self.now.openers }
     {
         self.openers.as_slice()
+    }
+
+    /// The stream's mark.
+    pub(crate) fn mark(&self) -> Mark
+        ensures { result ≡ self.now.mark }
+    {
+        self.mark
+    }
+
+    /// The stream has this mark.
+    pub(crate) fn put_mark(&mut self, mark: Mark)
+        ensures { self.new ≡ with_mark mark self.old }
+    {
+        self.mark = mark;
     }
 
     pub(crate) fn is_named(&self, name: &StreamName) -> bool

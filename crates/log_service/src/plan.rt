@@ -1,7 +1,8 @@
 //! What a call would do, planned with all the memory that it takes.
-ghost use Rattle.std.specs.Prelude.{◌≡◌, ◌<◌, ◌≤◌, ◌+◌, ◌++◌, ◌∷◌, [], vec_len, vec_capacity};
+ghost use Rattle.std.specs.Prelude.{◌≡◌, ◌<◌, ◌≤◌, ◌+◌, ◌++◌, ◌∷◌, [], true, false, Some, None, vec_len, vec_capacity};
 ghost use Rattle.client_set.specs.Edits.{change_at};
-ghost use Rattle.log_service.specs.Planning.{step_of, with_openers, with_files, CanDo, streams_after, users_after};
+ghost use Rattle.log_history.specs.Table.{with_mark};
+ghost use Rattle.log_service.specs.Planning.{step_of, marked_plan, with_openers, with_files, CanDo, streams_after, users_after};
 
 use crate::live::LiveStream;
 use crate::step::Step;
@@ -9,7 +10,7 @@ use crate::streams::{drop_idle, leave, leave_all};
 use ais_values::{Seq, Status};
 use client_set::ClientSet;
 use std::alloc::Global;
-use stream_config::{LogFile, StreamEvent, StreamName};
+use stream_config::{LogFile, Mark, StreamEvent, StreamName};
 
 /// What a call does to the clients that use the service and to the living streams.
 #[derive(Drop)]
@@ -35,6 +36,11 @@ pub(crate) enum Doing {
         taken: u32,
         opened: u32,
         files: Seq<LogFile>,
+    },
+    /// The stream at a place has this mark then.
+    Set {
+        place: usize,
+        mark: Mark,
     },
     /// A client closes the stream of this name.
     Leave {
@@ -68,7 +74,7 @@ impl LogPlan {
     /// The plan of a call that is answered so and changes nothing.
     pub(crate) fn refused(alloc: Global, last: i64, status: Status) -> LogPlan
         ensures { result ≡ record {
-          step = record { status = status; events = [] };
+          step = record { status = status; filtered = false; mark = None; events = [] };
           last = last;
           doing = Doing.Stay;
         } }
@@ -83,13 +89,45 @@ impl LogPlan {
     /// The plan of a call that is ok.
     pub(crate) fn accepted(events: Seq<StreamEvent>, last: i64, doing: Doing) -> LogPlan
         ensures { result ≡ record {
-          step = record { status = Status.Ok; events = events };
+          step = record { status = Status.Ok; filtered = false; mark = None; events = events };
           last = last;
           doing = doing;
         } }
     {
         LogPlan {
             step: Step::done(events),
+            last,
+            doing,
+        }
+    }
+
+    /// The plan of a write that is ok and whose record is filtered, of a stream with this mark.
+    pub(crate) fn filtered(alloc: Global, last: i64, mark: Mark) -> LogPlan
+        ensures { result ≡ record {
+          step = record { status = Status.Ok; filtered = true; mark = Some mark; events = [] };
+          last = last;
+          doing = Doing.Stay;
+        } }
+    {
+        LogPlan {
+            step: Step::filtered(alloc, mark),
+            last,
+            doing: Doing::Stay,
+        }
+    }
+
+    /// The plan with a mark told.
+    pub(crate) fn marked(self, mark: Mark) -> LogPlan
+        ensures { result ≡ marked_plan mark self }
+    {
+        let LogPlan { step, last, doing } = self;
+        LogPlan {
+            step: Step {
+                status: step.status,
+                filtered: step.filtered,
+                mark: Some(mark),
+                events: step.events,
+            },
             last,
             doing,
         }
@@ -120,6 +158,14 @@ fn put_files(
     streams[place].put_files(taken, opened, files);
 }
 
+/// The stream at a place has this mark.
+fn put_mark(streams: &mut Vec<LiveStream>, place: usize, mark: Mark)
+    requires { place < vec_len streams.old }
+    ensures { streams.new.items ≡ change_at (with_mark mark) streams.old.items place }
+{
+    streams[place].put_mark(mark);
+}
+
 /// Does what was planned. It takes no memory.
 pub(crate) fn carry_out(streams: &mut Vec<LiveStream>, users: &mut ClientSet, doing: Doing)
     requires can { CanDo doing streams.old.items }
@@ -138,6 +184,7 @@ pub(crate) fn carry_out(streams: &mut Vec<LiveStream>, users: &mut ClientSet, do
             opened,
             files,
         } => put_files(streams, place, taken, opened, files),
+        Doing::Set { place, mark } => put_mark(streams, place, mark),
         Doing::Leave { name, client } => {
             leave(streams, &name, client);
             drop_idle(streams);

@@ -1,5 +1,5 @@
 //! The state, and what each call answers and makes of it.
-ghost use Rattle.std.specs.Prelude.{◌≡◌, ◌≢◌, ◌↔◌, ◌<◌, ◌≤◌, ◌≤ℤ◌, pos, unsigned_abs, length, map, IfOk, OnOk, OnErr, IsTrue, [], slice_get, option_map};
+ghost use Rattle.std.specs.Prelude.{◌≡◌, ◌≢◌, ◌<◌, ◌≤◌, ◌≤ℤ◌, pos, unsigned_abs, false, Some, None, length, map, IfOk, OnOk, OnErr, IsTrue, []};
 ghost use Rattle.std.specs.Option.{option_copied};
 ghost use Rattle.client_set.specs.Members.{has};
 ghost use Rattle.stream_config.specs.AttributeTests.{passes_attrs};
@@ -12,17 +12,17 @@ ghost use Rattle.log_history.specs.Names.{is_application};
 ghost use Rattle.log_history.specs.Chronicle.{LogSetup};
 ghost use Rattle.log_history.specs.Changes.{Began, Stored, Closed, Ended};
 ghost use Rattle.log_history.specs.Times.{filled_time, filled_header, record_at};
-ghost use Rattle.log_history.specs.Table.{OpenStream};
-ghost use Rattle.log_history.specs.KeptAnswers.{begin_status, open_status, write_status, close_status, end_status, store_status, has_opener, is_filled, is_crowd, kept_attrs};
+ghost use Rattle.log_history.specs.Marks.{is_filtered};
+ghost use Rattle.log_history.specs.KeptAnswers.{begin_status, open_status, write_status, close_status, end_status, store_status, has_opener, is_filled, kept_mark, is_crowd, kept_attrs};
 ghost use Rattle.log_service.specs.Moments.{IsTimeOfCall, second_of};
-ghost use Rattle.log_service.specs.State.{IsCallTime, HasNumberLeft, Made, Left, stream_of_kind, IsNotified, BeginsWith, CanBeginWith, HasBegun, table_with, joined_streams, IsSoundTable};
-ghost use Rattle.log_service.specs.Opening.{opening_in};
+ghost use Rattle.log_service.specs.State.{IsCallTime, HasNumberLeft, Made, Came, Left, Tells, stream_of_kind, IsNotified, BeginsWith, CanBeginWith, HasBegun, table_with, joined_streams, IsSoundTable};
+ghost use Rattle.log_service.specs.Opening.{opening_in, mark_in};
 ghost use Rattle.log_service.specs.Changing.{making_status};
 ghost use Rattle.log_service.specs.Planning.{step_of, planned, CanCommit, Plans};
 
 use crate::live::LiveStream;
 use crate::plan::{Doing, LogPlan, carry_out};
-use crate::records::{may_write, read_event, stream_of_kind};
+use crate::records::{is_filtered, may_write, read_event, stream_of_kind};
 use crate::step::Step;
 use crate::{begin, streams};
 use ais_values::{Duplicate, Seq, Status, StreamKind, Text};
@@ -30,7 +30,7 @@ use client_set::ClientSet;
 use record_print::{Header, LogRecord};
 use std::alloc::{AllocError, Global};
 use std::marker::Model;
-use stream_config::{StreamAttrs, StreamEvent, StreamName, StreamState, check_attrs};
+use stream_config::{Mark, StreamAttrs, StreamEvent, StreamName, StreamState, check_attrs};
 
 /// The most streams of applications that live at once.
 const MOST_APPLICATIONS: usize = 64;
@@ -50,12 +50,12 @@ fn is_application(name: &StreamName) -> bool
 }
 
 /// The last stamp, the clients that use the service, and the living streams in order of creation, each with the
-/// clients that have it open. Contracts see these, and for how many streams more there is room.
+/// clients that have it open and its mark. Contracts see these, and for how many streams more there is room.
 #[derive(Drop)]
 pub struct LogState {
-    last: i64,
-    users: ClientSet,
-    streams: Vec<LiveStream>,
+    pub(crate) last: i64,
+    pub(crate) users: ClientSet,
+    pub(crate) streams: Vec<LiveStream>,
 }
 
 impl Model for LogState {
@@ -93,22 +93,24 @@ impl LogState {
     }
 
     /// The state with these parts: the last stamp, the clients that use the service, the living streams in order
-    /// of creation, and for each of them the clients that have it open. On an error there is no state.
+    /// of creation, and for each of them the clients that have it open, and its mark. On an error there is no state.
     pub fn rebuild(
         alloc: Global,
         last_stamp: i64,
         users: Seq<u16>,
         streams: Seq<StreamState>,
         openers: Seq<Seq<u16>>,
+        marks: Seq<Mark>,
     ) -> Result<LogState, AllocError>
         requires last { pos 0 ≤ℤ last_stamp }
         requires lengths { length streams ≡ length openers }
+        requires marks { length streams ≡ length marks }
         requires sound { IsSoundTable
-            (table_with (unsigned_abs last_stamp) users (joined_streams streams openers)) }
+            (table_with (unsigned_abs last_stamp) users (joined_streams streams openers marks)) }
         ensures { IfOk result (λ state. state.table
-            ≡ table_with (unsigned_abs last_stamp) users (joined_streams streams openers)) }
+            ≡ table_with (unsigned_abs last_stamp) users (joined_streams streams openers marks)) }
     {
-        let streams = begin::rebuilt(alloc, streams, openers.as_slice())?;
+        let streams = begin::rebuilt(alloc, streams, openers.as_slice(), marks.as_slice())?;
         Ok(LogState {
             last: last_stamp,
             users: ClientSet::from_rising(users.into_vec()),
@@ -118,7 +120,7 @@ impl LogState {
 
     /// Makes room for one stream more. What is kept stays as it is; an error is want of memory.
     // Its callers match, and do not use `?`: a second way out would let go what the plan holds.
-    fn make_room(&mut self) -> Result<(), AllocError>
+    pub(crate) fn make_room(&mut self) -> Result<(), AllocError>
         ensures table { self.new.table ≡ self.old.table }
         ensures ok { OnOk result (1 ≤ self.new.spare) }
     {
@@ -127,7 +129,7 @@ impl LogState {
     }
 
     /// Makes a planned call. The answer is what the plan told.
-    fn carry(&mut self, plan: LogPlan) -> Step
+    pub(crate) fn carry(&mut self, plan: LogPlan) -> Step
         requires can { CanCommit self.old.table plan }
         requires room { 1 ≤ self.old.spare }
         ensures now { self.new.table ≡ planned plan self.old.table }
@@ -162,7 +164,7 @@ impl LogState {
     /// The plan of `init` for the state as it is. An error is want of memory.
     fn init_plan(&self, alloc: Global, client: u16) -> Result<LogPlan, AllocError>
         ensures { IfOk result (Plans self.now.table (begin_status self.now.table client)
-            (Began client)) }
+            false None (Began client)) }
     {
         let status = self.begin_status(client);
         if status != Status::Ok {
@@ -181,7 +183,7 @@ impl LogState {
         _now: i64,
     ) -> Result<LogPlan, AllocError>
         ensures ok { IfOk result (Plans self.old.table (begin_status self.old.table client)
-            (Began client)) }
+            false None (Began client)) }
         ensures table { self.new.table ≡ self.old.table }
         ensures room { OnOk result (1 ≤ self.new.spare) }
     {
@@ -195,6 +197,7 @@ impl LogState {
     /// uses the service already. On an error, and with another answer than ok, nothing changes.
     pub fn init(&mut self, alloc: Global, client: u16, now: i64) -> Result<Step, AllocError>
         ensures status { IfOk result (λ step. step.status ≡ begin_status self.old.table client) }
+        ensures told { IfOk result (Tells false None) }
         ensures ok { IfOk result (λ step. step.status ≡ Status.Ok
             → Made (Began client) self.old.table self.new.table step.events) }
         ensures refused { IfOk result (λ step. step.status ≢ Status.Ok
@@ -222,7 +225,7 @@ impl LogState {
     fn close_all_plan(&self, alloc: Global, client: u16, now: i64) -> Result<LogPlan, AllocError>
         requires { IsCallTime self.now.table now }
         ensures { IfOk result (Plans self.now.table (end_status self.now.table client)
-            (Ended client (second_of now))) }
+            false None (Ended client (second_of now))) }
     {
         let status = self.end_status(client);
         if status != Status::Ok {
@@ -242,7 +245,7 @@ impl LogState {
     ) -> Result<LogPlan, AllocError>
         requires { IsCallTime self.old.table now }
         ensures ok { IfOk result (Plans self.old.table (end_status self.old.table client)
-            (Ended client (second_of now))) }
+            false None (Ended client (second_of now))) }
         ensures table { self.new.table ≡ self.old.table }
         ensures room { OnOk result (1 ≤ self.new.spare) }
     {
@@ -258,6 +261,7 @@ impl LogState {
     pub fn close_all(&mut self, alloc: Global, client: u16, now: i64) -> Result<Step, AllocError>
         requires { IsCallTime self.old.table now }
         ensures status { IfOk result (λ step. step.status ≡ end_status self.old.table client) }
+        ensures told { IfOk result (Tells false None) }
         ensures ok { IfOk result (λ step. step.status ≡ Status.Ok
             → Made (Ended client (second_of now)) self.old.table self.new.table step.events) }
         ensures refused { IfOk result (λ step. step.status ≢ Status.Ok
@@ -282,7 +286,7 @@ impl LogState {
     }
 
     /// Whether the client has the stream of this name open.
-    fn has_open(&self, name: &StreamName, client: u16) -> bool
+    pub(crate) fn has_open(&self, name: &StreamName, client: u16) -> bool
         ensures { result ≡ has_opener self.now.table.streams name.now client }
     {
         match streams::stream_of(self.streams.as_slice(), name) {
@@ -301,7 +305,7 @@ impl LogState {
     ) -> Result<LogPlan, AllocError>
         requires { IsCallTime self.now.table now }
         ensures { IfOk result (Plans self.now.table (close_status self.now.table client name.now)
-            (Closed client name.now (second_of now))) }
+            false None (Closed client name.now (second_of now))) }
     {
         let status = self.close_status(client, name);
         if status != Status::Ok {
@@ -323,7 +327,7 @@ impl LogState {
     ) -> Result<LogPlan, AllocError>
         requires { IsCallTime self.old.table now }
         ensures ok { IfOk result (Plans self.old.table (close_status self.old.table client name.now)
-            (Closed client name.now (second_of now))) }
+            false None (Closed client name.now (second_of now))) }
         ensures table { self.new.table ≡ self.old.table }
         ensures room { OnOk result (1 ≤ self.new.spare) }
     {
@@ -346,6 +350,7 @@ impl LogState {
         requires { IsCallTime self.old.table now }
         ensures status { IfOk result (λ step.
             step.status ≡ close_status self.old.table client name.now) }
+        ensures told { IfOk result (Tells false None) }
         ensures ok { IfOk result (λ step. step.status ≡ Status.Ok
             → Made (Closed client name.now (second_of now))
             self.old.table self.new.table step.events) }
@@ -413,19 +418,24 @@ impl LogState {
         name: &StreamName,
         create: Option<&StreamAttrs>,
         now: i64,
+        number: u64,
     ) -> Result<LogPlan, AllocError>
         requires { IsCallTime self.now.table now }
         ensures { IfOk result (Plans self.now.table
-            (open_status self.now.table client name.now (option_copied create.entry))
-            (opening_in self.now.table.streams client name.now (option_copied create.entry) now)) }
+            (open_status self.now.table client name.now (option_copied create.entry)) false
+            (Some (mark_in self.now.table.streams name.now (option_copied create.entry) number))
+            (opening_in self.now.table.streams client name.now (option_copied create.entry) now
+            number)) }
     {
         let status = self.open_status(client, name, create);
         if status != Status::Ok {
             return Ok(LogPlan::refused(alloc, self.last, status));
         }
         let streams = self.streams.as_slice();
-        let plan = streams::opening_plan(alloc, streams, client, name, create, self.last, now)?;
-        Ok(plan)
+        let mark = streams::mark_opened(streams, name, create, number);
+        let last = self.last;
+        let plan = streams::opening_plan(alloc, streams, client, name, create, last, now, number)?;
+        Ok(plan.marked(mark))
     }
 
     /// Plans `open_stream`, and makes room for one stream more. The state stays as it is; an error is want of memory.
@@ -436,21 +446,25 @@ impl LogState {
         name: &StreamName,
         create: Option<&StreamAttrs>,
         now: i64,
+        number: u64,
     ) -> Result<LogPlan, AllocError>
         requires { IsCallTime self.old.table now }
         ensures ok { IfOk result (Plans self.old.table
-            (open_status self.old.table client name.now (option_copied create.entry))
-            (opening_in self.old.table.streams client name.now (option_copied create.entry) now)) }
+            (open_status self.old.table client name.now (option_copied create.entry)) false
+            (Some (mark_in self.old.table.streams name.now (option_copied create.entry) number))
+            (opening_in self.old.table.streams client name.now (option_copied create.entry) now
+            number)) }
         ensures table { self.new.table ≡ self.old.table }
         ensures room { OnOk result (1 ≤ self.new.spare) }
     {
         match self.make_room() {
-            Ok(()) => self.open_stream_plan(alloc, client, name, create, now),
+            Ok(()) => self.open_stream_plan(alloc, client, name, create, now, number),
             Err(error) => Err(error),
         }
     }
 
-    /// Opens a stream for a client; with attributes it makes an application's stream that does not live yet.
+    /// Opens a stream for a client, by the entry of this number; with attributes it makes an application's stream
+    /// that does not live yet, which lets all severities pass. An ok call tells the stream's mark.
     /// The answer is that of the first of these that holds: `BadHandle`, the client does not use the service;
     /// without attributes `NotExist`, no stream of the name lives; with attributes `InvalidParam`, the stream is
     /// a well-known one or the attributes do not pass; ok, it lives with equal attributes; `Exist`, it lives with
@@ -463,18 +477,21 @@ impl LogState {
         name: &StreamName,
         create: Option<&StreamAttrs>,
         now: i64,
+        number: u64,
     ) -> Result<Step, AllocError>
         requires { IsCallTime self.old.table now }
         ensures status { IfOk result (λ step. step.status
             ≡ open_status self.old.table client name.now (option_copied create.entry)) }
+        ensures told { IfOk result (Tells false
+            (Some (mark_in self.old.table.streams name.now (option_copied create.entry) number))) }
         ensures ok { IfOk result (λ step. step.status ≡ Status.Ok → Made
-            (opening_in self.old.table.streams client name.now (option_copied create.entry) now)
-            self.old.table self.new.table step.events) }
+            (opening_in self.old.table.streams client name.now (option_copied create.entry) now
+            number) self.old.table self.new.table step.events) }
         ensures refused { IfOk result (λ step. step.status ≢ Status.Ok
             → Left self.old.table self.new.table step.events) }
         ensures err { OnErr result (self.new.table ≡ self.old.table) }
     {
-        match self.plan_open_stream(alloc, client, name, create, now) {
+        match self.plan_open_stream(alloc, client, name, create, now, number) {
             Ok(plan) => Ok(self.carry(plan)),
             Err(error) => Err(error),
         }
@@ -511,9 +528,25 @@ impl LogState {
         self.is_full(name, header, body)
     }
 
+    /// Whether the mask of the stream of this name filters a record with this header.
+    fn filters(&self, name: &StreamName, time: i64, header: &Header) -> bool
+        requires { IsTrue (can_write (kind_of name.now) time header.now) }
+        ensures { result ≡ is_filtered (kept_mark self.now.table.streams name.now).mask header.now }
+    {
+        is_filtered(self.mark_of(name).mask, header)
+    }
+
+    /// The mark of the stream of this name; where there is none, that of one that was never set.
+    fn mark_of(&self, name: &StreamName) -> Mark
+        ensures { result ≡ kept_mark self.now.table.streams name.now }
+    {
+        streams::mark_of(self.streams.as_slice(), name)
+    }
+
     /// What decides a write, the first of these that holds: `BadHandle` where the client does not use the service
     /// or does not have the stream open, `BadFlags` where flags are above 1, `InvalidParam` where the record may
-    /// not be written to a stream of the kind, `NoSpace` where it does not fit the stream; and else ok.
+    /// not be written to a stream of the kind, ok where the stream's mask filters it, `NoSpace` where it does not
+    /// fit the stream; and else ok.
     fn write_status(
         &self,
         client: u16,
@@ -537,6 +570,8 @@ impl LogState {
             Status::BadFlags
         } else if !may_write(name.kind(), time, header) {
             Status::InvalidParam
+        } else if self.filters(name, time, header) {
+            Status::Ok
         } else if self.is_full_for(name, time, header, body, now) {
             Status::NoSpace
         } else {
@@ -560,15 +595,21 @@ impl LogState {
         requires numbers { HasNumberLeft self.now.table name.now }
         ensures { IfOk result (Plans self.now.table
             (write_status self.now.table client name.now flags time header.now body.now now)
+            (is_filtered (kept_mark self.now.table.streams name.now).mask header.now)
+            (Some (kept_mark self.now.table.streams name.now))
             (Stored name.now (record_at time header.now body.now now) (second_of now))) }
     {
         let status = self.write_status(client, name, flags, time, header, body, now);
         if status != Status::Ok {
             return Ok(LogPlan::refused(alloc, self.last, status));
         }
+        let mark = self.mark_of(name);
+        if self.filters(name, time, header) {
+            return Ok(LogPlan::filtered(alloc, self.last, mark));
+        }
         let streams = self.streams.as_slice();
         let plan = streams::writing_plan(alloc, streams, name, self.last, time, header, body, now)?;
-        Ok(plan)
+        Ok(plan.marked(mark))
     }
 
     /// Plans `write`, and makes room for one stream more. The state stays as it is; an error is want of memory.
@@ -587,6 +628,8 @@ impl LogState {
         requires numbers { HasNumberLeft self.old.table name.now }
         ensures ok { IfOk result (Plans self.old.table
             (write_status self.old.table client name.now flags time header.now body.now now)
+            (is_filtered (kept_mark self.old.table.streams name.now).mask header.now)
+            (Some (kept_mark self.old.table.streams name.now))
             (Stored name.now (record_at time header.now body.now now) (second_of now))) }
         ensures table { self.new.table ≡ self.old.table }
         ensures room { OnOk result (1 ≤ self.new.spare) }
@@ -599,9 +642,10 @@ impl LogState {
 
     /// Writes a record to a stream. An unknown time stands for this moment. The answer is that of the first of
     /// these that holds: `BadHandle`, the client does not use the service or does not have the stream open;
-    /// `BadFlags`, flags are above 1; `InvalidParam`, the record may not be written to a stream of the kind;
-    /// `NoSpace`, the record does not fit the stream, which halts. Where none holds the record is stored, and the
-    /// answer is ok. On an error, and with another answer, nothing changes.
+    /// `BadFlags`, flags are above 1; `InvalidParam`, the record may not be written to a stream of the kind; ok
+    /// and filtered, the stream's mask does not let the record's severity pass; `NoSpace`, the record does not fit
+    /// the stream, which halts. Where none holds the record is stored, and the answer is ok. An ok call tells the
+    /// stream's mark. On an error, with another answer, and where the record is filtered, nothing changes.
     pub fn write(
         &mut self,
         alloc: Global,
@@ -617,8 +661,12 @@ impl LogState {
         requires numbers { HasNumberLeft self.old.table name.now }
         ensures status { IfOk result (λ step. step.status
             ≡ write_status self.old.table client name.now flags time header.now body.now now) }
+        ensures told { IfOk result (Tells
+            (is_filtered (kept_mark self.old.table.streams name.now).mask header.now)
+            (Some (kept_mark self.old.table.streams name.now))) }
         ensures ok { IfOk result (λ step. step.status ≡ Status.Ok
-            → Made (Stored name.now (record_at time header.now body.now now) (second_of now))
+            → Came (is_filtered (kept_mark self.old.table.streams name.now).mask header.now)
+            (Stored name.now (record_at time header.now body.now now) (second_of now))
             self.old.table self.new.table step.events) }
         ensures refused { IfOk result (λ step. step.status ≢ Status.Ok
             → Left self.old.table self.new.table step.events) }
@@ -656,7 +704,7 @@ impl LogState {
         requires numbers { HasNumberLeft self.now.table (stream_of_kind kind) }
         ensures { IfOk result (Plans self.now.table
             (store_status self.now.table (stream_of_kind kind) rec.now)
-            (Stored (stream_of_kind kind) rec.now (second_of now))) }
+            false None (Stored (stream_of_kind kind) rec.now (second_of now))) }
     {
         let name = stream_of_kind(kind);
         let status = self.store_status(&name, rec);
@@ -681,7 +729,7 @@ impl LogState {
         requires numbers { HasNumberLeft self.old.table (stream_of_kind kind) }
         ensures ok { IfOk result (Plans self.old.table
             (store_status self.old.table (stream_of_kind kind) rec.now)
-            (Stored (stream_of_kind kind) rec.now (second_of now))) }
+            false None (Stored (stream_of_kind kind) rec.now (second_of now))) }
         ensures table { self.new.table ≡ self.old.table }
         ensures room { OnOk result (1 ≤ self.new.spare) }
     {
@@ -705,6 +753,7 @@ impl LogState {
         requires numbers { HasNumberLeft self.old.table (stream_of_kind kind) }
         ensures status { IfOk result (λ step. step.status
             ≡ store_status self.old.table (stream_of_kind kind) rec.now) }
+        ensures told { IfOk result (Tells false None) }
         ensures ok { IfOk result (λ step. step.status ≡ Status.Ok
             → Made (Stored (stream_of_kind kind) rec.now (second_of now))
             self.old.table self.new.table step.events) }
@@ -715,70 +764,6 @@ impl LogState {
         match self.plan_store(alloc, kind, rec, now) {
             Ok(plan) => Ok(self.carry(plan)),
             Err(error) => Err(error),
-        }
-    }
-
-    /// Whether a call can come at this time: it lies from 0 to 9,000,000,000,000,000,000, and the last stamp is
-    /// at most 19,999,999,000.
-    pub fn is_call_time(&self, now: i64) -> bool
-        ensures { IsTrue result ↔ IsCallTime self.now.table now }
-    {
-        self.last <= 19_999_999_000 && now >= 0 && now <= 9_000_000_000_000_000_000
-    }
-
-    /// Whether a number is left for the next record of the stream of this name, if there is one: fewer than
-    /// 4,294,967,294 of its records were numbered.
-    pub fn has_number_left(&self, name: &StreamName) -> bool
-        ensures { IsTrue result ↔ HasNumberLeft self.now.table name.now }
-    {
-        match streams::stream_of(self.streams.as_slice(), name) {
-            Some(stream) => stream.state().taken < 4_294_967_294,
-            None => true,
-        }
-    }
-
-    /// The clients that use the service, rising.
-    pub fn users(&self) -> &[u16]
-        ensures { result.now ≡ self.now.table.users }
-    {
-        self.users.as_slice()
-    }
-
-    /// The last stamp, a second.
-    pub fn last_stamp(&self) -> i64
-        ensures { result ≡ pos self.now.table.last }
-    {
-        self.last
-    }
-
-    /// How many streams live.
-    pub fn count(&self) -> u32
-        ensures { result ≡ length self.now.table.streams }
-    {
-        self.streams.len() as u32
-    }
-
-    /// What stands of a living stream, by its place in order of creation, from 0.
-    pub fn stream_at(&self, i: u32) -> Option<&StreamState>
-        ensures { option_copied result
-            ≡ option_map (λ (stream : OpenStream). stream.state)
-            (slice_get self.now.table.streams i) }
-    {
-        match self.streams.get(i as usize) {
-            Some(stream) => Some(stream.state()),
-            None => None,
-        }
-    }
-
-    /// The clients that have a living stream open, rising, by its place in order of creation, from 0.
-    pub fn openers_at(&self, i: u32) -> Option<&[u16]>
-        ensures { option_copied result
-            ≡ option_map (λ (stream : OpenStream). stream.openers)
-            (slice_get self.now.table.streams i) }
-    {
-        match self.streams.get(i as usize) {
-            Some(stream) => Some(stream.openers()),
-            None => None,
         }
     }
 }

@@ -6,11 +6,12 @@ ghost use Rattle.stream_config.specs.Attributes.{kind_of, PassesAttrs};
 ghost use Rattle.record_print.specs.Printing.{can_print};
 ghost use Rattle.log_history.specs.Table.{OpenStream, is_named, has_nobody, kept_streams, closed_streams, left_streams, opened_stream};
 ghost use Rattle.log_history.specs.Times.{record_at};
-ghost use Rattle.log_history.specs.KeptAnswers.{kept_stream, is_of_application, has_place, is_filled, making_in};
+ghost use Rattle.log_history.specs.KeptAnswers.{kept_stream, kept_mark, is_of_application, has_place, is_filled, making_in};
 ghost use Rattle.log_service.specs.Moments.{IsTimeOfCall, IsMoment, second_of};
 ghost use Rattle.log_service.specs.State.{made_event};
+ghost use Rattle.log_service.specs.Opening.{mark_in};
 ghost use Rattle.log_service.specs.Changing.{AreEndsIn, last_of_end, end_of, last_of_endings, endings_of};
-ghost use Rattle.log_service.specs.PlanningParts.{PlansMaking, PlansJoining, PlansOpening, PlansStoring};
+ghost use Rattle.log_service.specs.PlanningParts.{PlansMaking, PlansJoining, PlansOpening, PlansMarking, PlansStoring};
 
 use crate::live::LiveStream;
 use crate::plan::{Doing, LogPlan};
@@ -19,7 +20,7 @@ use ais_values::{Duplicate, Seq, Text};
 use client_set::ClientSet;
 use record_print::{Header, LogRecord};
 use std::alloc::{AllocError, Global};
-use stream_config::{StreamAttrs, StreamEvent, StreamName, stamp};
+use stream_config::{Mark, StreamAttrs, StreamEvent, StreamName, stamp};
 
 /// The place of the stream of this name.
 pub(crate) fn place_of(streams: &[LiveStream], name: &StreamName) -> Option<usize>
@@ -33,6 +34,16 @@ pub(crate) fn stream_of<'a>(streams: &'a [LiveStream], name: &StreamName) -> Opt
     ensures { option_copied result ≡ kept_stream streams.now name.now }
 {
     streams.iter().find(|stream| stream.is_named(name))
+}
+
+/// The mark of the stream of this name; where there is none, that of one that was never set.
+pub(crate) fn mark_of(streams: &[LiveStream], name: &StreamName) -> Mark
+    ensures { result ≡ kept_mark streams.now name.now }
+{
+    match stream_of(streams, name) {
+        Some(stream) => stream.mark(),
+        None => Mark::first(),
+    }
 }
 
 /// Whether a stream has the place of these attributes.
@@ -66,24 +77,47 @@ pub(crate) fn making<'a>(
     }
 }
 
-/// A stream that a client makes, at this stamp.
+/// The mark that the stream of this name has once it is opened, by the entry of this number.
+pub(crate) fn mark_opened(
+    streams: &[LiveStream],
+    name: &StreamName,
+    create: Option<&StreamAttrs>,
+    number: u64,
+) -> Mark
+    ensures { result ≡ mark_in streams.now name.now (option_copied create.entry) number }
+{
+    match making(streams, name, create) {
+        Some(_) => Mark {
+            since: number,
+            mask: 127,
+        },
+        None => mark_of(streams, name),
+    }
+}
+
+/// A stream that a client makes, at this stamp and by the entry of this number.
 fn new_stream(
     alloc: Global,
     client: u16,
     name: &StreamName,
     attrs: &StreamAttrs,
     created: i64,
+    number: u64,
 ) -> Result<LiveStream, AllocError>
     requires passes { PassesAttrs (kind_of name.now) attrs.now }
     requires stamp { pos 0 ≤ℤ created }
     ensures { IfOk result (λ stream. stream
-        ≡ opened_stream client name.now attrs.now (unsigned_abs created)) }
+        ≡ opened_stream client name.now attrs.now (unsigned_abs created) number) }
 {
     let mut openers = ClientSet::new(alloc);
     openers.insert(client)?;
     let name = name.copy(alloc)?;
     let attrs = attrs.copy(alloc)?;
-    LiveStream::make(alloc, name, attrs, created, openers)
+    let mark = Mark {
+        since: number,
+        mask: 127,
+    };
+    LiveStream::make(alloc, name, attrs, created, openers, mark)
 }
 
 /// One event.
@@ -103,7 +137,7 @@ fn made_alone(alloc: Global, stream: &LiveStream) -> Result<Seq<StreamEvent>, Al
     alone(alloc, event)
 }
 
-/// The plan by which a client makes a stream, at this stamp.
+/// The plan by which a client makes a stream, at this stamp and by the entry of this number.
 fn making_plan(
     alloc: Global,
     streams: &[LiveStream],
@@ -111,13 +145,14 @@ fn making_plan(
     name: &StreamName,
     attrs: &StreamAttrs,
     created: i64,
+    number: u64,
 ) -> Result<LogPlan, AllocError>
     requires passes { PassesAttrs (kind_of name.now) attrs.now }
     requires stamp { pos 0 ≤ℤ created }
     ensures { IfOk result (PlansMaking streams.now created
-        (opened_stream client name.now attrs.now (unsigned_abs created))) }
+        (opened_stream client name.now attrs.now (unsigned_abs created) number)) }
 {
-    let stream = new_stream(alloc, client, name, attrs, created)?;
+    let stream = new_stream(alloc, client, name, attrs, created, number)?;
     match made_alone(alloc, &stream) {
         Ok(events) => Ok(LogPlan::accepted(events, created, Doing::Make { stream })),
         Err(error) => {
@@ -154,16 +189,18 @@ pub(crate) fn opening_plan(
     create: Option<&StreamAttrs>,
     last: i64,
     now: i64,
+    number: u64,
 ) -> Result<LogPlan, AllocError>
     requires moment { IsMoment last now }
     requires passes { ForSome (making_in streams.now name.now (option_copied create))
         (PassesAttrs (kind_of name.now)) }
-    ensures { IfOk result (PlansOpening last now client name.now
+    ensures { IfOk result (PlansOpening last now client number name.now
         (making_in streams.now name.now (option_copied create.entry)) streams.now) }
 {
     match making(streams, name, create) {
         Some(attrs) => {
-            let plan = making_plan(alloc, streams, client, name, attrs, stamp(last, now))?;
+            let created = stamp(last, now);
+            let plan = making_plan(alloc, streams, client, name, attrs, created, number)?;
             Ok(plan)
         }
         None => {
@@ -171,6 +208,22 @@ pub(crate) fn opening_plan(
             Ok(plan)
         }
     }
+}
+
+/// The plan by which the stream of this name gets a mark; where there is none, nothing changes.
+pub(crate) fn marking_plan(
+    alloc: Global,
+    streams: &[LiveStream],
+    name: &StreamName,
+    last: i64,
+    mark: Mark,
+) -> LogPlan
+    ensures { PlansMarking last name.now mark streams.now result }
+{
+    let Some(place) = place_of(streams, name) else {
+        return LogPlan::accepted(Seq::new(alloc), last, Doing::Stay);
+    };
+    LogPlan::accepted(Seq::new(alloc), last, Doing::Set { place, mark })
 }
 
 /// The plan by which a record is stored in the stream of this name; where there is none, nothing changes.

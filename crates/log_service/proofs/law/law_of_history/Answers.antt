@@ -1,4 +1,4 @@
-use Rattle.log_history.proofs.KeptLaws.{begin-status, end-status, open-status, making-in, write-status, close-status, store-status}
+use Rattle.log_history.proofs.KeptLaws.{begin-status, end-status, open-status, making-in, write-status, filter-status, close-status, store-status}
 use Rattle.log_history.proofs.TableLaws.{table-after}
 use Rattle.log_service.proofs.law.law_of_history.Goals as goal
 
@@ -9,6 +9,7 @@ returns c = record {
   opening = open-status;
   making = making-in;
   write = write-status;
+  filter = filter-status;
   close = close-status;
   store = store-status;
   after = table-after;

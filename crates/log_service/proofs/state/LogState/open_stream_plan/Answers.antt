@@ -3,12 +3,15 @@ use Rattle.std.specs.Option.{option_copied, ForSome}
 use Rattle.std.proofs.lemmas.Int.{to_z-of_z}
 use Rattle.ais_values.specs.declared.status.Status.TheVariants as status
 use Rattle.stream_config.specs.Attributes.{kind_of, PassesAttrs}
+use Rattle.stream_config.specs.declared.mark.Mark.{Mark}
 use Rattle.log_history.specs.Table.{OpenStream, LogTable}
-use Rattle.log_history.specs.KeptAnswers.{making_in}
+use Rattle.log_history.specs.KeptAnswers.{open_status, making_in}
+use Rattle.log_service.specs.Opening.{opening_in, mark_in}
+use Rattle.log_service.specs.Planning.{marked_plan}
 use Rattle.log_service.specs.PlanningParts.{PlansOpening}
 use Rattle.log_service.proofs.KeptLemmas.{moment-of, moment-fits, same_table}
 use Rattle.log_service.proofs.OpenLemmas.{making-passes}
-use Rattle.log_service.proofs.StatePlans.{opened-as}
+use Rattle.log_service.proofs.StatePlans.{opened-as, marked-as}
 use Rattle.log_service.proofs.state.LogState.open_stream_plan.Goals as goal
 
 pub opening_plan-requires-clause-passes : goal.opening_plan-requires-clause-passes
@@ -29,5 +32,9 @@ returns c =
     let create = option_copied c.args.create in
     let ok : c.open_status-status.result ≡ status.Ok = search rules in
     let told = simp to_z-of_z at c.in_ok-plan.ensures in
-    let plans = subst (λ (list : List OpenStream). PlansOpening last c.args.now c.args.client c.args.name.now (making_in list c.args.name.now create) list c.in_ok-plan.plan) c.as_slice-streams.ensures.value told in
-    opened-as last c.self.inside.users items c.args.self.now.table (same_table c.self.view_is) c.self.invariant.few c.self.invariant.busy c.args.now c.args.client c.args.name.now create c.in_ok-plan.plan moment (sym ok ∙ c.open_status-status.ensures) plans
+    let plans = subst (λ (list : List OpenStream). PlansOpening last c.args.now c.args.client c.args.number c.args.name.now (making_in list c.args.name.now create) list c.in_ok-plan.plan) c.as_slice-streams.ensures.value told in
+    let table = c.args.self.now.table in
+    let streams_are = c.as_slice-streams.ensures.value ∙ ap (λ (kept : LogTable). kept.streams) (same_table c.self.view_is) in
+    let opened = opened-as last c.self.inside.users items table (same_table c.self.view_is) c.self.invariant.few c.self.invariant.busy c.args.now c.args.client c.args.number c.args.name.now create c.in_ok-plan.plan moment (sym ok ∙ c.open_status-status.ensures) plans in
+    marked-as last c.self.inside.users items table (same_table c.self.view_is) c.self.invariant.few c.self.invariant.busy (open_status table c.args.client c.args.name.now create) (mark_in table.streams c.args.name.now create c.args.number) (opening_in table.streams c.args.client c.args.name.now create c.args.now c.args.number) c.in_ok-plan.plan c.marked.result plans.sound.ok opened
+    (c.marked.ensures ∙ ap (λ (m : Mark). marked_plan m c.in_ok-plan.plan) (c.mark_opened-mark.ensures ∙ ap (λ (list : List OpenStream). mark_in list c.args.name.now create c.args.number) streams_are))

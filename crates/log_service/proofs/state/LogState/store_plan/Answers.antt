@@ -1,4 +1,5 @@
-use Rattle.std.proofs.Common.{◌≡◌, List, sym, subst, ap, ◌∙◌, rules}
+use Rattle.std.proofs.Common.{◌≡◌, false, List, sym, subst, ap, ◌∙◌, rules}
+use Rattle.std.specs.Prelude.{None}
 use Rattle.std.proofs.lemmas.Int.{to_z-of_z}
 use Rattle.ais_values.specs.declared.status.Status.TheVariants as status
 use Rattle.stream_config.specs.declared.attrs.StreamName.{StreamName}
@@ -31,5 +32,5 @@ returns c =
     let ok : c.store_status-status.result ≡ status.Ok = search rules in
     let told = simp to_z-of_z at c.in_ok-plan.ensures in
     let plans = subst (λ (list : List OpenStream). PlansStoring last c.args.now name c.args.rec.now list c.in_ok-plan.plan) c.as_slice-streams.ensures.value told in
-    subst (λ (n : StreamName). Plans c.args.self.now.table (store_status c.args.self.now.table n c.args.rec.now) (Stored n c.args.rec.now (second_of c.args.now)) c.in_ok-plan.plan) c.stream_of_kind-name.ensures
+    subst (λ (n : StreamName). Plans c.args.self.now.table (store_status c.args.self.now.table n c.args.rec.now) false None (Stored n c.args.rec.now (second_of c.args.now)) c.in_ok-plan.plan) c.stream_of_kind-name.ensures
     (stored-as last c.self.inside.users items c.args.self.now.table (same_table c.self.view_is) c.self.invariant.few c.self.invariant.busy c.args.now (store_status c.args.self.now.table name c.args.rec.now) name c.args.rec.now c.in_ok-plan.plan (sym ok ∙ c.store_status-status.ensures) plans)
