@@ -137,6 +137,24 @@ fn put_close(alloc: Global, out: &mut Vec<u8>, stream: &StreamName) -> Result<()
     Ok(())
 }
 
+/// Adds the setting of a stream's mask.
+#[tactic(auto, unfolding(script_language::specs::Printing::call_text), using(crate::proofs::Chain::chained, crate::proofs::Chain::chained_last))]
+fn put_filtering(
+    alloc: Global,
+    out: &mut Vec<u8>,
+    stream: &StreamName,
+    mask: u32,
+) -> Result<(), AllocError>
+    ensures { OnOk result (out.new.items ≡ out.old.items
+        ++ call_text (asked.LogFilter stream.now mask)) }
+{
+    put(out, b"filter ")?;
+    put_stream(alloc, out, stream)?;
+    put(out, b" mask=")?;
+    put_number(alloc, out, u64::from(mask))?;
+    Ok(())
+}
+
 /// Adds the sending of a notification.
 #[tactic(auto, unfolding(script_language::specs::Printing::call_text), using(crate::proofs::Chain::chained, crate::proofs::Chain::chained_last))]
 fn put_send(alloc: Global, out: &mut Vec<u8>, note: &Notification) -> Result<(), AllocError>
@@ -201,6 +219,7 @@ fn put_call(alloc: Global, out: &mut Vec<u8>, call: &Call) -> Result<(), AllocEr
             body,
         } => put_write(alloc, out, stream, *invocation, *flags, *time, header, body),
         Call::LogClose { stream } => put_close(alloc, out, stream),
+        Call::LogFilter { stream, mask } => put_filtering(alloc, out, stream, *mask),
         Call::LogFini | Call::NtfFini => put(out, b"fini"),
         Call::NtfSend { notification } => put_send(alloc, out, notification.get()),
         Call::NtfSubscribe { id, filters } => put_subscribe(alloc, out, *id, filters.get()),

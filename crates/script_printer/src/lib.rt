@@ -13,3 +13,4 @@ mod values;
 pub use lines::{print_line, print_script};
 pub use notes::print_note;
 pub use pieces::{Printable, put, put_all, put_number, put_quoted, put_signed};
+pub use streams::put_stream;

@@ -28,12 +28,8 @@ fn full_word(action: FullAction) -> &'static [u8]
     }
 }
 
-/// Adds a stream's name.
-pub(crate) fn put_stream(
-    alloc: Global,
-    out: &mut Vec<u8>,
-    name: &StreamName,
-) -> Result<(), AllocError>
+/// Adds a stream's name, as scripts spell it.
+pub fn put_stream(alloc: Global, out: &mut Vec<u8>, name: &StreamName) -> Result<(), AllocError>
     ensures { OnOk result (out.new.items ≡ out.old.items ++ stream_text name.now) }
 {
     match name {
