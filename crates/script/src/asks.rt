@@ -4,7 +4,7 @@ ghost use Rattle.script.specs.Gives.{Gives};
 ghost use Rattle.script.specs.Parts.{write_options_at};
 ghost use Rattle.script_grammar.specs.Reading.{maybe};
 ghost use Rattle.script_language.specs.StreamReading.{attrs_at};
-ghost use Rattle.script_language.specs.AskReading.{init_at, open_at, write_at, close_at, send_at, subscribe_at, unsubscribe_at, reader_at, read_at};
+ghost use Rattle.script_language.specs.AskReading.{init_at, open_at, write_at, close_at, filter_at, send_at, subscribe_at, unsubscribe_at, reader_at, read_at};
 ghost use Rattle.script_language.specs.LineReading.{log_ask_at, ntf_ask_at};
 
 use crate::filters::filters;
@@ -106,6 +106,17 @@ fn close(alloc: Global, bytes: &[u8]) -> Result<(Ask, &[u8]), Trouble>
     Ok((Ask::Plain { call }, rest))
 }
 
+/// `filter STREAM mask=N`
+#[tactic(auto, unfolding(script_language::specs::AskReading::filter_at))]
+fn filter(alloc: Global, bytes: &[u8]) -> Result<(Ask, &[u8]), Trouble>
+    ensures { Gives (λ found. (found.0, found.1.now)) result (filter_at bytes.now) }
+{
+    let (stream, rest) = stream(alloc, bytes)?;
+    let (mask, rest) = number32_behind(rest, b" mask=").ok_or(Trouble::Bad)?;
+    let call = Call::LogFilter { stream, mask };
+    Ok((Ask::Plain { call }, rest))
+}
+
 /// What a client asks of the Log Service.
 #[tactic(auto, unfolding(script_language::specs::LineReading::log_ask_at))]
 pub(crate) fn log_ask(alloc: Global, bytes: &[u8]) -> Result<(Ask, &[u8]), Trouble>
@@ -122,6 +133,9 @@ pub(crate) fn log_ask(alloc: Global, bytes: &[u8]) -> Result<(Ask, &[u8]), Troub
     }
     if let Some(rest) = skip(bytes, b"close ") {
         return close(alloc, rest);
+    }
+    if let Some(rest) = skip(bytes, b"filter ") {
+        return filter(alloc, rest);
     }
     let rest = skip(bytes, b"fini").ok_or(Trouble::Bad)?;
     let call = Call::LogFini;
