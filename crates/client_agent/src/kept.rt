@@ -31,6 +31,7 @@ pub fn service_of(call: &Call) -> Which
         | Call::LogOpen { .. }
         | Call::LogWrite { .. }
         | Call::LogClose { .. }
+        | Call::LogFilter { .. }
         | Call::LogFini => Which::Log,
         _ => Which::Ntf,
     }
