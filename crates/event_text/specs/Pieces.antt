@@ -3,16 +3,17 @@ use Rattle.std.specs.Prelude.{ℕ, zero, suc, ◌==◌, Bool, false, List, [], �
 use Rattle.std.specs.Fmt.{decimal, signed_decimal}
 use Rattle.std.specs.List.{join_by}
 use Rattle.ais_values.specs.Statuses.{status_word}
-use Rattle.script_language.specs.Printing.{server_text, shown_note_text, line_text}
+use Rattle.script_language.specs.Printing.{server_text, stream_text, shown_note_text, line_text}
 use Rattle.event_text.specs.Texts.{why_text, role_text, hand_text, trimmed, text_line}
 use Rattle.event_text.specs.declared.pieces.Piece.{Piece}
-use Rattle.event_text.specs.declared.pieces.Piece.TheVariants.{Word, Number, Signed, Answer, Note, Script, Ids, Reason, Role, Hand, Node}
+use Rattle.event_text.specs.declared.pieces.Piece.TheVariants.{Word, Number, Signed, Answer, Note, Stream, Script, Ids, Reason, Role, Hand, Node}
 
 abbrev pub piece_text : Piece → List ℕ
 piece_text (Word word) = word.now
 piece_text (Number number) = decimal number
 piece_text (Signed number) = signed_decimal number
 piece_text (Answer status) = status_word status
+piece_text (Stream name) = stream_text name.now
 piece_text (Note notification) = shown_note_text notification.now
 piece_text (Script line) = line_text line.now
 piece_text (Ids ids) = join_by decimal (codes ",") ids.now

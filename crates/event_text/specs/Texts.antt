@@ -1,13 +1,13 @@
 -- Words of public clauses: the text of the lines that events print. Each line of text ends with a line feed.
-use Rattle.std.specs.Prelude.{◌≡◌, ℕ, ◌==◌, Option, Some, None, List, [], ◌∷◌, ◌++◌, length, map, codes, if◌then◌else◌}
+use Rattle.std.specs.Prelude.{◌≡◌, ℕ, ◌==◌, true, false, Option, Some, None, List, [], ◌∷◌, ◌++◌, length, map, codes, if◌then◌else◌}
 use Rattle.std.specs.Fmt.{decimal, signed_decimal}
 use Rattle.std.specs.List.{filter, join_by}
 use Rattle.ais_values.specs.Statuses.{status_word}
 use Rattle.script_grammar.specs.Writing.{joined}
-use Rattle.script_language.specs.Printing.{server_text, shown_note_text, line_text}
+use Rattle.script_language.specs.Printing.{server_text, stream_text, shown_note_text, line_text}
 use Rattle.sub_queue.specs.declared.item.Lost.{Lost}
-use Rattle.cluster_facts.specs.Types.{Status, WireWhy, Reply, Refused as Rejected, Done, Sent, Found, Entry, Called, Receipted}
-use Rattle.cluster_facts.specs.Types.{Callback, Written, Notified, Discarded, Message, Request, Answer, Delivery, Receipt}
+use Rattle.cluster_facts.specs.Types.{Status, WireWhy, Reply, Refused as Rejected, Done, Sent, Found, Marked, Entry, Called, Receipted}
+use Rattle.cluster_facts.specs.Types.{StreamName, Success, Callback, Written, Notified, Discarded, MaskSet, Message, Request, Answer, Delivery, Receipt}
 use Rattle.wire.specs.declared.message.WireWhy.TheVariants.{Trailing, Short, BadValue}
 use Rattle.cluster_events.specs.declared.lines.ServerRole.{ServerRole}
 use Rattle.cluster_events.specs.declared.lines.ServerRole.TheVariants.{Active, Armed, Standby, Joining, Down}
@@ -54,6 +54,10 @@ reply_line client number (Sent id) =
     joined (codes "reply " ∷ decimal client ∷ codes " " ∷ decimal number ∷ codes " ok id=" ∷ decimal id ∷ line_end ∷ [])
 reply_line client number (Found notification) =
     joined (codes "reply " ∷ decimal client ∷ codes " " ∷ decimal number ∷ codes " ok " ∷ shown_note_text notification ∷ line_end ∷ [])
+reply_line client number (Marked true mark) =
+    joined (codes "reply " ∷ decimal client ∷ codes " " ∷ decimal number ∷ codes " ok filtered" ∷ line_end ∷ [])
+reply_line client number (Marked false mark) =
+    joined (codes "reply " ∷ decimal client ∷ codes " " ∷ decimal number ∷ codes " ok" ∷ line_end ∷ [])
 
 unfoldable pub declined_line : ℕ → Status → List ℕ
 declined_line client status = joined (codes "reply " ∷ decimal client ∷ codes " - " ∷ status_word status ∷ line_end ∷ [])
@@ -82,15 +86,32 @@ lost_lines client number id lost =
     ++ (lost_lines_of client number id (codes "alarm") (ids_of 0x4000 lost)
     ++ lost_lines_of client number id (codes "security") (ids_of 0x5000 lost))))
 
+-- the callback of a write
+unfoldable pub write_line : ℕ → ℕ → ℕ → Status → List ℕ
+write_line client number invocation status =
+    joined (codes "callback " ∷ decimal client ∷ codes " " ∷ decimal number ∷ codes " write " ∷ decimal invocation
+    ∷ codes " " ∷ status_word status ∷ line_end ∷ [])
+
+-- the callback of a stream's mask
+unfoldable pub filter_line : ℕ → ℕ → StreamName → ℕ → List ℕ
+filter_line client number stream mask =
+    joined (codes "callback " ∷ decimal client ∷ codes " " ∷ decimal number ∷ codes " filter " ∷ stream_text stream
+    ∷ codes " mask=" ∷ decimal mask ∷ line_end ∷ [])
+
+-- the write that it tells of too, if there is one
+unfoldable pub done_lines : ℕ → ℕ → Option ℕ → List (List ℕ)
+done_lines client number None = []
+done_lines client number (Some invocation) = write_line client number invocation Success ∷ []
+
 -- a callback is handed out
 unfoldable pub callback_lines : ℕ → ℕ → Callback → List (List ℕ)
-callback_lines client number (Written invocation status) =
-    joined (codes "callback " ∷ decimal client ∷ codes " " ∷ decimal number ∷ codes " write " ∷ decimal invocation
-    ∷ codes " " ∷ status_word status ∷ line_end ∷ []) ∷ []
+callback_lines client number (Written invocation status) = write_line client number invocation status ∷ []
 callback_lines client number (Notified id notification) =
     joined (codes "callback " ∷ decimal client ∷ codes " " ∷ decimal number ∷ codes " ntf " ∷ decimal id ∷ codes " "
     ∷ shown_note_text notification ∷ line_end ∷ []) ∷ []
 callback_lines client number (Discarded id lost) = lost_lines client number id lost
+callback_lines client number (MaskSet stream mask written) =
+    filter_line client number stream mask ∷ done_lines client number written
 
 -- a dispatch has handed out so many
 unfoldable pub dispatched_line : ℕ → ℕ → List ℕ

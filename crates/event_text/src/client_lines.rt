@@ -1,11 +1,12 @@
 //! Lines on clients: replies and callbacks.
 ghost use Rattle.std.specs.Prelude.{◌≡◌, ◌++◌, ◌∷◌, [], OnOk, OnErr, IfOk};
-ghost use Rattle.event_text.specs.Texts.{reply_line, declined_line, ids_of, lost_lines_of, lost_lines, callback_lines, dispatched_line, AddedInPart};
+ghost use Rattle.event_text.specs.Texts.{reply_line, declined_line, ids_of, lost_lines_of, lost_lines, write_line, filter_line, done_lines, callback_lines, dispatched_line, AddedInPart};
 
 use crate::pieces::{Piece, put_line};
 use ais_values::{Seq, Status};
 use calls::{Callback, Reply};
 use std::alloc::{AllocError, Global};
+use stream_config::StreamName;
 use sub_queue::Lost;
 
 /// Adds the line of a reply that a client's agent takes. Where memory runs out nothing is added.
@@ -70,6 +71,33 @@ pub fn put_reply(
                 Piece::Number(u64::from(seq)),
                 Piece::Word(b" ok "),
                 Piece::Note(notification.get()),
+                Piece::Word(b"\n"),
+            ],
+        ),
+        Reply::Marked { filtered: true, .. } => put_line(
+            alloc,
+            lines,
+            &[
+                Piece::Word(b"reply "),
+                Piece::Number(u64::from(client)),
+                Piece::Word(b" "),
+                Piece::Number(u64::from(seq)),
+                Piece::Word(b" ok filtered"),
+                Piece::Word(b"\n"),
+            ],
+        ),
+        Reply::Marked {
+            filtered: false,
+            ..
+        } => put_line(
+            alloc,
+            lines,
+            &[
+                Piece::Word(b"reply "),
+                Piece::Number(u64::from(client)),
+                Piece::Word(b" "),
+                Piece::Number(u64::from(seq)),
+                Piece::Word(b" ok"),
                 Piece::Word(b"\n"),
             ],
         ),
@@ -220,7 +248,111 @@ fn put_lost(
     Ok(())
 }
 
-/// Adds the lines of a client's callback of this number that is handed out: one, but for losses, which have one for each type.
+/// Adds the line of the callback of a write. Where memory runs out nothing is added.
+#[tactic(auto, unfolding(crate::specs::Texts::write_line))]
+fn put_write(
+    alloc: Global,
+    lines: &mut Vec<Seq<u8>>,
+    client: u16,
+    number: u64,
+    invocation: u64,
+    status: Status,
+) -> Result<(), AllocError>
+    ensures ok { OnOk result (lines.new.items ≡ lines.old.items
+        ++ write_line client number invocation status ∷ []) }
+    ensures err { OnErr result (lines.new.items ≡ lines.old.items) }
+{
+    put_line(
+        alloc,
+        lines,
+        &[
+            Piece::Word(b"callback "),
+            Piece::Number(u64::from(client)),
+            Piece::Word(b" "),
+            Piece::Number(number),
+            Piece::Word(b" write "),
+            Piece::Number(invocation),
+            Piece::Word(b" "),
+            Piece::Answer(status),
+            Piece::Word(b"\n"),
+        ],
+    )
+}
+
+/// Adds the line of the callback of a stream's mask. Where memory runs out nothing is added.
+#[tactic(auto, unfolding(crate::specs::Texts::filter_line))]
+fn put_filter(
+    alloc: Global,
+    lines: &mut Vec<Seq<u8>>,
+    client: u16,
+    number: u64,
+    stream: &StreamName,
+    mask: u32,
+) -> Result<(), AllocError>
+    ensures ok { OnOk result (lines.new.items ≡ lines.old.items
+        ++ filter_line client number stream.now mask ∷ []) }
+    ensures err { OnErr result (lines.new.items ≡ lines.old.items) }
+{
+    put_line(
+        alloc,
+        lines,
+        &[
+            Piece::Word(b"callback "),
+            Piece::Number(u64::from(client)),
+            Piece::Word(b" "),
+            Piece::Number(number),
+            Piece::Word(b" filter "),
+            Piece::Stream(stream),
+            Piece::Word(b" mask="),
+            Piece::Number(u64::from(mask)),
+            Piece::Word(b"\n"),
+        ],
+    )
+}
+
+/// Adds the line of the write that the callback of a mask tells of, if there is one. Where memory runs out nothing is added.
+#[tactic(auto, unfolding(crate::specs::Texts::done_lines))]
+fn put_done(
+    alloc: Global,
+    lines: &mut Vec<Seq<u8>>,
+    client: u16,
+    number: u64,
+    written: Option<u64>,
+) -> Result<(), AllocError>
+    ensures ok { OnOk result (lines.new.items ≡ lines.old.items
+        ++ done_lines client number written) }
+    ensures err { OnErr result (lines.new.items ≡ lines.old.items) }
+{
+    match written {
+        Some(invocation) => put_write(alloc, lines, client, number, invocation, Status::Ok),
+        None => Ok(()),
+    }
+}
+
+/// Adds the lines of the callback of a stream's mask. Where memory runs out, the first of two may have been added.
+#[tactic(auto, using(crate::proofs::Chain::none_added))]
+fn put_mask(
+    alloc: Global,
+    lines: &mut Vec<Seq<u8>>,
+    client: u16,
+    number: u64,
+    stream: &StreamName,
+    mask: u32,
+    written: Option<u64>,
+) -> Result<(), AllocError>
+    ensures ok { OnOk result (lines.new.items ≡ lines.old.items
+        ++ (filter_line client number stream.now mask ∷ done_lines client number written)) }
+    ensures err { OnErr result (AddedInPart lines.old.items
+        (filter_line client number stream.now mask ∷ done_lines client number written)
+        lines.new.items) }
+{
+    put_filter(alloc, lines, client, number, stream, mask)?;
+    put_done(alloc, lines, client, number, written)?;
+    Ok(())
+}
+
+/// Adds the lines of a client's callback of this number that is handed out: one, but for losses, which have one for each type,
+/// and for a mask that tells of a write too, which has two.
 ///
 /// Where memory runs out, some of the lines, from the first on, may have been added.
 #[tactic(auto, unfolding(crate::specs::Texts::callback_lines), using(crate::proofs::Chain::none_added))]
@@ -237,21 +369,9 @@ pub fn put_callback(
         (callback_lines client number callback.now) lines.new.items) }
 {
     match callback {
-        Callback::Written { invocation, status } => put_line(
-            alloc,
-            lines,
-            &[
-                Piece::Word(b"callback "),
-                Piece::Number(u64::from(client)),
-                Piece::Word(b" "),
-                Piece::Number(number),
-                Piece::Word(b" write "),
-                Piece::Number(*invocation),
-                Piece::Word(b" "),
-                Piece::Answer(*status),
-                Piece::Word(b"\n"),
-            ],
-        ),
+        Callback::Written { invocation, status } => {
+            put_write(alloc, lines, client, number, *invocation, *status)
+        }
         Callback::Notified { id, notification } => put_line(
             alloc,
             lines,
@@ -275,5 +395,10 @@ pub fn put_callback(
             };
             put_lost(alloc, lines, place, lost.as_slice())
         }
+        Callback::FilterSet {
+            stream,
+            mask,
+            written,
+        } => put_mask(alloc, lines, client, number, stream, *mask, *written),
     }
 }

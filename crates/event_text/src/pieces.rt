@@ -9,8 +9,11 @@ use ais_values::{Seq, Status};
 use cluster_events::{ServerRole, Why};
 use ntf_types::Notification;
 use script_lines::{Line, Server};
-use script_printer::{Printable, print_line, print_note, put, put_all, put_number, put_signed};
+use script_printer::{
+    Printable, print_line, print_note, put, put_all, put_number, put_signed, put_stream,
+};
 use std::alloc::{AllocError, Global};
+use stream_config::StreamName;
 use wire::WireWhy;
 
 /// A piece of a line.
@@ -23,6 +26,8 @@ pub(crate) enum Piece<'a> {
     Answer(Status),
     /// A notification as it is shown.
     Note(&'a Notification),
+    /// The name of a stream.
+    Stream(&'a StreamName),
     /// A line of a script.
     Script(&'a Line),
     /// Numbers with commas between them.
@@ -137,6 +142,7 @@ fn put_piece(alloc: Global, out: &mut Vec<u8>, piece: &Piece) -> Result<(), Allo
             let text = print_note(alloc, notification)?;
             put(out, text.as_slice())
         }
+        Piece::Stream(name) => put_stream(alloc, out, name),
         Piece::Script(line) => {
             let text = print_line(alloc, line)?;
             put(out, text.as_slice())
