@@ -7,6 +7,7 @@ use Rattle.stream_layout.specs.declared.deed.Deed.{Deed}
 use Rattle.wire.specs.declared.message.Message.{Message}
 use Rattle.wire.specs.declared.message.Message.TheVariants.{Request, Receipt, Mirror, MirrorAck, Snapshot, JoinAck}
 use Rattle.service_core.specs.Applying.{CanApply}
+use Rattle.service_core.specs.Valuing.{value_after, deeds_by_value}
 use Rattle.plain_service.specs.Setups.{Setup}
 use Rattle.plain_service.specs.Legal.{IsHistory, CanFollow}
 use Rattle.plain_service.specs.Fitness.{IsFit}
@@ -117,12 +118,14 @@ IsHeard message now old heard new =
     ((setup : Setup) (past : List Entry) (entry : Entry) → old.replica ≡ at_work setup past entry → (heard ≡ ignored (Busy (suc (length past)))) × (new ≡ old))
     × ((setup : Setup) (past : List Entry) → IsHistory setup past → old.replica ≡ at_rest setup past → IsHeardTied old.tie setup past now message old heard new)
 
--- the standby applies the entry, keeps its deeds, and tells the active server
+-- the standby applies the entry, keeps its deeds, and tells the active server; what it is then is said by a history and by a value
 abbrev pub IsFollowed : ℕ → Entry → Node → Heard → Node → Type 0
 IsFollowed number entry old heard new =
     (heard ≡ sent (MirrorAck number ∷ []) (Some entry) Applied)
     × ((setup : Setup) (past : List Entry) → IsHistory setup past → CanFollow setup entry past → old.replica ≡ started Standby (saved_of setup past) →
     new ≡ record old { replica = started Standby (saved_of setup (entry ∷ past)); kept = Some (deeds_of setup past entry) })
+    × ((saved : Saved) → old.replica ≡ started Standby saved
+    → new ≡ record old { replica = started Standby (value_after entry saved); kept = Some (deeds_by_value entry saved) })
 
 -- what becomes of a message, by the server's role; one for another role changes nothing
 abbrev pub IsReceived : Role → Message → ℤ → Node → Heard → Node → Type 0
@@ -145,3 +148,14 @@ abbrev pub CanReceive : Message → ℤ → Node → Type 0
 CanReceive (Mirror number entry) now old = CanApplyIn entry old.replica.service
 CanReceive (Snapshot saved) now old = IsFit saved
 CanReceive message now old = CanHear message now
+
+-- the entry of the next number, which can be applied
+abbrev pub IsNextEntry : ℕ → Entry → Option Saved → Type 0
+IsNextEntry number entry None = ⊥
+IsNextEntry number entry (Some saved) = (number ≡ suc saved.number) × CanApply entry saved
+
+-- what a server can be told by a journal: a fit value while it joins, and then the next entry
+abbrev pub Admits : Message → Node → Type 0
+Admits (Snapshot saved) node = (node.replica.role ≡ Joining) × IsFit saved
+Admits (Mirror number entry) node = (node.replica.role ≡ Standby) × IsNextEntry number entry node.replica.service
+Admits _ node = ⊥

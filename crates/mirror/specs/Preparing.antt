@@ -5,6 +5,7 @@ use Rattle.calls.specs.declared.entry.Entry.TheVariants.{Called, Receipted}
 use Rattle.calls.specs.declared.saved.Saved.{Saved}
 use Rattle.wire.specs.declared.message.Message.{Message}
 use Rattle.wire.specs.declared.message.Message.TheVariants.{Request, Receipt}
+use Rattle.service_core.specs.Valuing.{value_after, deeds_by_value}
 use Rattle.stream_layout.specs.declared.deed.Deed.{Deed}
 use Rattle.plain_service.specs.Setups.{Setup}
 use Rattle.plain_service.specs.Storing.{deeds_of}
@@ -33,3 +34,8 @@ held_back (Some entry) messages heard = record { to_net = heard.to_net; to_peer 
 abbrev pub HasApplied : Setup → List Entry → Entry → List Deed → ReplicaState → Type 0
 HasApplied setup past entry deeds server =
     (deeds ≡ deeds_of setup past entry) × (server ≡ started Standby (saved_of setup (entry ∷ past)))
+
+-- by the value before it
+abbrev pub HasAppliedTo : Saved → Entry → List Deed → ReplicaState → Type 0
+HasAppliedTo saved entry deeds server =
+    (deeds ≡ deeds_by_value entry saved) × (server ≡ started Standby (value_after entry saved))

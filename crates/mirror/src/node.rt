@@ -14,7 +14,7 @@ ghost use Rattle.mirror.specs.declared.heard.Outcome.TheVariants.{Changed, Joine
 ghost use Rattle.mirror.specs.Replicas.{HasService, HasRoom, down, started, number_in_hand, at_rest};
 ghost use Rattle.mirror.specs.Hearing.{CanHear};
 ghost use Rattle.mirror.specs.Working.{deeds_in, replies_in, worked};
-ghost use Rattle.mirror.specs.Pairing.{alone, joining, sent, IsJoinBegun, parted, worked_out, with_peer, deeds_kept, keeps_deeds, taken_over, IsHeard, IsFollowed, IsReceived, CanApplyIn, CanReceive};
+ghost use Rattle.mirror.specs.Pairing.{alone, joining, sent, IsJoinBegun, parted, worked_out, with_peer, deeds_kept, keeps_deeds, taken_over, IsHeard, IsFollowed, IsReceived, CanApplyIn, CanReceive, Admits};
 
 use crate::hearing::ignore;
 use crate::pairing::{hear_linked, link, one, restored, send, send_also};
@@ -23,6 +23,7 @@ use crate::{Heard, Outcome, Role, Why};
 use ais_values::{Duplicate, Seq};
 use calls::{Entry, Saved};
 use disk_model::{DiskAnswer, SharedDisk};
+use saved_fit::is_fit;
 use service_core::Service;
 use std::alloc::{AllocError, Global};
 use std::mem::replace;
@@ -400,6 +401,24 @@ impl Node {
                     role: Role::Joining,
                 },
             )),
+        }
+    }
+
+    /// Whether the server can receive what a journal or the active server tells it: it is joining and the message is a fit value
+    /// of the service, or it is standby and the message is the entry of the next number, which can be applied. It takes no
+    /// memory.
+    pub fn admits(&self, alloc: Global, message: &Message) -> Result<bool, AllocError>
+        ensures { IfOk result (λ answer. IsTrue answer ↔ Admits message.now self.now) }
+    {
+        let _ = alloc;
+        match message {
+            Message::Snapshot { saved } => {
+                Ok(self.replica.role() == Role::Joining && is_fit(saved))
+            }
+            Message::Mirror { number, entry } => {
+                Ok(self.replica.role() == Role::Standby && self.replica.follows(*number, entry))
+            }
+            _ => Ok(false),
         }
     }
 

@@ -1,5 +1,5 @@
 //! What a server of a pair does on its parts.
-ghost use Rattle.std.specs.Prelude.{◌≡◌, suc, List, [], ◌∷◌, None, length, IfOk, OnErr};
+ghost use Rattle.std.specs.Prelude.{◌≡◌, ◌↔◌, IsTrue, suc, List, [], ◌∷◌, None, length, IfOk, OnErr};
 ghost use Rattle.calls.specs.declared.entry.Entry.{Entry as EntryOf};
 ghost use Rattle.wire.specs.declared.message.Message.TheVariants.{Snapshot};
 ghost use Rattle.plain_service.specs.Setups.{Setup};
@@ -8,7 +8,8 @@ ghost use Rattle.plain_service.specs.Fitness.{IsFit};
 ghost use Rattle.plain_service.specs.Storing.{deeds_of};
 ghost use Rattle.plain_service.specs.Values.{StandsFor};
 ghost use Rattle.mirror.specs.declared.heard.Role.TheVariants as role;
-ghost use Rattle.service_core.specs.Applying.{CanApply};
+ghost use Rattle.service_core.specs.Applying.{CanApply, CanAcceptIn};
+ghost use Rattle.service_core.specs.Valuing.{value_after, deeds_by_value};
 ghost use Rattle.mirror.specs.declared.heard.Why.TheVariants.{Busy};
 ghost use Rattle.mirror.specs.Replicas.{HasRoom, at_rest, at_work};
 ghost use Rattle.mirror.specs.Hearing.{CanHear, ignored};
@@ -95,6 +96,37 @@ pub(crate) fn restored(alloc: Global, saved: &Saved) -> Result<Service, AllocErr
     }
 }
 
+/// Whether a further entry of a client can be accepted at a moment.
+fn can_accept(service: &Service, client: u16, time: i64) -> bool
+    ensures { IsTrue result ↔ CanAcceptIn service.now client time }
+{
+    1 <= client
+        && client <= 4096
+        && 0 <= time
+        && time <= 9_000_000_000_000_000_000
+        && service.number() < 4_000_000_000
+}
+
+/// Whether an entry can be applied.
+pub(crate) fn can_apply(service: &Service, entry: &Entry) -> bool
+    ensures { IsTrue result ↔ CanApply entry.now service.now }
+{
+    match entry {
+        Entry::Called {
+            client,
+            seq,
+            time,
+            call: _,
+        } => can_accept(service, *client, *time) && *seq == service.next(*client),
+        Entry::Receipted {
+            client,
+            key,
+            through,
+            time,
+        } => can_accept(service, *client, *time) && service.is_new(*client, *key, *through),
+    }
+}
+
 /// Applies an entry of the partner's, and gives its deeds. On an error nothing changes.
 pub(crate) fn apply_mirrored(
     service: &mut Service,
@@ -102,6 +134,8 @@ pub(crate) fn apply_mirrored(
     entry: &Entry,
 ) -> Result<Seq<Deed>, AllocError>
     requires { CanApply entry.now service.old }
+    ensures value { IfOk result (λ deeds. (deeds ≡ deeds_by_value entry.now service.old)
+        × (service.new ≡ value_after entry.now service.old)) }
     ensures ok { IfOk result (λ deeds. (setup : Setup) (past : List EntryOf) →
         IsHistory setup past → StandsFor setup past service.old →
         CanFollow setup entry.now past → (deeds ≡ deeds_of setup past entry.now)

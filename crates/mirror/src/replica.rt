@@ -5,6 +5,7 @@ ghost use Rattle.disk_model.specs.DeviceCalls.{Performs};
 ghost use Rattle.disk_model.specs.declared.answers.DiskAnswer.{DiskAnswer};
 ghost use Rattle.stream_layout.specs.Deeds.{calls_of_all};
 ghost use Rattle.calls.specs.declared.entry.Entry.{Entry as EntryOf};
+ghost use Rattle.calls.specs.declared.saved.Saved.{Saved as SavedOf};
 ghost use Rattle.plain_service.specs.Setups.{Setup};
 ghost use Rattle.plain_service.specs.Legal.{IsHistory, CanFollow};
 ghost use Rattle.plain_service.specs.Values.{saved_of};
@@ -14,12 +15,12 @@ ghost use Rattle.mirror.specs.declared.heard.Why.TheVariants.{Busy, NotForRole};
 ghost use Rattle.mirror.specs.Replicas.{HasService, HasRoom, down, started, number_of, number_in_hand, at_rest, at_work};
 ghost use Rattle.mirror.specs.Hearing.{CanHear, IsHeardAtRest, ignored};
 ghost use Rattle.mirror.specs.Working.{deeds_in, replies_in, worked, emptied};
-ghost use Rattle.mirror.specs.Pairing.{joining, snapshots, acting, CanApplyIn};
-ghost use Rattle.mirror.specs.Preparing.{number_next, HasApplied};
+ghost use Rattle.mirror.specs.Pairing.{joining, snapshots, acting, CanApplyIn, IsNextEntry};
+ghost use Rattle.mirror.specs.Preparing.{number_next, HasApplied, HasAppliedTo};
 
 use crate::hearing::ignore;
 use crate::owed::Owed;
-use crate::pairing::{apply_mirrored, snapshot_of};
+use crate::pairing::{apply_mirrored, can_apply, snapshot_of};
 use crate::parts::{do_deeds, hear_or_ignore, post_owed, push_items};
 use crate::{Heard, Role, Why};
 use ais_values::Seq;
@@ -197,6 +198,20 @@ impl Replica {
         }
     }
 
+    /// Whether an entry of this number is the next one, and can be applied.
+    pub(crate) fn follows(&self, number: u64, entry: &Entry) -> bool
+        ensures { IsTrue result ↔ IsNextEntry number entry.now self.now.service }
+    {
+        match &self.service {
+            None => false,
+            Some(service) => {
+                service.number() < number
+                    && number - 1 == service.number()
+                    && can_apply(service, entry)
+            }
+        }
+    }
+
     /// Applies an entry of the partner's, and gives its deeds. On an error nothing changes.
     pub(crate) fn apply(&mut self, alloc: Global, entry: &Entry) -> Result<Seq<Deed>, AllocError>
         requires { CanApplyIn entry.now self.old.service }
@@ -204,6 +219,9 @@ impl Replica {
             IsHistory setup past → CanFollow setup entry.now past →
             self.old ≡ started Standby (saved_of setup past) →
             HasApplied setup past entry.now deeds self.new) }
+        ensures value { IfOk result (λ deeds. (saved : SavedOf) →
+            self.old ≡ started Standby saved →
+            HasAppliedTo saved entry.now deeds self.new) }
         ensures err { OnErr result (self.new ≡ self.old) }
     {
         match &mut self.service {
