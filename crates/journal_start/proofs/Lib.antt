@@ -1,0 +1,5 @@
+pub mod ArmLaws
+pub mod JournalLaws
+pub mod FollowLaws
+pub mod ReplayLaws
+pub mod StartLaws

@@ -1,0 +1,4 @@
+pub mod Arms
+pub mod Journals
+pub mod Replays
+pub mod Starts
