@@ -1,13 +1,11 @@
 -- A server that follows is told what may come, and admits it.
-use Rattle.std.proofs.Common.{◌≡◌, ℕ, ℤ, true, false, List, [], ◌∷◌, ◌++◌, Option, Some, None, refl, sym, ap, subst, ◌∙◌}
-use Rattle.std.proofs.lemmas.List.{append-nil}
+use Rattle.std.proofs.Common.{◌≡◌, ℕ, ℤ, true, false, List, ◌++◌, Option, Some, None, refl, sym, ap, subst, ◌∙◌}
 use Rattle.std.specs.Option.{option_to_list}
 use Rattle.calls.specs.declared.entry.Entry.{Entry}
 use Rattle.calls.specs.declared.entry.Entry.TheVariants.{Called, Receipted}
 use Rattle.calls.specs.declared.saved.Saved.{Saved}
 use Rattle.wire.specs.declared.message.Message.{Message}
 use Rattle.wire.specs.declared.message.Message.TheVariants as message
-use Rattle.wire.specs.Messages.{Spells}
 use Rattle.service_core.specs.Applying.{CanApply}
 use Rattle.mirror.specs.declared.heard.Heard.{Heard}
 use Rattle.mirror.specs.declared.heard.Role.{Role}

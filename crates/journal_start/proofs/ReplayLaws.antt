@@ -1,5 +1,5 @@
 -- Bytes of a journal that are followed frame by frame.
-use Rattle.std.proofs.Common.{◌≡◌, ◌≢◌, ◌⊎◌, inl, inr, ℕ, suc, ◌+◌, ◌<◌, ◌≤◌, Bool, true, false, List, [], ◌∷◌, ◌++◌, length, reverse, Option, Some, None, ◌-◌, ◌==◌, refl, sym, ap, subst, ◌∙◌, arith, append_assoc, length-append}
+use Rattle.std.proofs.Common.{◌≡◌, ◌≢◌, inl, inr, ℕ, ◌+◌, ◌≤◌, Bool, true, false, List, [], ◌∷◌, ◌++◌, length, reverse, Option, Some, None, ◌-◌, ◌==◌, refl, sym, ap, subst, ◌∙◌, arith, append_assoc, length-append}
 use Rattle.std.specs.Prelude.{not}
 use Rattle.std.proofs.lemmas.Bool.Decides.{eqb_tells}
 use Rattle.std.proofs.lemmas.List.{append-nil, reverse-append}
@@ -12,14 +12,13 @@ use Rattle.wire.specs.MessageSpelling.{message_text, MessageFits}
 use Rattle.wire.specs.Messages.{Spells}
 use Rattle.service_core.specs.Valuing.{value_after}
 use Rattle.mirror.specs.declared.node.Node.{Node}
-use Rattle.journal_frames.specs.Frames.{body_of, frame, framed, IsShort, AreShort}
+use Rattle.journal_frames.specs.Frames.{frame, framed, IsShort, AreShort}
 use Rattle.journal_frames.specs.Reading.{IsFramed}
-use Rattle.journal_frames.specs.Staging.{EndsAt}
 use Rattle.journal_frames.proofs.Frames.{framed-push, length-body, same-frame, short-push}
-use Rattle.journal_found.specs.Found.{texts_of, is_journal, Chain, CanCome, entries_after, follower_after, Follower, Found, RefusedAt}
+use Rattle.journal_found.specs.Found.{texts_of, is_journal, Chain, CanCome, entries_after, follower_after, Follower, RefusedAt}
 use Rattle.journal_found.specs.Found.Chain.{starts, goes}
 use Rattle.journal_found.proofs.Lists.{behind_first, texts-push, fits-push}
-use Rattle.journal_start.specs.Replays.{entries_in, first_byte, number_behind, node_of, Followed, Following, FollowsText, HasFollowed, IsRead, Passed, PassedNot, ReadWhole}
+use Rattle.journal_start.specs.Replays.{entries_in, first_byte, number_behind, node_of, Followed, Following, HasFollowed, Passed, PassedNot, ReadWhole}
 use Rattle.journal_start.specs.declared.replaying.Replayed.{Replayed}
 
 pub begins : (bytes : List ℕ) → Following bytes bytes 0 0 [] (node_of None)

@@ -1,14 +1,13 @@
 -- What was read of a journal is found in it, and a journal that is mended is that of what was found.
-use Rattle.std.proofs.Common.{◌≡◌, ◌≢◌, ◌⊎◌, inl, inr, Result, Ok, Err, ℕ, ◌+◌, ◌<◌, ◌≤◌, Bool, true, false, List, [], ◌∷◌, ◌++◌, length, Option, Some, None, option_map, refl, sym, ap, subst, ◌∙◌, arith, length-append}
+use Rattle.std.proofs.Common.{◌≡◌, ◌⊎◌, inl, inr, Result, Ok, Err, ℕ, ◌<◌, Bool, List, ◌∷◌, length, Option, Some, None, option_map, refl, sym, ap, subst, ◌∙◌, arith, length-append}
 use Rattle.std.specs.Prelude.{IfErr, IfOk, IfSome, IsErrOf}
 use Rattle.std.specs.Option.{option_map_or}
 use Rattle.std.specs.FinMap.{get}
 use Rattle.disk_model.specs.Disk.{File, Files}
-use Rattle.journal_frames.specs.Frames.{HasJournal, Holds, framed, journal_name, mended}
+use Rattle.journal_frames.specs.Frames.{HasJournal, framed, journal_name, mended}
 use Rattle.journal_frames.specs.Staging.{EndsAt, HasStaged, IsMended, Keeps}
 use Rattle.journal_frames.proofs.Mending.{mend-whole}
-use Rattle.journal_found.specs.Found.{texts_of, Found, is_journal}
-use Rattle.journal_found.proofs.Telling.{found-journal}
+use Rattle.journal_found.specs.Found.{texts_of, Found}
 use Rattle.journal_start.specs.declared.replaying.Replayed.{Replayed}
 use Rattle.journal_start.specs.Replays.{ReadWhole}
 use Rattle.disk_model.specs.DeviceCalls.{all_applied}

@@ -1,5 +1,5 @@
 -- Words of public clauses: a journal that is made, and one that a message joins.
-use Rattle.std.specs.Prelude.{◌≡◌, ◌⊎◌, ◌≤◌, ◌+◌, ◌*◌, ℕ, suc, List, length, Option, Result, IsErrOf}
+use Rattle.std.specs.Prelude.{◌≡◌, ◌⊎◌, ◌≤◌, ◌+◌, ◌*◌, ℕ, List, length, Option, Result, IsErrOf}
 use Rattle.disk_model.specs.Disk.{Files}
 use Rattle.disk_model.specs.DeviceCalls.{DeviceCall, Performs}
 use Rattle.disk_model.specs.declared.answers.DiskAnswer.{DiskAnswer}

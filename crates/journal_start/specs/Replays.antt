@@ -10,7 +10,7 @@ use Rattle.mirror.specs.Replicas.{started}
 use Rattle.mirror.specs.Pairing.{alone, joining, Admits}
 use Rattle.std.specs.Option.{option_to_list}
 use Rattle.journal_frames.specs.Frames.{AreShort, framed}
-use Rattle.journal_found.specs.Found.{texts_of, is_journal, AllFit, Chain, CanCome, entries_after, follower_after, Follower, Found, RefusedAt}
+use Rattle.journal_found.specs.Found.{texts_of, is_journal, AllFit, Chain, CanCome, follower_after, Follower, RefusedAt}
 use Rattle.journal_start.specs.declared.replaying.Replayed.{Replayed}
 use Rattle.journal_start.specs.declared.replaying.ReplayAnswer.{ReplayAnswer}
 use Rattle.journal_start.specs.declared.replaying.ReplayAnswer.TheVariants.{Memory, NoJournal, Refused}

@@ -1,5 +1,5 @@
 -- Words of public clauses: what a cold start comes to.
-use Rattle.std.specs.Prelude.{◌≡◌, ◌⊎◌, ◌≤◌, ℕ, false, List, length, reverse, Option, Some, None, option_map, IfSome, Result, Ok, Err, IsErrOf, MatchResult}
+use Rattle.std.specs.Prelude.{◌≡◌, ◌⊎◌, ◌≤◌, ℕ, false, List, length, reverse, Option, Some, None, option_map, IfSome, Result, IsErrOf, MatchResult}
 use Rattle.std.specs.FinMap.{get}
 use Rattle.ais_values.specs.Causes.{Rose}
 use Rattle.disk_model.specs.Disk.{File, Files}
@@ -11,7 +11,6 @@ use Rattle.stream_layout.specs.Deeds.{calls_of_all}
 use Rattle.calls.specs.declared.entry.Entry.{Entry}
 use Rattle.mirror.specs.Pairing.{deeds_kept, taken_over}
 use Rattle.journal_frames.specs.Frames.{HasJournal, framed, journal_name}
-use Rattle.journal_frames.specs.Staging.{Keeps}
 use Rattle.journal_found.specs.Found.{texts_of, is_journal, Follower, Found, RefusedAt}
 use Rattle.journal_start.specs.Replays.{node_of}
 use Rattle.journal_start.specs.declared.cold.Cold.{Cold}

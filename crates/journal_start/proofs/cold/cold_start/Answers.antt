@@ -1,8 +1,8 @@
-use Rattle.std.proofs.Common.{◌≡◌, ℕ, List, Option}
+use Rattle.std.proofs.Common.{ℕ, List, Option}
 use Rattle.journal_start.specs.declared.cold.Cold.{Cold}
 use Rattle.journal_start.specs.declared.cold.ColdAnswer.TheVariants.{Memory, NoJournal}
 use Rattle.journal_start.proofs.ArmLaws.{read-alone, read-before, read-failed}
-use Rattle.journal_start.proofs.StartLaws.{never-err, read-ends, read-place, role-is, some-read, started-all, started-kept, stays-staged, tried-all, untouched-all}
+use Rattle.journal_start.proofs.StartLaws.{never-err, read-ends, role-is, some-read, started-all, started-kept, stays-staged, tried-all, untouched-all}
 use Rattle.journal_start.proofs.cold.cold_start.Goals as goal
 
 pub mend_and_start-requires-clause-role : goal.mend_and_start-requires-clause-role

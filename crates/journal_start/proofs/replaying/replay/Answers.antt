@@ -1,6 +1,6 @@
 use Rattle.std.proofs.Common.{◌≡◌, true, sym, ◌∙◌, arith}
 use Rattle.journal_found.specs.Found.{is_journal}
-use Rattle.journal_start.proofs.ReplayLaws.{begun-at, journal-long, read-whole, stays-within}
+use Rattle.journal_start.proofs.ReplayLaws.{begun-at, journal-long}
 use Rattle.journal_start.proofs.replaying.replay.Goals as goal
 
 pub loop-alloc-init : goal.loop-alloc-init

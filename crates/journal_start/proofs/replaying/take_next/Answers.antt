@@ -1,4 +1,4 @@
-use Rattle.journal_start.proofs.FollowLaws.{receives-room, taken}
+use Rattle.journal_start.proofs.FollowLaws.{receives-room}
 use Rattle.journal_start.proofs.replaying.take_next.Goals as goal
 
 pub receive-requires-clause-receive : goal.receive-requires-clause-receive

@@ -1,7 +1,6 @@
-use Rattle.std.proofs.Common.{◌≡◌, ℕ, ◌+◌, ◌≤◌, ap, sym, subst, ◌∙◌, arith, length}
+use Rattle.std.proofs.Common.{◌≡◌, ℕ, ◌+◌, ap, arith, length}
 use Rattle.wire.specs.MessageSpelling.{message_text}
 use Rattle.journal_start.specs.declared.journal.Journal.{Journal}
-use Rattle.journal_start.specs.Journals.{IsBounded}
 use Rattle.journal_start.proofs.JournalLaws.{spelled-long}
 use Rattle.journal_start.proofs.journal.Journal.make.Goals as goal
 
