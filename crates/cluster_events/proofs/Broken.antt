@@ -8,14 +8,14 @@ use Rattle.cluster_facts.specs.History.{committed}
 use Rattle.cluster_facts.specs.World.{World}
 use Rattle.cluster_facts.specs.Facts.{IsSound}
 use Rattle.cluster_events.specs.Lines.{Told}
-use Rattle.cluster_events.specs.Saying.{entry_in, reply_in, callback_in, write_in, replies_told, writes_told, writes_in, TellsReplies, Says}
+use Rattle.cluster_events.specs.Saying.{entry_in, reply_in, callback_in, called_in, replies_told, called_back, of_replies, TellsReplies, Says}
 use Rattle.cluster_events.specs.Breaking.{Tells, Holds}
 use Rattle.cluster_events.proofs.Carrying.{EndsIn-both}
-use Rattle.cluster_events.proofs.Telling.{gathered-append, grows-told, TellsReplies-both, answers-ends, marks-both, writes-both}
+use Rattle.cluster_events.proofs.Telling.{gathered-append, grows-told, TellsReplies-both, answers-ends, marks-both, called-both}
 use Rattle.cluster_events.proofs.Promised.{committed-legal, committed-order}
 
 pub Says-tells : (plain : Plain) (old new : World) (told : List Told) → Says plain old new told → Tells plain old new told
-Says-tells plain old new told says = record { entries = says.entries; answers = says.answers; replies = says.replies; callbacks = says.callbacks; marks = says.marks; writes = says.writes }
+Says-tells plain old new told says = record { entries = says.entries; answers = says.answers; replies = says.replies; callbacks = says.callbacks; marks = says.marks; called = says.called }
 
 pub Tells-both : (plain : Plain) (one two three : World) (first second : List Told) → Tells plain one two first → Tells plain two three second → Tells plain one three (second ++ first)
 Tells-both plain one two three first second tells more = record {
@@ -26,7 +26,7 @@ Tells-both plain one two three first second tells more = record {
       subst T (sym (gathered-append (reply_in client) second first)) (TellsReplies-both (one.agents client) (two.agents client) (three.agents client) (answers_in plain client two.core.answered) (answers_in plain client three.core.answered) (replies_told client first) (replies_told client second) (answers-ends plain client three.core.answered two.core.answered more.answers) (tells.replies client) (more.replies client));
   callbacks = λ client. grows-told (callback_in client) (one.agents client).handed (two.agents client).handed (three.agents client).handed first second (tells.callbacks client) (more.callbacks client);
   marks = λ client. marks-both client (one.agents client).marks (two.agents client).marks (three.agents client).marks first second (tells.marks client) (more.marks client);
-  writes = λ client. writes-both client (one.agents client).marks (two.agents client).marks (writes_in (fed_of (one.agents client))) (writes_in (fed_of (two.agents client))) (writes_in (fed_of (three.agents client))) first second (tells.marks client) (tells.writes client) (more.writes client);
+  called = λ client. called-both client (one.agents client).marks (two.agents client).marks (of_replies (fed_of (one.agents client))) (of_replies (fed_of (two.agents client))) (of_replies (fed_of (three.agents client))) first second (tells.marks client) (tells.called client) (more.called client);
 }
 
 -- a sound world holds what an event that breaks off must leave

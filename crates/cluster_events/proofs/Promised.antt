@@ -18,7 +18,7 @@ use Rattle.cluster_events.specs.Lines.{Told, Declined, HandedOut, Ignored, Refus
 use Rattle.cluster_events.specs.Outcomes.{Outcome}
 use Rattle.cluster_events.specs.ClientEvents.{handed_lines, hand_out}
 use Rattle.cluster_events.specs.Servers.{State, Servers}
-use Rattle.cluster_events.specs.Saying.{gathered, post_in, entry_in, reply_in, deal_in, callback_in, mark_in, write_in, deals_told, callbacks_told, marks_told, writes_told, Grows, TellsReplies, writes_in, Says}
+use Rattle.cluster_events.specs.Saying.{gathered, post_in, entry_in, reply_in, deal_in, callback_in, mark_in, called_in, deals_told, callbacks_told, marks_seen, called_back, Grows, TellsReplies, of_replies, Says}
 use Rattle.cluster_events.specs.Serving.{IsSteady, IsServing, IsCarried, AreStepped}
 use Rattle.cluster_events.specs.Running.{Shelf, Happens}
 use Rattle.cluster_events.specs.Promises.{AtEnd}
@@ -34,7 +34,7 @@ pub record IsSilent (line : Told) : Type 0 where
   pub entry : entry_in line ≡ []
   pub reply : (client : ℕ) → reply_in client line ≡ []
   pub callback : (client : ℕ) → callback_in client line ≡ []
-  pub write : (client : ℕ) (marks : List (StreamName × Mark)) → write_in client line marks ≡ []
+  pub called : (client : ℕ) (marks : List (StreamName × Mark)) → called_in client line marks ≡ []
   pub mark : (client : ℕ) (marks : List (StreamName × Mark)) → mark_in client line marks ≡ marks
   pub deal : (client : ℕ) → deal_in client line ≡ []
 
@@ -47,18 +47,18 @@ Says-line plain world line silent = record {
   replies = λ client. subst (λ lines. TellsReplies (world.agents client) (world.agents client) (answers_in plain client world.core.answered) (lines ++ [])) (sym (silent.reply client)) (TellsReplies-none (world.agents client) (world.agents client) (answers_in plain client world.core.answered) (λ number done. done));
   callbacks = λ client. subst (λ lines. Grows (world.agents client).handed (world.agents client).handed (lines ++ [])) (sym (silent.callback client)) (Grows-same (world.agents client).handed);
   marks = λ client. sym (silent.mark client (world.agents client).marks);
-  writes = λ client. ap (λ lines. (lines ++ []) ++ writes_in (fed_of (world.agents client))) (sym (silent.write client (world.agents client).marks));
+  called = λ client. ap (λ lines. (lines ++ []) ++ of_replies (fed_of (world.agents client))) (sym (silent.called client (world.agents client).marks));
   deals = λ client. subst (λ deals. AllByRecursion (λ (deal : ℕ × Call × Reply). Stands deal (dealt_in plain client world.core.answered)) (deals ++ [])) (sym (silent.deal client)) tt;
 }
 
 declined-silent : (client : ℕ) (status : Status) → IsSilent (Declined client status)
-declined-silent client status = record { post = refl; entry = refl; reply = λ c. refl; callback = λ c. refl; write = λ c m. refl; mark = λ c m. refl; deal = λ c. refl }
+declined-silent client status = record { post = refl; entry = refl; reply = λ c. refl; callback = λ c. refl; called = λ c m. refl; mark = λ c m. refl; deal = λ c. refl }
 
 show-silent : (line : Told) → IsShow line → IsSilent line
-show-silent (Refused refused standing) shows = record { post = refl; entry = refl; reply = λ c. refl; callback = λ c. refl; write = λ c m. refl; mark = λ c m. refl; deal = λ c. refl }
-show-silent (Stood server role) shows = record { post = refl; entry = refl; reply = λ c. refl; callback = λ c. refl; write = λ c m. refl; mark = λ c m. refl; deal = λ c. refl }
-show-silent (Listed name count) shows = record { post = refl; entry = refl; reply = λ c. refl; callback = λ c. refl; write = λ c m. refl; mark = λ c m. refl; deal = λ c. refl }
-show-silent (Shown text) shows = record { post = refl; entry = refl; reply = λ c. refl; callback = λ c. refl; write = λ c m. refl; mark = λ c m. refl; deal = λ c. refl }
+show-silent (Refused refused standing) shows = record { post = refl; entry = refl; reply = λ c. refl; callback = λ c. refl; called = λ c m. refl; mark = λ c m. refl; deal = λ c. refl }
+show-silent (Stood server role) shows = record { post = refl; entry = refl; reply = λ c. refl; callback = λ c. refl; called = λ c m. refl; mark = λ c m. refl; deal = λ c. refl }
+show-silent (Listed name count) shows = record { post = refl; entry = refl; reply = λ c. refl; callback = λ c. refl; called = λ c m. refl; mark = λ c m. refl; deal = λ c. refl }
+show-silent (Shown text) shows = record { post = refl; entry = refl; reply = λ c. refl; callback = λ c. refl; called = λ c m. refl; mark = λ c m. refl; deal = λ c. refl }
 show-silent _ shows = elim shows [ ]
 
 -- Lines on messages without effect may be left out.
@@ -69,17 +69,17 @@ gathered-without read none (Ignored place why ∷ told) =
     gathered-without read none told ∙ ap (λ lines. lines ++ gathered read told) (sym (none place why))
 gathered-without read none (line ∷ told) = ap (λ rest. read line ++ rest) (gathered-without read none told)
 
-marks-without : (client : ℕ) (marks : List (StreamName × Mark)) (told : List Told) → marks_told client marks (without is_ignored told) ≡ marks_told client marks told
+marks-without : (client : ℕ) (marks : List (StreamName × Mark)) (told : List Told) → marks_seen client marks (without is_ignored told) ≡ marks_seen client marks told
 marks-without client marks [] = refl
 marks-without client marks (Ignored place why ∷ told) = marks-without client marks told
 marks-without client marks (line ∷ told) = ap (mark_in client line) (marks-without client marks told)
 
-writes-without : (client : ℕ) (marks : List (StreamName × Mark)) (told : List Told) → writes_told client marks (without is_ignored told) ≡ writes_told client marks told
-writes-without client marks [] = refl
-writes-without client marks (Ignored place why ∷ told) = writes-without client marks told
-writes-without client marks (line ∷ told) =
-    ap (λ m. write_in client line m ++ writes_told client marks (without is_ignored told)) (marks-without client marks told)
-    ∙ ap (λ rest. write_in client line (marks_told client marks told) ++ rest) (writes-without client marks told)
+called-without : (client : ℕ) (marks : List (StreamName × Mark)) (told : List Told) → called_back client marks (without is_ignored told) ≡ called_back client marks told
+called-without client marks [] = refl
+called-without client marks (Ignored place why ∷ told) = called-without client marks told
+called-without client marks (line ∷ told) =
+    ap (λ m. called_in client line m ++ called_back client marks (without is_ignored told)) (marks-without client marks told)
+    ∙ ap (λ rest. called_in client line (marks_seen client marks told) ++ rest) (called-without client marks told)
 
 pub Says-printed : (plain : Plain) (old new : World) (told : List Told) → Says plain old new told → Says plain old new (without is_ignored told)
 Says-printed plain old new told says = record {
@@ -89,7 +89,7 @@ Says-printed plain old new told says = record {
   replies = λ client. subst (λ lines. TellsReplies (old.agents client) (new.agents client) (answers_in plain client new.core.answered) lines) (sym (gathered-without (reply_in client) (λ place why. refl) told)) (says.replies client);
   callbacks = λ client. subst (λ lines. Grows (old.agents client).handed (new.agents client).handed lines) (sym (gathered-without (callback_in client) (λ place why. refl) told)) (says.callbacks client);
   marks = λ client. says.marks client ∙ sym (marks-without client (old.agents client).marks told);
-  writes = λ client. says.writes client ∙ ap (λ lines. lines ++ writes_in (fed_of (old.agents client))) (sym (writes-without client (old.agents client).marks told));
+  called = λ client. says.called client ∙ ap (λ lines. lines ++ of_replies (fed_of (old.agents client))) (sym (called-without client (old.agents client).marks told));
   deals = λ client. subst (λ deals. AllByRecursion (λ (deal : ℕ × Call × Reply). Stands deal (dealt_in plain client new.core.answered)) deals) (sym (gathered-without (deal_in client) (λ place why. refl) told)) (says.deals client);
 }
 
@@ -132,13 +132,13 @@ gathered-handed read client before [] none = refl
 gathered-handed read client before (callback ∷ callbacks) none =
     ap (λ lines. lines ++ gathered read (handed_lines client before callbacks)) (none (suc (before + length callbacks)) callback) ∙ gathered-handed read client before callbacks none
 
-marks-handed : (other client before : ℕ) (marks : List (StreamName × Mark)) (callbacks : List Callback) → marks_told other marks (handed_lines client before callbacks) ≡ marks
+marks-handed : (other client before : ℕ) (marks : List (StreamName × Mark)) (callbacks : List Callback) → marks_seen other marks (handed_lines client before callbacks) ≡ marks
 marks-handed other client before marks [] = refl
 marks-handed other client before marks (callback ∷ callbacks) = marks-handed other client before marks callbacks
 
-writes-handed : (other client before : ℕ) (marks : List (StreamName × Mark)) (callbacks : List Callback) → writes_told other marks (handed_lines client before callbacks) ≡ []
-writes-handed other client before marks [] = refl
-writes-handed other client before marks (callback ∷ callbacks) = writes-handed other client before marks callbacks
+called-handed : (other client before : ℕ) (marks : List (StreamName × Mark)) (callbacks : List Callback) → called_back other marks (handed_lines client before callbacks) ≡ []
+called-handed other client before marks [] = refl
+called-handed other client before marks (callback ∷ callbacks) = called-handed other client before marks callbacks
 
 hand_out-says : (plain : Plain) (client : ℕ) (callbacks : List Callback) (after : Agent) (world : World) → HandsOut callbacks (world.agents client) after → Says plain world (hand_out client callbacks after world).state (hand_out client callbacks after world).told
 hand_out-says plain client callbacks after world hands =
@@ -166,8 +166,8 @@ hand_out-says plain client callbacks after world hands =
       deals = λ other. subst (λ deals. AllByRecursion (λ (deal : ℕ × Call × Reply). Stands deal (dealt_in plain other world.core.answered)) deals) (sym (gathered-handed (deal_in other) client before callbacks (λ number callback. refl))) tt;
       marks = λ other. each_client (λ c b. (if b then after else world.agents c).marks ≡ (world.agents c).marks) client hands.marks (λ c. refl) other
           ∙ sym (marks-handed other client before (world.agents other).marks callbacks);
-      writes = λ other. each_client (λ c b. writes_in (fed_of (if b then after else world.agents c)) ≡ writes_in (fed_of (world.agents c))) client (ap writes_in hands.fed) (λ c. refl) other
-          ∙ ap (λ told. told ++ writes_in (fed_of (world.agents other))) (sym (writes-handed other client before (world.agents other).marks callbacks));
+      called = λ other. each_client (λ c b. of_replies (fed_of (if b then after else world.agents c)) ≡ of_replies (fed_of (world.agents c))) client (ap of_replies hands.fed) (λ c. refl) other
+          ∙ ap (λ told. told ++ of_replies (fed_of (world.agents other))) (sym (called-handed other client before (world.agents other).marks callbacks));
     }
 
 Says-later : (plain : Plain) (now : ℤ) (world : World) → Says plain world (record world { now = now }) []
@@ -178,7 +178,7 @@ Says-later plain now world = record {
   replies = λ client. TellsReplies-none (world.agents client) (world.agents client) (answers_in plain client world.core.answered) (λ number done. done);
   callbacks = λ client. Grows-same (world.agents client).handed;
   marks = λ client. refl;
-  writes = λ client. refl;
+  called = λ client. refl;
   deals = λ client. tt;
 }
 
@@ -219,7 +219,7 @@ at-end plain world told now places sound says = record {
   readers = λ client number direction reply stands. dealt-answered plain client world.core.answered (number, ReaderRead direction, reply) (All-at (λ (deal : ℕ × Call × Reply). Stands deal (dealt_in plain client world.core.answered)) (number, ReaderRead direction, reply) (deals_told client told) (says.deals client) stands);
   callbacks = says.callbacks;
   items = λ client key. taken-begins plain world.core.answered (sent_by client (messages_in world.net)) client key (receipts_of client (messages_in world.net)) (fed_of (world.agents client)) (sound.facts.clients client).sends.numbered (sound.facts.clients client).follows.counted (sound.facts.told client);
-  writes = λ client. says.writes client ∙ append-nil (writes_told client [] told);
+  called = λ client. says.called client ∙ append-nil (called_back client [] told);
 }
 
 -- Each line of a script.

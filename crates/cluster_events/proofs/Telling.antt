@@ -13,7 +13,7 @@ use Rattle.cluster_facts.specs.Facts.{IsSound, IsOfRun}
 use Rattle.cluster_facts.proofs.Words.{by_test, each_client, All-at, All-map, All-append, EndsIn-same, EndsIn-stands, IsNumbered-bound}
 use Rattle.cluster_facts.proofs.Clients.{kept_call-stands}
 use Rattle.cluster_events.specs.Lines.{Told, Posted, Injected, Replied, Ignored, Why}
-use Rattle.cluster_events.specs.Saying.{gathered, post_in, entry_in, reply_in, deal_in, callback_in, mark_in, write_in, replies_told, deals_told, marks_told, writes_told, IsNumberedFrom, seconds, Grows, IsDone, IsOnce, TellsReplies, of_write, writes_in, Says}
+use Rattle.cluster_events.specs.Saying.{gathered, post_in, entry_in, reply_in, deal_in, callback_in, mark_in, called_in, replies_told, deals_told, marks_seen, called_back, IsNumberedFrom, seconds, Grows, IsDone, IsOnce, TellsReplies, of_reply, of_replies, Says}
 use Rattle.cluster_events.proofs.Carrying.{IsTold, Keeps-sent, EndsIn-both}
 use Rattle.cluster_events.proofs.Dealing.{reply-dealt}
 
@@ -167,47 +167,47 @@ IsDone-call agent call number done =
     let S : Bool → Type 0 = λ b. (if b then Some call else kept_call number agent.kept) ≡ None in
     record { sent = omega arith; taken = by_test S agent.next number (λ same. absurd (omega arith)) (λ different. done.taken) }
 
--- Callbacks of writes.
+-- Callbacks of replies.
 
-writes_in-append : (xs ys : List Callback) → writes_in (xs ++ ys) ≡ writes_in xs ++ writes_in ys
-writes_in-append [] ys = refl
-writes_in-append (x ∷ xs) ys = ap (λ rest. of_write x ++ rest) (writes_in-append xs ys) ∙ sym (append_assoc (of_write x) (writes_in xs) (writes_in ys))
+of_replies-append : (xs ys : List Callback) → of_replies (xs ++ ys) ≡ of_replies xs ++ of_replies ys
+of_replies-append [] ys = refl
+of_replies-append (x ∷ xs) ys = ap (λ rest. of_reply x ++ rest) (of_replies-append xs ys) ∙ sym (append_assoc (of_reply x) (of_replies xs) (of_replies ys))
 
-writes_in-given : (changed : Option (StreamName × ℕ)) (asked : Option ℕ) (status : Status) → writes_in (given_by changed asked status) ≡ given_by changed asked status
-writes_in-given (Some changed) asked status = refl
-writes_in-given None (Some invocation) status = refl
-writes_in-given None None status = refl
+of_replies-given : (changed : Option (StreamName × ℕ)) (asked : Option ℕ) (status : Status) → of_replies (given_by changed asked status) ≡ given_by changed asked status
+of_replies-given (Some changed) asked status = refl
+of_replies-given None (Some invocation) status = refl
+of_replies-given None None status = refl
 
-writes_in-reply : (marks : List (StreamName × Mark)) (call : Call) (reply : Reply) → writes_in (callbacks_of marks call reply) ≡ callbacks_of marks call reply
-writes_in-reply marks call reply = writes_in-given (changed_mask (told_mark call reply) marks) (asked_back call) (status_of reply)
+of_replies-reply : (marks : List (StreamName × Mark)) (call : Call) (reply : Reply) → of_replies (callbacks_of marks call reply) ≡ callbacks_of marks call reply
+of_replies-reply marks call reply = of_replies-given (changed_mask (told_mark call reply) marks) (asked_back call) (status_of reply)
 
 -- the marks that first and second lines tell, and the callbacks that they give
 
-pub marks_told-append : (client : ℕ) (marks : List (StreamName × Mark)) (second first : List Told) → marks_told client marks (second ++ first) ≡ marks_told client (marks_told client marks first) second
-marks_told-append client marks [] first = refl
-marks_told-append client marks (line ∷ second) first = ap (mark_in client line) (marks_told-append client marks second first)
+pub marks_seen-append : (client : ℕ) (marks : List (StreamName × Mark)) (second first : List Told) → marks_seen client marks (second ++ first) ≡ marks_seen client (marks_seen client marks first) second
+marks_seen-append client marks [] first = refl
+marks_seen-append client marks (line ∷ second) first = ap (mark_in client line) (marks_seen-append client marks second first)
 
-pub writes_told-append : (client : ℕ) (marks : List (StreamName × Mark)) (second first : List Told) → writes_told client marks (second ++ first) ≡ writes_told client (marks_told client marks first) second ++ writes_told client marks first
-writes_told-append client marks [] first = refl
-writes_told-append client marks (line ∷ second) first =
-    ap (λ m. write_in client line m ++ writes_told client marks (second ++ first)) (marks_told-append client marks second first)
-    ∙ ap (λ rest. write_in client line (marks_told client (marks_told client marks first) second) ++ rest) (writes_told-append client marks second first)
-    ∙ sym (append_assoc (write_in client line (marks_told client (marks_told client marks first) second)) (writes_told client (marks_told client marks first) second) (writes_told client marks first))
+pub called_back-append : (client : ℕ) (marks : List (StreamName × Mark)) (second first : List Told) → called_back client marks (second ++ first) ≡ called_back client (marks_seen client marks first) second ++ called_back client marks first
+called_back-append client marks [] first = refl
+called_back-append client marks (line ∷ second) first =
+    ap (λ m. called_in client line m ++ called_back client marks (second ++ first)) (marks_seen-append client marks second first)
+    ∙ ap (λ rest. called_in client line (marks_seen client (marks_seen client marks first) second) ++ rest) (called_back-append client marks second first)
+    ∙ sym (append_assoc (called_in client line (marks_seen client (marks_seen client marks first) second)) (called_back client (marks_seen client marks first) second) (called_back client marks first))
 
-pub marks-both : (client : ℕ) (one two three : List (StreamName × Mark)) (first second : List Told) → two ≡ marks_told client one first → three ≡ marks_told client two second → three ≡ marks_told client one (second ++ first)
-marks-both client one two three first second says more = more ∙ ap (λ m. marks_told client m second) says ∙ sym (marks_told-append client one second first)
+pub marks-both : (client : ℕ) (one two three : List (StreamName × Mark)) (first second : List Told) → two ≡ marks_seen client one first → three ≡ marks_seen client two second → three ≡ marks_seen client one (second ++ first)
+marks-both client one two three first second says more = more ∙ ap (λ m. marks_seen client m second) says ∙ sym (marks_seen-append client one second first)
 
-pub writes-both : (client : ℕ) (one two : List (StreamName × Mark)) (old middle new : List Callback) (first second : List Told) → two ≡ marks_told client one first → middle ≡ writes_told client one first ++ old → new ≡ writes_told client two second ++ middle → new ≡ writes_told client one (second ++ first) ++ old
-writes-both client one two old middle new first second marks says more =
+pub called-both : (client : ℕ) (one two : List (StreamName × Mark)) (old middle new : List Callback) (first second : List Told) → two ≡ marks_seen client one first → middle ≡ called_back client one first ++ old → new ≡ called_back client two second ++ middle → new ≡ called_back client one (second ++ first) ++ old
+called-both client one two old middle new first second marks says more =
     more
-    ∙ ap (λ m. writes_told client m second ++ middle) marks
-    ∙ ap (λ rest. writes_told client (marks_told client one first) second ++ rest) says
-    ∙ sym (append_assoc (writes_told client (marks_told client one first) second) (writes_told client one first) old)
-    ∙ ap (λ front. front ++ old) (sym (writes_told-append client one second first))
+    ∙ ap (λ m. called_back client m second ++ middle) marks
+    ∙ ap (λ rest. called_back client (marks_seen client one first) second ++ rest) says
+    ∙ sym (append_assoc (called_back client (marks_seen client one first) second) (called_back client one first) old)
+    ∙ ap (λ front. front ++ old) (sym (called_back-append client one second first))
 
-of_write-item : (id : ℕ) (content : Content) → of_write (callback_of id content) ≡ []
-of_write-item id (Single notification) = refl
-of_write-item id (Losses lost) = refl
+of_reply-item : (id : ℕ) (content : Content) → of_reply (callback_of id content) ≡ []
+of_reply-item id (Single notification) = refl
+of_reply-item id (Losses lost) = refl
 
 -- What lines say.
 
@@ -220,7 +220,7 @@ says-net plain world message = record {
   replies = λ client. TellsReplies-none (world.agents client) (world.agents client) (answers_in plain client world.core.answered) (λ number done. done);
   callbacks = λ client. Grows-same (world.agents client).handed;
   marks = λ client. refl;
-  writes = λ client. refl;
+  called = λ client. refl;
   deals = λ client. tt;
 }
 
@@ -232,7 +232,7 @@ Says-injected plain world bytes front why = record {
   replies = λ client. TellsReplies-none (world.agents client) (world.agents client) (answers_in plain client world.core.answered) (λ number done. done);
   callbacks = λ client. Grows-same (world.agents client).handed;
   marks = λ client. refl;
-  writes = λ client. refl;
+  called = λ client. refl;
   deals = λ client. tt;
 }
 
@@ -244,7 +244,7 @@ Says-same plain world = record {
   replies = λ client. TellsReplies-none (world.agents client) (world.agents client) (answers_in plain client world.core.answered) (λ number done. done);
   callbacks = λ client. Grows-same (world.agents client).handed;
   marks = λ client. refl;
-  writes = λ client. refl;
+  called = λ client. refl;
   deals = λ client. tt;
 }
 
@@ -256,7 +256,7 @@ Says-ignored plain world place why = record {
   replies = λ client. TellsReplies-none (world.agents client) (world.agents client) (answers_in plain client world.core.answered) (λ number done. done);
   callbacks = λ client. Grows-same (world.agents client).handed;
   marks = λ client. refl;
-  writes = λ client. refl;
+  called = λ client. refl;
   deals = λ client. tt;
 }
 
@@ -276,7 +276,7 @@ Says-both plain one two three first second says more = record {
       let early = All-map Old New (deals_told client first) (λ deal stands. EndsIn-stands deal (dealt_in plain client three.core.answered) (dealt_in plain client two.core.answered) grown stands) (says.deals client) in
       subst (λ deals. AllByRecursion New deals) (sym (gathered-append (deal_in client) second first)) (All-append New (deals_told client second) (deals_told client first) (more.deals client) early);
   marks = λ client. marks-both client (one.agents client).marks (two.agents client).marks (three.agents client).marks first second (says.marks client) (more.marks client);
-  writes = λ client. writes-both client (one.agents client).marks (two.agents client).marks (writes_in (fed_of (one.agents client))) (writes_in (fed_of (two.agents client))) (writes_in (fed_of (three.agents client))) first second (says.marks client) (says.writes client) (more.writes client);
+  called = λ client. called-both client (one.agents client).marks (two.agents client).marks (of_replies (fed_of (one.agents client))) (of_replies (fed_of (two.agents client))) (of_replies (fed_of (three.agents client))) first second (says.marks client) (says.called client) (more.called client);
 }
 
 says-reply : (plain : Plain) (world : World) (client number : ℕ) (call : Call) (reply : Reply) → IsSound plain world → kept_call number (world.agents client).kept ≡ Some call → Stands (Answer client number reply) (messages_in world.net) → Says plain world (record world { agents = with_agent client (after_reply number call reply (world.agents client)) world.agents }) (Replied client number call reply ∷ [])
@@ -295,8 +295,8 @@ says-reply plain world client number call reply sound kept stands =
           (reply-dealt plain world client number call reply sound kept stands, tt)
           (λ other. tt);
       marks = each_client (λ other b. (if b then after else world.agents other).marks ≡ (if b then marks_with (told_mark call reply) (world.agents other).marks else (world.agents other).marks)) client refl (λ other. refl);
-      writes = each_client (λ other b. writes_in (fed_of (if b then after else world.agents other)) ≡ ((if b then callbacks_of (world.agents other).marks call reply else []) ++ []) ++ writes_in (fed_of (world.agents other))) client
-          (ap writes_in (append_assoc (callbacks_of agent.marks call reply) agent.queue agent.handed) ∙ writes_in-append (callbacks_of agent.marks call reply) (fed_of agent) ∙ ap (λ rest. rest ++ writes_in (fed_of agent)) (writes_in-reply agent.marks call reply ∙ sym (append-nil (callbacks_of agent.marks call reply))))
+      called = each_client (λ other b. of_replies (fed_of (if b then after else world.agents other)) ≡ ((if b then callbacks_of (world.agents other).marks call reply else []) ++ []) ++ of_replies (fed_of (world.agents other))) client
+          (ap of_replies (append_assoc (callbacks_of agent.marks call reply) agent.queue agent.handed) ∙ of_replies-append (callbacks_of agent.marks call reply) (fed_of agent) ∙ ap (λ rest. rest ++ of_replies (fed_of agent)) (of_replies-reply agent.marks call reply ∙ sym (append-nil (callbacks_of agent.marks call reply))))
           (λ other. refl);
     }
 
@@ -314,8 +314,8 @@ says-item plain world client key item found =
       callbacks = each_client (λ other b. Grows (world.agents other).handed (if b then after else world.agents other).handed []) client (Grows-same agent.handed) (λ other. Grows-same (world.agents other).handed);
       deals = λ other. tt;
       marks = each_client (λ other b. (if b then after else world.agents other).marks ≡ (world.agents other).marks) client refl (λ other. refl);
-      writes = each_client (λ other b. writes_in (fed_of (if b then after else world.agents other)) ≡ writes_in (fed_of (world.agents other))) client
-          (ap (λ rest. rest ++ writes_in (fed_of agent)) (of_write-item found.id item.content))
+      called = each_client (λ other b. of_replies (fed_of (if b then after else world.agents other)) ≡ of_replies (fed_of (world.agents other))) client
+          (ap (λ rest. rest ++ of_replies (fed_of agent)) (of_reply-item found.id item.content))
           (λ other. refl);
     }
 
@@ -346,6 +346,6 @@ Says-send plain world client call clients =
           (λ other. TellsReplies-none (world.agents other) (world.agents other) (answers_in plain other world.core.answered) (λ number done. done));
       callbacks = each_client (λ other b. Grows (world.agents other).handed (if b then after else world.agents other).handed []) client (Grows-same agent.handed) (λ other. Grows-same (world.agents other).handed);
       marks = each_client (λ other b. (if b then after else world.agents other).marks ≡ (world.agents other).marks) client refl (λ other. refl);
-      writes = each_client (λ other b. writes_in (fed_of (if b then after else world.agents other)) ≡ writes_in (fed_of (world.agents other))) client refl (λ other. refl);
+      called = each_client (λ other b. of_replies (fed_of (if b then after else world.agents other)) ≡ of_replies (fed_of (world.agents other))) client refl (λ other. refl);
       deals = λ other. tt;
     }

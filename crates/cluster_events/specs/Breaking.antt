@@ -9,7 +9,7 @@ use Rattle.cluster_facts.specs.History.{IsLegal, committed}
 use Rattle.cluster_facts.specs.World.{World}
 use Rattle.cluster_facts.specs.Facts.{Fits, IsToldItem}
 use Rattle.cluster_events.specs.Lines.{Told}
-use Rattle.cluster_events.specs.Saying.{Grows, TellsReplies, entries_told, replies_told, callbacks_told, marks_told, writes_told, writes_in}
+use Rattle.cluster_events.specs.Saying.{Grows, TellsReplies, entries_told, replies_told, callbacks_told, marks_seen, called_back, of_replies}
 
 -- what lines say of history, replies and callbacks, the net left out
 pub record Tells (plain : Plain) (old new : World) (told : List Told) : Type 0 where
@@ -17,8 +17,8 @@ pub record Tells (plain : Plain) (old new : World) (told : List Told) : Type 0 w
   pub answers : EndsIn new.core.answered old.core.answered
   pub replies : (client : ℕ) → TellsReplies (old.agents client) (new.agents client) (answers_in plain client new.core.answered) (replies_told client told)
   pub callbacks : (client : ℕ) → Grows (old.agents client).handed (new.agents client).handed (callbacks_told client told)
-  pub marks : (client : ℕ) → (new.agents client).marks ≡ marks_told client (old.agents client).marks told
-  pub writes : (client : ℕ) → writes_in (fed_of (new.agents client)) ≡ writes_told client (old.agents client).marks told ++ writes_in (fed_of (old.agents client))
+  pub marks : (client : ℕ) → (new.agents client).marks ≡ marks_seen client (old.agents client).marks told
+  pub called : (client : ℕ) → of_replies (fed_of (new.agents client)) ≡ called_back client (old.agents client).marks told ++ of_replies (fed_of (old.agents client))
 
 -- the callbacks of items that a client got are, in order, those of receipts that go through 1, 2, 3 and so on of each
 -- subscription; the last receipt need not be posted

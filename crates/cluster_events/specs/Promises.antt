@@ -10,7 +10,7 @@ use Rattle.cluster_facts.specs.History.{IsLegal, committed}
 use Rattle.cluster_facts.specs.World.{World}
 use Rattle.cluster_events.specs.Lines.{Told}
 use Rattle.cluster_events.specs.Taking.{items_in, taken_of, AreFirstItems}
-use Rattle.cluster_events.specs.Saying.{Grows, IsOnce, entries_told, posts_told, replies_told, deals_told, callbacks_told, writes_told, writes_in}
+use Rattle.cluster_events.specs.Saying.{Grows, IsOnce, entries_told, posts_told, replies_told, deals_told, callbacks_told, called_back, of_replies}
 
 -- a list is what these lines print, in order, with the numbers 1, 2, 3 and so on
 abbrev pub Prints : {X : Type 0} → List X → List (ℕ × X) → Type 0
@@ -58,9 +58,10 @@ ItemsInOrder plain world =
     (client key : ℕ) → AreFirstItems plain world.core.answered (sent_by client (messages_in world.net)) client key
     (taken_of key (receipts_of client (messages_in world.net)) (items_in (fed_of (world.agents client))))
 
--- the callbacks of writes that a client got are, in order, one for each `reply` line of a write that asked for one
-abbrev pub WritesCalledBack : World → List Told → Type 0
-WritesCalledBack world told = (client : ℕ) → writes_in (fed_of (world.agents client)) ≡ writes_told client [] told
+-- the callbacks of replies that a client got are, in order, those that its `reply` lines give: one where the mark that it is told sets
+-- the last one of its stream to another mask, and else one for a write that asked for it
+abbrev pub RepliesCalledBack : World → List Told → Type 0
+RepliesCalledBack world told = (client : ℕ) → of_replies (fed_of (world.agents client)) ≡ called_back client [] told
 
 -- what holds at the end of each line of a run
 pub record AtEnd (plain : Plain) (world : World) (told : List Told) : Type 0 where
@@ -71,4 +72,4 @@ pub record AtEnd (plain : Plain) (world : World) (told : List Told) : Type 0 whe
   pub readers : ReadersRight plain world told
   pub callbacks : CallbacksPrinted world told
   pub items : ItemsInOrder plain world
-  pub writes : WritesCalledBack world told
+  pub called : RepliesCalledBack world told

@@ -42,12 +42,12 @@ abbrev pub mark_in : ℕ → Told → List (StreamName × Mark) → List (Stream
 mark_in client (Replied other number call reply) marks = if other == client then marks_with (told_mark call reply) marks else marks
 mark_in client _ marks = marks
 
-abbrev pub write_in : ℕ → Told → List (StreamName × Mark) → List Callback
-write_in client (Replied other number call reply) marks = if other == client then callbacks_of marks call reply else []
-write_in client _ marks = []
+abbrev pub called_in : ℕ → Told → List (StreamName × Mark) → List Callback
+called_in client (Replied other number call reply) marks = if other == client then callbacks_of marks call reply else []
+called_in client _ marks = []
 
 -- the `post` lines, the `acc` lines, and the client's `reply` and `callback` lines, each with its number; the calls of the client's
--- `reply` lines with their numbers and replies; and the callbacks that these replies gave
+-- `reply` lines with their numbers and replies
 abbrev pub posts_told : List Told → List (ℕ × Posting)
 posts_told told = gathered post_in told
 
@@ -63,13 +63,14 @@ deals_told client told = gathered (deal_in client) told
 abbrev pub callbacks_told : ℕ → List Told → List (ℕ × Callback)
 callbacks_told client told = gathered (callback_in client) told
 
-abbrev pub marks_told : ℕ → List (StreamName × Mark) → List Told → List (StreamName × Mark)
-marks_told client marks [] = marks
-marks_told client marks (line ∷ told) = mark_in client line (marks_told client marks told)
+-- the marks that a client has seen behind lines, and the callbacks that its replies gave, from the marks seen before each
+abbrev pub marks_seen : ℕ → List (StreamName × Mark) → List Told → List (StreamName × Mark)
+marks_seen client marks [] = marks
+marks_seen client marks (line ∷ told) = mark_in client line (marks_seen client marks told)
 
-abbrev pub writes_told : ℕ → List (StreamName × Mark) → List Told → List Callback
-writes_told client marks [] = []
-writes_told client marks (line ∷ told) = write_in client line (marks_told client marks told) ++ writes_told client marks told
+abbrev pub called_back : ℕ → List (StreamName × Mark) → List Told → List Callback
+called_back client marks [] = []
+called_back client marks (line ∷ told) = called_in client line (marks_seen client marks told) ++ called_back client marks told
 
 -- lines are numbered on from a start
 abbrev pub IsNumberedFrom : {X : Type 0} → ℕ → List (ℕ × X) → Type 0
@@ -104,18 +105,19 @@ pub record TellsReplies (old new : Agent) (answers replies : List (ℕ × Reply)
   pub once : IsOnce replies
   pub right : AllByRecursion (λ (reply : ℕ × Reply). Stands reply answers) replies
 
--- the callbacks of writes among a client's callbacks
-abbrev pub of_write : Callback → List Callback
-of_write (Written invocation status) = Written invocation status ∷ []
-of_write (MaskSet name mask written) = MaskSet name mask written ∷ []
-of_write _ = []
+-- the callbacks of replies among a client's callbacks
+abbrev pub of_reply : Callback → List Callback
+of_reply (Written invocation status) = Written invocation status ∷ []
+of_reply (MaskSet name mask written) = MaskSet name mask written ∷ []
+of_reply _ = []
 
-abbrev pub writes_in : List Callback → List Callback
-writes_in [] = []
-writes_in (callback ∷ callbacks) = of_write callback ++ writes_in callbacks
+abbrev pub of_replies : List Callback → List Callback
+of_replies [] = []
+of_replies (callback ∷ callbacks) = of_reply callback ++ of_replies callbacks
 
 -- what lines say of the worlds before and after them: the net grew by the `post` lines, the history by the `acc` lines, the
--- callbacks handed out by the `callback` lines; replies are told rightly; and the callbacks of writes came by `reply` lines
+-- callbacks handed out by the `callback` lines; replies are told rightly; and the callbacks of replies came by `reply` lines, from the
+-- marks seen before each
 pub record Says (plain : Plain) (old new : World) (told : List Told) : Type 0 where
   pub posts : Grows old.net new.net (posts_told told)
   pub entries : Grows (committed old.core) (committed new.core) (entries_told told)
@@ -123,5 +125,5 @@ pub record Says (plain : Plain) (old new : World) (told : List Told) : Type 0 wh
   pub replies : (client : ℕ) → TellsReplies (old.agents client) (new.agents client) (answers_in plain client new.core.answered) (replies_told client told)
   pub deals : (client : ℕ) → AllByRecursion (λ (deal : ℕ × Call × Reply). Stands deal (dealt_in plain client new.core.answered)) (deals_told client told)
   pub callbacks : (client : ℕ) → Grows (old.agents client).handed (new.agents client).handed (callbacks_told client told)
-  pub marks : (client : ℕ) → (new.agents client).marks ≡ marks_told client (old.agents client).marks told
-  pub writes : (client : ℕ) → writes_in (fed_of (new.agents client)) ≡ writes_told client (old.agents client).marks told ++ writes_in (fed_of (old.agents client))
+  pub marks : (client : ℕ) → (new.agents client).marks ≡ marks_seen client (old.agents client).marks told
+  pub called : (client : ℕ) → of_replies (fed_of (new.agents client)) ≡ called_back client (old.agents client).marks told ++ of_replies (fed_of (old.agents client))

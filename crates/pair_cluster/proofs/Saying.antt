@@ -33,12 +33,12 @@ use Rattle.pair_cluster.proofs.Serving.{serves-by, pair-carries}
 says-stood : (plain : Plain) (world : World) (server : Server) (role : ServerRole) → Says plain world world (Stood server role ∷ [])
 says-stood plain world server role =
     let says = Says-same plain world in
-    record { posts = says.posts; entries = says.entries; answers = says.answers; replies = says.replies; deals = says.deals; callbacks = says.callbacks; marks = says.marks; writes = says.writes }
+    record { posts = says.posts; entries = says.entries; answers = says.answers; replies = says.replies; deals = says.deals; callbacks = says.callbacks; marks = says.marks; called = says.called }
 
 says-refused : (plain : Plain) (world : World) (line : Line) (standing : Standing) → Says plain world world (Refused line standing ∷ [])
 says-refused plain world line standing =
     let says = Says-same plain world in
-    record { posts = says.posts; entries = says.entries; answers = says.answers; replies = says.replies; deals = says.deals; callbacks = says.callbacks; marks = says.marks; writes = says.writes }
+    record { posts = says.posts; entries = says.entries; answers = says.answers; replies = says.replies; deals = says.deals; callbacks = says.callbacks; marks = says.marks; called = says.called }
 
 -- another entry in hand, the same history
 says-hand : (plain : Plain) (world : World) (past : List Entry) (one other : Hand) → committed_by past one ≡ committed_by past other → Says plain (with_core past one world) (with_core past other world) []
@@ -48,7 +48,8 @@ says-hand plain world past one other same = record {
   answers = EndsIn-same past;
   replies = λ client. TellsReplies-none (world.agents client) (world.agents client) (answers_in plain client past) (λ number done. done);
   callbacks = λ client. Grows-same (world.agents client).handed;
-  marks = λ client. refl; writes = λ client. refl;
+  marks = λ client. refl;
+  called = λ client. refl;
   deals = λ client. tt;
 }
 
@@ -59,7 +60,8 @@ says-applied plain world past entry = record {
   answers = EndsIn-same past;
   replies = λ client. TellsReplies-none (world.agents client) (world.agents client) (answers_in plain client past) (λ number done. done);
   callbacks = λ client. Grows-same (world.agents client).handed;
-  marks = λ client. refl; writes = λ client. refl;
+  marks = λ client. refl;
+  called = λ client. refl;
   deals = λ client. tt;
 }
 
@@ -70,7 +72,8 @@ says-over plain world past hand = record {
   answers = committed-ends past hand;
   replies = λ client. TellsReplies-none (world.agents client) (world.agents client) (answers_in plain client (committed_by past hand)) (λ number done. done);
   callbacks = λ client. Grows-same (world.agents client).handed;
-  marks = λ client. refl; writes = λ client. refl;
+  marks = λ client. refl;
+  called = λ client. refl;
   deals = λ client. tt;
 }
 
