@@ -6,7 +6,7 @@ use Rattle.script_lines.specs.declared.line.Line.{Line}
 use Rattle.script_lines.specs.declared.line.Line.TheVariants as line
 use Rattle.plain_service.specs.Setups.{Setup, CanBegin}
 use Rattle.plain_service.specs.Storing.{files_of}
-use Rattle.cluster_facts.specs.Types.{Call, Reply, Entry, Called, Receipted, Answer}
+use Rattle.cluster_facts.specs.Types.{Call, Reply, StreamName, Mark, Entry, Called, Receipted, Answer}
 use Rattle.cluster_facts.specs.Lists.{Stands, EndsIn}
 use Rattle.cluster_facts.specs.Messages.{messages_in, sent_by, calls_in}
 use Rattle.cluster_facts.specs.Service.{answers_in}
@@ -49,7 +49,7 @@ use Rattle.aisrun.proofs.PlayLaws.{answered-range, played-files, played-says, pl
 -- The last entry is unanswered.
 
 -- the reply to a call that an agent does not keep any more stands in the net
-done-heard : {heard : List (ℕ × Reply)} {sent kept : List (ℕ × Call)} (number : ℕ) (call : Call) → Keeps heard sent kept → Stands (number, call) sent → kept_call number kept ≡ None → (reply : Reply) × Stands (number, reply) heard
+done-heard : {heard : List (ℕ × Reply)} {sent kept : List (ℕ × Call)} {told : List (StreamName × Mark)} (number : ℕ) (call : Call) → Keeps heard sent kept told → Stands (number, call) sent → kept_call number kept ≡ None → (reply : Reply) × Stands (number, reply) heard
 done-heard number call starts stands none = absurd stands
 done-heard number call (waits {kept = kept} first keeps) (inl same) none =
     let K : Bool → Type 0 = λ b. (if b then Some first.1 else kept_call number kept) ≡ None in

@@ -49,7 +49,7 @@ reads-rightly held = throughout held ReadsRightly (λ setup places told_first fi
 
 pub calls-back : (held : Option Files) → Throughout held CallsBack
 calls-back held =
-    throughout held CallsBack (λ setup places told_first first can lines state told files run range. let keeps = played-keeps setup places told_first first run in (keeps.items, keeps.writes, keeps.callbacks))
+    throughout held CallsBack (λ setup places told_first first can lines state told files run range. let keeps = played-keeps setup places told_first first run in (keeps.items, keeps.called, keeps.callbacks))
 
 pub prints-posts : (held : Option Files) → Throughout held PrintsPosts
 prints-posts held = throughout held PrintsPosts (λ setup places told_first first can lines state told files run range. (played-keeps setup places told_first first run).posts)

@@ -21,7 +21,7 @@ use Rattle.cluster_events.specs.Outcomes.{Outcome}
 use Rattle.cluster_events.specs.OnDisk.{StepOnDisk}
 use Rattle.cluster_events.specs.Runs.{AtEachEnd, RunBy}
 use Rattle.cluster_events.specs.Runs.RunBy.{Started, Went}
-use Rattle.cluster_events.specs.Promises.{OneHistory, InOrder, PostsPrinted, RepliesRight, ReadersRight, CallbacksPrinted, ItemsInOrder, WritesCalledBack}
+use Rattle.cluster_events.specs.Promises.{OneHistory, InOrder, PostsPrinted, RepliesRight, ReadersRight, CallbacksPrinted, ItemsInOrder, RepliesCalledBack}
 use Rattle.cluster_events.specs.Settled.{IsSettled}
 use Rattle.pair_cluster.specs.Peers.{Peers, other_server, role_of}
 use Rattle.pair_cluster.specs.Standing.{StayUp, is_crash, IsShort}
@@ -74,11 +74,11 @@ RepliesRightly setup lines state told files = RepliesRight (plain_of setup) stat
 abbrev pub ReadsRightly : Setup → Sentence
 ReadsRightly setup lines state told files = ReadersRight (plain_of setup) state.world told
 
--- of each subscription a client got its first items, in order, each once; each reply to a write that asked for a callback gave one;
--- the `callback` lines are the callbacks handed out, each once, by number
+-- of each subscription a client got its first items, in order, each once; of replies it got, in order, the callbacks that they give by
+-- the marks seen before each; the `callback` lines are the callbacks handed out, each once, by number
 abbrev pub CallsBack : Setup → Sentence
 CallsBack setup lines state told files =
-    ItemsInOrder (plain_of setup) state.world × WritesCalledBack state.world told × CallbacksPrinted state.world told
+    ItemsInOrder (plain_of setup) state.world × RepliesCalledBack state.world told × CallbacksPrinted state.world told
 
 -- the `post` lines are the byte strings of the net, in order
 abbrev pub PrintsPosts : Setup → Sentence

@@ -174,7 +174,7 @@ module _ {Peers Group : Type 0} (kit : Kit Peers Group) (laws : IsKit kit) where
       let rest = mixed old of_net of_agents.state in
       let T : Core → Type 0 = λ core. Tells (plain_of setup) old (record rest { core = core }) of_agents.told in
       let says = is.says in
-      subst T is.same.core (record { entries = says.entries; answers = says.answers; replies = says.replies; callbacks = says.callbacks; writes = says.writes })
+      subst T is.same.core (record { entries = says.entries; answers = says.answers; replies = says.replies; callbacks = says.callbacks; marks = says.marks; called = says.called })
 
   mixed-holds : (setup : Setup) (old : World) (of_net of_agents : Outcome World) → IsSound (plain_of setup) old → IsOfWorld setup old of_net → IsOfWorld setup old of_agents → Holds (plain_of setup) (mixed old of_net.state of_agents.state)
   mixed-holds setup old of_net of_agents sound net_is agents_are =

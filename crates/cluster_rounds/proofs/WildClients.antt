@@ -53,14 +53,14 @@ named-more extra net (Receipt other sub through_it) named = tt
 named-more extra net _ named = elim named [ ]
 
 module _ (plain : Plain) (is_plain : IsPlain plain) where
-  reply_by-delivers : (place client number : ℕ) (reply : Reply) (found : Option Call) (world : World) → Posted (Answer client number reply) world → AreClients world
-      → Delivers world (reply_by place client number reply found world).state
-  reply_by-delivers place client number reply None world stands clients = delivers-none world clients
-  reply_by-delivers place client number reply (Some call) world stands clients =
+  reply_by-delivers : (place client number : ℕ) (reply : Reply) (found : Option Call) (world : World) → kept_call number (world.agents client).kept ≡ found
+      → Posted (Answer client number reply) world → AreClients world → Delivers world (reply_by place client number reply found world).state
+  reply_by-delivers place client number reply None world here stands clients = delivers-none world clients
+  reply_by-delivers place client number reply (Some call) world here stands clients =
       let net = messages_in world.net in
       let agent = world.agents client in
       let after = after_reply number call reply agent in
-      let full = lacks_place world.places agent.queue (callbacks_of call reply) in
+      let full = lacks_place world.places agent.queue (callbacks_of agent.marks call reply) in
       let G : Bool → Type 0 = λ b. Delivers world (record world { agents = if b then world.agents else with_agent client after world.agents }) in
       elim (cases_Bool full) [
         | inl is_full ↦ subst G (sym is_full) (record {
@@ -72,7 +72,7 @@ module _ (plain : Plain) (is_plain : IsPlain plain) where
         | inr has_place ↦ subst G (sym has_place) (record {
           clients = record {
             clients = each_client (λ other b. IsClient (view_of other net []) (if b then after else world.agents other)) client
-                (IsClient-reply (view_of client net []) agent number call reply (answers_to-stands client number reply net stands) (clients.clients client))
+                (IsClient-reply (view_of client net []) agent number call reply (answers_to-stands client number reply net stands) here (clients.clients client))
                 (λ other. clients.clients other);
             named = clients.named;
             moment = clients.moment;
@@ -163,7 +163,7 @@ module _ (plain : Plain) (is_plain : IsPlain plain) where
 
   pub taken-delivers : (place : ℕ) (message : Message) (world : World) → Posted message world → AreClients world → Delivers world (taken_as plain place message world).state
   taken-delivers place (Answer client number reply) world stands clients =
-      reply_by-delivers place client number reply (kept_call number (world.agents client).kept) world stands clients
+      reply_by-delivers place client number reply (kept_call number (world.agents client).kept) world refl stands clients
   taken-delivers place (Delivery client key item) world stands clients =
       item_by-delivers place client key item (find_living key (world.agents client).living) world refl stands clients
   taken-delivers place _ world stands clients = delivers-none world clients

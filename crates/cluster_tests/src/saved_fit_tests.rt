@@ -57,6 +57,8 @@ fn at_bounds(plan: &mut Plan, case: u32) {
         10 => plan.subs[1].first = 11,
         11 => plan.subs[1].id = 4_294_967_295,
         12 => plan.alarms[0].time = 0,
+        13 => plan.streams[2].since = 10,
+        14 => plan.streams[3].mask = 0,
         _ => plan.more_readers = 14,
     }
     if case == 8 {
@@ -118,6 +120,16 @@ fn break_stream(plan: &mut Plan, rule: u32) {
         plan.streams[1].name = 0;
     } else if rule == 10 {
         plan.streams[2].openers = [1, NONE];
+    }
+}
+
+/// Marks are of masks and entries that there are, and those of the alarm and the notification stream were never set.
+fn break_mark(plan: &mut Plan, rule: u32) {
+    match rule {
+        0 => plan.streams[3].mask = 128,
+        1 => plan.streams[2].since = 11,
+        2 => plan.streams[0].since = 1,
+        _ => plan.streams[1].mask = 126,
     }
 }
 
@@ -226,6 +238,7 @@ fn break_rule(plan: &mut Plan, part: u32, rule: u32) {
         3 => break_files(plan, rule),
         4 => break_alarm(plan, rule),
         5 => break_sub(plan, rule),
+        6 => break_mark(plan, rule),
         _ => break_reader(plan, rule),
     }
 }
@@ -243,7 +256,7 @@ fn each_breaks(rt: &impl Abort, alloc: Global, part: u32, rules: u32) {
 #[test]
 fn values_that_keep_all_rules(rt: HostRuntime) {
     assert!(rt; is_plan_fit(&rt, rt.alloc(), &sound()));
-    for case in 0..14 {
+    for case in 0..16 {
         let mut plan = sound();
         at_bounds(&mut plan, case);
         let fit = is_plan_fit(&rt, rt.alloc(), &plan);
@@ -265,8 +278,8 @@ fn values_of_many(rt: HostRuntime) {
 
 #[test]
 fn rules_broken_one_at_a_time(rt: HostRuntime) {
-    let rules = [14, 12, 12, 16, 11, 12, 6];
-    for part in 0..7 {
+    let rules = [14, 12, 12, 16, 11, 12, 4, 6];
+    for part in 0..8 {
         each_breaks(&rt, rt.alloc(), part, rules[part as usize]);
     }
 }

@@ -9,7 +9,7 @@ use ntf_filters::{Filter, FilterSet};
 use ntf_types::{Body, Notification};
 use std::alloc::Global;
 use std::process::Abort;
-use stream_config::{FullAction, LogFile, StreamAttrs, StreamName, StreamState};
+use stream_config::{FullAction, LogFile, Mark, StreamAttrs, StreamName, StreamState};
 use sub_queue::{Content, Lost};
 
 fn text(rt: &impl Abort, alloc: Global, bytes: &[u8]) -> Text {
@@ -109,6 +109,10 @@ fn built_stream(rt: &impl Abort, alloc: Global, plan: &StreamPlan) -> SavedStrea
             files: files(rt, alloc, plan),
         },
         openers: clients(rt, alloc, &plan.openers),
+        mark: Mark {
+            since: plan.since,
+            mask: plan.mask,
+        },
     }
 }
 

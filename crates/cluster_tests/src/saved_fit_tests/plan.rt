@@ -50,6 +50,8 @@ pub(crate) struct StreamPlan {
     pub(crate) first: [u32; 2],
     pub(crate) bytes: [u64; 2],
     pub(crate) openers: [u16; 2],
+    pub(crate) since: u64,
+    pub(crate) mask: u32,
 }
 
 /// A stored alarm, or a notification of another type where the event type is one.
@@ -119,6 +121,8 @@ pub(crate) fn stream(name: u8, file: u8, action: u8, taken: u32) -> StreamPlan {
         first: [0, 0],
         bytes: [u64::from(taken.min(2)) * 32, 0],
         openers: [NONE, NONE],
+        since: 0,
+        mask: 127,
     }
 }
 
