@@ -98,6 +98,7 @@ agent_for seen = record {
   living = seen.living;
   queue = seen.queue;
   handed = some_callbacks seen.given;
+  marks = seen.marks;
 }
 
 pub seen-some : (seen : Seen) → seen ≡ seen_of seen.client seen.places (agent_for seen)
@@ -111,12 +112,13 @@ seen-some seen = λ i. record {
   living = seen.living;
   queue = seen.queue;
   given = sym (some_callbacks-length seen.given) i;
+  marks = seen.marks;
 }
 
 pub reply-no-item : (client places number : ℕ) (reply : Reply) (agent : Agent) (call : Option Call) (receipt : Message) (seen : Seen) → IsReply client places number reply agent call (TookItem receipt) seen → ⊥
 reply-no-item client places number reply agent None receipt seen is = let e = is.0 in cc
 reply-no-item client places number reply agent (Some call) receipt seen is =
-    by-place (lacks_place places agent.queue (callbacks_of call reply)) is
+    by-place (lacks_place places agent.queue (callbacks_of agent.marks call reply)) is
   where
     by-place : (b : Bool) → IsReplyTo client places number reply agent call b (TookItem receipt) seen → ⊥
     by-place true is = let e = is.0 in cc
@@ -175,7 +177,7 @@ reply-becomes plain place client number reply world None taken seen is =
     let B : Taken → Type 0 = λ t. Became plain place client world t seen (reply_by place client number reply None world) in
     subst B (sym is.0) (refl, is.1)
 reply-becomes plain place client number reply world (Some call) taken seen is =
-    by-place (lacks_place world.places (world.agents client).queue (callbacks_of call reply)) is
+    by-place (lacks_place world.places (world.agents client).queue (callbacks_of (world.agents client).marks call reply)) is
   where
     by-place : (b : Bool) → IsReplyTo client world.places number reply (world.agents client) call b taken seen → Became plain place client world taken seen (reply_outcome place client number call reply world b)
     by-place true is =

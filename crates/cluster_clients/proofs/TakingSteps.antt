@@ -42,7 +42,7 @@ module _ (plain : Plain) (one other : ℕ) (world : World) where
         | true ↦ record { state = refl; lines = refl; loud = refl }
         | false ↦ record { state = refl; lines = refl; loud = refl }
       ] in
-      cases (lacks_place world.places agent.queue (callbacks_of call reply))
+      cases (lacks_place world.places agent.queue (callbacks_of agent.marks call reply))
 
   fate-places : (client key : ℕ) (item : Item) (found : Living) (fate : Fate) → SameButPlace (item_as plain one client key item found fate world) (item_as plain other client key item found fate world)
   fate-places client key item found (Misses why) = record { state = refl; lines = refl; loud = refl }
