@@ -10,7 +10,7 @@ pub record IsStampUpTo (last stamp : ℤ) : Type 0 where
   pub from : pos 0 ≤ℤ stamp
   pub to : stamp ≤ℤ last
 
--- the second at which a change was accepted; a beginning tells none
+-- the second at which a change was accepted; a beginning and a mask that is set tell none
 abbrev pub second_in : LogChange → ℕ
 second_in (Began client) = 0
 second_in (Opened client name making second number) = second
