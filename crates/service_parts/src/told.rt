@@ -1,9 +1,10 @@
 //! A reply, and the copy of it that is kept.
 ghost use Rattle.std.specs.Prelude.{◌≡◌};
-ghost use Rattle.calls.specs.declared.reply.Reply.TheVariants.{Refused, Done, Sent};
+ghost use Rattle.calls.specs.declared.reply.Reply.TheVariants.{Refused, Done, Sent, Marked};
 
 use ais_values::Status;
 use calls::Reply;
+use stream_config::Mark;
 
 /// The reply to a call, twice: once for the client, and once for its window.
 #[derive(Drop)]
@@ -43,6 +44,18 @@ impl Told {
         Told {
             reply: Reply::Sent { id },
             kept: Reply::Sent { id },
+        }
+    }
+
+    /// A stream was opened, written to, or got its mask, and has this mark; a write whose record its mask did not let
+    /// pass is told that it was filtered.
+    pub fn marked(filtered: bool, mark: Mark) -> Told
+        ensures reply { result.reply ≡ Marked filtered mark }
+        ensures kept { result.kept ≡ Marked filtered mark }
+    {
+        Told {
+            reply: Reply::Marked { filtered, mark },
+            kept: Reply::Marked { filtered, mark },
         }
     }
 }
