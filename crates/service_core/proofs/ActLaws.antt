@@ -1,13 +1,15 @@
 -- What a call came to, by what each part answered.
-use Rattle.std.proofs.Common.{◌≡◌, ℕ, List, [], ◌∷◌, ◌++◌, refl, ap, sym, ◌∙◌, append_assoc}
-use Rattle.std.specs.Prelude.{Some, ℤ}
+use Rattle.std.proofs.Common.{◌≡◌, ℕ, Bool, false, List, [], ◌∷◌, ◌++◌, refl, ap, sym, ◌∙◌, append_assoc}
+use Rattle.std.specs.Prelude.{Option, Some, ℤ}
 use Rattle.std.specs.Option.{option_map_or}
 use Rattle.std.proofs.lemmas.List.{append-nil}
+use Rattle.ais_values.specs.declared.status.Status.{Status}
+use Rattle.ais_values.specs.declared.status.Status.TheVariants as status
 use Rattle.stream_config.specs.declared.event.StreamEvent.{StreamEvent}
+use Rattle.stream_config.specs.declared.mark.Mark.{Mark}
 use Rattle.stream_layout.specs.Deeds.{deeds_of}
 use Rattle.calls.specs.declared.call.Call.{Call}
-use Rattle.calls.specs.declared.call.Call.TheVariants.{LogInit, LogOpen, LogWrite, LogClose, LogFini, NtfInit, NtfSend, NtfSubscribe, NtfUnsubscribe, ReaderStart, ReaderRead, ReaderEnd, NtfFini}
-use Rattle.calls.specs.declared.reply.Reply.TheVariants.{Done}
+use Rattle.calls.specs.declared.reply.Reply.{Reply}
 use Rattle.log_history.specs.Changes.{LogChange}
 use Rattle.log_history.specs.Deeds.{deeds_of_all}
 use Rattle.log_history.specs.Table.{LogTable, events_of}
@@ -22,32 +24,29 @@ use Rattle.service_fit.specs.Conditions.{with_log}
 use Rattle.service_fit.proofs.CallLaws.{logged-by, events-by, IsLogOnly, log-only}
 use Rattle.service_parts.specs.Telling.{IsTold}
 use Rattle.service_core.specs.declared.parts.Acted.{Acted}
-use Rattle.service_core.specs.Acting.{HasActed}
+use Rattle.service_core.specs.Acting.{marked_by, HasActed}
 
-told-log : (kept : ServiceTable) (client : ℕ) (call : Call) → IsLogOnly call → told_in kept client call ≡ Done
-told-log kept client LogInit alone = refl
-told-log kept client (LogOpen stream create) alone = refl
-told-log kept client (LogClose stream) alone = refl
-told-log kept client LogFini alone = refl
-told-log kept client (LogWrite stream invocation flags time header body) alone = refl
-told-log kept client NtfInit alone = refl
-told-log kept client (NtfSend notification) alone = absurd alone
-told-log kept client (NtfSubscribe id filters) alone = refl
-told-log kept client (NtfUnsubscribe id) alone = refl
-told-log kept client (ReaderStart mode value filters) alone = refl
-told-log kept client (ReaderRead direction) alone = absurd alone
-told-log kept client ReaderEnd alone = refl
-told-log kept client NtfFini alone = refl
+-- the reply of a status, by what is told where it is ok
+told-same : (answered : Status) (one other : Reply) → (answered ≡ status.Ok → one ≡ other) → reply_by answered one ≡ reply_by answered other
+told-same status.Ok one other same = same refl
+told-same _ one other same = refl
+
+-- what a plan's step tells is what the plan says
+pub told-planned : (kept : LogTable) (answered : Status) (filtered : Bool) (mark : Option Mark) (change : LogChange) (plan : LogPlan) → Plans kept answered filtered mark change plan → reply_by plan.step.status (marked_by plan.step.filtered plan.step.mark) ≡ reply_by answered (marked_by filtered mark)
+told-planned kept answered filtered mark change plan plans =
+    let told = λ (e : plan.step.status ≡ status.Ok). ap (λ f. marked_by f plan.step.mark) (plans.told.ok e).0 ∙ ap (marked_by filtered) (plans.told.ok e).1 in
+    told-same plan.step.status (marked_by plan.step.filtered plan.step.mark) (marked_by filtered mark) told
+    ∙ ap (λ s. reply_by s (marked_by filtered mark)) plans.answer
 
 -- **a planned call of the log that changes nothing else**
-pub log-acted : (kept : ServiceTable) (client seq : ℕ) (moment : ℤ) (call : Call) (change : LogChange) (plan : LogPlan) (later : LogTable) (acted : Acted) → IsLogOnly call → log_change_in kept client moment call ≡ Some change → Plans kept.log (status_in kept client moment call) change plan → later ≡ planned plan kept.log → IsTold plan.step.status Done acted.told → acted.deeds ≡ deeds_of_all plan.step.events → HasActed kept client seq moment call (with_log kept later) acted
-log-acted kept client seq moment call change plan later acted alone is plans now told has =
+pub log-acted : (kept : ServiceTable) (client seq : ℕ) (moment : ℤ) (call : Call) (mark : Option Mark) (change : LogChange) (plan : LogPlan) (later : LogTable) (acted : Acted) → IsLogOnly call → log_change_in kept client moment call ≡ Some change → told_in kept client call ≡ marked_by false mark → Plans kept.log (status_in kept client moment call) false mark change plan → later ≡ planned plan kept.log → IsTold plan.step.status (marked_by plan.step.filtered plan.step.mark) acted.told → acted.deeds ≡ deeds_of_all plan.step.events → HasActed kept client seq moment call (with_log kept later) acted
+log-acted kept client seq moment call mark change plan later acted alone is tells plans now told has =
     let answered = plan.step.status in
     let log_is : later ≡ logged (if_ok answered (log_change_in kept client moment call)) kept.log =
     logged-by answered change kept.log later (λ e. now ∙ (plans.ok e).now) (λ n. now ∙ (plans.refused n).now) ∙ ap (λ c. logged (if_ok answered c) kept.log) (sym is) in
     let events_are : plan.step.events ≡ option_map_or (λ c. events_of c kept.log) (if_ok answered (log_change_in kept client moment call)) [] =
     events-by answered change kept.log plan.step.events (λ e. (plans.ok e).done) (λ n. (plans.refused n).done) ∙ ap (λ c. option_map_or (λ x. events_of x kept.log) (if_ok answered c) []) (sym is) in
-    let plain = ap (λ s. reply_by s Done) plans.answer ∙ ap (reply_by (status_in kept client moment call)) (sym (told-log kept client call alone)) in
+    let plain = told-planned kept.log (status_in kept client moment call) false mark change plan plans ∙ ap (reply_by (status_in kept client moment call)) (sym tells) in
     record {
       now = ap (with_log kept) log_is ∙ log-only kept client seq moment call answered alone ∙ ap (changed kept client seq moment call) plans.answer;
       told = record { reply = told.reply ∙ plain; kept = told.kept ∙ plain };

@@ -4,7 +4,7 @@ use Rattle.std.specs.Prelude.{Option, ℤ}
 use Rattle.std.specs.Option.{option_map_or}
 use Rattle.ais_values.specs.declared.status.Status.{Status}
 use Rattle.calls.specs.declared.call.Call.{Call}
-use Rattle.calls.specs.declared.call.Call.TheVariants.{LogInit, LogOpen, LogWrite, LogClose, LogFini, NtfInit, NtfSend, NtfSubscribe, NtfUnsubscribe, ReaderStart, ReaderRead, ReaderEnd, NtfFini}
+use Rattle.calls.specs.declared.call.Call.TheVariants.{LogInit, LogOpen, LogWrite, LogFilter, LogClose, LogFini, NtfInit, NtfSend, NtfSubscribe, NtfUnsubscribe, ReaderStart, ReaderRead, ReaderEnd, NtfFini}
 use Rattle.stream_config.specs.declared.event.StreamEvent.{StreamEvent}
 use Rattle.log_history.specs.Changes.{LogChange}
 use Rattle.log_history.specs.Table.{events_of}
@@ -30,8 +30,12 @@ with_rest number windows kept = record {
   windows = windows;
 }
 
-module _ (number : ℕ) (windows : List ClientWindow) (kept : ServiceTable) where
-  pub same-status : (client : ℕ) (moment : ℤ) (call : Call) → status_in (with_rest number windows kept) client moment call ≡ status_in kept client moment call
+-- the same parts with other windows
+abbrev pub with_windows : List ClientWindow → ServiceTable → ServiceTable
+with_windows windows kept = with_rest kept.number windows kept
+
+module _ (windows : List ClientWindow) (kept : ServiceTable) where
+  pub same-status : (client : ℕ) (moment : ℤ) (call : Call) → status_in (with_windows windows kept) client moment call ≡ status_in kept client moment call
   same-status client moment LogInit = refl
   same-status client moment (LogOpen stream create) = refl
   same-status client moment (LogWrite stream invocation flags time header body) = refl
@@ -45,8 +49,9 @@ module _ (number : ℕ) (windows : List ClientWindow) (kept : ServiceTable) wher
   same-status client moment (ReaderRead direction) = refl
   same-status client moment ReaderEnd = refl
   same-status client moment NtfFini = refl
+  same-status client moment (LogFilter stream mask) = refl
 
-  pub same-told : (client : ℕ) (call : Call) → told_in (with_rest number windows kept) client call ≡ told_in kept client call
+  pub same-told : (client : ℕ) (call : Call) → told_in (with_windows windows kept) client call ≡ told_in kept client call
   same-told client LogInit = refl
   same-told client (LogOpen stream create) = refl
   same-told client (LogWrite stream invocation flags time header body) = refl
@@ -60,8 +65,9 @@ module _ (number : ℕ) (windows : List ClientWindow) (kept : ServiceTable) wher
   same-told client (ReaderRead direction) = refl
   same-told client ReaderEnd = refl
   same-told client NtfFini = refl
+  same-told client (LogFilter stream mask) = refl
 
-  pub same-log : (client : ℕ) (moment : ℤ) (call : Call) → log_change_in (with_rest number windows kept) client moment call ≡ log_change_in kept client moment call
+  pub same-log : (client : ℕ) (moment : ℤ) (call : Call) → log_change_in (with_windows windows kept) client moment call ≡ log_change_in kept client moment call
   same-log client moment LogInit = refl
   same-log client moment (LogOpen stream create) = refl
   same-log client moment (LogWrite stream invocation flags time header body) = refl
@@ -75,8 +81,9 @@ module _ (number : ℕ) (windows : List ClientWindow) (kept : ServiceTable) wher
   same-log client moment (ReaderRead direction) = refl
   same-log client moment ReaderEnd = refl
   same-log client moment NtfFini = refl
+  same-log client moment (LogFilter stream mask) = refl
 
-  pub same-ntf : (client seq : ℕ) (moment : ℤ) (call : Call) → ntf_change_in (with_rest number windows kept) client seq moment call ≡ ntf_change_in kept client seq moment call
+  pub same-ntf : (client seq : ℕ) (moment : ℤ) (call : Call) → ntf_change_in (with_windows windows kept) client seq moment call ≡ ntf_change_in kept client seq moment call
   same-ntf client seq moment LogInit = refl
   same-ntf client seq moment (LogOpen stream create) = refl
   same-ntf client seq moment (LogWrite stream invocation flags time header body) = refl
@@ -90,21 +97,22 @@ module _ (number : ℕ) (windows : List ClientWindow) (kept : ServiceTable) wher
   same-ntf client seq moment (ReaderRead direction) = refl
   same-ntf client seq moment ReaderEnd = refl
   same-ntf client seq moment NtfFini = refl
+  same-ntf client seq moment (LogFilter stream mask) = refl
 
-  pub same-reply : (client : ℕ) (moment : ℤ) (call : Call) → reply_in (with_rest number windows kept) client moment call ≡ reply_in kept client moment call
+  pub same-reply : (client : ℕ) (moment : ℤ) (call : Call) → reply_in (with_windows windows kept) client moment call ≡ reply_in kept client moment call
   same-reply client moment call =
-      ap (λ s. reply_by s (told_in (with_rest number windows kept) client call)) (same-status client moment call)
+      ap (λ s. reply_by s (told_in (with_windows windows kept) client call)) (same-status client moment call)
       ∙ ap (reply_by (status_in kept client moment call)) (same-told client call)
 
-  pub same-events : (client : ℕ) (moment : ℤ) (call : Call) → events_in (with_rest number windows kept) client moment call ≡ events_in kept client moment call
+  pub same-events : (client : ℕ) (moment : ℤ) (call : Call) → events_in (with_windows windows kept) client moment call ≡ events_in kept client moment call
   same-events client moment call =
       let done = λ (change : Option LogChange). let nothing : List StreamEvent = [] in option_map_or (λ c. events_of c kept.log) change nothing in
-      ap (λ s. done (if_ok s (log_change_in (with_rest number windows kept) client moment call))) (same-status client moment call)
+      ap (λ s. done (if_ok s (log_change_in (with_windows windows kept) client moment call))) (same-status client moment call)
       ∙ ap (λ change. done (if_ok (status_in kept client moment call) change)) (same-log client moment call)
 
   abbrev changed_parts : Option LogChange → Option NtfChange → (client : ℕ) → Call → Status → ServiceTable
   changed_parts log_change ntf_change client call answer = record {
-    number = number;
+    number = kept.number;
     log = logged log_change kept.log;
     ntf = notified ntf_change kept.ntf;
     alarms = alarms_after log_change ntf_change (logged log_change kept.log).streams kept.alarms;
@@ -113,24 +121,26 @@ module _ (number : ℕ) (windows : List ClientWindow) (kept : ServiceTable) wher
   }
 
   -- what a call changes does not depend on the rest
-  pub same-changed : (client seq : ℕ) (moment : ℤ) (call : Call) (answer : Status) → changed (with_rest number windows kept) client seq moment call answer ≡ with_rest number windows (changed kept client seq moment call answer)
+  pub same-changed : (client seq : ℕ) (moment : ℤ) (call : Call) (answer : Status) → changed (with_windows windows kept) client seq moment call answer ≡ with_windows windows (changed kept client seq moment call answer)
   same-changed client seq moment call answer =
-      ap (λ c. changed_parts (if_ok answer c) (if_ok answer (ntf_change_in (with_rest number windows kept) client seq moment call)) client call answer) (same-log client moment call)
+      ap (λ c. changed_parts (if_ok answer c) (if_ok answer (ntf_change_in (with_windows windows kept) client seq moment call)) client call answer) (same-log client moment call)
       ∙ ap (λ c. changed_parts (if_ok answer (log_change_in kept client moment call)) (if_ok answer c) client call answer) (same-ntf client seq moment call)
 
 -- **a service after a call**
-pub after-acted : (number : ℕ) (windows : List ClientWindow) (kept later : ServiceTable) (client seq : ℕ) (moment : ℤ) (call : Call) → later ≡ changed kept client seq moment call (status_in kept client moment call) → with_rest (number + 1) (answered client (reply_in kept client moment call) windows) later ≡ after_call (with_rest number windows kept) client seq moment call
-after-acted number windows kept later client seq moment call is =
-    let whole = with_rest number windows kept in
-    let step : changed whole client seq moment call (status_in whole client moment call) ≡ with_rest number windows later =
-    ap (changed whole client seq moment call) (same-status number windows kept client moment call)
-    ∙ same-changed number windows kept client seq moment call (status_in kept client moment call)
-    ∙ ap (with_rest number windows) (sym is) in
-    ap (λ reply. replied client reply (with_rest number windows later)) (sym (same-reply number windows kept client moment call))
+pub after-acted : (windows : List ClientWindow) (kept later : ServiceTable) (client seq : ℕ) (moment : ℤ) (call : Call) → later ≡ changed kept client seq moment call (status_in kept client moment call) → with_rest (kept.number + 1) (answered client (reply_in kept client moment call) windows) later ≡ after_call (with_windows windows kept) client seq moment call
+after-acted windows kept later client seq moment call is =
+    let whole = with_windows windows kept in
+    let step : changed whole client seq moment call (status_in whole client moment call) ≡ with_windows windows later =
+    ap (changed whole client seq moment call) (same-status windows kept client moment call)
+    ∙ same-changed windows kept client seq moment call (status_in kept client moment call)
+    ∙ ap (with_windows windows) (sym is) in
+    let count : later.number ≡ kept.number = ap (λ (t : ServiceTable). t.number) is in
+    ap (λ n. with_rest (n + 1) (answered client (reply_in kept client moment call) windows) later) (sym count)
+    ∙ ap (λ reply. replied client reply (with_windows windows later)) (sym (same-reply windows kept client moment call))
     ∙ ap (replied client (reply_in whole client moment call)) (sym step)
 
 -- what an entry makes of a service, by what its call made of the parts
-pub acted-now : (number : ℕ) (parts later : Parts) (windows given : List ClientWindow) (client seq : ℕ) (moment : ℤ) (call : Call) (acted : Acted) → HasActed (table_of parts) client seq moment call (table_of later) acted → given ≡ answered client acted.told.kept windows → table_with_parts (number + 1) later given ≡ after_call (table_with_parts number parts windows) client seq moment call
-acted-now number parts later windows given client seq moment call acted has is =
-    ap (table_with_parts (number + 1) later) (is ∙ ap (λ reply. answered client reply windows) has.told.kept)
-    ∙ after-acted number windows (table_of parts) (table_of later) client seq moment call has.now
+pub acted-now : (parts later : Parts) (windows given : List ClientWindow) (client seq : ℕ) (moment : ℤ) (call : Call) (acted : Acted) → HasActed (table_of parts) client seq moment call (table_of later) acted → given ≡ answered client acted.told.kept windows → table_with_parts (parts.number + 1) later given ≡ after_call (table_with_parts parts.number parts windows) client seq moment call
+acted-now parts later windows given client seq moment call acted has is =
+    ap (table_with_parts (parts.number + 1) later) (is ∙ ap (λ reply. answered client reply windows) has.told.kept)
+    ∙ after-acted windows (table_of parts) (table_of later) client seq moment call has.now

@@ -6,7 +6,7 @@ use Rattle.ais_values.specs.declared.status.Status.{Status}
 use Rattle.ais_values.specs.declared.status.Status.TheVariants as status
 use Rattle.stream_config.specs.declared.event.StreamEvent.{StreamEvent}
 use Rattle.calls.specs.declared.call.Call.{Call}
-use Rattle.calls.specs.declared.call.Call.TheVariants.{LogInit, LogOpen, LogWrite, LogClose, LogFini, NtfInit, NtfSend, NtfSubscribe, NtfUnsubscribe, ReaderStart, ReaderRead, ReaderEnd, NtfFini}
+use Rattle.calls.specs.declared.call.Call.TheVariants.{LogInit, LogOpen, LogWrite, LogFilter, LogClose, LogFini, NtfInit, NtfSend, NtfSubscribe, NtfUnsubscribe, ReaderStart, ReaderRead, ReaderEnd, NtfFini}
 use Rattle.calls.specs.declared.reply.Reply.{Reply}
 use Rattle.calls.specs.declared.saved.SavedReader.{SavedReader}
 use Rattle.log_history.specs.Deeds.{deeds_of_all}
@@ -53,6 +53,7 @@ quiet-ok kept client seq moment ReaderEnd quiet = refl
 quiet-ok kept client seq moment LogInit quiet = absurd quiet
 quiet-ok kept client seq moment (LogOpen stream create) quiet = absurd quiet
 quiet-ok kept client seq moment (LogWrite stream invocation flags time header body) quiet = absurd quiet
+quiet-ok kept client seq moment (LogFilter stream mask) quiet = absurd quiet
 quiet-ok kept client seq moment (LogClose stream) quiet = absurd quiet
 quiet-ok kept client seq moment LogFini quiet = absurd quiet
 quiet-ok kept client seq moment (NtfSend notification) quiet = absurd quiet
@@ -76,6 +77,7 @@ no-events kept client moment ReaderEnd quiet = none-done (status_in kept client 
 no-events kept client moment LogInit quiet = absurd quiet
 no-events kept client moment (LogOpen stream create) quiet = absurd quiet
 no-events kept client moment (LogWrite stream invocation flags time header body) quiet = absurd quiet
+no-events kept client moment (LogFilter stream mask) quiet = absurd quiet
 no-events kept client moment (LogClose stream) quiet = absurd quiet
 no-events kept client moment LogFini quiet = absurd quiet
 no-events kept client moment (NtfSend notification) quiet = absurd quiet

@@ -2,6 +2,7 @@
 use Rattle.std.proofs.Common.{◌≡◌, ℕ, List, [], ◌∷◌, ◌++◌, map, refl, ap, sym, subst, ◌∙◌, append-nil, append_assoc, arith}
 use Rattle.std.proofs.lemmas.List.{map-append}
 use Rattle.std.specs.Prelude.{unsigned_abs}
+use Rattle.stream_config.specs.declared.mark.Mark.{Mark}
 use Rattle.stream_config.specs.declared.state.StreamState.{StreamState}
 use Rattle.alarm_view.specs.declared.alarm.KeptAlarm.{KeptAlarm}
 use Rattle.alarm_view.specs.Alarms.{AreInOrder}
@@ -19,23 +20,24 @@ use Rattle.service_table.specs.declared.caller.ClientWindow.{ClientWindow}
 use Rattle.service_fit.proofs.RestoredParts.{ntf-fit, value-back}
 use Rattle.service_core.specs.declared.kept.Kept.{Kept}
 use Rattle.service_core.specs.Inside.{kept_table, IsKeptAs}
-use Rattle.service_core.specs.Restoring.{states_in, openers_in, CanAddEach}
+use Rattle.service_core.specs.Restoring.{states_in, openers_in, marks_in, CanAddEach}
 use Rattle.service_core.proofs.FitLog.{joined-saved, rebuilt-fit}
 
 -- the log
 
-module _ (saved : Saved) (users : List ℕ) (states : List StreamState) (openers : List (List ℕ)) (users_are : users ≡ saved.log_users) (states_are : states ≡ states_in saved.streams) (openers_are : openers ≡ openers_in saved.streams) where
-  log-same : log_with (unsigned_abs saved.last_stamp) users (joined_streams states openers) ≡ log_with (unsigned_abs saved.last_stamp) saved.log_users (joined_streams (states_in saved.streams) (openers_in saved.streams))
+module _ (saved : Saved) (users : List ℕ) (states : List StreamState) (openers : List (List ℕ)) (marks : List Mark) (users_are : users ≡ saved.log_users) (states_are : states ≡ states_in saved.streams) (openers_are : openers ≡ openers_in saved.streams) (marks_are : marks ≡ marks_in saved.streams) where
+  log-same : log_with (unsigned_abs saved.last_stamp) users (joined_streams states openers marks) ≡ log_with (unsigned_abs saved.last_stamp) saved.log_users (joined_streams (states_in saved.streams) (openers_in saved.streams) (marks_in saved.streams))
   log-same =
       let made = log_with (unsigned_abs saved.last_stamp) in
-      ap (λ these. made these (joined_streams states openers)) users_are
-      ∙ ap (λ these. made saved.log_users (joined_streams these openers)) states_are
-      ∙ ap (λ these. made saved.log_users (joined_streams (states_in saved.streams) these)) openers_are
+      ap (λ these. made these (joined_streams states openers marks)) users_are
+      ∙ ap (λ these. made saved.log_users (joined_streams these openers marks)) states_are
+      ∙ ap (λ these. made saved.log_users (joined_streams (states_in saved.streams) these marks)) openers_are
+      ∙ ap (λ these. made saved.log_users (joined_streams (states_in saved.streams) (openers_in saved.streams) these)) marks_are
 
-  pub log-sound : IsFit saved → IsSoundLog (log_with (unsigned_abs saved.last_stamp) users (joined_streams states openers))
+  pub log-sound : IsFit saved → IsSoundLog (log_with (unsigned_abs saved.last_stamp) users (joined_streams states openers marks))
   log-sound fit = subst IsSoundLog (sym log-same) (rebuilt-fit saved fit)
 
-  pub log-made : log_with (unsigned_abs saved.last_stamp) users (joined_streams states openers) ≡ (table_of_saved saved).log
+  pub log-made : log_with (unsigned_abs saved.last_stamp) users (joined_streams states openers marks) ≡ (table_of_saved saved).log
   log-made =
       log-same ∙ ap (log_with (unsigned_abs saved.last_stamp) saved.log_users) (joined-saved saved.streams)
 

@@ -1,6 +1,9 @@
 -- Words of bodies alone: the parts of a service as a table, and what a call made of them.
-use Rattle.std.specs.Prelude.{◌≡◌, ℕ, ℤ, List, []}
+use Rattle.std.specs.Prelude.{◌≡◌, ℕ, ℤ, Bool, List, [], Option, Some, None}
+use Rattle.stream_config.specs.declared.mark.Mark.{Mark}
 use Rattle.calls.specs.declared.call.Call.{Call}
+use Rattle.calls.specs.declared.reply.Reply.{Reply}
+use Rattle.calls.specs.declared.reply.Reply.TheVariants.{Done, Marked}
 use Rattle.log_history.specs.Deeds.{deeds_of_all}
 use Rattle.service_table.specs.declared.caller.ClientWindow.{ClientWindow}
 use Rattle.service_table.specs.Tables.{ServiceTable}
@@ -23,7 +26,12 @@ table_with_parts number parts windows = record {
 
 -- the table of parts alone
 abbrev pub table_of : Parts → ServiceTable
-table_of parts = table_with_parts 0 parts []
+table_of parts = table_with_parts parts.number parts []
+
+-- what an ok call of the log is told: its stream's mark, if it has one to tell, and then whether its record was filtered
+abbrev pub marked_by : (filtered : Bool) → Option Mark → Reply
+marked_by filtered None = Done
+marked_by filtered (Some mark) = Marked filtered mark
 
 -- a call changed the parts as it does, was told its reply, and has its deeds
 pub record HasActed (old : ServiceTable) (client seq : ℕ) (moment : ℤ) (call : Call) (new : ServiceTable) (acted : Acted) : Type 0 where

@@ -14,7 +14,7 @@ use Rattle.service_core.specs.Acting.{table_with_parts}
 
 -- the table of what is kept
 abbrev pub kept_table : Kept → ServiceTable
-kept_table kept = table_with_parts kept.number kept.parts kept.callers.items
+kept_table kept = table_with_parts kept.parts.number kept.parts kept.callers.items
 
 abbrev pub saved_inside : Inside → Saved
 saved_inside inside = saved_table (kept_table inside.kept)

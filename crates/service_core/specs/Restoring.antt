@@ -1,5 +1,6 @@
 -- Words of bodies alone: of what the parts of a service are made again.
 use Rattle.std.specs.Prelude.{◌≡◌, ℕ, List, ◌∷◌, ◌++◌, map}
+use Rattle.stream_config.specs.declared.mark.Mark.{Mark}
 use Rattle.stream_config.specs.declared.state.StreamState.{StreamState}
 use Rattle.sub_queue.specs.Queue.{IsSound}
 use Rattle.alarm_view.specs.Alarms.{CanAdd}
@@ -13,6 +14,9 @@ states_in streams = map (λ (stream : SavedStream). stream.state) streams
 
 abbrev pub openers_in : List SavedStream → List (List ℕ)
 openers_in streams = map (λ (stream : SavedStream). stream.openers) streams
+
+abbrev pub marks_in : List SavedStream → List Mark
+marks_in streams = map (λ (stream : SavedStream). stream.mark) streams
 
 -- the queue of a subscription can be made again
 abbrev pub HasSoundQueue : ℕ → SavedSub → Type 0

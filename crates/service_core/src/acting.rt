@@ -1,9 +1,9 @@
 //! Calls of all kinds.
-ghost use Rattle.std.specs.Prelude.{◌≡◌, IfOk, OnErr};
+ghost use Rattle.std.specs.Prelude.{◌≡◌, ◌<◌, IfOk, OnErr};
 ghost use Rattle.service_fit.specs.Conditions.{CanCall};
 ghost use Rattle.service_core.specs.Acting.{table_of, HasActed};
 
-use crate::logging::{log_close, log_fini, log_init, log_open};
+use crate::logging::{log_close, log_filter, log_fini, log_init, log_open};
 use crate::notifying::{
     ntf_fini, ntf_init, ntf_subscribe, ntf_unsubscribe, reader_end, reader_read, reader_start,
 };
@@ -22,7 +22,8 @@ pub(crate) fn act(
     now: i64,
     call: &Call,
 ) -> Result<Acted, AllocError>
-    requires { CanCall (table_of parts.old) client seq now }
+    requires can { CanCall (table_of parts.old) client seq now }
+    requires few { parts.old.number < 4000000000 }
     ensures ok { IfOk result (λ acted.
         HasActed (table_of parts.old) client seq now call.now (table_of parts.new) acted) }
     ensures err { OnErr result (table_of parts.new ≡ table_of parts.old) }
@@ -58,5 +59,6 @@ pub(crate) fn act(
         Call::ReaderRead { direction } => reader_read(parts, alloc, client, *direction),
         Call::ReaderEnd => Ok(reader_end(parts, alloc, client)),
         Call::NtfFini => Ok(ntf_fini(parts, alloc, client)),
+        Call::LogFilter { stream, mask } => log_filter(parts, alloc, client, stream, *mask),
     }
 }

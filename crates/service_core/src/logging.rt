@@ -1,7 +1,7 @@
 //! Calls of the Log Service.
-ghost use Rattle.std.specs.Prelude.{◌≡◌, ℕ, IfOk, OnErr};
+ghost use Rattle.std.specs.Prelude.{◌≡◌, ◌<◌, ℕ, ℤ, IfOk, OnErr};
 ghost use Rattle.std.specs.Option.{option_copied};
-ghost use Rattle.calls.specs.declared.call.Call.TheVariants.{LogInit, LogOpen, LogClose, LogFini};
+ghost use Rattle.calls.specs.declared.call.Call.TheVariants.{LogInit, LogOpen, LogFilter, LogClose, LogFini};
 ghost use Rattle.service_fit.specs.Conditions.{CanCallLog};
 ghost use Rattle.service_core.specs.Acting.{table_of, HasActed};
 
@@ -52,15 +52,39 @@ pub(crate) fn log_open(
     name: &StreamName,
     create: Option<&StreamAttrs>,
 ) -> Result<Acted, AllocError>
-    requires { CanCallLog parts.old.log.table now }
+    requires log { CanCallLog parts.old.log.table now }
+    requires few { parts.old.number < 4000000000 }
     ensures ok { IfOk result (λ acted. (seq : ℕ) →
         HasActed (table_of parts.old) client seq now (LogOpen name.now (option_copied create.entry))
         (table_of parts.new) acted) }
     ensures err { OnErr result (table_of parts.new ≡ table_of parts.old) }
 {
+    let number = parts.number + 1;
     let plan = parts
         .log
-        .plan_open_stream(alloc, client, name, create, now)?;
+        .plan_open_stream(alloc, client, name, create, now, number)?;
+    let acted = make_planned(&mut parts.log, alloc, plan)?;
+    Ok(acted)
+}
+
+/// A client sets which severities of records a stream lets pass.
+pub(crate) fn log_filter(
+    parts: &mut Parts,
+    alloc: Global,
+    client: u16,
+    name: &StreamName,
+    mask: u32,
+) -> Result<Acted, AllocError>
+    requires { parts.old.number < 4000000000 }
+    ensures ok { IfOk result (λ acted. (seq : ℕ) (now : ℤ) →
+        HasActed (table_of parts.old) client seq now (LogFilter name.now mask)
+        (table_of parts.new) acted) }
+    ensures err { OnErr result (table_of parts.new ≡ table_of parts.old) }
+{
+    let number = parts.number + 1;
+    let plan = parts
+        .log
+        .plan_set_filter(alloc, client, name, mask, number)?;
     let acted = make_planned(&mut parts.log, alloc, plan)?;
     Ok(acted)
 }

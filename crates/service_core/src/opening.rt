@@ -23,8 +23,8 @@ fn unused(alloc: Global, cap: u32, log: LogState) -> Kept
     ensures { kept_table result ≡ unused_table cap log.table }
 {
     Kept {
-        number: 0,
         parts: Parts {
+            number: 0,
             log,
             ntf: NtfState::new(alloc, cap),
             alarms: AlarmView::new(alloc),

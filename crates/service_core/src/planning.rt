@@ -1,14 +1,14 @@
 //! Calls of the Log Service that were planned.
 ghost use Rattle.std.specs.Prelude.{◌≡◌, ◌≤◌, OnOk, OnErr, IfOk};
 ghost use Rattle.std.specs.List.{AllByRecursion};
-ghost use Rattle.calls.specs.declared.reply.Reply.TheVariants.{Done};
 ghost use Rattle.log_history.specs.Deeds.{deeds_of_all};
 ghost use Rattle.log_service.specs.Planning.{step_of, planned, CanCommit};
+ghost use Rattle.service_core.specs.Acting.{marked_by};
 ghost use Rattle.service_parts.specs.Telling.{IsTold};
 ghost use Rattle.stream_layout.specs.Carrying.{IsFitEvent};
 
 use crate::deeds::deeds_of_all;
-use crate::parts::{Acted, act_of};
+use crate::parts::{Acted, told_with};
 use log_service::{LogPlan, LogState};
 use std::alloc::{AllocError, Global};
 
@@ -22,16 +22,20 @@ pub(crate) fn make_planned(
     requires room { 1 ≤ log.old.spare }
     requires events { AllByRecursion IsFitEvent (step_of plan).events }
     ensures now { OnOk result (log.new.table ≡ planned plan log.old.table) }
-    ensures told { IfOk result (λ acted. IsTold (step_of plan).status Done acted.told) }
+    ensures told { IfOk result (λ acted. IsTold (step_of plan).status
+        (marked_by (step_of plan).filtered (step_of plan).mark) acted.told) }
     ensures deeds { IfOk result (λ acted. acted.deeds ≡ deeds_of_all (step_of plan).events) }
     ensures err { OnErr result (log.new.table ≡ log.old.table) }
 {
     let step = plan.step();
     let status = step.status;
+    let filtered = step.filtered;
+    let mark = step.mark;
     match deeds_of_all(alloc, step.events.as_slice()) {
         Ok(deeds) => {
             log.commit(plan);
-            Ok(act_of(status, deeds))
+            let told = told_with(status, filtered, mark);
+            Ok(Acted { told, deeds })
         }
         Err(error) => {
             drop(plan);

@@ -6,7 +6,7 @@ ghost use Rattle.plain_service.specs.Fitness.{IsFit, IsFitWindow};
 ghost use Rattle.service_table.specs.Tables.{kept_window, kept_alarm_of, kept_sub_of, table_of_saved};
 ghost use Rattle.ntf_service.specs.Told.{told, all_told};
 ghost use Rattle.service_core.specs.Inside.{kept_table};
-ghost use Rattle.service_core.specs.Restoring.{states_in, openers_in, HasSoundQueue, CanAddEach};
+ghost use Rattle.service_core.specs.Restoring.{states_in, openers_in, marks_in, HasSoundQueue, CanAddEach};
 
 use crate::kept::Kept;
 use crate::parts::Parts;
@@ -19,7 +19,7 @@ use log_service::LogState;
 use ntf_service::{NtfState, Subscription};
 use service_table::ClientWindow;
 use std::alloc::{AllocError, Global};
-use stream_config::StreamState;
+use stream_config::{Mark, StreamState};
 use sub_queue::SubQueue;
 
 /// The states of streams.
@@ -44,6 +44,17 @@ fn openers_of(alloc: Global, streams: &[SavedStream]) -> Result<Seq<Seq<u16>>, A
     Ok(openers)
 }
 
+/// The marks of streams.
+fn marks_of(alloc: Global, streams: &[SavedStream]) -> Result<Seq<Mark>, AllocError>
+    ensures { IfOk result (λ marks. marks ≡ marks_in streams.now) }
+{
+    let mut marks = Seq::new(alloc);
+    for stream in streams {
+        marks.push(stream.mark)?;
+    }
+    Ok(marks)
+}
+
 /// The state of the Log Service.
 fn restored_log(alloc: Global, saved: &Saved) -> Result<LogState, AllocError>
     requires { IsFit saved.now }
@@ -52,7 +63,8 @@ fn restored_log(alloc: Global, saved: &Saved) -> Result<LogState, AllocError>
     let users = saved.log_users.copy(alloc)?;
     let states = states_of(alloc, saved.streams.as_slice())?;
     let openers = openers_of(alloc, saved.streams.as_slice())?;
-    let log = LogState::rebuild(alloc, saved.last_stamp, users, states, openers)?;
+    let marks = marks_of(alloc, saved.streams.as_slice())?;
+    let log = LogState::rebuild(alloc, saved.last_stamp, users, states, openers, marks)?;
     Ok(log)
 }
 
@@ -153,14 +165,11 @@ pub(crate) fn restored(alloc: Global, saved: &Saved) -> Result<Kept, AllocError>
     let others = both(both(alarms, readers), callers);
     let ((log, ntf), ((alarms, readers), callers)) = both(services, others)?;
     let parts = Parts {
+        number: saved.number,
         log,
         ntf,
         alarms,
         readers: readers.into_vec(),
     };
-    Ok(Kept {
-        number: saved.number,
-        parts,
-        callers,
-    })
+    Ok(Kept { parts, callers })
 }

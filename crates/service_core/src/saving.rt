@@ -91,9 +91,16 @@ fn push_stream(
     let Some(clients) = log.openers_at(place) else {
         return Ok(());
     };
+    let Some(mark) = log.mark_at(place) else {
+        return Ok(());
+    };
     let openers = copied(alloc, clients)?;
     let state = state.copy(alloc)?;
-    streams.push(SavedStream { state, openers })?;
+    streams.push(SavedStream {
+        state,
+        openers,
+        mark,
+    })?;
     Ok(())
 }
 
@@ -215,7 +222,7 @@ pub(crate) fn saved(alloc: Global, kept: &Kept, cap: u32) -> Result<Saved, Alloc
     let readers = copied(alloc, parts.readers.as_slice());
     let (((windows, streams), (alarms, subs)), readers) = both(told, readers)?;
     Ok(Saved {
-        number: kept.number,
+        number: parts.number,
         last_stamp: parts.log.last_stamp(),
         last_id: parts.ntf.last_id(),
         capacity: cap,

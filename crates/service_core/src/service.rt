@@ -70,7 +70,7 @@ fn apply_call(
 ) -> Result<Effect, AllocError>
     requires fit { HasFitValue kept.old }
     requires queues { HaveQueues kept.old.parts.ntf.table.capacity kept.old.parts.ntf.table.subs }
-    requires few { kept.old.number < 4000000000 }
+    requires few { kept.old.parts.number < 4000000000 }
     requires caller { IsClient client }
     requires moment { IsMoment now }
     requires next { seq ≡ (window_for client kept.old.callers.items).next }
@@ -81,10 +81,11 @@ fn apply_call(
     ensures err { OnErr result (kept_table kept.new ≡ kept_table kept.old) }
 {
     let fresh = room_for(alloc, &mut kept.callers, client)?;
+    let number = kept.parts.number + 1;
     match act(&mut kept.parts, alloc, client, seq, now, call) {
         Ok(acted) => {
             answer_call(&mut kept.callers, client, fresh, acted.told.kept);
-            kept.number += 1;
+            kept.parts.number = number;
             Ok(Effect {
                 reply: Some(acted.told.reply),
                 deeds: acted.deeds,
@@ -101,7 +102,7 @@ fn apply_call(
 fn apply_receipt(kept: &mut Kept, alloc: Global, client: u16, key: u32, through: u32) -> Effect
     requires fit { HasFitValue kept.old }
     requires queues { HaveQueues kept.old.parts.ntf.table.capacity kept.old.parts.ntf.table.subs }
-    requires few { kept.old.number < 4000000000 }
+    requires few { kept.old.parts.number < 4000000000 }
     requires new { is_new_for_table kept.old.parts.ntf.table client key through ≡ true }
     ensures now { kept_table kept.new ≡ after_receipt_in (kept_table kept.old) client key through }
     ensures fit { HasFitValue kept.new }
@@ -110,7 +111,7 @@ fn apply_receipt(kept: &mut Kept, alloc: Global, client: u16, key: u32, through:
     ensures deeds { result.deeds ≡ [] }
 {
     kept.parts.ntf.acked(client, key, through);
-    kept.number += 1;
+    kept.parts.number += 1;
     Effect {
         reply: None,
         deeds: Seq::new(alloc),
@@ -212,7 +213,7 @@ impl Service {
     pub fn number(&self) -> u64
         ensures { result ≡ self.now.number }
     {
-        self.kept.number
+        self.kept.parts.number
     }
 
     /// Applies an entry: a call that has the number of its client's next one, or a new receipt, of a client from 1 to

@@ -1,5 +1,5 @@
 //! Records that clients write.
-ghost use Rattle.std.specs.Prelude.{◌≡◌, ℕ, IfOk, OnErr};
+ghost use Rattle.std.specs.Prelude.{◌≡◌, ℕ, if◌then◌else◌, IfOk, OnErr};
 ghost use Rattle.alarm_view.specs.Alarms.{from_record};
 ghost use Rattle.calls.specs.declared.call.Call.TheVariants.{LogWrite};
 ghost use Rattle.service_fit.specs.Conditions.{CanCallLog};
@@ -27,12 +27,15 @@ pub(crate) fn keep_standing(alarms: &mut AlarmView, log: &LogState)
     }
 }
 
-/// Drops them where a record was stored.
-fn keep_after(alarms: &mut AlarmView, log: &LogState, status: Status)
+/// Drops them where a record was stored: by a write that is ok and was not filtered.
+fn keep_after(alarms: &mut AlarmView, log: &LogState, status: Status, filtered: bool)
     requires { IsAlarmFirst log.now.table.streams }
-    ensures { alarms.new.kept ≡ where_ok status
+    ensures { alarms.new.kept ≡ if filtered then alarms.old.kept else where_ok status
         (from_record (standing_from log.now.table.streams) alarms.old.kept) alarms.old.kept }
 {
+    if filtered {
+        return;
+    }
     if status == Status::Ok {
         keep_standing(alarms, log);
     }
@@ -59,8 +62,10 @@ pub(crate) fn log_write(
     let plan = parts
         .log
         .plan_write(alloc, client, name, flags, time, header, body, now)?;
-    let status = plan.step().status;
+    let step = plan.step();
+    let status = step.status;
+    let filtered = step.filtered;
     let acted = make_planned(&mut parts.log, alloc, plan)?;
-    keep_after(&mut parts.alarms, &parts.log, status);
+    keep_after(&mut parts.alarms, &parts.log, status, filtered);
     Ok(acted)
 }

@@ -19,6 +19,11 @@ returns-in-LogOpen-clause-ok c =
     let done = subst (λ create. IfOk c.log_open.result (HasActed (table_of c.args.parts.now) c.args.client c.args.seq c.args.now (LogOpen c.in-LogOpen.stream create) (table_of c.log_open.new.parts))) c.as_ref.ensures.value (IfOk-weaker c.log_open.result _ _ (λ acted done. done c.args.seq) (simp to_z-of_z at c.log_open.ensures.ok)) in
     subst (λ call. IfOk c.log_open.result (HasActed (table_of c.args.parts.now) c.args.client c.args.seq c.args.now call (table_of c.log_open.new.parts))) (sym c.in-LogOpen.is) done
 
+pub returns-in-LogFilter-clause-ok : goal.returns-in-LogFilter-clause-ok
+returns-in-LogFilter-clause-ok c =
+    let done : IfOk c.log_filter.result (HasActed (table_of c.args.parts.now) c.args.client c.args.seq c.args.now (calls.LogFilter c.in-LogFilter.stream c.in-LogFilter.mask) (table_of c.log_filter.new.parts)) = IfOk-weaker c.log_filter.result _ _ (λ acted done. done c.args.seq c.args.now) c.log_filter.ensures.ok in
+    subst (λ call. IfOk c.log_filter.result (HasActed (table_of c.args.parts.now) c.args.client c.args.seq c.args.now call (table_of c.log_filter.new.parts))) (sym c.in-LogFilter.is) done
+
 pub returns-in-LogClose-clause-ok : goal.returns-in-LogClose-clause-ok
 returns-in-LogClose-clause-ok c =
     let fits = c.ranges.now in

@@ -1,6 +1,7 @@
-use Rattle.std.proofs.Common.{refl, ap, sym, subst, ◌∙◌}
+use Rattle.std.proofs.Common.{false, refl, ap, sym, subst, ◌∙◌}
 use Rattle.log_history.specs.Table.{LogTable}
 use Rattle.log_service.specs.Planning.{CanCommit, planned}
+use Rattle.std.specs.Prelude.{None}
 use Rattle.std.proofs.lemmas.Int.{to_z-of_z}
 use Rattle.calls.specs.declared.call.Call.TheVariants.{LogClose}
 use Rattle.log_history.specs.Changes.{Closed}
@@ -24,11 +25,11 @@ pub make_planned-requires-clause-events : goal.make_planned-requires-clause-even
 make_planned-requires-clause-events c =
     let fits = c.ranges.now in
     let plans = simp to_z-of_z at c.in_ok-plan.ensures.ok in
-    planned-fit c.args.parts.now.log.table c.args.now (Closed c.args.client c.args.name.now (second_of c.args.now)) _ c.in_ok-plan.plan c.requires (second-bound c.args.now c.requires.moment) (λ e. tt) plans
+    planned-fit c.args.parts.now.log.table c.args.now (Closed c.args.client c.args.name.now (second_of c.args.now)) _ false None c.in_ok-plan.plan c.requires (second-bound c.args.now c.requires.moment) (λ e passes. tt) plans
 
 pub returns-clause-ok : goal.returns-clause-ok
 returns-clause-ok c =
     let fits = c.ranges.now in
     let plans = simp to_z-of_z at c.in_ok-plan.ensures.ok in
     let acted = c.in_ok-acted.ensures in
-    λ seq. log-acted (table_of c.args.parts.now) c.args.client seq c.args.now (LogClose c.args.name.now) (Closed c.args.client c.args.name.now (second_of c.args.now)) c.in_ok-plan.plan c.make_planned.new.log.table c.in_ok-acted.acted tt refl plans (acted.now ∙ ap (planned c.in_ok-plan.plan) c.in_ok-plan.ensures.table) acted.told acted.deeds
+    λ seq. log-acted (table_of c.args.parts.now) c.args.client seq c.args.now (LogClose c.args.name.now) None (Closed c.args.client c.args.name.now (second_of c.args.now)) c.in_ok-plan.plan c.make_planned.new.log.table c.in_ok-acted.acted tt refl refl plans (acted.now ∙ ap (planned c.in_ok-plan.plan) c.in_ok-plan.ensures.table) acted.told acted.deeds

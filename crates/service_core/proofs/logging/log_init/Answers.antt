@@ -1,4 +1,5 @@
 use Rattle.std.proofs.Common.{refl, ap, sym, subst, ◌∙◌}
+use Rattle.std.specs.Prelude.{None}
 use Rattle.log_history.specs.Table.{LogTable}
 use Rattle.log_service.specs.Planning.{CanCommit, planned}
 use Rattle.calls.specs.declared.call.Call.TheVariants.{LogInit}
@@ -21,4 +22,4 @@ make_planned-requires-clause-events c =
 pub returns-clause-ok : goal.returns-clause-ok
 returns-clause-ok c =
     let acted = c.in_ok-acted.ensures in
-    λ seq. log-acted (table_of c.args.parts.now) c.args.client seq c.args.now LogInit (Began c.args.client) c.in_ok-plan.plan c.make_planned.new.log.table c.in_ok-acted.acted tt refl c.in_ok-plan.ensures.ok (acted.now ∙ ap (planned c.in_ok-plan.plan) c.in_ok-plan.ensures.table) acted.told acted.deeds
+    λ seq. log-acted (table_of c.args.parts.now) c.args.client seq c.args.now LogInit None (Began c.args.client) c.in_ok-plan.plan c.make_planned.new.log.table c.in_ok-acted.acted tt refl refl c.in_ok-plan.ensures.ok (acted.now ∙ ap (planned c.in_ok-plan.plan) c.in_ok-plan.ensures.table) acted.told acted.deeds

@@ -1,4 +1,5 @@
-use Rattle.std.proofs.Common.{◌≡◌, ◌≢◌, true, rules, ap, sym, subst, ◌∙◌, arith}
+use Rattle.std.proofs.Common.{◌≡◌, ◌≢◌, true, false, rules, ap, sym, subst, ◌∙◌, arith}
+use Rattle.std.specs.Prelude.{None}
 use Rattle.std.proofs.lemmas.Int.{to_z-of_z}
 use Rattle.ais_values.specs.declared.status.Status.TheVariants as status
 use Rattle.log_history.specs.Changes.{Stored}
@@ -47,7 +48,7 @@ send_stored-requires-clause-events c =
     let fits = c.ranges.now in
     let log = c.args.parts.now.log.table in
     let plans = simp to_z-of_z at c.in_ok-plan.ensures.ok in
-    planned-fit log c.args.now (Stored (stream_of_kind c.kind_for.result) c.in_ok-rec.rec (second_of c.args.now)) _ c.in_ok-plan.plan c.requires.log (second-bound c.args.now c.requires.log.moment) (λ e. room-left (is_filled log.streams _ _) e) plans
+    planned-fit log c.args.now (Stored (stream_of_kind c.kind_for.result) c.in_ok-rec.rec (second_of c.args.now)) _ false None c.in_ok-plan.plan c.requires.log (second-bound c.args.now c.requires.log.moment) (λ e passes. room-left (is_filled log.streams _ _) e) plans
 
 pub send_stored-requires-clause-first : goal.send_stored-requires-clause-first
 send_stored-requires-clause-first c =
@@ -59,7 +60,7 @@ send_stored-requires-clause-stands c =
     let log = c.args.parts.now.log.table in
     let plans = simp to_z-of_z at c.in_ok-plan.ensures.ok in
     subst (λ (t : LogTable). IsAlarmFirst (planned c.in_ok-plan.plan t).streams) (sym c.in_ok-plan.ensures.table)
-    (planned-first log c.args.now (stream_of_kind c.kind_for.result) c.in_ok-rec.rec (second_of c.args.now) _ c.in_ok-plan.plan c.requires.log (second-bound c.args.now c.requires.log.moment) (λ e. room-left (is_filled log.streams _ _) e) plans)
+    (planned-first log c.args.now (stream_of_kind c.kind_for.result) c.in_ok-rec.rec (second_of c.args.now) _ false None c.in_ok-plan.plan c.requires.log (second-bound c.args.now c.requires.log.moment) (λ e passes. room-left (is_filled log.streams _ _) e) plans)
 
 pub send_stored-requires-clause-add : goal.send_stored-requires-clause-add
 send_stored-requires-clause-add c =

@@ -22,8 +22,8 @@ use Rattle.service_core.proofs.service.apply_call.Goals as goal
 pub room_for-requires : goal.room_for-requires
 room_for-requires c = windows-rise (kept_table c.args.kept.now) c.requires.fit
 
-pub act-requires : goal.act-requires
-act-requires c =
+pub act-requires-clause-can : goal.act-requires-clause-can
+act-requires-clause-can c =
     let parts = c.args.kept.now.parts in
     let can = call-can-come (kept_table c.args.kept.now) c.args.client c.args.seq c.args.now (table-of (kept_table c.args.kept.now) c.requires.queues c.requires.fit) c.requires.few c.requires.moment c.requires.next in
     let can_act : CanCall (table_of parts) c.args.client c.args.seq c.args.now = record { log = can.log; sending = can.sending; key = can.key; alarms = can.alarms } in
@@ -37,7 +37,7 @@ pub answer_call-requires-clause-next : goal.answer_call-requires-clause-next
 answer_call-requires-clause-next c =
     let kept = c.args.kept.now in
     let few = c.requires.few in
-    let next = next-few c.args.client kept.number kept.callers.items (table-of (kept_table kept) c.requires.queues c.requires.fit).windows.each in
+    let next = next-few c.args.client kept.parts.number kept.callers.items (table-of (kept_table kept) c.requires.queues c.requires.fit).windows.each in
     subst (λ callers. (window_for c.args.client callers).next < 4294967295) (sym c.room_for.ensures.callers) (omega (arith, few, next))
 
 pub returns-in-Ok-clause-ok : goal.returns-in-Ok-clause-ok
@@ -48,9 +48,9 @@ returns-in-Ok-clause-ok c =
     subst (λ moment. HasActed (table_of kept.parts) c.args.client c.args.seq moment c.args.call.now (table_of c.act.new.parts) acted) (to_z-of_z w64 c.args.now c.ranges.now) c.in-Ok.ensures.ok in
     let given = c.answer_call.ensures ∙ ap (answered c.args.client acted.told.kept) c.room_for.ensures.callers in
     record {
-      now = acted-now kept.number kept.parts c.act.new.parts kept.callers.items _ c.args.client c.args.seq c.args.now c.args.call.now acted has given;
-      reply = ap (λ (r : Reply). Some r) (has.told.reply ∙ sym (same-reply kept.number kept.callers.items (table_of kept.parts) c.args.client c.args.now c.args.call.now));
-      deeds = has.deeds ∙ ap deeds_of_all (sym (same-events kept.number kept.callers.items (table_of kept.parts) c.args.client c.args.now c.args.call.now));
+      now = acted-now kept.parts c.act.new.parts kept.callers.items _ c.args.client c.args.seq c.args.now c.args.call.now acted has given;
+      reply = ap (λ (r : Reply). Some r) (has.told.reply ∙ sym (same-reply kept.callers.items (table_of kept.parts) c.args.client c.args.now c.args.call.now));
+      deeds = has.deeds ∙ ap deeds_of_all (sym (same-events kept.callers.items (table_of kept.parts) c.args.client c.args.now c.args.call.now));
     }
 
 pub returns-in-Ok-clause-capacity : goal.returns-in-Ok-clause-capacity
@@ -65,7 +65,7 @@ returns-in-Ok-clause-fit c =
     let has : HasActed (table_of kept.parts) c.args.client c.args.seq c.args.now c.args.call.now (table_of c.act.new.parts) acted =
     subst (λ moment. HasActed (table_of kept.parts) c.args.client c.args.seq moment c.args.call.now (table_of c.act.new.parts) acted) (to_z-of_z w64 c.args.now c.ranges.now) c.in-Ok.ensures.ok in
     let given = c.answer_call.ensures ∙ ap (answered c.args.client acted.told.kept) c.room_for.ensures.callers in
-    let now = acted-now kept.number kept.parts c.act.new.parts kept.callers.items c.answer_call.new.callers.items c.args.client c.args.seq c.args.now c.args.call.now acted has given in
+    let now = acted-now kept.parts c.act.new.parts kept.callers.items c.answer_call.new.callers.items c.args.client c.args.seq c.args.now c.args.call.now acted has given in
     subst (λ table. IsFit (saved_table table)) (sym now)
     (fit-call (kept_table kept) c.args.client c.args.seq c.args.now c.args.call.now
     (record { table = record { queues = c.requires.queues; fit = c.requires.fit; few = c.requires.few }; caller = c.requires.caller; moment = c.requires.moment; next = c.requires.next }))

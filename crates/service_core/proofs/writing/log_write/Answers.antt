@@ -5,12 +5,10 @@ use Rattle.log_history.specs.Table.{LogTable}
 use Rattle.log_history.specs.Times.{second_of, record_at}
 use Rattle.log_service.specs.Planning.{CanCommit, planned}
 use Rattle.log_service.specs.declared.step.Step.{Step}
-use Rattle.calls.specs.declared.call.Call.TheVariants.{LogWrite}
 use Rattle.service_fit.specs.Fit.{IsAlarmFirst}
-use Rattle.service_fit.proofs.OkCalls.{call-can}
 use Rattle.service_core.specs.Acting.{table_of}
-use Rattle.service_core.proofs.LogConditions.{call-time, number-left, planned-fit, planned-first}
-use Rattle.service_core.proofs.Standing.{write-acted}
+use Rattle.service_core.proofs.LogConditions.{call-time, number-left, planned-fit, planned-first, writing-can}
+use Rattle.service_core.proofs.Standing.{alarms_left, write-acted}
 use Rattle.service_core.proofs.writing.log_write.Goals as goal
 use Rattle.plain_service.proofs.HistoryEvents.{second-bound}
 
@@ -33,7 +31,7 @@ make_planned-requires-clause-events c =
     let fits = c.ranges.now in
     let times = c.ranges.time in
     let plans = simp to_z-of_z at c.in_ok-plan.ensures.ok in
-    planned-fit c.args.parts.now.log.table c.args.now (Stored c.args.name.now (record_at c.args.time c.args.header.now c.args.body.now c.args.now) (second_of c.args.now)) _ c.in_ok-plan.plan c.requires (second-bound c.args.now c.requires.moment) (λ e. call-can (table_of c.args.parts.now) c.args.client c.args.now (LogWrite c.args.name.now 0 c.args.flags c.args.time c.args.header.now c.args.body.now) e) plans
+    planned-fit c.args.parts.now.log.table c.args.now (Stored c.args.name.now (record_at c.args.time c.args.header.now c.args.body.now c.args.now) (second_of c.args.now)) _ _ _ c.in_ok-plan.plan c.requires (second-bound c.args.now c.requires.moment) (writing-can (table_of c.args.parts.now) c.args.client c.args.flags c.args.now c.args.time c.args.name.now c.args.header.now c.args.body.now) plans
 
 pub keep_after-requires : goal.keep_after-requires
 keep_after-requires c =
@@ -41,7 +39,7 @@ keep_after-requires c =
     let times = c.ranges.time in
     let plans = simp to_z-of_z at c.in_ok-plan.ensures.ok in
     subst (λ (l : LogTable). IsAlarmFirst l.streams) (sym (c.in_ok-acted.ensures.now ∙ ap (planned c.in_ok-plan.plan) c.in_ok-plan.ensures.table))
-    (planned-first c.args.parts.now.log.table c.args.now c.args.name.now (record_at c.args.time c.args.header.now c.args.body.now c.args.now) (second_of c.args.now) _ c.in_ok-plan.plan c.requires (second-bound c.args.now c.requires.moment) (λ e. call-can (table_of c.args.parts.now) c.args.client c.args.now (LogWrite c.args.name.now 0 c.args.flags c.args.time c.args.header.now c.args.body.now) e) plans)
+    (planned-first c.args.parts.now.log.table c.args.now c.args.name.now (record_at c.args.time c.args.header.now c.args.body.now c.args.now) (second_of c.args.now) _ _ _ c.in_ok-plan.plan c.requires (second-bound c.args.now c.requires.moment) (writing-can (table_of c.args.parts.now) c.args.client c.args.flags c.args.now c.args.time c.args.name.now c.args.header.now c.args.body.now) plans)
 
 pub returns-clause-ok : goal.returns-clause-ok
 returns-clause-ok c =
@@ -49,4 +47,6 @@ returns-clause-ok c =
     let times = c.ranges.time in
     let plans = simp to_z-of_z at c.in_ok-plan.ensures.ok in
     let acted = c.in_ok-acted.ensures in
-    λ seq invocation. write-acted (table_of c.args.parts.now) c.args.client seq invocation c.args.flags c.args.now c.args.time c.args.name.now c.args.header.now c.args.body.now c.in_ok-plan.plan c.step.result.now.status c.make_planned.new.log.table c.keep_after.new.alarms.kept c.in_ok-acted.acted plans (ap (λ (s : Step). s.status) c.step.ensures) (acted.now ∙ ap (planned c.in_ok-plan.plan) c.in_ok-plan.ensures.table) c.keep_after.ensures acted.told acted.deeds
+    let later = c.make_planned.new.log.table in
+    let alarms_are = c.keep_after.ensures ∙ ap (λ (s : Step). alarms_left s.filtered s.status later c.args.parts.now.alarms.kept) c.step-step.ensures in
+    λ seq invocation. write-acted (table_of c.args.parts.now) c.args.client seq invocation c.args.flags c.args.now c.args.time c.args.name.now c.args.header.now c.args.body.now c.in_ok-plan.plan later c.keep_after.new.alarms.kept c.in_ok-acted.acted plans (acted.now ∙ ap (planned c.in_ok-plan.plan) c.in_ok-plan.ensures.table) alarms_are acted.told acted.deeds
