@@ -24,7 +24,9 @@ use Rattle.record_print.specs.declared.record.Header.{Header}
 use Rattle.record_print.specs.declared.record.Header.TheVariants.{Ntf, Generic}
 use Rattle.record_print.specs.declared.record.LogRecord.{LogRecord}
 use Rattle.record_print.specs.Printing.{spaces, hex_digits, hex_bytes, led_digits, month_names, day_names, severity_names, civil_text, time_text, class_text, class_of, id_text, event_type_text, object_text, notifier_text, user_text, severity_text, event_time, part_text, is_number, in_places, piece_text, pieces_text, has_half, has_codes, can_print, printed_record}
-use Rattle.record_print.specs.Lengths.{time_length, header_length, part_length, width_length, piece_length, pieces_length, IsTimed, with_event_time, HasParts}
+use Rattle.record_print.specs.declared.length.NameLengths.{NameLengths}
+use Rattle.record_print.specs.declared.length.NameLengths.TheVariants.{Notified}
+use Rattle.record_print.specs.Lengths.{name_lengths, time_length, header_length, part_length, width_length, piece_length, pieces_length, IsTimed, with_event_time, HasParts, HasNames, HasNotifiedParts}
 use Rattle.record_print.proofs.LineLaws.{length-printed_record, printed_freely}
 use Rattle.record_print.proofs.SheetLaws.{length-fitted}
 
@@ -96,36 +98,36 @@ length-hex_bytes [] = refl
 length-hex_bytes (byte ∷ bytes) = let rest = length-hex_bytes bytes in omega arith
 
 event_counted : (half : Bool) (part : TimePart) (header : Header) → ((time : ℕ) → event_time header ≡ Some time → time ≤ 2 ^ 63)
-    → length (option_map_or (λ time. time_text half time part) (event_time header) []) ≡ header_length header (Time Event part)
+    → length (option_map_or (λ time. time_text half time part) (event_time header) []) ≡ header_length (name_lengths header) (Time Event part)
 event_counted half part (Ntf id event_type object notifier class time) low = time_long half (unsigned_abs time) (low (unsigned_abs time) refl) part
 event_counted half part (Generic class user severity) low = refl
 
-id_counted : (header : Header) → length (id_text header) ≡ header_length header NotificationId
+id_counted : (header : Header) → length (id_text header) ≡ header_length (name_lengths header) NotificationId
 id_counted (Ntf id event_type object notifier class time) = length-led_digits (codes "0x") 16 id
 id_counted (Generic class user severity) = refl
 
-event_type_counted : (header : Header) → length (event_type_text header) ≡ header_length header EventType
+event_type_counted : (header : Header) → length (event_type_text header) ≡ header_length (name_lengths header) EventType
 event_type_counted (Ntf id event_type object notifier class time) = length-led_digits (codes "0x") 4 event_type
 event_type_counted (Generic class user severity) = refl
 
-object_counted : (header : Header) → length (object_text header) ≡ header_length header Object
+object_counted : (header : Header) → length (object_text header) ≡ header_length (name_lengths header) Object
 object_counted (Ntf id event_type object notifier class time) = length-map object _
 object_counted (Generic class user severity) = refl
 
-notifier_counted : (header : Header) → length (notifier_text header) ≡ header_length header Notifier
+notifier_counted : (header : Header) → length (notifier_text header) ≡ header_length (name_lengths header) Notifier
 notifier_counted (Ntf id event_type object notifier class time) = length-map notifier _
 notifier_counted (Generic class user severity) = refl
 
-user_counted : (header : Header) → length (user_text header) ≡ header_length header User
+user_counted : (header : Header) → length (user_text header) ≡ header_length (name_lengths header) User
 user_counted (Ntf id event_type object notifier class time) = refl
 user_counted (Generic class user severity) = length-map user _
 
-severity_counted : (header : Header) → has_codes header ≡ true → length (severity_text header) ≡ header_length header Severity
+severity_counted : (header : Header) → has_codes header ≡ true → length (severity_text header) ≡ header_length (name_lengths header) Severity
 severity_counted (Ntf id event_type object notifier class time) codes_are = refl
 severity_counted (Generic class user severity) codes_are = severity_name_long severity (let low = leb-true severity 6 codes_are in omega arith)
 
 token_counted : (half : Moment → Bool) (number mark : ℕ) (rec : LogRecord) → number < 2 ^ 32 → IsTimed rec → has_codes rec.header ≡ true → (width : Option ℕ) (part : Part)
-    → length (in_places (is_number part) width (part_text half number mark rec part)) ≡ width_length width (part_length rec.header rec.body part)
+    → length (in_places (is_number part) width (part_text half number mark rec part)) ≡ width_length width (part_length (name_lengths rec.header) rec.body part)
 token_counted half number mark rec low timed codes_are (Some width) part = length-fitted width (part_text half number mark rec part)
 token_counted half number mark rec low timed codes_are None Number = number_long number low
 token_counted half number mark rec low timed codes_are None (Time Record part) = time_long (half Record) (unsigned_abs rec.time) (timed Record (unsigned_abs rec.time) refl) part
@@ -142,15 +144,15 @@ token_counted half number mark rec low timed codes_are None User = user_counted 
 token_counted half number mark rec low timed codes_are None Severity = severity_counted rec.header codes_are
 
 pub pieces_counted : (half : Moment → Bool) (number mark : ℕ) (rec : LogRecord) → number < 2 ^ 32 → IsTimed rec → has_codes rec.header ≡ true → (pieces : List Piece)
-    → length (pieces_text half number mark rec pieces) ≡ pieces_length rec.header rec.body pieces
+    → length (pieces_text half number mark rec pieces) ≡ pieces_length (name_lengths rec.header) rec.body pieces
 pieces_counted half number mark rec low timed codes_are [] = refl
 pieces_counted half number mark rec low timed codes_are (piece ∷ pieces) =
     length-append (piece_text half number mark rec piece) (pieces_text half number mark rec pieces)
     ∙ ap (λ n. n + length (pieces_text half number mark rec pieces)) (piece_counted piece)
-    ∙ ap (λ n. piece_length rec.header rec.body piece + n) (pieces_counted half number mark rec low timed codes_are pieces)
-    ∙ sym (sum_by-cons (piece_length rec.header rec.body) piece pieces)
+    ∙ ap (λ n. piece_length (name_lengths rec.header) rec.body piece + n) (pieces_counted half number mark rec low timed codes_are pieces)
+    ∙ sym (sum_by-cons (piece_length (name_lengths rec.header) rec.body) piece pieces)
   where
-    piece_counted : (piece : Piece) → length (piece_text half number mark rec piece) ≡ piece_length rec.header rec.body piece
+    piece_counted : (piece : Piece) → length (piece_text half number mark rec piece) ≡ piece_length (name_lengths rec.header) rec.body piece
     piece_counted (Plain text) = refl
     piece_counted (Field token) = token_counted half number mark rec low timed codes_are token.width token.part
 
@@ -159,53 +161,40 @@ codes-of rec can = (and_parts (not (is_negative rec.time)) (has_codes rec.header
 
 -- with size 0 a printed record has the bytes that were counted
 pub needed_freely : (pieces : List Piece) (number : ℕ) (rec : LogRecord) → number < 2 ^ 32 → IsTimed rec → can_print rec ≡ true
-    → printed_record pieces number rec 0 ≡ printed_record pieces number rec (min (pieces_length rec.header rec.body pieces) 16383 + 1)
+    → printed_record pieces number rec 0 ≡ printed_record pieces number rec (min (pieces_length (name_lengths rec.header) rec.body pieces) 16383 + 1)
 needed_freely pieces number rec low timed can =
-    printed_freely pieces number rec (min (pieces_length rec.header rec.body pieces) 16383 + 1)
+    printed_freely pieces number rec (min (pieces_length (name_lengths rec.header) rec.body pieces) 16383 + 1)
     (ap (λ long. min long 16383 + 1) (sym (pieces_counted (has_half pieces) number 67 rec low timed (codes-of rec can) pieces)))
 
 pub length-freely : (pieces : List Piece) (number : ℕ) (rec : LogRecord) → number < 2 ^ 32 → IsTimed rec → can_print rec ≡ true
-    → length (printed_record pieces number rec 0) ≡ min (pieces_length rec.header rec.body pieces) 16383 + 1
+    → length (printed_record pieces number rec 0) ≡ min (pieces_length (name_lengths rec.header) rec.body pieces) 16383 + 1
 length-freely pieces number rec low timed can =
-    ap length (needed_freely pieces number rec low timed can) ∙ length-printed_record pieces number rec (min (pieces_length rec.header rec.body pieces) 16383 + 1) (omega arith)
+    ap length (needed_freely pieces number rec low timed can) ∙ length-printed_record pieces number rec (min (pieces_length (name_lengths rec.header) rec.body pieces) 16383 + 1) (omega arith)
+
+-- of a record whose names have these lengths, and a body
+length-named : (pieces : List Piece) (number : ℕ) (names : NameLengths) (body : List ℕ) (rec : LogRecord) → number < 2 ^ 32 → IsTimed rec → can_print rec ≡ true
+    → name_lengths rec.header ≡ names → rec.body ≡ body → length (printed_record pieces number rec 0) ≡ min (pieces_length names body pieces) 16383 + 1
+length-named pieces number names body rec low timed can names_are body_is =
+    length-freely pieces number rec low timed can
+    ∙ ap (λ n. min (pieces_length n rec.body pieces) 16383 + 1) names_are
+    ∙ ap (λ b. min (pieces_length names b pieces) 16383 + 1) body_is
 
 -- the time of an event does not count
-header-timed : (event : ℤ) (header : Header) (part : Part) → header_length (with_event_time event header) part ≡ header_length header part
-header-timed event (Ntf id event_type object notifier class time) part = refl
-header-timed event (Generic class user severity) part = refl
+names-timed : (event : ℤ) (header : Header) → name_lengths (with_event_time event header) ≡ name_lengths header
+names-timed event (Ntf id event_type object notifier class time) = refl
+names-timed event (Generic class user severity) = refl
 
-part-timed : (event : ℤ) (header : Header) (body : List ℕ) (part : Part) → part_length (with_event_time event header) body part ≡ part_length header body part
-part-timed event header body Number = refl
-part-timed event header body (Time Record part) = refl
-part-timed event header body (Time Event part) = header-timed event header (Time Event part)
-part-timed event header body Class = refl
-part-timed event header body Cut = refl
-part-timed event header body Body = refl
-part-timed event header body BodyBytes = refl
-part-timed event header body NotificationId = header-timed event header NotificationId
-part-timed event header body EventType = header-timed event header EventType
-part-timed event header body Object = header-timed event header Object
-part-timed event header body Notifier = header-timed event header Notifier
-part-timed event header body User = header-timed event header User
-part-timed event header body Severity = header-timed event header Severity
-
-pieces-timed : (event : ℤ) (header : Header) (body : List ℕ) (pieces : List Piece) → pieces_length (with_event_time event header) body pieces ≡ pieces_length header body pieces
-pieces-timed event header body [] = refl
-pieces-timed event header body (piece ∷ pieces) =
-    sum_by-cons (piece_length (with_event_time event header) body) piece pieces
-    ∙ ap (λ n. n + pieces_length (with_event_time event header) body pieces) (piece-timed piece)
-    ∙ ap (λ n. piece_length header body piece + n) (pieces-timed event header body pieces)
-    ∙ sym (sum_by-cons (piece_length header body) piece pieces)
-  where
-    piece-timed : (piece : Piece) → piece_length (with_event_time event header) body piece ≡ piece_length header body piece
-    piece-timed (Plain text) = refl
-    piece-timed (Field token) = ap (width_length token.width) (part-timed event header body token.part)
-
--- of a record with a header, but for the time of its event, and a body
 pub length-parts : (pieces : List Piece) (number : ℕ) (header : Header) (body : List ℕ) (rec : LogRecord) → number < 2 ^ 32 → HasParts header body rec
-    → length (printed_record pieces number rec 0) ≡ min (pieces_length header body pieces) 16383 + 1
+    → length (printed_record pieces number rec 0) ≡ min (pieces_length (name_lengths header) body pieces) 16383 + 1
 length-parts pieces number header body rec low has =
-    length-freely pieces number rec low has.timed has.printable
-    ∙ ap (λ h. min (pieces_length h rec.body pieces) 16383 + 1) has.header_is
-    ∙ ap (λ b. min (pieces_length (with_event_time has.event header) b pieces) 16383 + 1) has.body_is
-    ∙ ap (λ n. min n 16383 + 1) (pieces-timed has.event header body pieces)
+    length-named pieces number (name_lengths header) body rec low has.timed has.printable (ap name_lengths has.header_is ∙ names-timed has.event header) has.body_is
+
+-- nor does anything but its names of a notification's header
+names-notified : (object notifier : List ℕ) (header : Header) → HasNames object notifier header → name_lengths header ≡ Notified (length object) (length notifier)
+names-notified object notifier (Ntf id event_type one other class time) has = ap (λ n. Notified (length n) (length other)) has.0 ∙ ap (λ n. Notified (length object) (length n)) has.1
+names-notified object notifier (Generic class user severity) has = absurd has
+
+pub length-notified : (pieces : List Piece) (number : ℕ) (object notifier body : List ℕ) (rec : LogRecord) → number < 2 ^ 32 → HasNotifiedParts object notifier body rec
+    → length (printed_record pieces number rec 0) ≡ min (pieces_length (Notified (length object) (length notifier)) body pieces) 16383 + 1
+length-notified pieces number object notifier body rec low has =
+    length-named pieces number (Notified (length object) (length notifier)) body rec low has.timed has.printable (names-notified object notifier rec.header has.names) has.body_is

@@ -14,7 +14,14 @@ use Rattle.format_expr.specs.declared.piece.Piece.TheVariants.{Plain, Field}
 use Rattle.record_print.specs.declared.record.Header.{Header}
 use Rattle.record_print.specs.declared.record.Header.TheVariants.{Ntf, Generic}
 use Rattle.record_print.specs.declared.record.LogRecord.{LogRecord}
+use Rattle.record_print.specs.declared.length.NameLengths.{NameLengths}
+use Rattle.record_print.specs.declared.length.NameLengths.TheVariants.{Notified, Written}
 use Rattle.record_print.specs.Printing.{time_of, can_print, printed_record}
+
+-- how many bytes the names of a header have
+abbrev pub name_lengths : Header → NameLengths
+name_lengths (Ntf id event_type object notifier class time) = Notified (length object) (length notifier)
+name_lengths (Generic class user severity) = Written (length user)
 
 -- how many bytes are shown of a time
 abbrev pub time_length : TimePart → ℕ
@@ -31,49 +38,49 @@ time_length ShortYear = 2
 time_length Year = 4
 
 -- of what a token shows of a notification's header, and of a generic one; a token of the other kind shows nothing
-abbrev pub ntf_length : (object notifier : List ℕ) → Part → ℕ
+abbrev pub ntf_length : (object notifier : ℕ) → Part → ℕ
 ntf_length object notifier (Time moment part) = time_length part
 ntf_length object notifier NotificationId = 18
 ntf_length object notifier EventType = 6
-ntf_length object notifier Object = length object
-ntf_length object notifier Notifier = length notifier
+ntf_length object notifier Object = object
+ntf_length object notifier Notifier = notifier
 ntf_length object notifier _ = 0
 
-abbrev pub generic_length : (user : List ℕ) → Part → ℕ
-generic_length user User = length user
+abbrev pub generic_length : (user : ℕ) → Part → ℕ
+generic_length user User = user
 generic_length user Severity = 2
 generic_length user _ = 0
 
-abbrev pub header_length : Header → Part → ℕ
-header_length (Ntf id event_type object notifier class time) part = ntf_length object notifier part
-header_length (Generic class user severity) part = generic_length user part
+abbrev pub header_length : NameLengths → Part → ℕ
+header_length (Notified object notifier) part = ntf_length object notifier part
+header_length (Written user) part = generic_length user part
 
 -- of a token without its width; a number has ten places
-abbrev pub part_length : Header → (body : List ℕ) → Part → ℕ
-part_length header body Number = 10
-part_length header body (Time Record part) = time_length part
-part_length header body (Time Event part) = header_length header (Time Event part)
-part_length header body ClassId = 29
-part_length header body Cut = 1
-part_length header body Body = length body
-part_length header body BodyBytes = 2 * length body
-part_length header body NotificationId = header_length header NotificationId
-part_length header body EventType = header_length header EventType
-part_length header body Object = header_length header Object
-part_length header body Notifier = header_length header Notifier
-part_length header body User = header_length header User
-part_length header body Severity = header_length header Severity
+abbrev pub part_length : NameLengths → (body : List ℕ) → Part → ℕ
+part_length names body Number = 10
+part_length names body (Time Record part) = time_length part
+part_length names body (Time Event part) = header_length names (Time Event part)
+part_length names body ClassId = 29
+part_length names body Cut = 1
+part_length names body Body = length body
+part_length names body BodyBytes = 2 * length body
+part_length names body NotificationId = header_length names NotificationId
+part_length names body EventType = header_length names EventType
+part_length names body Object = header_length names Object
+part_length names body Notifier = header_length names Notifier
+part_length names body User = header_length names User
+part_length names body Severity = header_length names Severity
 
 abbrev pub width_length : Option ℕ → ℕ → ℕ
 width_length None long = long
 width_length (Some width) long = width
 
-abbrev pub piece_length : Header → (body : List ℕ) → Piece → ℕ
-piece_length header body (Plain text) = length text
-piece_length header body (Field token) = width_length token.width (part_length header body token.part)
+abbrev pub piece_length : NameLengths → (body : List ℕ) → Piece → ℕ
+piece_length names body (Plain text) = length text
+piece_length names body (Field token) = width_length token.width (part_length names body token.part)
 
-abbrev pub pieces_length : Header → (body : List ℕ) → List Piece → ℕ
-pieces_length header body pieces = sum_by (piece_length header body) pieces
+abbrev pub pieces_length : NameLengths → (body : List ℕ) → List Piece → ℕ
+pieces_length names body pieces = sum_by (piece_length names body) pieces
 
 -- each time of the record is one that there is
 abbrev pub IsTimed : LogRecord → Type 0
@@ -93,6 +100,18 @@ with_event_time other (Generic class user severity) = Generic class user severit
 pub record HasParts (header : Header) (body : List ℕ) (rec : LogRecord) : Type 0 where
   pub event : ℤ
   pub header_is : rec.header ≡ with_event_time event header
+  pub body_is : rec.body ≡ body
+  pub printable : IsTrue (can_print rec)
+  pub timed : IsTimed rec
+
+-- the header of a notification with these names
+abbrev pub HasNames : (object notifier : List ℕ) → Header → Type 0
+HasNames object notifier (Ntf id event_type one other class time) = (one ≡ object) × (other ≡ notifier)
+HasNames object notifier (Generic class user severity) = ⊥
+
+-- the record of a notification with these names and this body, that can be printed
+pub record HasNotifiedParts (object notifier body : List ℕ) (rec : LogRecord) : Type 0 where
+  pub names : HasNames object notifier rec.header
   pub body_is : rec.body ≡ body
   pub printable : IsTrue (can_print rec)
   pub timed : IsTimed rec
