@@ -106,11 +106,11 @@ printable kind time header body now from can =
     ap (λ b. not b && has_codes (filled_header header now)) (filled-time time now from both.0) ∙ filled-codes kind header now from both.1
 
 -- the record of a write has its header, but for the time of its event, and its body
-time-low : (z : ℤ) → SFits w64 z → unsigned_abs z ≤ 2 ^ 63
+pub time-low : (z : ℤ) → SFits w64 z → unsigned_abs z ≤ 2 ^ 63
 time-low (pos n) fits = let low = fits.sfits in omega (arith, low)
 time-low (negsuc n) fits = let low = fits.sfits in omega (arith, low)
 
-filled-low : (time now : ℤ) → unsigned_abs time ≤ 2 ^ 63 → unsigned_abs now ≤ 2 ^ 63 → unsigned_abs (filled_time time now) ≤ 2 ^ 63
+pub filled-low : (time now : ℤ) → unsigned_abs time ≤ 2 ^ 63 → unsigned_abs now ≤ 2 ^ 63 → unsigned_abs (filled_time time now) ≤ 2 ^ 63
 filled-low time now low low' = by_case (int_eq time unknown_time) where
   by_case : (b : Bool) → unsigned_abs (cond b now time) ≤ 2 ^ 63
   by_case true = low'

@@ -8,7 +8,7 @@ ghost use Rattle.stream_config.specs.AttributeTests.{have_one_place};
 ghost use Rattle.stream_config.specs.Equality.{same_attrs};
 ghost use Rattle.record_print.specs.Printing.{can_print};
 ghost use Rattle.stream_config.specs.Events.{current_file};
-ghost use Rattle.record_print.specs.Lengths.{HasParts};
+ghost use Rattle.record_print.specs.Lengths.{HasParts, HasNotifiedParts};
 ghost use Rattle.record_print.specs.declared.record.LogRecord.{LogRecord as RecordOf};
 ghost use Rattle.log_history.specs.Answers.{lacks_room};
 ghost use Rattle.log_history.specs.Table.{OpenStream, is_named, with_mark, without_opener, has_nobody, new_state, length_in, storing};
@@ -19,10 +19,12 @@ ghost use Rattle.log_service.specs.State.{made_event};
 ghost use Rattle.log_service.specs.Planning.{with_openers, with_files};
 
 use crate::files::{due_stamps, files_stored, last_after, opened_after};
-use ais_values::{Duplicate, Seq, Text};
+use ais_values::{Duplicate, Name, Seq, Text};
 use client_set::ClientSet;
 use format_expr::{Expr, ExprAnswer, parse_expr};
-use record_print::{Header, LogRecord, parts_length, print_record, printed_length};
+use record_print::{
+    Header, LogRecord, notified_length, parts_length, print_record, printed_length,
+};
 use std::alloc::{AllocError, Global};
 use std::marker::Model;
 use stream_config::{
@@ -217,6 +219,19 @@ impl LiveStream {
     {
         match self.state.attrs.record_size {
             0 => parts_length(&self.expr, header, body),
+            size => size,
+        }
+    }
+
+    /// How many bytes the record of a notification with these names and this body takes that is stored next, whichever
+    /// its times and the rest of its header are.
+    pub(crate) fn length_of_notified(&self, object: &Name, notifier: &Name, body: &Text) -> u32
+        requires { self.now.state.taken < 4294967294 }
+        ensures { (rec : RecordOf) → HasNotifiedParts object.now notifier.now body.now rec
+            → result ≡ length_in self.now.state rec }
+    {
+        match self.state.attrs.record_size {
+            0 => notified_length(&self.expr, object, notifier, body),
             size => size,
         }
     }

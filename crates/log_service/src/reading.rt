@@ -1,11 +1,16 @@
-//! What stands in the state.
+//! What stands in the state, and what the storing of a record would be answered.
 ghost use Rattle.std.specs.Prelude.{◌≡◌, ◌↔◌, pos, length, IsTrue, slice_get, option_map};
 ghost use Rattle.std.specs.Option.{option_copied};
+ghost use Rattle.record_print.specs.Lengths.{HasNotifiedParts};
+ghost use Rattle.record_print.specs.declared.record.LogRecord.{LogRecord as RecordOf};
+ghost use Rattle.log_history.specs.KeptAnswers.{is_filled, store_status};
 ghost use Rattle.log_history.specs.Table.{OpenStream};
-ghost use Rattle.log_service.specs.State.{IsCallTime, HasNumberLeft};
+ghost use Rattle.log_service.specs.State.{IsCallTime, HasNumberLeft, stream_of_kind};
 
+use crate::records::stream_of_kind;
 use crate::state::LogState;
 use crate::streams;
+use ais_values::{Name, Status, StreamKind, Text};
 use stream_config::{Mark, StreamName, StreamState};
 
 impl LogState {
@@ -25,6 +30,45 @@ impl LogState {
         match streams::stream_of(self.streams.as_slice(), name) {
             Some(stream) => stream.state().taken < 4_294_967_294,
             None => true,
+        }
+    }
+
+    /// Whether the record of a notification with these names and this body does not fit the stream of this name.
+    fn is_full_of_notified(
+        &self,
+        name: &StreamName,
+        object: &Name,
+        notifier: &Name,
+        body: &Text,
+    ) -> bool
+        requires { HasNumberLeft self.now.table name.now }
+        ensures { (rec : RecordOf) → HasNotifiedParts object.now notifier.now body.now rec
+            → result ≡ is_filled self.now.table.streams name.now rec }
+    {
+        match streams::stream_of(self.streams.as_slice(), name) {
+            Some(stream) => stream.lacks_room(stream.length_of_notified(object, notifier, body)),
+            None => false,
+        }
+    }
+
+    /// What `store` answers to the record of a notification of this kind with these names and this body, whichever its
+    /// times and the rest of its header are: `NoSpace` exactly where it does not fit, and else ok. It takes no memory.
+    pub fn store_answer(
+        &self,
+        kind: StreamKind,
+        object: &Name,
+        notifier: &Name,
+        body: &Text,
+    ) -> Status
+        requires { HasNumberLeft self.now.table (stream_of_kind kind) }
+        ensures { (rec : RecordOf) → HasNotifiedParts object.now notifier.now body.now rec
+            → result ≡ store_status self.now.table (stream_of_kind kind) rec }
+    {
+        let name = stream_of_kind(kind);
+        if self.is_full_of_notified(&name, object, notifier, body) {
+            Status::NoSpace
+        } else {
+            Status::Ok
         }
     }
 
