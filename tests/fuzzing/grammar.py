@@ -247,6 +247,7 @@ TIMED = Chain(b"time ", Noted(b"time", MOMENT))
 OTHERS = [
     Chain(b"log ", CLIENT, b" ", OneOf(
         Chain(b"init ", VERSION), Chain(b"open ", STREAM, CREATE), Chain(b"close ", STREAM), b"fini",
+        Chain(b"filter ", STREAM, b" mask=", Number(0, 2**32 - 1, (0, 1, 8, 62, 64, 126, 127, 127, 128))),
         Chain(b"write ", STREAM, b" inv=", U64, b" flags=", Number(0, 2**32 - 1, (0, 1, 1, 2)), Maybe(b" time=", TIME), b" ", HEADER, b" body=",
               TEXT))),
     Chain(b"ntf ", CLIENT, b" ", OneOf(

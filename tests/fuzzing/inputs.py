@@ -34,9 +34,13 @@ USUAL = [b'log 1 write system inv=1 flags=1 gen sev=6 class=0.0.0 user="u" body=
          b'log 1 open app:"w" create file="f" path="web" max=64 rec=32 ha=0 full=wrap rot=2', b'log 1 close app:"w"', b"log 1 open alarm",
          b'log 1 write app:"w" inv=1 flags=1 gen sev=6 class=0.0.0 user="u" body="x"', b"ntf 1 subscribe 9 filter alarm filter security",
          b'log 1 write alarm inv=1 flags=0 ntfh id=1 type=0x4001 obj="o" by="b" class=0.0.0 body="x"',
-         b'cat "web/f.cfg"', b'cat "saLogSystem_20240101_000002.log"', b'cat "web"'] + [
+         b'cat "web/f.cfg"', b'cat "saLogSystem_20240101_000002.log"', b'cat "web"', b"log 1 filter system mask=8"] + [
              b"ntf 1 reader mode=%d value=%d filter alarm%s" % (mode, value, more) for mode in range(1, 8) for value in (3, 4)
              for more in (b"", b" filter security")]
+# Masks of streams, set and seen by two clients.
+MASKED = [b"log %d filter system mask=%d" % pair for pair in ((1, 8), (1, 64), (2, 63), (2, 127), (2, 128))] + [
+    b'log 2 filter app:"w" mask=62', b'log 1 filter app:"\\x77" mask=127', b"log 1 filter alarm mask=1", b"log 2 init A.2.1", b"log 2 open system",
+    b'log 2 write system inv=5 flags=1 gen sev=3 class=0.0.0 user="u" body="y"', b"settle", b"settle", b"dispatch 1 one", b"dispatch 2 all workers=2"]
 TOP = os.path.dirname(os.path.dirname(os.path.dirname(os.path.abspath(__file__))))
 
 
@@ -60,7 +64,7 @@ class Inputs:
 
     def made(self, rng):
         """Lines made from the grammar, most of which it takes: what they begin with lets calls do something."""
-        usual, begins = (USUAL, BEGINS) if rng.random() < 0.75 else (USUAL + LONG * 12, UNSIZED)
+        usual, begins = rng.choice([(USUAL, BEGINS)] * 3 + [(USUAL + LONG * 12, UNSIZED), (USUAL + MASKED * 12, BEGINS)])
         lines = [CLUSTER.make(rng)] if rng.random() < 0.3 else [
             b"cluster start=1704067200000000000 queue=%d callbacks=%d" % (rng.choice([1, 2, 16]), rng.choice([1, 8, 64])) + rng.choice(begins)]
         if rng.random() < 0.9:

@@ -6,6 +6,7 @@ from grammar import quote, unescape
 from rules import has_good_sizes, read_expression
 
 UNKNOWN = -(2**63)
+UNSET = 0, 127  # the mark of a stream whose mask nothing set: of which entry the mask is, and the mask
 TYPES = {b"objects": (0x1001, 0x1002), b"attributes": (0x2001, 0x2002, 0x2003, 0x2004), b"states": (0x3001,),
          b"alarm": (0x4001, 0x4002, 0x4003, 0x4004, 0x4005), b"security": (0x5001, 0x5002, 0x5003, 0x5004, 0x5005)}
 CODES = {b"objects": 0x1000, b"attributes": 0x2000, b"states": 0x3000, b"alarm": 0x4000, b"security": 0x5000}
@@ -190,11 +191,11 @@ def stamp_text(second):
 
 
 class Stream:
-    """A stream: its attributes, who has it open, the lengths of its records, and of its files that stand, oldest first, the first record
-    and the name once it was closed."""
+    """A stream: its attributes, who has it open, its mask behind the entry that set it, the lengths of its records, and of its files that
+    stand, oldest first, the first record and the name once it was closed."""
 
-    def __init__(self, name, kind, attrs, created):
-        self.name, self.kind, self.attrs, self.openers = name, kind, attrs, set()
+    def __init__(self, name, kind, attrs, created, entry):
+        self.name, self.kind, self.attrs, self.openers, self.mark = name, kind, attrs, set(), (entry, 127)
         self.lengths, self.created, self.firsts, self.rounds = [], created, [0], []
 
     @property
@@ -255,7 +256,7 @@ class Service:
         self.log_users, self.ntf_users, self.subs, self.readers = set(), set(), {}, {}
         self.calls, self.last_id, self.alarms, self.deeds = {}, 0, [], []
         for kind, attrs in wells:
-            self.make(kind, kind, attrs, start)
+            self.make(kind, kind, attrs, start, UNSET[0])
         self.opening, self.deeds = self.deeds, []
 
     def stamp(self, time):
@@ -265,8 +266,8 @@ class Service:
 
     # Deeds, each with the number of its device calls.
 
-    def make(self, name, kind, attrs, time):
-        stream = Stream(name, kind, attrs, self.stamp(time))
+    def make(self, name, kind, attrs, time, entry):
+        stream = Stream(name, kind, attrs, self.stamp(time), entry)
         self.streams.append(stream)
         self.deeds += [(3, "put") + stream.cfg(), (1, "put", stream.file_name(stream.created), b"")]
         return stream
@@ -299,16 +300,19 @@ class Service:
 
     # Calls, by their rows.
 
-    def apply(self, client, call, time):
-        """The reply to a client's next call: a status, or what it found."""
+    def apply(self, client, call, time, entry):
+        """The reply to a client's next call, which is this entry: its text, and the mark of the stream that an ok call opens, writes to
+        or filters."""
         self.calls.setdefault(client, []).append(None)
         number = len(self.calls[client])
         self.deeds = []
-        reply = self.log_call(client, call[2:], time) if call[0] == b"log" else self.ntf_call(client, call[2:], time, number)
+        text = self.log_call(client, call[2:], time, entry) if call[0] == b"log" else self.ntf_call(client, call[2:], time, number)
+        marks = call[0] == b"log" and call[2] in (b"open", b"write", b"filter") and text.startswith(b"ok")
+        reply = text, self.stream(call[3]).mark if marks else None
         self.calls[client][-1] = reply
         return reply, self.deeds
 
-    def log_call(self, client, words, time):
+    def log_call(self, client, words, time, entry):
         if words[0] == b"init":
             if client in self.log_users:
                 return b"NO_RESOURCES"
@@ -323,12 +327,14 @@ class Service:
             return b"ok"
         stream = self.stream(words[1])
         if words[0] == b"open":
-            return self.open(client, words, stream, time)
+            return self.open(client, words, stream, time, entry)
         if stream is None or client not in stream.openers:
             return b"BAD_HANDLE"
         if words[0] == b"close":
             self.leave(stream, client, time)
             return b"ok"
+        if words[0] == b"filter":
+            return self.filter(stream, int(options(words)[b"mask"]), entry)
         return self.write(stream, words[2:], time)
 
     def leave(self, stream, client, time):
@@ -337,7 +343,14 @@ class Service:
             if stream.kind == b"application" and not stream.openers:
                 self.end(stream, time)
 
-    def open(self, client, words, stream, time):
+    @staticmethod
+    def filter(stream, mask, entry):
+        if stream.kind in (b"alarm", b"notification") or mask > 127:
+            return b"INVALID_PARAM"
+        stream.mark = (entry, mask)
+        return b"ok"
+
+    def open(self, client, words, stream, time, entry):
         if len(words) > 2:
             found = options(words)
             attrs = {"file": unquoted(found[b"file"]), "path": unquoted(found[b"path"]), "max": int(found[b"max"]), "rec": int(found[b"rec"]),
@@ -352,7 +365,7 @@ class Service:
                     return b"EXIST"
                 if len(self.streams) == 67:
                     return b"NO_RESOURCES"
-                stream = self.make(unquoted(words[1][4:]), b"application", attrs, time)
+                stream = self.make(unquoted(words[1][4:]), b"application", attrs, time, entry)
         if stream is None:
             return b"NOT_EXIST"
         stream.openers.add(client)
@@ -375,6 +388,8 @@ class Service:
         if generic != wants or not is_time(when) or generic and header["sev"] > 6 or not generic and (
                 not is_time(event) or not any(header["type"] in types for types in TYPES.values())):
             return b"INVALID_PARAM"
+        if generic and not stream.mark[1] & 1 << header["sev"]:
+            return b"ok filtered"
         record = {"time": time if when == UNKNOWN else when, "header": header, "body": unquoted(found[b"body"])}
         if stream.refuses(record):
             return b"NO_SPACE"

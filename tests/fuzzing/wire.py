@@ -128,13 +128,14 @@ STREAM = Cases((), (), (), (NAME,))
 ATTRS = Parts(TEXT, TEXT, U64, U32, U8, Code(1, 2, 3), U32, TEXT)
 HEADER = Cases((U64, U16, NAME, NAME, CLASS, I64), (CLASS, NAME, U16))
 CALL = Cases((), (STREAM, maybe(ATTRS)), (STREAM, U64, U32, I64, HEADER, TEXT), (STREAM,), (), (), (NOTE,), (U32, FILTERS), (U32,),
-             (U32, I64, FILTERS), (U32,), (), ())
-REPLY = Cases((STATUS,), (), (U64,), (NOTE,))
+             (U32, I64, FILTERS), (U32,), (), (), (STREAM, U32))
+MARK = Parts(U64, U32)
+REPLY = Cases((STATUS,), (), (U64,), (NOTE,), (FLAG, MARK))
 ENTRY = Cases((CLIENT, COUNT, I64, CALL), (CLIENT, COUNT, COUNT, I64))
 LOST = Many(Parts(U16, U64))
 CONTENT = Cases((NOTE,), (LOST,))
 STATE = Parts(STREAM, ATTRS, U32, U32, Many(Parts(I64, maybe(I64), U32, U64)))
-SAVED = Parts(U64, I64, U64, U32, Many(U16), Many(U16), Many(Parts(CLIENT, COUNT, Many(REPLY))), Many(Parts(STATE, Many(U16))),
+SAVED = Parts(U64, I64, U64, U32, Many(U16), Many(U16), Many(Parts(CLIENT, COUNT, Many(REPLY))), Many(Parts(STATE, Many(U16), MARK)),
               Many(Parts(U32, NOTE)), Many(Parts(CLIENT, COUNT, U32, FILTERS, U32, Many(CONTENT), LOST)),
               Many(Parts(CLIENT, FILTERS, I64, U64, FLAG)))
 MESSAGE = Cases((CLIENT, COUNT, CALL), (CLIENT, COUNT, REPLY), (CLIENT, COUNT, COUNT, CONTENT), (CLIENT, COUNT, COUNT), (U64, ENTRY), (U64,), (SAVED,),

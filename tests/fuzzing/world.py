@@ -2,17 +2,17 @@
 import re
 
 from grammar import quote, unescape
-from plain import COMMON, SYSTEM, Service, options, unquoted, words_of
+from plain import COMMON, SYSTEM, UNSET, Service, options, unquoted, words_of
 import wire
 
 OTHER = {b"a": b"b", b"b": b"a"}
 
 
 class Agent:
-    """A client's agent: what it sent, what it waits for, what it was fed."""
+    """A client's agent: what it sent, what it waits for, what it was fed, and the last mark that it saw of each stream."""
 
     def __init__(self):
-        self.calls, self.waiting, self.living, self.fed, self.given = [], {}, {}, [], 0
+        self.calls, self.waiting, self.living, self.fed, self.given, self.marks = [], {}, {}, [], 0, {}
         self.using = {b"log": False, b"ntf": False}
 
     def is_full(self, places):
@@ -167,7 +167,8 @@ class World:
             self.tell(b"acc", len(self.history), b"rcpt", *entry["rcpt"], entry["time"])
         else:
             client, number = entry["call"]
-            reply, self.hand["deeds"] = self.service.apply(client, self.agents[client].calls[number - 1], entry["time"])
+            call = self.agents[client].calls[number - 1]
+            reply, self.hand["deeds"] = self.service.apply(client, call, entry["time"], len(self.history))
             self.hand["reply"] = ("rep", client, number, reply)
             self.tell(b"acc", len(self.history), b"call", client, number, entry["time"])
         self.hand["state"] = state
@@ -229,20 +230,7 @@ class World:
         """What a client's agent says of a reply or an item: why it has no effect, or none."""
         client, agent = message[1], self.agents[message[1]]
         if message[0] == "rep":
-            number, reply = message[2:]
-            call = agent.waiting.get(number)
-            if call is None:
-                return b"answered"
-            asks = call[2] == b"write" and int(options(call)[b"flags"]) == 1
-            if asks and agent.is_full(self.places):
-                return b"left"
-            del agent.waiting[number]
-            self.tell(b"reply", client, number, reply)
-            if call[2] == b"subscribe" and reply != b"ok":
-                agent.living.pop(number, None)
-            if asks:
-                agent.fed.append([b"write %d %s" % (int(options(call)[b"inv"]), reply)])
-            return None
+            return self.take_reply(client, agent, *message[2:])
         key, number, content = message[2:]
         sub = agent.living.get(key)
         if sub is None:
@@ -254,6 +242,29 @@ class World:
         sub["next"] += 1
         agent.fed.append(callbacks_of(sub["id"], content))
         self.post(("rcpt", client, key, number))
+        return None
+
+    def take_reply(self, client, agent, number, reply):
+        """Why a reply has no effect, or none. It gives one callback at most, of a mask that became another one, of a write, or of both."""
+        call, (text, mark) = agent.waiting.get(number), reply
+        if call is None:
+            return b"answered"
+        told = []
+        if mark:
+            name, (since, mask) = stream_name(call[3]), mark
+            seen = agent.marks.get(name, UNSET)
+            told += [b"filter %s mask=%d" % (name, mask)] if since > seen[0] and mask != seen[1] else []
+        if call[2] == b"write" and int(options(call)[b"flags"]) == 1:
+            told.append(b"write %d %s" % (int(options(call)[b"inv"]), text.split(b" ")[0]))
+        if told and agent.is_full(self.places):
+            return b"left"
+        del agent.waiting[number]
+        self.tell(b"reply", client, number, text)
+        if call[2] == b"subscribe" and text != b"ok":
+            agent.living.pop(number, None)
+        if mark and since > seen[0]:
+            agent.marks[name] = mark
+        agent.fed += [told] if told else []
         return None
 
     def ask(self, client, call):
@@ -390,6 +401,11 @@ def callbacks_of(number, content):
     kinds = sorted({(code, kind) for code, kind, _ in content[1]})
     return [b"lost %d %s count=%d ids=%s" % (number, kind, sum(one[0] == code for one in content[1]),
                                              b",".join(b"%d" % one[2] for one in content[1] if one[0] == code)) for code, kind in kinds]
+
+
+def stream_name(word):
+    """The name of a stream in the one spelling."""
+    return b"app:" + quote(unquoted(word[4:])) if word.startswith(b"app:") else word
 
 
 def spelled(line):
