@@ -47,6 +47,8 @@ pub enum Callback {
 pub enum Reply {
     Done,
     Sent { id: u64 },
+    /// An ok that tells the mark of its stream: the entry that set its mask, and the mask.
+    Marked { since: u64, mask: u32 },
 }
 
 // How messages are spelled.
@@ -121,6 +123,11 @@ pub fn reply_message(client: u16, seq: u32, reply: Reply) -> Vec<u8> {
         Reply::Sent { id } => {
             out.push(3);
             out.extend(id.to_be_bytes());
+        }
+        Reply::Marked { since, mask } => {
+            out.extend([5, 0]);
+            out.extend(since.to_be_bytes());
+            out.extend(mask.to_be_bytes());
         }
     }
     out

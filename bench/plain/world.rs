@@ -217,7 +217,7 @@ impl World {
         agent.kept.retain(|kept| kept.0 != seq);
         self.replies += 1;
         match reply {
-            Reply::Done => self.lines.tell(format_args!("reply {client} {seq} ok")),
+            Reply::Done | Reply::Marked { .. } => self.lines.tell(format_args!("reply {client} {seq} ok")),
             Reply::Sent { id } => self.lines.tell(format_args!("reply {client} {seq} ok id={id}")),
         }
         Ok(true)
