@@ -23,6 +23,7 @@ same_seen seen handed is = λ i. record {
   living = seen.living;
   queue = seen.queue;
   given = is i;
+  marks = seen.marks;
 }
 
 -- a refusal by what is lacked, or else by the window

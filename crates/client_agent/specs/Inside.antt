@@ -1,12 +1,16 @@
--- Words of bodies alone: how an agent keeps its calls, subscriptions and callbacks, the newest in front.
-use Rattle.std.specs.Prelude.{◌≡◌, ℕ, suc, ◌<◌, ◌≤◌, ◌==◌, ⊤, if◌then◌else◌, Option, Some, None, List, [], ◌∷◌, length, map, take, drop, reverse}
+-- Words of bodies alone: how an agent keeps its calls, subscriptions, callbacks and marks, the newest in front.
+use Rattle.std.specs.Prelude.{◌≡◌, ℕ, suc, ◌<◌, ◌≤◌, ◌==◌, ⊤, Bool, true, false, not, if◌then◌else◌, Option, Some, None, option_map, List, [], ◌∷◌, length, map, take, drop, reverse}
+use Rattle.stream_config.specs.Equality.{same_name}
 use Rattle.calls.specs.declared.call.Call.{Call}
 use Rattle.calls.specs.declared.reply.Callback.{Callback}
-use Rattle.cluster_facts.specs.Types.{Ask, Start, Other, Status, VersionRefused, BadHandle}
+use Rattle.cluster_facts.specs.Types.{Ask, Start, Other, Status, VersionRefused, BadHandle, Mark, StreamName}
+use Rattle.cluster_facts.specs.Lists.{without}
 use Rattle.callback_dispatch.specs.Seen.{QueueSeen, FeederSeen, TakerSeen, numbered}
-use Rattle.cluster_facts.specs.Agents.{Living, Agent, can_serve, service_of, has_handle}
+use Rattle.cluster_facts.specs.Agents.{Living, Agent, can_serve, service_of, has_handle, mark_of, is_later}
 use Rattle.client_agent.specs.declared.kept.Kept.{Kept}
 use Rattle.client_agent.specs.declared.living.Subscription.{Subscription}
+use Rattle.client_agent.specs.declared.marks.SeenMark.{SeenMark}
+use Rattle.client_agent.specs.declared.marks.LaterMark.{LaterMark}
 use Rattle.client_agent.specs.declared.ring.Ring.TheInside.{Inside as RingInside}
 use Rattle.client_agent.specs.declared.waiting.WaitingCallbacks.TheInside.{Inside as WaitingInside}
 use Rattle.client_agent.specs.declared.agent.Agent.TheInside.{Inside}
@@ -38,6 +42,12 @@ abbrev pub AreBelow : ℕ → List Living → Type 0
 AreBelow bound [] = ⊤
 AreBelow bound (subscription ∷ living) = (subscription.key < bound) × AreBelow subscription.key living
 
+abbrev pub mark_kept : SeenMark → StreamName × Mark
+mark_kept seen = (seen.stream, seen.mark)
+
+abbrev pub marks_kept : List SeenMark → List (StreamName × Mark)
+marks_kept marks = map mark_kept marks
+
 abbrev pub seen_inside : Inside → Seen
 seen_inside inside = record {
   client = inside.client;
@@ -49,6 +59,7 @@ seen_inside inside = record {
   living = all_living inside.living.items;
   queue = inside.callbacks.queue;
   given = inside.callbacks.given;
+  marks = marks_kept inside.marks.items;
 }
 
 -- each subscription was made by a call of its own that was sent
@@ -65,12 +76,50 @@ agent_of seen handed = record {
   living = seen.living;
   queue = seen.queue;
   handed = handed;
+  marks = seen.marks;
 }
 
 -- what a call lacks before the window is asked: a version that is served, or a handle
 abbrev pub lack : Ask → Agent → Option Status
 lack (Start service version) agent = if can_serve service version then None else Some VersionRefused
 lack (Other call) agent = if has_handle (service_of call) agent then None else Some BadHandle
+
+-- What a taken reply makes of its stream's mark.
+
+-- a mark that is later than the last one of its stream, and whether its mask is another
+pub record Later : Type 0 where
+  pub stream : StreamName
+  pub mark : Mark
+  pub changes : Bool
+
+abbrev pub later_of : LaterMark → Later
+later_of later = record { stream = later.stream.now; mark = later.mark; changes = later.changes }
+
+-- the mark that is told, where it is later than the last
+abbrev pub later_mark : Option (StreamName × Mark) → List (StreamName × Mark) → Option Later
+later_mark None marks = None
+later_mark (Some told) marks =
+    if is_later marks told then Some (record { stream = told.0; mark = told.1; changes = not (told.1.mask == (mark_of told.0 marks).mask) }) else None
+
+-- the mark that is kept of it
+abbrev pub kept_of : Option Later → Option (StreamName × Mark)
+kept_of later = option_map (λ (it : Later). (it.stream, it.mark)) later
+
+-- the mask that becomes another by it
+abbrev pub changed_by : Option Later → Option (StreamName × ℕ)
+changed_by None = None
+changed_by (Some later) = if later.changes then Some (later.stream, later.mark.mask) else None
+
+-- a mark stands in the place of the one of its stream
+abbrev pub with_seen : Option (StreamName × Mark) → List (StreamName × Mark) → List (StreamName × Mark)
+with_seen None marks = marks
+with_seen (Some seen) marks = seen ∷ without (λ other. same_name other.0 seen.0) marks
+
+-- whether a callback is given, by the mask that changes and the invocation that is to be told
+abbrev pub gives : Option (StreamName × ℕ) → Option ℕ → Bool
+gives (Some changed) asked = true
+gives None (Some invocation) = true
+gives None None = false
 
 -- The callbacks of a client are what the feeder of its queue fed. Those wait that the taker has not taken.
 

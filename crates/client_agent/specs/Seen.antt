@@ -2,6 +2,7 @@
 use Rattle.std.specs.Prelude.{ℕ, Bool, List, length}
 use Rattle.calls.specs.declared.call.Call.{Call}
 use Rattle.calls.specs.declared.reply.Callback.{Callback}
+use Rattle.cluster_facts.specs.Types.{Mark, StreamName}
 use Rattle.cluster_facts.specs.Agents.{Living, Agent}
 
 -- lists have the newest first
@@ -17,6 +18,8 @@ pub record Seen : Type 0 where
   pub queue : List Callback
   -- how many callbacks were handed out
   pub given : ℕ
+  -- the marks of streams that were told last, one of a name
+  pub marks : List (StreamName × Mark)
 
 abbrev pub seen_of : ℕ → ℕ → Agent → Seen
 seen_of client places agent = record {
@@ -29,4 +32,5 @@ seen_of client places agent = record {
   living = agent.living;
   queue = agent.queue;
   given = length agent.handed;
+  marks = agent.marks;
 }

@@ -23,7 +23,7 @@ IsSent client places asked agent (Posted message) seen =
 IsSent client places asked agent (Refused status) seen =
     (refusal asked agent ≡ Some status) × (seen ≡ seen_of client places agent)
 
--- A reply comes. It is taken where its call is unanswered and its callback, if there is one, has a place.
+-- A reply comes. It is taken where its call is unanswered and its callback, if it gives one, has a place.
 
 abbrev pub IsReplyTo : ℕ → ℕ → ℕ → Reply → Agent → Call → Bool → Taken → Seen → Type 0
 IsReplyTo client places number reply agent call true taken seen =
@@ -35,7 +35,7 @@ abbrev pub IsReply : ℕ → ℕ → ℕ → Reply → Agent → Option Call →
 IsReply client places number reply agent None taken seen =
     (taken ≡ Missed AnsweredBefore) × (seen ≡ seen_of client places agent)
 IsReply client places number reply agent (Some call) taken seen =
-    IsReplyTo client places number reply agent call (lacks_place places agent.queue (callbacks_of call reply)) taken seen
+    IsReplyTo client places number reply agent call (lacks_place places agent.queue (callbacks_of agent.marks call reply)) taken seen
 
 -- An item comes. It is taken where its subscription lives, its number is the next, and its callback has a place.
 

@@ -1,19 +1,19 @@
 //! The agent of one client.
-ghost use Rattle.std.specs.Prelude.{◌≡◌, ℕ, ◌<◌, List, [], length, IfOk, OnErr, option_map};
-ghost use Rattle.std.specs.Option.{option_to_list};
+ghost use Rattle.std.specs.Prelude.{◌≡◌, ℕ, ◌<◌, List, [], length, IfOk, OnErr};
 ghost use Rattle.calls.specs.declared.reply.Callback.{Callback};
-ghost use Rattle.cluster_facts.specs.Agents.{Agent as ClientAgent, fresh, can_serve, service_of, has_handle, refusal, kept_call, find_living, callbacks_of, resent};
+ghost use Rattle.cluster_facts.specs.Agents.{Agent as ClientAgent, fresh, can_serve, service_of, has_handle, refusal, kept_call, find_living, resent};
 ghost use Rattle.client_agent.specs.Seen.{seen_of};
 ghost use Rattle.client_agent.specs.Steps.{IsSent, IsFor, IsReply, IsItem, IsTaken, HasWorkers, IsDispatched};
-ghost use Rattle.client_agent.specs.Inside.{calls_kept, agent_of, lack};
+ghost use Rattle.client_agent.specs.Inside.{agent_of, lack};
 
-use crate::callbacks::{callback_of_item, callback_of_reply};
+use crate::callbacks::{callback_of_item, callback_of_reply, gives_callback};
 use crate::kept::{
     Kept, add_requests, calls_of, find_call, forget_call, is_shut, log_after, ntf_after, service_of,
 };
 use crate::living::{
     Subscription, add_receipts, find_subscription, note_call, note_item, note_reply,
 };
+use crate::marks::{SeenMark, later_mark, prepare_mark, put_mark};
 use crate::waiting::WaitingCallbacks;
 use crate::{Dispatched, How, MissedWhy, Sent, Taken};
 use ais_values::{Seq, Status, Version, Which, negotiate};
@@ -28,11 +28,12 @@ use sub_queue::Item;
 use wire::Message;
 
 /// What a client's library keeps: the number of the next call, its handles, the calls whose replies it has not
-/// taken, the subscriptions that live, and the callbacks that it has taken and not handed out.
+/// taken, the subscriptions that live, the callbacks that it has taken and not handed out, and the marks of streams
+/// that it was told last.
 ///
-/// It keeps no more than that: at most the 32 calls before the next, one entry for each living subscription, and
-/// as many callbacks as its queue has places. Of the callbacks that were handed out it keeps the count. The queue may be
-/// emptied by many threads; the agent has both of its ends.
+/// It keeps no more than that: at most the 32 calls before the next, one entry for each living subscription, as many
+/// callbacks as its queue has places, and one mark for each name of a stream that it was told of. Of the callbacks
+/// that were handed out it keeps the count. The queue may be emptied by many threads; the agent has both of its ends.
 #[derive(Drop)]
 pub struct Agent {
     client: u16,
@@ -42,6 +43,7 @@ pub struct Agent {
     kept: VecDeque<Kept>,
     living: VecDeque<Subscription>,
     callbacks: WaitingCallbacks,
+    marks: VecDeque<SeenMark>,
 }
 
 impl Model for Agent {
@@ -63,17 +65,6 @@ fn can_serve(service: Which, wanted: Version) -> bool
     negotiate(service, wanted).is_ok()
 }
 
-/// The callback of a reply to an unanswered call, if it gives one; `None` where the call is none of these.
-fn callback_of_call(kept: &VecDeque<Kept>, number: u32, reply: &Reply) -> Option<Option<Callback>>
-    ensures { option_map option_to_list result ≡ option_map (λ call.
-        callbacks_of call reply.now) (kept_call number (calls_kept kept.now.items)) }
-{
-    match find_call(kept, number) {
-        Some(call) => Some(callback_of_reply(call, reply)),
-        None => None,
-    }
-}
-
 impl Agent {
     /// The agent of a client that has asked for nothing, with a queue of so many callbacks. It takes no memory: that of
     /// the queue is taken with the first callback.
@@ -88,6 +79,7 @@ impl Agent {
             kept: VecDeque::new(alloc),
             living: VecDeque::new(alloc),
             callbacks: WaitingCallbacks::new(callbacks),
+            marks: VecDeque::new(alloc),
         })
     }
 
@@ -141,11 +133,15 @@ impl Agent {
     /// Takes a reply to this client, or an item for it.
     ///
     /// A reply is missed as `Answered` where its call is none whose reply is awaited, and as `Left` where it gives
-    /// a callback and the queue is full. An item is missed as `Gone` where its subscription does not live, as
-    /// `Taken` or `Ahead` where its number is below or above the subscription's next, and as `Left` where the
-    /// queue is full. On a miss, and where memory runs out, nothing changes. A reply that is taken ends the wait
-    /// for it, and the subscription whose call it refuses; an item that is taken gives a receipt to post. Want of memory
-    /// is answered too where 2^62 callbacks were taken before.
+    /// a callback and the queue is full. It gives one where it tells a mark that is later than the last one of its
+    /// stream and has another mask, and where it is of a write with flags 1; where both, one that tells both.
+    ///
+    /// An item is missed as `Gone` where its subscription does not live, as `Taken` or `Ahead` where its number is
+    /// below or above the subscription's next, and as `Left` where the queue is full.
+    ///
+    /// On a miss, and where memory runs out, nothing changes. A reply that is taken ends the wait for it, and the
+    /// subscription whose call it refuses; a later mark that it tells becomes the last one of its stream. An item that
+    /// is taken gives a receipt to post. Want of memory is answered too where 2^62 callbacks were taken before.
     pub fn receive<R: Wait>(
         &mut self,
         rt: &R,
@@ -271,17 +267,20 @@ impl Agent {
             (kept_call number self.old.kept) taken self.new) }
         ensures err { OnErr result (self.new ≡ self.old) }
     {
-        match callback_of_call(&self.kept, number, reply) {
+        match find_call(&self.kept, number) {
             None => Ok(Taken::Missed {
                 why: MissedWhy::Answered,
             }),
-            Some(callback) => {
-                if self.callbacks.lacks_place(&callback) {
-                    drop(callback);
+            Some(call) => {
+                let later = later_mark(&self.marks, call, reply);
+                if self.callbacks.lacks_place(gives_callback(call, later)) {
                     let why = MissedWhy::Left;
                     return Ok(Taken::Missed { why });
                 }
+                let seen = prepare_mark(alloc, &mut self.marks, later)?;
+                let callback = callback_of_reply(alloc, call, reply, later)?;
                 let copy = self.callbacks.put_with_copy(rt, alloc, callback, reply)?;
+                put_mark(&mut self.marks, seen);
                 forget_call(&mut self.kept, number);
                 note_reply(&mut self.living, number, reply);
                 Ok(Taken::Answered {

@@ -7,6 +7,7 @@ mod answers;
 mod callbacks;
 mod kept;
 mod living;
+mod marks;
 mod ring;
 mod waiting;
 

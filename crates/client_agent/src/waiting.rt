@@ -1,7 +1,6 @@
 //! The callbacks that a client has taken: they wait in a queue until they are handed out.
-ghost use Rattle.std.specs.Prelude.{◌≡◌, ◌<◌, nat_le, ◌∷◌, ◌++◌, length, reverse, IfOk, OnOk, OnErr};
+ghost use Rattle.std.specs.Prelude.{◌≡◌, ◌<◌, nat_le, ◌&&◌, ◌∷◌, ◌++◌, length, reverse, IfOk, OnOk, OnErr};
 ghost use Rattle.std.specs.Option.{option_to_list, ForSome};
-ghost use Rattle.cluster_facts.specs.Agents.{lacks_place};
 ghost use Rattle.client_agent.specs.Steps.{HasWorkers, numbered, handed_out};
 ghost use Rattle.client_agent.specs.Waiting.{none_waits, after_handing};
 
@@ -55,12 +54,11 @@ impl WaitingCallbacks {
         }
     }
 
-    /// Whether a callback wants a place, and none is free.
-    pub fn lacks_place(&self, callback: &Option<Callback>) -> bool
-        ensures { result ≡
-            lacks_place self.now.places self.now.queue (option_to_list callback.now) }
+    /// Whether a place is wanted, and none is free.
+    pub fn lacks_place(&self, wanted: bool) -> bool
+        ensures { result ≡ (wanted && nat_le self.now.places (length self.now.queue)) }
     {
-        callback.is_some() && self.is_full()
+        if wanted { self.is_full() } else { false }
     }
 
     /// Puts a callback where a place is free. Want of memory is answered too where 2^62 callbacks were put before.

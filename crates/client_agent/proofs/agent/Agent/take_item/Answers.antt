@@ -60,5 +60,5 @@ returns-clause-ok g c =
     let After : Seen → Type 0 = λ s. (handed : List Callback) → s.given ≡ length handed → seen_inside (record inside { living = c.note_item.new.living; callbacks = c.put.new.self }) ≡ seen_of s.client s.places (after_item c.args.key found.id item.content (agent_of s handed)) in
     let after : After (seen_inside inside) = λ handed given.
     let count = ap (λ (w : Waiting). w.given) callbacks ∙ given in
-    λ i. record { client = inside.client; places = (callbacks i).places; next = inside.next; log_handle = inside.log_handle; ntf_handle = inside.ntf_handle; kept = (seen_inside inside).kept; living = living i; queue = (callbacks i).queue; given = count i } in
+    λ i. record { client = inside.client; places = (callbacks i).places; next = inside.next; log_handle = inside.log_handle; ntf_handle = inside.ntf_handle; kept = (seen_inside inside).kept; living = living i; queue = (callbacks i).queue; given = count i; marks = (seen_inside inside).marks } in
     item_taken seen c.args.key item (living_of found) inside.client item.number _ is next (sym (subst Free c.self.view_is c.if-is_full.ensures)) (ap (λ (s : Seen). s.client) c.self.view_is) refl (subst After c.self.view_is after)
