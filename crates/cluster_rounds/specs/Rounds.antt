@@ -1,4 +1,4 @@
--- Words of bodies alone: what the events of a round of `settle` come to. Lines on messages without effect are left out.
+-- Words of bodies, and of public clauses: what the events of a round of `settle` come to. Lines on messages without effect are left out.
 use Rattle.std.specs.Prelude.{◌≡◌, ℕ, Bool, List, ◌++◌}
 use Rattle.std.specs.List.{AllByRecursion}
 use Rattle.plain_service.specs.Setups.{Setup}

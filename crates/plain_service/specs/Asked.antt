@@ -31,12 +31,13 @@ has_place_for setup past client key = nat_lt (length (made_for setup past client
 abbrev pub mark_under : ℕ → Notification → Lost
 mark_under id notification = record { kind = kind_of notification.body; id = id }
 
--- the mark of a send, where it is answered ok and there is a subscription that asks for it
+-- the mark of a send by the id that it is told, as a list of one: where it is answered ok and there is a subscription that asks for it; else none
 abbrev pub mark_asked : Option Sub → Notification → Reply → List Lost
 mark_asked found notification (Sent id) = map (mark_under id) (asked_by found notification)
 mark_asked found notification _ = []
 
--- the mark of a send after a history, where it is answered ok and the subscription of this client and key lasts and asks for it
+-- the mark of a send that comes behind this history, as a list of one: where it is answered ok and the subscription of this client and key,
+-- which lasts as it comes, asks for it; else none
 abbrev pub mark_for : Setup → List Entry → (client key sender : ℕ) (now : ℤ) → Notification → List Lost
 mark_for setup past client key sender now notification =
     mark_asked (sub_for setup past client key) notification (reply_of setup past sender now (NtfSend notification))

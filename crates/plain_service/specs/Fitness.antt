@@ -62,8 +62,8 @@ pub record IsFitMark (number : ℕ) (stream : StreamName) (mark : Mark) : Type 0
   pub since : mark.since ≤ number
   pub unset : is_notified (kind_of stream) ≡ true → mark ≡ first_mark
 
--- a living stream: its attributes pass, users have it open, its files are those of so many records, no more were taken than entries
--- accepted, and its mark is fit
+-- a living stream: its attributes pass, whoever has it open uses the service, its files can be those of the records that it has taken, with
+-- stamps from 0 to the last one, no more records were taken than entries accepted, and its mark is fit
 pub record IsFitStream (saved : Saved) (stream : SavedStream) : Type 0 where
   pub attributes : PassesAttrs (kind_of stream.state.name) stream.state.attrs
   pub openers : AreClients stream.openers

@@ -117,7 +117,8 @@ fn has_start(state: &StreamState) -> bool
     files.len() as u64 != u64::from(state.opened) || begin_at_start(files)
 }
 
-/// Whether the files of a stream are those of so many records.
+/// Whether the files of a stream can be those of the records that it has taken: their stamps rise, the last one alone
+/// is not closed, as many stand as may, and each has so many bytes as its records can have.
 pub(crate) fn has_fit_files(state: &StreamState) -> bool
     requires { PassesAttrs (kind_of state.now.name) state.now.attrs }
     ensures { IsTrue result ↔ HasFitFiles state.now }

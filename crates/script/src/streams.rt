@@ -17,7 +17,7 @@ use record_print::Header;
 use std::alloc::Global;
 use stream_config::{FullAction, StreamAttrs, StreamName, default_format};
 
-/// What a stream does where its file is full.
+/// What a stream does with a record that does not fit its file.
 #[tactic(auto, unfolding(script_language::specs::StreamReading::full_action_at))]
 pub(crate) fn full_action(bytes: &[u8]) -> Option<(FullAction, &[u8])>
     ensures { full_action_at bytes.now ≡ option_map (λ found. (found.0, found.1.now)) result }
@@ -31,7 +31,7 @@ pub(crate) fn full_action(bytes: &[u8]) -> Option<(FullAction, &[u8])>
     Some((FullAction::Rotate, skip(bytes, b"rotate")?))
 }
 
-/// What a stream does where its file is full, behind the word.
+/// What a stream does with a record that does not fit its file, behind the word.
 fn full_action_behind<'a>(bytes: &'a [u8], label: &[u8]) -> Option<(FullAction, &'a [u8])>
     ensures { word label.now full_action_at bytes.now
         ≡ option_map (λ found. (found.0, found.1.now)) result }

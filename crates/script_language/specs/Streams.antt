@@ -17,7 +17,7 @@ use Rattle.script_grammar.specs.Grammar.{Known, Word, Part, OneOf, Maybe, Unless
 use Rattle.script_grammar.specs.Values.{IsHexWord, IsQuoted}
 use Rattle.script_language.specs.Values.{IsNumber8, IsNumber16, IsNumber32, IsNumber64, IsSigned64, IsQuotedName, IsClass}
 
--- what a stream does where its file is full
+-- what a stream does with a record that does not fit its file
 abbrev pub full_forms : List (List ℕ × (FullAction → List ℕ → Type 0))
 full_forms = (codes "wrap", Known Wrap) ∷ (codes "halt", Known Halt) ∷ (codes "rotate", Known Rotate) ∷ []
 

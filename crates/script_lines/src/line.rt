@@ -20,7 +20,7 @@ pub struct WellOptions {
     pub rec: Option<u32>,
     /// The greatest size of its files, in bytes.
     pub max: Option<u64>,
-    /// What it does where its file is full.
+    /// What it does with a record that does not fit its file.
     pub full: Option<FullAction>,
     /// The number of its rotated files.
     pub rot: Option<u32>,

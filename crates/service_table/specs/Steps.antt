@@ -1,4 +1,4 @@
--- Words of bodies alone: what an entry makes of what is kept, and what it does to streams.
+-- Words of bodies, and of public clauses of the crates above: what an entry makes of what is kept, and what it does to streams.
 use Rattle.std.specs.Prelude.{ℕ, ◌+◌, ℤ, true, Bool, ◌==◌, if◌then◌else◌, List, [], ◌∷◌, ◌++◌, take, map, Option, Some, find}
 use Rattle.std.specs.Option.{option_map_or}
 use Rattle.ais_values.specs.declared.status.Status.{Status}

@@ -1,4 +1,4 @@
--- Words of bodies alone: what a service keeps, part by part, and the value that it stands for.
+-- Words of bodies, and of public clauses of the crates above: what a service keeps, part by part, and the value that it stands for.
 use Rattle.std.specs.Prelude.{ℕ, pos, unsigned_abs, ◌==◌, nat_lt, Bool, List, map, reverse, Option, find}
 use Rattle.client_window.specs.Windows.{Kept}
 use Rattle.alarm_view.specs.declared.alarm.KeptAlarm.{KeptAlarm}

@@ -1,4 +1,4 @@
--- Words of public clauses of the layers above: what the files of a living stream must be, by its attributes and the number of records that it has taken.
+-- Words of public clauses, here and above: which files a living stream can have, which of its records is the first that stands, when its file changes.
 use Rattle.std.specs.Prelude.{◌≡◌, ◌≢◌, ℕ, ◌+◌, ◌-◌, ◌*◌, ◌/◌, ◌≤◌, ◌<◌, ⊤, min, max, ℤ, int_lt, Bool, true, false, not, ◌&&◌}
 use Rattle.std.specs.Prelude.{IsTrue, List, [], ◌∷◌, ◌++◌, length, is_some, is_none}
 use Rattle.std.specs.Option.{option_to_list}

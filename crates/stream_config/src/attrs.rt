@@ -5,7 +5,7 @@ ghost use Rattle.stream_config.specs.Attributes.{kind_of};
 use ais_values::{Duplicate, Name, StreamKind, Text};
 use std::alloc::{AllocError, Global};
 
-/// What a stream does where its file is full.
+/// What a stream does with a record that does not fit its file.
 #[derive(Clone, Copy, Debug, PartialEq, Eq)]
 pub enum FullAction {
     /// A new record takes the place of the oldest.
@@ -29,7 +29,7 @@ pub struct StreamAttrs {
     pub record_size: u32,
     /// The high-availability property, 0 or 1.
     pub ha: u8,
-    /// What it does where its file is full.
+    /// What it does with a record that does not fit its file.
     pub action: FullAction,
     /// The greatest number of its files that stand, where it rotates.
     pub rotated: u32,

@@ -3,7 +3,7 @@ use crate::{StreamAttrs, StreamName};
 use ais_values::{Duplicate, Seq};
 use std::alloc::{AllocError, Global};
 
-/// A file of records of a stream, by its stamps. A stamp is a second.
+/// A file of records of a stream: its stamps, which are seconds, the record with which it begins, and its length.
 #[derive(Clone, Copy, Debug, PartialEq, Eq)]
 pub struct LogFile {
     /// The stamp at which the file was made.

@@ -14,7 +14,7 @@ use Rattle.wire_code.proofs.NumberCodes.{number_code, signed_code}
 use Rattle.wire_code.proofs.ListCodes.{list_code, text_code, name_code}
 use Rattle.wire_code.proofs.ChoiceCodes.{option_code, no_choice, variant_choice, choice_code}
 
--- what a stream does where its file is full
+-- what a stream does with a record that does not fit its file
 pub action_code : Code action_at action_text ActionFits
 unfolding action_at action_text
 action_code =

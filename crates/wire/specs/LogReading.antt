@@ -14,7 +14,7 @@ use Rattle.record_print.specs.declared.record.Header.TheVariants as header
 use Rattle.wire_code.specs.Reading.{At, made, both, nothing, number_at, signed_at, list_at, option_at, text_at, name_at, tagged, variant, no_variant}
 use Rattle.wire.specs.NtfReading.{class_at}
 
--- what a stream does where its file is full
+-- what a stream does with a record that does not fit its file
 unfoldable pub action_at : At FullAction
 action_at bytes = tagged
     (variant 1 (made (λ (_ : Unit {0}). action.Wrap) nothing)

@@ -14,7 +14,7 @@ use Rattle.record_print.specs.declared.record.Header.TheVariants as header
 use Rattle.wire_code.specs.Spelling.{number_text, IsNumber, signed_text, IsSigned, counted_text, IsText, list_text, ListFits, option_text, OptionFits}
 use Rattle.wire.specs.NtfSpelling.{class_text, ClassFits}
 
--- what a stream does where its file is full
+-- what a stream does with a record that does not fit its file
 unfoldable pub action_text : FullAction → List ℕ
 action_text action.Wrap = 1 ∷ []
 action_text action.Halt = 2 ∷ []

@@ -1,4 +1,4 @@
--- Words of bodies alone: how the front of a byte string is read as a value.
+-- Words of bodies, and of public clauses: how the front of a byte string is read as a value.
 use Rattle.std.specs.Prelude.{◌≡◌, ℕ, zero, suc, ◌-◌, ◌*◌, ℤ, Bool, true, false, ◌&&◌, ◌==◌, nat_lt, nat_le}
 use Rattle.std.specs.Prelude.{if◌then◌else◌, List, [], ◌∷◌, length, take, drop, slice_index, Option, Some, None, Result, Ok, Err}
 use Rattle.std.specs.Int.{cast_signed, w64}
