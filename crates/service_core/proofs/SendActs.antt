@@ -1,6 +1,7 @@
 -- What a send came to.
-use Rattle.std.proofs.Common.{◌≡◌, ◌≢◌, ℕ, ◌+◌, true, false, Bool, cond, List, [], ◌∷◌, ◌++◌, refl, ap, sym, ◌∙◌}
-use Rattle.std.specs.Prelude.{ℤ, pos, ◌≤ℤ◌, Some}
+use Rattle.std.proofs.Common.{◌≡◌, ◌≢◌, ℕ, ◌+◌, ◌^◌, ◌≤◌, true, false, Bool, not, ◌&&◌, cond, List, [], ◌∷◌, ◌++◌, refl, ap, sym, ◌∙◌, subst, w64}
+use Rattle.std.specs.Prelude.{ℤ, pos, ◌≤ℤ◌, unsigned_abs, Some}
+use mir.Val.{SFits}
 use Rattle.std.specs.Int.{is_negative}
 use Rattle.std.proofs.lemmas.Bool.{and_parts}
 use Rattle.ais_values.specs.TimeTests.{is_time}
@@ -15,6 +16,8 @@ use Rattle.alarm_view.specs.declared.alarm.KeptAlarm.{KeptAlarm}
 use Rattle.alarm_view.specs.Alarms.{kept_alarm, from_record}
 use Rattle.calls.specs.declared.call.Call.TheVariants.{NtfSend}
 use Rattle.calls.specs.declared.reply.Reply.TheVariants.{Done, Sent}
+use Rattle.format_expr.specs.declared.token.Moment.TheVariants.{Record, Event}
+use Rattle.record_print.specs.Lengths.{IsTimed, HasNotifiedParts}
 use Rattle.log_history.specs.Deeds.{deeds_of_all}
 use Rattle.log_history.specs.KeptAnswers.{is_filled}
 use Rattle.log_history.specs.Times.{filled_time}
@@ -23,7 +26,7 @@ use Rattle.ntf_history.specs.Changes.{NtfChange as ntf}
 use Rattle.ntf_history.specs.Rows.{answer, send_by}
 use Rattle.ntf_history.specs.StoredAlarms.{is_alarm}
 use Rattle.ntf_history.specs.Tables.{after_send}
-use Rattle.plain_service.specs.Alarms.{stream_for, record_for}
+use Rattle.plain_service.specs.Alarms.{stream_for, record_for, accepted_as}
 use Rattle.plain_service.specs.Replies.{reply_by}
 use Rattle.service_table.specs.Tables.{ServiceTable}
 use Rattle.service_table.specs.Answering.{accepted_in, status_in}
@@ -34,7 +37,7 @@ use Rattle.service_parts.specs.Telling.{IsTold}
 use Rattle.service_core.specs.declared.parts.Acted.{Acted}
 use Rattle.service_core.specs.Acting.{HasActed}
 use Rattle.service_core.specs.Sending.{stored_of, sent_in, sent_events, sent_status, HasSent}
-use Rattle.log_service.proofs.WriteLemmas.{filled-time}
+use Rattle.log_service.proofs.WriteLemmas.{filled-time, filled-low, time-low, not-negative}
 
 -- times of a record that is stored
 
@@ -44,6 +47,21 @@ time-of notification sound = (and_parts _ _ (and_parts _ _ sound).1).0
 
 pub filled-event : (notification : Notification) (now : ℤ) → pos 0 ≤ℤ now → is_sound notification ≡ true → is_negative (filled_time notification.event_time now) ≡ false
 filled-event notification now from sound = filled-time notification.event_time now from (time-of notification sound)
+
+-- the record of a notification that is sent has its names and its text
+
+sent-timed : (id : ℕ) (now : ℤ) (notification : Notification) → unsigned_abs now ≤ 2 ^ 63 → unsigned_abs notification.event_time ≤ 2 ^ 63 → IsTimed (record_for now (accepted_as id now notification))
+sent-timed id now notification low event Record shown is = let e : unsigned_abs now ≡ shown = cc in subst (λ n. n ≤ 2 ^ 63) e low
+sent-timed id now notification low event Event shown is =
+    let e : unsigned_abs (filled_time notification.event_time now) ≡ shown = cc in subst (λ n. n ≤ 2 ^ 63) e (filled-low notification.event_time now event low)
+
+pub sent-parts : (id : ℕ) (now : ℤ) (notification : Notification) → SFits w64 now → pos 0 ≤ℤ now → unsigned_abs notification.event_time ≤ 2 ^ 63 → is_sound notification ≡ true → HasNotifiedParts notification.object notification.notifier notification.text (record_for now (accepted_as id now notification))
+sent-parts id now notification fits from event sound = record {
+  names = (refl, refl);
+  body_is = refl;
+  printable = ap (λ b. not b && not (is_negative (filled_time notification.event_time now))) (not-negative now from) ∙ ap not (filled-event notification now from sound);
+  timed = sent-timed id now notification (time-low now fits) event;
+}
 
 -- the number of the record of an alarm
 
@@ -67,12 +85,15 @@ send-changed kept client seq moment notification status.Ok first = send-ok-chang
 send-changed kept client seq moment notification _ first = refl
 
 -- **a send of a sound notification by a user**
+pub sent-answer : (kept : ServiceTable) (client : ℕ) (moment : ℤ) (notification : Notification) → has client kept.ntf.users ≡ true → is_sound notification ≡ true → sent_status kept.log moment (accepted_in kept.ntf moment notification) ≡ status_in kept client moment (NtfSend notification)
+sent-answer kept client moment notification using sound =
+    let full = is_filled kept.log.streams (stream_for notification.body) (record_for moment (accepted_in kept.ntf moment notification)) in
+    sym (ap (λ b. answer (send_by b (is_sound notification) full)) using ∙ ap (λ b. answer (send_by true b full)) sound)
+
 pub sent-acted : (kept later : ServiceTable) (client seq : ℕ) (moment : ℤ) (notification : Notification) (acted : Acted) → IsAlarmFirst kept.log.streams → has client kept.ntf.users ≡ true → is_sound notification ≡ true → HasSent kept moment (accepted_in kept.ntf moment notification) later acted → HasActed kept client seq moment (NtfSend notification) later acted
 sent-acted kept later client seq moment notification acted first using sound sent =
-    let full = is_filled kept.log.streams (stream_for notification.body) (record_for moment (accepted_in kept.ntf moment notification)) in
     let accepted = accepted_in kept.ntf moment notification in
-    let same : sent_status kept.log moment accepted ≡ status_in kept client moment (NtfSend notification) =
-    sym (ap (λ b. answer (send_by b (is_sound notification) full)) using ∙ ap (λ b. answer (send_by true b full)) sound) in
+    let same = sent-answer kept client moment notification using sound in
     let plain = ap (λ s. reply_by s (Sent (kept.ntf.last_id + 1))) same in
     record {
       now = sent.now ∙ send-changed kept client seq moment notification (sent_status kept.log moment accepted) first ∙ ap (changed kept client seq moment (NtfSend notification)) same;

@@ -1,5 +1,5 @@
 //! Notifications that clients send.
-ghost use Rattle.std.specs.Prelude.{◌≡◌, ◌≤◌, ◌+◌, true, false, ℕ, Some, IfOk, OnOk, OnErr};
+ghost use Rattle.std.specs.Prelude.{◌≡◌, ◌≤◌, ◌+◌, ◌^◌, true, false, ℕ, unsigned_abs, Some, IfOk, OnOk, OnErr};
 ghost use Rattle.std.specs.Int.{is_negative};
 ghost use Rattle.std.specs.List.{AllByRecursion};
 ghost use Rattle.alarm_view.specs.Alarms.{CanAdd};
@@ -14,12 +14,13 @@ ghost use Rattle.ntf_history.specs.StoredAlarms.{is_alarm};
 ghost use Rattle.ntf_history.specs.Tables.{after_send, with_id};
 ghost use Rattle.ntf_service.specs.State.{CanSendMore};
 ghost use Rattle.ntf_types.specs.SoundTests.{is_sound};
-ghost use Rattle.plain_service.specs.Alarms.{stream_for};
+ghost use Rattle.plain_service.specs.Alarms.{stream_for, accepted_as};
 ghost use Rattle.service_fit.specs.Conditions.{CanCall, CanCallLog};
+ghost use Rattle.service_table.specs.Answering.{status_in};
 ghost use Rattle.service_table.specs.Steps.{alarms_with};
 ghost use Rattle.service_fit.specs.Fit.{IsAlarmFirst, WasStored, alarm_count};
 ghost use Rattle.service_core.specs.Acting.{table_of, HasActed};
-ghost use Rattle.service_core.specs.Sending.{sent_with, HasSent};
+ghost use Rattle.service_core.specs.Sending.{sent_with, sent_status, HasSent};
 ghost use Rattle.stream_layout.specs.Carrying.{IsFitEvent};
 
 use crate::deeds::deeds_of_all;
@@ -50,6 +51,31 @@ fn kind_for(notification: &Notification) -> StreamKind
     } else {
         StreamKind::Notification
     }
+}
+
+/// The time of an event lies within the range of its type.
+fn read_event(notification: &Notification)
+    ensures { unsigned_abs notification.now.event_time ≤ 2 ^ 63 }
+{
+    let _event = notification.event_time;
+}
+
+/// What is answered to a send that nothing but want of room may refuse: `NoSpace` where the notification's record does
+/// not fit its stream, and else ok. It takes no memory.
+fn sent_status(log: &LogState, now: i64, notification: &Notification) -> Status
+    requires log { CanCallLog log.now.table now }
+    requires sound { is_sound notification.now ≡ true }
+    ensures { (id : ℕ) → result
+        ≡ sent_status log.now.table now (accepted_as id now notification.now) }
+{
+    read_event(notification);
+    let kind = kind_for(notification);
+    log.store_answer(
+        kind,
+        &notification.object,
+        &notification.notifier,
+        &notification.text,
+    )
 }
 
 /// How many records the alarm stream, which stands first, has taken.
@@ -190,7 +216,7 @@ fn send_stored(
     }
 }
 
-/// Sends a notification as it was accepted, where the stream of its record has room. On an error nothing changes.
+/// Sends a notification as it was accepted, for whose record there is room. On an error nothing changes.
 fn send_accepted(
     parts: &mut Parts,
     alloc: Global,
@@ -204,6 +230,7 @@ fn send_accepted(
         parts.old.alarms.kept }
     requires id { sent.now.id ≡ parts.old.ntf.table.last_id + 1 }
     requires time { is_negative sent.now.event_time ≡ false }
+    requires room { sent_status parts.old.log.table now sent.now ≡ Status.Ok }
     ensures ok { IfOk result (HasSent (table_of parts.old) now sent.now (table_of parts.new)) }
     ensures err { OnErr result (table_of parts.new ≡ table_of parts.old) }
 {
@@ -211,16 +238,12 @@ fn send_accepted(
     let planned = parts.log.plan_store(alloc, kind_for(sent), &rec, now);
     drop(rec);
     let plan = planned?;
-    let status = plan.step().status;
-    if status != Status::Ok {
-        drop(plan);
-        return Ok(act_of(status, Seq::new(alloc)));
-    }
     let acted = send_stored(parts, alloc, plan, sent)?;
     Ok(acted)
 }
 
-/// A client sends a notification.
+/// A client sends a notification. A send that is refused takes no memory: an error comes only where the answer would
+/// be ok.
 pub(crate) fn ntf_send(
     parts: &mut Parts,
     alloc: Global,
@@ -233,12 +256,18 @@ pub(crate) fn ntf_send(
         HasActed (table_of parts.old) client seq now (NtfSend notification.now)
         (table_of parts.new) acted) }
     ensures err { OnErr result (table_of parts.new ≡ table_of parts.old) }
+    ensures memory { OnErr result
+        (status_in (table_of parts.old) client now (NtfSend notification.now) ≡ Status.Ok) }
 {
     if !parts.ntf.is_user(client) {
         return Ok(act_of(Status::BadHandle, Seq::new(alloc)));
     }
     if !is_right(notification) {
         return Ok(act_of(Status::InvalidParam, Seq::new(alloc)));
+    }
+    let status = sent_status(&parts.log, now, notification);
+    if status != Status::Ok {
+        return Ok(act_of(status, Seq::new(alloc)));
     }
     let sent = accepted(alloc, parts.ntf.last_id() + 1, now, notification)?;
     let tried = send_accepted(parts, alloc, now, &sent);

@@ -1,12 +1,13 @@
-use Rattle.std.proofs.Common.{◌+◌, ap, sym, ◌∙◌, subst}
+use Rattle.std.proofs.Common.{◌≡◌, ◌≢◌, ◌+◌, rules, ap, sym, ◌∙◌, subst}
 use Rattle.std.proofs.lemmas.Int.{to_z-of_z}
 use Rattle.std.specs.Int.{is_negative}
+use Rattle.ais_values.specs.declared.status.Status.TheVariants as status
 use Rattle.ntf_types.specs.declared.notification.Notification.{Notification}
 use Rattle.plain_service.specs.Alarms.{accepted_as}
 use Rattle.service_core.specs.Acting.{table_of}
-use Rattle.service_core.specs.Sending.{HasSent}
+use Rattle.service_core.specs.Sending.{sent_status, HasSent}
 use Rattle.service_core.proofs.LogConditions.{first-now}
-use Rattle.service_core.proofs.SendActs.{filled-event, sent-acted}
+use Rattle.service_core.proofs.SendActs.{filled-event, refused-sent, sent-acted}
 use Rattle.service_core.proofs.sending.ntf_send.Goals as goal
 
 pub send_accepted-tried-requires-clause-time : goal.send_accepted-tried-requires-clause-time
@@ -24,3 +25,21 @@ returns-clause-ok c =
     let done : HasSent (table_of parts) c.args.now c.in_ok-sent.sent (table_of c.send_accepted-tried.new.parts) c.in_ok-acted.acted = simp to_z-of_z at c.in_ok-acted.ensures.ok in
     let sent = subst (λ n. HasSent (table_of parts) c.args.now n (table_of c.send_accepted-tried.new.parts) c.in_ok-acted.acted) accepted done in
     λ seq. sent-acted (table_of parts) (table_of c.send_accepted-tried.new.parts) c.args.client seq c.args.now c.args.notification.now c.in_ok-acted.acted (first-now parts.log.table c.args.now c.requires.1.log) (sym c.is_user.ensures ∙ c.if-not-is_user.false) (sym c.is_right.ensures ∙ c.if-not-is_right.false) sent
+
+pub send_accepted-tried-requires-clause-room : goal.send_accepted-tried-requires-clause-room
+send_accepted-tried-requires-clause-room c =
+    let fits = c.ranges.now in
+    let log = c.args.parts.now.log.table in
+    let is = simp to_z-of_z at c.in_ok-sent.ensures in
+    let ok : c.sent_status-status.result ≡ status.Ok = search rules in
+    simp to_z-of_z (ap (sent_status log c.args.now) is ∙ sym (simp to_z-of_z at (c.sent_status-status.ensures (c.last_id.result + 1))) ∙ ok)
+
+pub returns-then-ne-clause-ok : goal.returns-then-ne-clause-ok
+returns-then-ne-clause-ok c =
+    let fits = c.ranges.now in
+    let parts = c.args.parts.now in
+    let refused : c.sent_status-status.result ≢ status.Ok = search rules in
+    let sent = accepted_as (parts.ntf.table.last_id + 1) c.args.now c.args.notification.now in
+    let answered = simp to_z-of_z at (c.sent_status-status.ensures (parts.ntf.table.last_id + 1)) in
+    let done = refused-sent (table_of parts) c.args.now sent c.sent_status-status.result c.act_of-then-ne.result answered refused c.act_of-then-ne.ensures.told (c.act_of-then-ne.ensures.deeds ∙ c.new-then-ne.ensures) in
+    λ seq. sent-acted (table_of parts) (table_of parts) c.args.client seq c.args.now c.args.notification.now c.act_of-then-ne.result (first-now parts.log.table c.args.now c.requires.1.log) (sym c.is_user.ensures ∙ c.if-not-is_user.false) (sym c.is_right.ensures ∙ c.if-not-is_right.false) done

@@ -1,4 +1,4 @@
-use Rattle.std.proofs.Common.{◌≡◌, ◌≢◌, true, false, rules, ap, sym, subst, ◌∙◌, arith}
+use Rattle.std.proofs.Common.{◌≡◌, true, false, ap, sym, subst, ◌∙◌, arith}
 use Rattle.std.specs.Prelude.{None}
 use Rattle.std.proofs.lemmas.Int.{to_z-of_z}
 use Rattle.ais_values.specs.declared.status.Status.TheVariants as status
@@ -8,7 +8,6 @@ use Rattle.log_history.specs.Table.{LogTable, table_after, events_of}
 use Rattle.log_history.specs.Times.{second_of}
 use Rattle.log_service.specs.State.{stream_of_kind}
 use Rattle.log_service.specs.Planning.{CanCommit, planned}
-use Rattle.log_service.specs.declared.step.Step.{Step}
 use Rattle.alarm_view.specs.Alarms.{CanAdd}
 use Rattle.ntf_history.specs.StoredAlarms.{is_alarm}
 use Rattle.plain_service.specs.Alarms.{stream_for}
@@ -19,23 +18,12 @@ use Rattle.service_fit.proofs.LogFit.{inside}
 use Rattle.service_core.specs.Acting.{table_of}
 use Rattle.service_core.specs.Sending.{sent_with, stored_of, HasSent}
 use Rattle.service_core.proofs.LogConditions.{number-left, planned-fit, planned-first, first-now}
-use Rattle.service_core.proofs.SendActs.{room-left, refused-sent, done-sent}
+use Rattle.service_core.proofs.SendActs.{room-left, done-sent}
 use Rattle.service_core.proofs.sending.send_accepted.Goals as goal
 use Rattle.plain_service.proofs.HistoryEvents.{second-bound}
 
 pub plan_store-planned-requires-clause-numbers : goal.plan_store-planned-requires-clause-numbers
 plan_store-planned-requires-clause-numbers c = number-left c.args.parts.now.log.table c.args.now _ c.requires.log
-
-pub returns-then-ne-clause-ok : goal.returns-then-ne-clause-ok
-returns-then-ne-clause-ok c =
-    let parts = c.args.parts.now in
-    let refused : c.step.result.now.status ≢ status.Ok = search rules in
-    let fits = c.ranges.now in
-    let written = simp to_z-of_z at c.in_ok-rec.ensures in
-    let log = parts.log.table in
-    let answered = ap (λ (s : Step). s.status) c.step.ensures ∙ c.in_ok-plan.ensures.ok.answer ∙ ap (λ s. store_status log s c.in_ok-rec.rec) c.kind_for.ensures.stream ∙ ap (store_status log (stream_for c.args.sent.now.body)) written in
-    subst (λ (t : LogTable). HasSent (table_of parts) c.args.now c.args.sent.now (with_log (table_of parts) t) c.act_of.result) (sym c.in_ok-plan.ensures.table)
-    (refused-sent (table_of parts) c.args.now c.args.sent.now c.step.result.now.status c.act_of.result answered refused c.act_of.ensures.told (c.act_of.ensures.deeds ∙ c.new.ensures))
 
 pub send_stored-requires-clause-can : goal.send_stored-requires-clause-can
 send_stored-requires-clause-can c =
@@ -79,11 +67,11 @@ returns-clause-ok c =
     let plans = simp to_z-of_z at c.in_ok-plan.ensures.ok in
     let written = simp to_z-of_z at c.in_ok-rec.ensures in
     let acted = c.in_ok-acted.ensures in
-    let answered : c.step.result.now.status ≡ status.Ok = search rules in
     let plan = c.in_ok-plan.plan in
-    let room : plan.step.status ≡ status.Ok = sym (ap (λ (s : Step). s.status) c.step.ensures) ∙ answered in
     let rec = c.in_ok-rec.rec in
+    let answered = plans.answer ∙ ap (λ s. store_status log s rec) stream ∙ ap (store_status log (stream_for c.args.sent.now.body)) written in
+    let room : plan.step.status ≡ status.Ok = answered ∙ c.requires.room in
     let second = second_of c.args.now in
     let made = (plans.ok room).now ∙ ap (λ s. table_after (Stored s rec second) log) stream ∙ ap (λ r. table_after (stored_of c.args.now r c.args.sent.now) log) written in
     let happened = (plans.ok room).done ∙ ap (λ s. events_of (Stored s rec second) log) stream ∙ ap (λ r. events_of (stored_of c.args.now r c.args.sent.now) log) written in
-    done-sent (table_of parts) _ c.args.now c.args.sent.now plan.step.status plan.step.events c.in_ok-acted.acted (plans.answer ∙ ap (λ s. store_status log s rec) stream ∙ ap (store_status log (stream_for c.args.sent.now.body)) written) room (acted.ok ∙ ap (λ (t : LogTable). sent_with (with_log (table_of parts) t) (planned plan t) c.args.sent.now) c.in_ok-plan.ensures.table ∙ ap (λ l. sent_with (table_of parts) l c.args.sent.now) made) acted.reply acted.kept happened acted.deeds
+    done-sent (table_of parts) _ c.args.now c.args.sent.now plan.step.status plan.step.events c.in_ok-acted.acted answered room (acted.ok ∙ ap (λ (t : LogTable). sent_with (with_log (table_of parts) t) (planned plan t) c.args.sent.now) c.in_ok-plan.ensures.table ∙ ap (λ l. sent_with (table_of parts) l c.args.sent.now) made) acted.reply acted.kept happened acted.deeds
