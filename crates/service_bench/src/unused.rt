@@ -2,7 +2,7 @@
 use ais_values::{Seq, StreamKind};
 use calls::{Saved, SavedStream};
 use std::alloc::{AllocError, Global};
-use stream_config::{LogFile, StreamName, StreamState, well_known};
+use stream_config::{LogFile, Mark, StreamName, StreamState, well_known};
 
 /// The second of the start.
 const START: i64 = 1_704_067_200;
@@ -43,6 +43,7 @@ fn well_stream(alloc: Global, name: StreamName, created: i64) -> Result<SavedStr
             files,
         },
         openers: Seq::new(alloc),
+        mark: Mark::first(),
     })
 }
 
