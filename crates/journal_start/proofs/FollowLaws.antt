@@ -7,14 +7,13 @@ use Rattle.calls.specs.declared.saved.Saved.{Saved}
 use Rattle.wire.specs.declared.message.Message.{Message}
 use Rattle.wire.specs.declared.message.Message.TheVariants as message
 use Rattle.service_core.specs.Applying.{CanApply}
-use Rattle.mirror.specs.declared.heard.Heard.{Heard}
 use Rattle.mirror.specs.declared.heard.Role.{Role}
 use Rattle.mirror.specs.declared.heard.Role.TheVariants as role
 use Rattle.mirror.specs.declared.node.Node.{Node}
 use Rattle.mirror.specs.Replicas.{HasRoom}
-use Rattle.mirror.specs.Pairing.{Admits, CanReceive, IsReceived}
-use Rattle.journal_found.specs.Found.{CanCome, follower_after, Follower}
-use Rattle.journal_start.specs.Replays.{entries_in, node_of, number_behind, HasFollowed, IsTaken, ReadsNext, ReadsNone, ReadsSome}
+use Rattle.mirror.specs.Pairing.{Admits, CanReceive}
+use Rattle.journal_found.specs.Found.{CanCome, Follower}
+use Rattle.journal_start.specs.Replays.{node_of, number_behind, HasFollowed, IsTaken, ReadsNext, ReadsNone, ReadsSome}
 
 pub can-admits : (next : Message) (follower : Option Follower) → CanCome next follower → Admits next (node_of follower)
 can-admits (message.Snapshot saved) None can = (refl, can)
@@ -58,27 +57,6 @@ can-receive (message.Item client key item) follower now can = absurd can
 can-receive (message.Receipt client key through) follower now can = absurd can
 can-receive (message.MirrorAck number) follower now can = absurd can
 can-receive (message.JoinAck number) follower now can = absurd can
-
-pub receives : (next : Message) (follower : Option Follower) (now : ℤ) (heard : Heard) (new : Node) → CanCome next follower → IsReceived (node_of follower).replica.role next now (node_of follower) heard new
-    → (new ≡ node_of (follower_after next follower)) × (option_to_list heard.committed ≡ entries_in next)
-receives (message.Snapshot saved) None now heard new can is = (is.1, ap (λ (h : Heard). option_to_list h.committed) is.0)
-receives (message.Mirror number entry) (Some f) now heard new can is = (is.2 f.saved refl, ap (λ (h : Heard). option_to_list h.committed) is.0)
-receives (message.Snapshot saved) (Some f) now heard new can is = absurd can
-receives (message.Mirror number entry) None now heard new can is = absurd can
-receives (message.Request client seq call) follower now heard new can is = absurd can
-receives (message.Reply client seq reply) follower now heard new can is = absurd can
-receives (message.Item client key item) follower now heard new can is = absurd can
-receives (message.Receipt client key through) follower now heard new can is = absurd can
-receives (message.MirrorAck number) follower now heard new can is = absurd can
-receives (message.JoinAck number) follower now heard new can is = absurd can
-
--- the server received what it admits
-pub taken : (next : Message) (old new : Node) (heard : Heard) (now : ℤ) → Admits next old → IsReceived old.replica.role next now old heard new → IsTaken next old new heard.committed
-taken next old new heard now admits received = record {
-  taken = λ follower is.
-      receives next follower now heard new (admits-can next follower (subst (λ (node : Node). Admits next node) is admits))
-      (subst (λ (node : Node). IsReceived node.replica.role next now node heard new) is received);
-}
 
 pub receives-room : (next : Message) (old : Node) (now : ℤ) → (follower : Option Follower) × (old ≡ node_of follower) → Admits next old → CanReceive next now old × HasRoom old.replica.service
 receives-room next old now follows admits =

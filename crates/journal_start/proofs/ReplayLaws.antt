@@ -1,6 +1,5 @@
 -- Bytes of a journal that are followed frame by frame.
-use Rattle.std.proofs.Common.{◌≡◌, ◌≢◌, inl, inr, ℕ, ◌+◌, ◌≤◌, Bool, true, false, List, [], ◌∷◌, ◌++◌, length, reverse, Option, Some, None, ◌-◌, ◌==◌, refl, sym, ap, subst, ◌∙◌, arith, append_assoc, length-append}
-use Rattle.std.specs.Prelude.{not}
+use Rattle.std.proofs.Common.{◌≡◌, inl, inr, ℕ, ◌+◌, ◌≤◌, Bool, true, false, List, [], ◌∷◌, ◌++◌, length, reverse, Option, Some, None, ◌-◌, ◌==◌, refl, sym, ap, subst, ◌∙◌, arith, append_assoc, length-append}
 use Rattle.std.proofs.lemmas.Bool.Decides.{eqb_tells}
 use Rattle.std.proofs.lemmas.List.{append-nil, reverse-append}
 use Rattle.calls.specs.declared.entry.Entry.{Entry}
@@ -15,11 +14,10 @@ use Rattle.mirror.specs.declared.node.Node.{Node}
 use Rattle.journal_frames.specs.Frames.{frame, framed, IsShort, AreShort}
 use Rattle.journal_frames.specs.Reading.{IsFramed}
 use Rattle.journal_frames.proofs.Frames.{framed-push, length-body, same-frame, short-push}
-use Rattle.journal_found.specs.Found.{texts_of, is_journal, Chain, CanCome, entries_after, follower_after, Follower, RefusedAt}
+use Rattle.journal_found.specs.Found.{texts_of, is_journal, CanCome, entries_after, follower_after, Follower, RefusedAt}
 use Rattle.journal_found.specs.Found.Chain.{starts, goes}
 use Rattle.journal_found.proofs.Lists.{behind_first, texts-push, fits-push}
-use Rattle.journal_start.specs.Replays.{entries_in, first_byte, number_behind, node_of, Followed, Following, HasFollowed, Passed, PassedNot, ReadWhole}
-use Rattle.journal_start.specs.declared.replaying.Replayed.{Replayed}
+use Rattle.journal_start.specs.Replays.{entries_in, first_byte, number_behind, node_of, Followed, Following, HasFollowed, Passed, PassedNot}
 
 pub begins : (bytes : List ℕ) → Following bytes bytes 0 0 [] (node_of None)
 begins bytes = record {
@@ -31,12 +29,6 @@ begins bytes = record {
   where
     none-some : (f : Follower) → ◌≡◌ {A = Option Follower} None (Some f) → ⊥
     none-some f is = cc
-
-pub whole-length : (bytes rest : List ℕ) (place : ℕ) (entries : List Entry) (follower : Option Follower) → Followed bytes rest place entries follower → place + length rest ≡ length bytes
-whole-length bytes rest place entries follower followed =
-    let long = ap length followed.is ∙ length-append (framed (texts_of followed.messages)) rest in
-    let at = followed.at in
-    omega (arith, long, at)
 
 -- the bytes behind the first one
 first-is : (bytes : List ℕ) → first_byte bytes ≡ 1 → bytes ≡ 1 ∷ behind_first bytes
@@ -130,11 +122,6 @@ refused-by bytes rest place entries follower journal followed open_is none = rec
   none = λ next behind joins can is. none next behind joins.0 joins.1 can (open_is ∙ is);
 }
 
-pub refused-unframed : (bytes rest : List ℕ) (place number : ℕ) (entries : List Entry) (node : Node) → is_journal bytes ≡ true → Following bytes rest place number entries node → rest ≡ 1 ∷ behind_first rest
-    → ((text behind : List ℕ) → IsFramed rest text behind → ⊥) → RefusedAt bytes place
-refused-unframed bytes rest place number entries node journal now open_is unframed =
-    refused-by bytes rest place entries now.follower journal now.followed open_is (λ next behind fits short can is. absurd (unframed (message_text next) behind (record { is = is; short = short })))
-
 pub refused-last : (bytes rest text : List ℕ) (place number : ℕ) (entries : List Entry) (node : Node) → is_journal bytes ≡ true → Following bytes rest place number entries node → rest ≡ 1 ∷ behind_first rest
     → IsFramed rest text [] → RefusedAt bytes place
 refused-last bytes rest text place number entries node journal now open_is framed_is =
@@ -148,23 +135,6 @@ refused-unknown bytes rest text behind place number entries node journal now ope
     let same = same-frame text (message_text next) behind tail framed_is.short short (sym framed_is.is ∙ is) in
     absurd (unknown next (record { fits = fits; is = same.0 }) can))
 
--- nobody follows before the first message
-chain-none : (messages : List Message) (past : List Entry) (follower : Option Follower) → Chain messages past follower → follower ≡ None → messages ≡ []
-chain-none messages past follower starts is = refl
-chain-none messages past follower (goes {follower = f} next chain can) is = absurd (some-after next f can is)
-  where
-    some-after : (next : Message) (f : Option Follower) → CanCome next f → follower_after next f ≡ None → ⊥
-    some-after (message.Snapshot saved) None can none = cc
-    some-after (message.Mirror number entry) (Some g) can none = cc
-    some-after (message.Snapshot saved) (Some g) can none = absurd can
-    some-after (message.Mirror number entry) None can none = absurd can
-    some-after (message.Request client seq call) g can none = absurd can
-    some-after (message.Reply client seq reply) g can none = absurd can
-    some-after (message.Item client key item) g can none = absurd can
-    some-after (message.Receipt client key through) g can none = absurd can
-    some-after (message.MirrorAck number) g can none = absurd can
-    some-after (message.JoinAck number) g can none = absurd can
-
 -- One step.
 
 framed-length : (rest text behind : List ℕ) → IsFramed rest text behind → length rest ≡ length text + 5 + length behind
@@ -172,9 +142,6 @@ framed-length rest text behind framed_is =
     let long = ap length framed_is.is ∙ length-append (frame text) behind in
     let body = length-body text in
     omega (arith, long, body)
-
-pub passed-unframed : (rest : List ℕ) (node : Node) (before : List Entry) (count : ℕ) → ((text behind : List ℕ) → IsFramed rest text behind → ⊥) → PassedNot rest node before count
-passed-unframed rest node before count unframed = record { refused = λ bytes place journal now open_is. refused-unframed bytes rest place count before node journal now (first-is rest open_is) unframed }
 
 no-bytes : (bytes : List ℕ) → length bytes ≡ 0 → bytes ≡ []
 no-bytes [] none = refl
@@ -201,46 +168,8 @@ passed-on rest text behind old new before after count number framed_is some foll
 
 -- All of them.
 
-pub stays-within : (bytes rest behind : List ℕ) (old new : Node) (before after : List Entry) (count number : ℕ) → length rest ≤ length bytes → Following bytes rest (length bytes - length rest) count before old → Passed rest behind old new before after count number
-    → Following bytes behind (length bytes - length behind) number after new
-stays-within bytes rest behind old new before after count number low now passed =
-    let fewer = passed.fewer in
-    let same : length bytes - length rest + (length rest - length behind) ≡ length bytes - length behind = omega (arith, low, fewer) in
-    subst (λ (place : ℕ). Following bytes behind place number after new) same (passed.on bytes (length bytes - length rest) now)
-
 pub begun : (bytes : List ℕ) → Following bytes bytes (length bytes - length bytes) 0 [] (node_of None)
 begun bytes = let none : 0 ≡ length bytes - length bytes = omega arith in subst (λ (place : ℕ). Following bytes bytes place 0 [] (node_of None)) none (begins bytes)
-
--- where the first gate is open a server follows at the end
-pub read-whole : (bytes rest : List ℕ) (read : Replayed) → is_journal bytes ≡ true → 1 ≤ length rest → first_byte rest ≢ 1 → (now : Following bytes rest read.place read.number read.entries read.node)
-    → (read.closed ≡ true → first_byte rest ≡ 0) → (read.closed ≡ false → first_byte rest ≢ 0) → ReadWhole bytes read
-read-whole bytes [] read journal long shut now closed open_is = absurd (omega (arith, long))
-read-whole bytes (gate ∷ behind) read journal long shut now closed open_is = by-follower now.follower refl
-  where
-    journal-first : (l : List ℕ) → is_journal l ≡ true → first_byte l ≡ 1
-    journal-first [] is = cc
-    journal-first (one ∷ []) is = cc
-    journal-first (one ∷ two ∷ more) is = elim (eqb_tells one 1) [
-      | inl tells ↦ tells.1
-      | inr tells ↦ cc
-    ]
-
-    by-follower : (f : Option Follower) → now.follower ≡ f → ReadWhole bytes read
-    by-follower None is =
-        let none : now.followed.messages ≡ [] = chain-none now.followed.messages now.followed.past now.follower now.followed.chain is in
-        let same : bytes ≡ gate ∷ behind = now.followed.is ∙ ap (λ (l : List Message). framed (texts_of l) ++ gate ∷ behind) none in
-        absurd (shut (sym (ap first_byte same) ∙ journal-first bytes journal))
-    by-follower (Some f) is = record {
-      follower = f;
-      gate = gate;
-      behind = behind;
-      followed = subst (λ (g : Option Follower). Followed bytes (gate ∷ behind) read.place read.entries g) is now.followed;
-      node = now.node_is ∙ ap node_of is;
-      number = now.number_is f is;
-      shut = shut;
-      is_closed = closed;
-      is_torn = open_is;
-    }
 
 -- as the tests of the code tell it
 pub passed-empty : (rest text behind : List ℕ) (node : Node) (before : List Entry) (count : ℕ) (is_empty : Bool) → IsFramed rest text behind → is_empty ≡ (length behind == 0) → is_empty ≡ true → PassedNot rest node before count
@@ -274,7 +203,3 @@ begun-at bytes entries node none is =
 pub journal-long : (bytes : List ℕ) → is_journal bytes ≡ true → 1 ≤ length bytes
 journal-long [] is = cc
 journal-long (byte ∷ bytes) is = omega arith
-
-pub not-false : (b : Bool) (is_it : Bool) → b ≡ is_it → not b ≡ false → is_it ≡ true
-not-false true is_it told is = sym told
-not-false false is_it told is = cc

@@ -1,10 +1,10 @@
 -- What was read of a journal is found in it, and a journal that is mended is that of what was found.
-use Rattle.std.proofs.Common.{◌≡◌, ◌⊎◌, inl, inr, Result, Ok, Err, ℕ, ◌<◌, Bool, List, ◌∷◌, length, Option, Some, None, option_map, refl, sym, ap, subst, ◌∙◌, arith, length-append}
+use Rattle.std.proofs.Common.{◌≡◌, ◌⊎◌, inl, inr, Result, Ok, Err, ℕ, Bool, List, Option, Some, None, option_map, refl, sym, ap, subst, ◌∙◌}
 use Rattle.std.specs.Prelude.{IfErr, IfOk, IfSome, IsErrOf}
 use Rattle.std.specs.Option.{option_map_or}
 use Rattle.std.specs.FinMap.{get}
 use Rattle.disk_model.specs.Disk.{File, Files}
-use Rattle.journal_frames.specs.Frames.{HasJournal, framed, journal_name, mended}
+use Rattle.journal_frames.specs.Frames.{HasJournal, journal_name, mended}
 use Rattle.journal_frames.specs.Staging.{EndsAt, HasStaged, IsMended, Keeps}
 use Rattle.journal_frames.proofs.Mending.{mend-whole}
 use Rattle.journal_found.specs.Found.{texts_of, Found}
@@ -41,12 +41,6 @@ read-ends bytes read whole = record {
   is_closed = whole.is_closed;
   is_torn = whole.is_torn;
 }
-
-pub read-place : (bytes : List ℕ) (read : Replayed) → ReadWhole bytes read → read.place < length bytes
-read-place bytes read whole =
-    let long = ap length whole.followed.is ∙ length-append (framed (texts_of whole.followed.messages)) (whole.gate ∷ whole.behind) in
-    let at = whole.followed.at in
-    omega (arith, long, at)
 
 -- the file whose bytes these are
 file-of : (files : Files) (bytes : List ℕ) → Some bytes ≡ bytes_in files → (file : File) × (get files journal_name ≡ Some file) × (file.bytes ≡ bytes)
