@@ -19,8 +19,6 @@ mod io_edge_tests;
 #[cfg(test)]
 mod journal_frames_tests;
 #[cfg(test)]
-mod laws_tests;
-#[cfg(test)]
 mod load_script_tests;
 #[cfg(test)]
 mod message_net_tests;
