@@ -10,8 +10,6 @@ mod calls_tests;
 #[cfg(test)]
 mod fixtures;
 #[cfg(test)]
-mod laws_tests;
-#[cfg(test)]
 mod log_service_tests;
 #[cfg(test)]
 mod ntf_filters_tests;
