@@ -8,8 +8,6 @@ mod client_agent_tests;
 #[cfg(test)]
 mod event_text_tests;
 #[cfg(test)]
-mod laws_tests;
-#[cfg(test)]
 mod script_tests;
 #[cfg(test)]
 mod wire_tests;
