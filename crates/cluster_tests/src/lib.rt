@@ -1,9 +1,6 @@
-//! Tests of a node of the cluster, of lines of a script over two of them and of values that are handed to one, and the laws over whole
-//! histories called once.
+//! Tests of a node of the cluster, of lines of a script over two of them and of values that are handed to one.
 #![tactic(auto)]
 
-#[cfg(test)]
-mod laws_tests;
 #[cfg(test)]
 mod lines_tests;
 #[cfg(test)]
