@@ -20,7 +20,8 @@ fn free_memory(
     workers: u32,
     waiting: usize,
 ) -> Result<(Vec<Buffer>, Vec<Numbered>), AllocError>
-    ensures buffers { IfOk result (λ free. (vec_len free.0 ≤ workers) × AreFree waiting free.0.items) }
+    ensures buffers { IfOk result (λ free. (vec_len free.0 ≤ workers)
+        × AreFree waiting free.0.items) }
     ensures answer { IfOk result (λ free. (free.1.items ≡ []) × (waiting ≤ vec_capacity free.1)) }
 {
     let answer = Vec::with_capacity(alloc, waiting)?;

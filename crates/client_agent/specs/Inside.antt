@@ -1,5 +1,6 @@
 -- Words of bodies alone: how an agent keeps its calls, subscriptions, callbacks and marks, the newest in front.
-use Rattle.std.specs.Prelude.{◌≡◌, ℕ, suc, ◌<◌, ◌≤◌, ◌==◌, ⊤, Bool, true, false, not, if◌then◌else◌, Option, Some, None, option_map, List, [], ◌∷◌, length, map, take, drop, reverse}
+use Rattle.std.specs.Prelude.{◌≡◌, ℕ, suc, ◌<◌, ◌≤◌, ◌==◌, ⊤, Bool, true, false, not, if◌then◌else◌, Option, Some, None, option_map, List, [], ◌∷◌}
+use Rattle.std.specs.Prelude.{length, map, take, drop, reverse}
 use Rattle.stream_config.specs.Equality.{same_name}
 use Rattle.calls.specs.declared.call.Call.{Call}
 use Rattle.calls.specs.declared.reply.Callback.{Callback}

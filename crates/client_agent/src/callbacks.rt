@@ -72,8 +72,9 @@ pub fn callback_of_reply(
     reply: &Reply,
     later: Option<LaterMark>,
 ) -> Result<Option<Callback>, AllocError>
-    ensures { IfOk result (λ callback. option_to_list callback ≡ given_by
-        (changed_by (option_map later_of later.entry)) (asked_back call.now) (status_of reply.now)) }
+    ensures { IfOk result (λ callback. option_to_list callback ≡
+        given_by (changed_by (option_map later_of later.entry)) (asked_back call.now)
+        (status_of reply.now)) }
 {
     match later {
         Some(later) => {

@@ -1,5 +1,5 @@
 -- Events that break off leave what they must.
-use Rattle.std.proofs.Common.{ℕ, List, ◌++◌, ap, sym, ◌∙◌, subst, append_assoc}
+use Rattle.std.proofs.Common.{ℕ, List, ◌++◌, sym, subst}
 use Rattle.cluster_facts.specs.Types.{Reply}
 use Rattle.cluster_facts.specs.Messages.{sent_by, messages_in}
 use Rattle.cluster_facts.specs.Service.{Plain, answers_in}
@@ -8,7 +8,7 @@ use Rattle.cluster_facts.specs.History.{committed}
 use Rattle.cluster_facts.specs.World.{World}
 use Rattle.cluster_facts.specs.Facts.{IsSound}
 use Rattle.cluster_events.specs.Lines.{Told}
-use Rattle.cluster_events.specs.Saying.{entry_in, reply_in, callback_in, called_in, replies_told, called_back, of_replies, TellsReplies, Says}
+use Rattle.cluster_events.specs.Saying.{entry_in, reply_in, callback_in, replies_told, of_replies, TellsReplies, Says}
 use Rattle.cluster_events.specs.Breaking.{Tells, Holds}
 use Rattle.cluster_events.proofs.Carrying.{EndsIn-both}
 use Rattle.cluster_events.proofs.Telling.{gathered-append, grows-told, TellsReplies-both, answers-ends, marks-both, called-both}

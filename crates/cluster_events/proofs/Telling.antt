@@ -1,7 +1,7 @@
 -- What lines say goes on from one event to the next.
 use Rattle.std.proofs.Common.{◌≡◌, ℕ, suc, ◌+◌, ◌<◌, Bool, true, false, ◌==◌, if◌then◌else◌, Option, Some, None, List, [], ◌∷◌, ◌++◌, length, refl, ap, sym, ◌∙◌, subst, arith, append_assoc, append-nil, length-append}
 use Rattle.std.specs.List.{AllByRecursion}
-use Rattle.cluster_facts.specs.Types.{Call, LogWrite, Reply, Item, Content, Single, Losses, Entry, Called, Callback, Written, Status, StreamName, Mark, Message, Request, Answer, Delivery, Receipt, WireWhy}
+use Rattle.cluster_facts.specs.Types.{Call, Reply, Item, Content, Single, Losses, Entry, Called, Callback, Status, StreamName, Mark, Message, Request, Answer, Delivery, Receipt, WireWhy}
 use Rattle.cluster_facts.specs.Lists.{Stands, EndsIn, without}
 use Rattle.cluster_facts.specs.Messages.{Spelled, Raw, messages_in, sent_by}
 use Rattle.cluster_facts.specs.Service.{Plain, answers_in}

@@ -18,7 +18,8 @@ pub record Tells (plain : Plain) (old new : World) (told : List Told) : Type 0 w
   pub replies : (client : ℕ) → TellsReplies (old.agents client) (new.agents client) (answers_in plain client new.core.answered) (replies_told client told)
   pub callbacks : (client : ℕ) → Grows (old.agents client).handed (new.agents client).handed (callbacks_told client told)
   pub marks : (client : ℕ) → (new.agents client).marks ≡ marks_seen client (old.agents client).marks told
-  pub called : (client : ℕ) → of_replies (fed_of (new.agents client)) ≡ called_back client (old.agents client).marks told ++ of_replies (fed_of (old.agents client))
+  pub called : (client : ℕ)
+      → of_replies (fed_of (new.agents client)) ≡ called_back client (old.agents client).marks told ++ of_replies (fed_of (old.agents client))
 
 -- the callbacks of items that a client got are, in order, those of receipts that go through 1, 2, 3 and so on of each
 -- subscription; the last receipt need not be posted

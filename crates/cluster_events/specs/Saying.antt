@@ -126,4 +126,5 @@ pub record Says (plain : Plain) (old new : World) (told : List Told) : Type 0 wh
   pub deals : (client : ℕ) → AllByRecursion (λ (deal : ℕ × Call × Reply). Stands deal (dealt_in plain client new.core.answered)) (deals_told client told)
   pub callbacks : (client : ℕ) → Grows (old.agents client).handed (new.agents client).handed (callbacks_told client told)
   pub marks : (client : ℕ) → (new.agents client).marks ≡ marks_seen client (old.agents client).marks told
-  pub called : (client : ℕ) → of_replies (fed_of (new.agents client)) ≡ called_back client (old.agents client).marks told ++ of_replies (fed_of (old.agents client))
+  pub called : (client : ℕ)
+      → of_replies (fed_of (new.agents client)) ≡ called_back client (old.agents client).marks told ++ of_replies (fed_of (old.agents client))

@@ -63,7 +63,8 @@ pub record IsCarried {P : Type 0} (plain : Plain) (servers : Servers P) (Good : 
       → R world (record world { net = Spelled (Delivery client key item) ∷ world.net }) (Posted (suc (length world.net)) (Delivery client key item) ∷ [])
   pub reply : (world : World) (client number : ℕ) (call : Call) (reply : Reply) → IsSound plain world
       → kept_call number (world.agents client).kept ≡ Some call
-      → lacks_place world.places (world.agents client).queue (callbacks_of (world.agents client).marks call reply) ≡ false → Stands (Answer client number reply) (messages_in world.net)
+      → lacks_place world.places (world.agents client).queue (callbacks_of (world.agents client).marks call reply) ≡ false
+      → Stands (Answer client number reply) (messages_in world.net)
       → R world (record world { agents = with_agent client (after_reply number call reply (world.agents client)) world.agents })
       (Replied client number call reply ∷ [])
   pub item : (world : World) (client key : ℕ) (item : Item) (found : Living) → IsSound plain world

@@ -2,10 +2,10 @@
 use Rattle.std.proofs.Common.{◌≡◌, ℕ, suc, ◌+◌, ◌<◌, ◌≤◌, ◌⊎◌, inl, inr, Bool, true, false, ◌||◌, ◌==◌, if◌then◌else◌, Option, Some, None, List, [], ◌∷◌, ◌++◌, length, refl, ap, sym, ◌∙◌, subst, arith}
 use Rattle.std.specs.List.{AllByRecursion}
 use Rattle.std.proofs.lemmas.Bool.Decides.{leb_tells}
-use Rattle.cluster_facts.specs.Types.{Call, LogWrite, NtfSubscribe, NtfUnsubscribe, NtfFini, Reply, Refused, Status, Callback, Written, MaskSet, StreamName, Mark}
+use Rattle.cluster_facts.specs.Types.{Call, NtfSubscribe, NtfUnsubscribe, NtfFini, Reply, Refused, Status, Callback, StreamName, Mark}
 use Rattle.cluster_facts.specs.Lists.{Stands, EndsIn, IsNumbered, count_of, without}
 use Rattle.cluster_facts.specs.Service.{subscribes, asked_for, subscribed_after, subscribed}
-use Rattle.cluster_facts.specs.Agents.{Living, Agent, is_shut, log_after, ntf_after, living_after, after_call, kept_call, living_after_reply, callbacks_of, status_of, after_reply, told_mark, given_by, changed_mask, asked_back, marks_with, find_living, living_after_item, after_item, all_but_oldest, oldest}
+use Rattle.cluster_facts.specs.Agents.{Living, Agent, is_shut, log_after, ntf_after, living_after, after_call, kept_call, living_after_reply, callbacks_of, status_of, after_reply, told_mark, given_by, changed_mask, asked_back, find_living, living_after_item, after_item, all_but_oldest, oldest}
 use Rattle.cluster_facts.specs.Facts.{View, Keeps, Lives, IsClient, Fits}
 use Rattle.cluster_facts.specs.Facts.Keeps.{starts, waits, answered}
 use Rattle.cluster_facts.specs.Facts.Lives.{none as none_live, lives, refused}

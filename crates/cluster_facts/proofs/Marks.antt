@@ -1,9 +1,8 @@
 -- The last marks follow from the replies that were taken.
-use Rattle.std.proofs.Common.{◌≡◌, ◌≢◌, ℕ, suc, ◌+◌, ◌<◌, ◌≤◌, ◌⊎◌, Bool, true, false, ◌==◌, nat_lt, cond, List, [], ◌∷◌, ◌++◌, length, Option, Some, None, refl, sym, ap, subst, ◌∙◌, inl, inr, arith}
+use Rattle.std.proofs.Common.{◌≡◌, ◌≢◌, ℕ, ◌+◌, ◌<◌, ◌≤◌, ◌⊎◌, Bool, true, false, ◌==◌, cond, List, [], ◌∷◌, ◌++◌, length, Option, Some, None, refl, sym, ap, subst, ◌∙◌, inl, inr, arith}
 use Rattle.std.specs.Option.{option_to_list}
 use Rattle.std.proofs.lemmas.Bool.{ltb-true, ltb-false}
 use Rattle.stream_config.specs.Equality.{same_name}
-use Rattle.stream_config.specs.Marks.{first_mark}
 use Rattle.stream_config.proofs.Equalities.{decides_name}
 use Rattle.cluster_facts.specs.Types.{Call, Reply, StreamName, Mark}
 use Rattle.cluster_facts.specs.Lists.{Stands, IsNumbered, without}
@@ -29,14 +28,6 @@ keeps-others number numbered above (waits {sent = sent} {kept = kept} call rest)
     by_test P call.0 number (λ same. absurd (let is = numbered.0 in omega (arith, same, is, above))) (λ different. ap (λ ks. call ∷ ks) deeper)
 keeps-others number numbered above (answered call reply stands rest) = keeps-others number numbered.1 (omega (arith, above)) rest
 
-lower : (number : ℕ) (call : Call) {heard : List (ℕ × Reply)} {sent kept : List (ℕ × Call)} {told : List (StreamName × Mark)} → IsNumbered sent → Keeps heard sent kept told
-    → kept_call number kept ≡ Some call → number ≤ length sent
-lower number call numbered starts found = cc
-lower number call numbered (waits {sent = sent} {kept = kept} first rest) found =
-    let P : Bool → Type 0 = λ b. cond b (Some first.1) (kept_call number kept) ≡ Some call → number ≤ suc (length sent) in
-    by_test P first.0 number (λ same here. let is = numbered.0 in omega (arith, same, is)) (λ different there. let le = lower number call numbered.1 rest there in omega (arith, le)) found
-lower number call numbered (answered first reply stands rest) found = let le = lower number call numbered.1 rest found in omega (arith, le)
-
 -- one mark more, wherever it stands
 record IsOneMore (one : Option (StreamName × Mark)) (old new : List (StreamName × Mark)) : Type 0 where
   new_is : (seen : StreamName × Mark) → Stands seen new → Stands seen (option_to_list one) ⊎ Stands seen old
@@ -54,7 +45,7 @@ more-behind : (one : Option (StreamName × Mark)) (front old new : List (StreamN
 more-behind one front old new is = record {
   new_is = λ seen there. elim (Stands-append seen front new there) [
     | inl left ↦ inr (Stands-left seen front old left)
-    | inr right ↦ elim (is.new_is seen right) [ | inl own ↦ inl own | inr before ↦ inr (Stands-right seen front old before) ]
+    | inr right ↦ elim (is.new_is seen right) [ inl own ↦ inl own | inr before ↦ inr (Stands-right seen front old before) ]
   ];
   one_is = λ seen there. Stands-right seen front new (is.one_is seen there);
   old_is = λ seen there. elim (Stands-append seen front old there) [
@@ -75,11 +66,12 @@ keeps-reply number call reply {heard = heard} numbered stands found (waits {sent
     let is = numbered.0 in
     let calls : first.1 ≡ call = cc in
     let others : (without (λ call. call.0 == number) kept) ≡ kept = keeps-others number numbered.1 (omega (arith, same, is)) rest in
-    let own : Keeps heard (first ∷ sent) kept (option_to_list (told_mark first.1 reply) ++ told) = answered first reply (subst (λ n. Stands (n, reply) heard) (sym same) stands) rest in
-    (option_to_list (told_mark call reply) ++ told,
-    subst (λ c. Keeps heard (first ∷ sent) ((without (λ call. call.0 == number) kept)) (option_to_list (told_mark c reply) ++ told)) calls
-    (subst (λ ks. Keeps heard (first ∷ sent) ks (option_to_list (told_mark first.1 reply) ++ told)) (sym others) own),
-    one-more (told_mark call reply) told))
+    let own : Keeps heard (first ∷ sent) kept (option_to_list (told_mark first.1 reply) ++ told) = answered first reply (subst (λ n. Stands (n, reply) heard) (sym same) stands) rest in (
+      option_to_list (told_mark call reply) ++ told,
+      subst (λ c. Keeps heard (first ∷ sent) ((without (λ call. call.0 == number) kept)) (option_to_list (told_mark c reply) ++ told)) calls
+          (subst (λ ks. Keeps heard (first ∷ sent) ks (option_to_list (told_mark first.1 reply) ++ told)) (sym others) own),
+      one-more (told_mark call reply) told,
+    ))
     (λ different there.
     let deeper = keeps-reply number call reply numbered.1 stands there rest in
     (deeper.0, waits first deeper.1, deeper.2))
@@ -103,41 +95,41 @@ mark_of-without name other (seen ∷ marks) different = by_case (mark_of-without
 -- the last mark behind one more
 last-mark : (one : Option (StreamName × Mark)) (told now marks : List (StreamName × Mark)) (name : StreamName) → IsOneMore one told now → IsLast told name (mark_of name marks) → IsLast now name (mark_of name (marks_with one marks))
 last-mark None told now marks name more last = record {
-  stands = elim last.stands [ | inl first ↦ inl first | inr there ↦ inr (more.old_is (name, mark_of name marks) there) ];
-  most = λ mark there. elim (more.new_is (name, mark) there) [ | inl own ↦ absurd own | inr before ↦ last.most mark before ];
+  stands = elim last.stands [ inl first ↦ inl first | inr there ↦ inr (more.old_is (name, mark_of name marks) there) ];
+  most = λ mark there. elim (more.new_is (name, mark) there) [ inl own ↦ absurd own | inr before ↦ last.most mark before ];
 }
 last-mark (Some seen) told now marks name more last = by_case (is_later marks seen) refl where
   by_case : (b : Bool) → is_later marks seen ≡ b → IsLast now name (mark_of name (cond b (seen ∷ without (λ other. same_name other.0 seen.0) marks) marks))
   by_case true later =
       let above = ltb-true (mark_of seen.0 marks).since seen.1.since later in
       by_name (same_name seen.0 name) refl where
-    by_name : (b : Bool) → same_name seen.0 name ≡ b → IsLast now name (cond b seen.1 (mark_of name (without (λ other. same_name other.0 seen.0) marks)))
-    by_name true is =
-        let same : seen.0 ≡ name = (decides_name seen.0 name).0 is in
-        let above = ltb-true (mark_of seen.0 marks).since seen.1.since later in
-        record {
-          stands = inr (subst (λ s. Stands (s, seen.1) now) same (more.one_is seen (inl refl)));
-          most = λ mark there. elim (more.new_is (name, mark) there) [
-            | inl own ↦ elim own [ | inl is ↦ (let e : mark.since ≡ seen.1.since = ap (λ (s : StreamName × Mark). s.1.since) is in omega (arith, e)) | inr none ↦ absurd none ]
-            | inr before ↦
-                let le = last.most mark before in
-                let at : (mark_of name marks).since < seen.1.since = subst (λ s. (mark_of s marks).since < seen.1.since) same above in
-                omega (arith, le, at)
-          ];
-        }
-    by_name false is =
-        let different : seen.0 ≢ name = λ same. (let yes : same_name seen.0 name ≡ true = (decides_name seen.0 name).1 same in let no : true ≡ false = sym yes ∙ is in absurd (cc)) in
-        subst (λ m. IsLast now name m) (sym (mark_of-without seen.0 name marks different)) (record {
-          stands = elim last.stands [ | inl first ↦ inl first | inr there ↦ inr (more.old_is (name, mark_of name marks) there) ];
-          most = λ mark there. elim (more.new_is (name, mark) there) [
-            | inl own ↦ elim own [ | inl is ↦ absurd (different (sym (ap (λ (s : StreamName × Mark). s.0) is))) | inr none ↦ absurd none ]
-            | inr before ↦ last.most mark before
-          ];
-        })
+        by_name : (b : Bool) → same_name seen.0 name ≡ b → IsLast now name (cond b seen.1 (mark_of name (without (λ other. same_name other.0 seen.0) marks)))
+        by_name true is =
+            let same : seen.0 ≡ name = (decides_name seen.0 name).0 is in
+            let above = ltb-true (mark_of seen.0 marks).since seen.1.since later in
+            record {
+              stands = inr (subst (λ s. Stands (s, seen.1) now) same (more.one_is seen (inl refl)));
+              most = λ mark there. elim (more.new_is (name, mark) there) [
+                | inl own ↦ elim own [ inl is ↦ (let e : mark.since ≡ seen.1.since = ap (λ (s : StreamName × Mark). s.1.since) is in omega (arith, e)) | inr none ↦ absurd none ]
+                | inr before ↦
+                    let le = last.most mark before in
+                    let at : (mark_of name marks).since < seen.1.since = subst (λ s. (mark_of s marks).since < seen.1.since) same above in
+                    omega (arith, le, at)
+              ];
+            }
+        by_name false is =
+            let different : seen.0 ≢ name = λ same. (let yes : same_name seen.0 name ≡ true = (decides_name seen.0 name).1 same in let no : true ≡ false = sym yes ∙ is in absurd (cc)) in
+            subst (λ m. IsLast now name m) (sym (mark_of-without seen.0 name marks different)) (record {
+              stands = elim last.stands [ inl first ↦ inl first | inr there ↦ inr (more.old_is (name, mark_of name marks) there) ];
+              most = λ mark there. elim (more.new_is (name, mark) there) [
+                | inl own ↦ elim own [ inl is ↦ absurd (different (sym (ap (λ (s : StreamName × Mark). s.0) is))) | inr none ↦ absurd none ]
+                | inr before ↦ last.most mark before
+              ];
+            })
   by_case false early =
       let low = ltb-false (mark_of seen.0 marks).since seen.1.since early in
       record {
-        stands = elim last.stands [ | inl first ↦ inl first | inr there ↦ inr (more.old_is (name, mark_of name marks) there) ];
+        stands = elim last.stands [ inl first ↦ inl first | inr there ↦ inr (more.old_is (name, mark_of name marks) there) ];
         most = λ mark there. elim (more.new_is (name, mark) there) [
           | inl own ↦ elim own [
             | inl is ↦

@@ -5,7 +5,8 @@ use Rattle.ais_values.specs.Statuses.{release_a, supported_version}
 use Rattle.ais_values.specs.FirstRow.{first_row}
 use Rattle.cluster_facts.specs.Types.{Which, Log, Ntf, Version, Status, Success, VersionRefused, TryAgain, BadHandle, Ask, Start, Other, Call}
 use Rattle.cluster_facts.specs.Types.{LogInit, LogOpen, LogWrite, LogFilter, LogClose, LogFini, NtfInit, NtfSubscribe, NtfUnsubscribe, NtfFini, Reply}
-use Rattle.cluster_facts.specs.Types.{Refused, Marked, Mark, StreamName, Content, Single, Losses, Callback, Written, Notified, Discarded, MaskSet, Message, Request, Receipt}
+use Rattle.cluster_facts.specs.Types.{Refused, Marked, Mark, StreamName, Content, Single, Losses, Callback, Written, Notified, Discarded, MaskSet}
+use Rattle.cluster_facts.specs.Types.{Message, Request, Receipt}
 use Rattle.stream_config.specs.Equality.{same_name}
 use Rattle.stream_config.specs.Marks.{first_mark}
 use Rattle.cluster_facts.specs.Lists.{without}

@@ -1,9 +1,10 @@
 -- Words of public clauses: what holds of history, net and agents between any two events.
-use Rattle.std.specs.Prelude.{◌≡◌, ℕ, suc, ◌+◌, ◌≤◌, ◌⊎◌, Bool, ℤ, Option, List, [], ◌∷◌, ◌++◌, length, Some}
+use Rattle.std.specs.Prelude.{◌≡◌, ℕ, suc, ◌+◌, ◌≤◌, ◌⊎◌, Bool, ℤ, Option, List, [], ◌∷◌, ◌++◌, length}
 use Rattle.std.specs.List.{AllByRecursion}
 use Rattle.std.specs.Option.{option_to_list}
 use Rattle.stream_config.specs.Marks.{first_mark}
-use Rattle.cluster_facts.specs.Types.{Call, Reply, Refused, Status, Entry, Callback, Written, MaskSet, StreamName, Mark, Message, Request, Answer, Delivery, Receipt}
+use Rattle.cluster_facts.specs.Types.{Call, Reply, Refused, Status, Entry, Callback, Written, MaskSet, StreamName, Mark, Message, Request, Answer}
+use Rattle.cluster_facts.specs.Types.{Delivery, Receipt}
 use Rattle.cluster_facts.specs.Lists.{Stands, EndsIn, IsNumbered, IsCounted, count_of}
 use Rattle.cluster_facts.specs.Messages.{sent_by, answers_to, receipts_of, calls_in, message_of, messages_in}
 use Rattle.cluster_facts.specs.Service.{Plain, IsMade, answers_in, asked_for, subscribed}
@@ -48,8 +49,10 @@ pub record Sends (sent calls : List (ℕ × Call)) (next : ℕ) (log_handle ntf_
 -- of the calls that were sent, the agent keeps those that wait; the replies to the others stand in the net, and told these marks
 pub data Keeps (heard : List (ℕ × Reply)) : List (ℕ × Call) → List (ℕ × Call) → List (StreamName × Mark) → Type 0 where
   starts : Keeps heard [] [] []
-  waits : {sent kept : List (ℕ × Call)} {told : List (StreamName × Mark)} → (call : ℕ × Call) → Keeps heard sent kept told → Keeps heard (call ∷ sent) (call ∷ kept) told
-  answered : {sent kept : List (ℕ × Call)} {told : List (StreamName × Mark)} → (call : ℕ × Call) → (reply : Reply) → Stands (call.0, reply) heard → Keeps heard sent kept told
+  waits : {sent kept : List (ℕ × Call)} {told : List (StreamName × Mark)} → (call : ℕ × Call) → Keeps heard sent kept told
+      → Keeps heard (call ∷ sent) (call ∷ kept) told
+  answered : {sent kept : List (ℕ × Call)} {told : List (StreamName × Mark)} → (call : ℕ × Call) → (reply : Reply) → Stands (call.0, reply) heard
+      → Keeps heard sent kept told
       → Keeps heard (call ∷ sent) kept (option_to_list (told_mark call.1 reply) ++ told)
 
 -- a stream's mark is of the greatest entry of those told of it, or is that of a stream of which none was told

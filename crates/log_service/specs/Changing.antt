@@ -50,7 +50,8 @@ pub record JoinsIn (last : ℤ) (client : ℕ) (name : StreamName) (old new : Li
   pub streams : new ≡ change_first (is_named name) (with_opener client) old
 
 -- the streams once a client has opened one, which lived or not
-abbrev pub OpensIn : (last now : ℤ) (client number : ℕ) → StreamName → (making : Option StreamAttrs) → (old new : List OpenStream) → ℤ × List StreamEvent → Type 0
+abbrev pub OpensIn : (last now : ℤ) (client number : ℕ) → StreamName → (making : Option StreamAttrs) → (old new : List OpenStream)
+    → ℤ × List StreamEvent → Type 0
 OpensIn last now client number name (Some attrs) old new opened = MakesIn last now client number name attrs old new opened
 OpensIn last now client number name None old new opened = JoinsIn last client name old new opened
 

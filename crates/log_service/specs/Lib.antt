@@ -7,4 +7,5 @@ pub mod Beginning
 pub mod Opening
 pub mod Laws
 pub mod Planning
+pub mod Calls
 pub mod PlanningParts

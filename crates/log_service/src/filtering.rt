@@ -5,7 +5,7 @@ ghost use Rattle.stream_config.specs.Attributes.{kind_of};
 ghost use Rattle.log_history.specs.Changes.{Filtered};
 ghost use Rattle.log_history.specs.KeptAnswers.{filter_status};
 ghost use Rattle.log_service.specs.State.{Made, Left, Tells};
-ghost use Rattle.log_service.specs.Planning.{Plans};
+ghost use Rattle.log_service.specs.Calls.{PlansFilter};
 
 use crate::plan::LogPlan;
 use crate::state::LogState;
@@ -47,9 +47,7 @@ impl LogState {
         mask: u32,
         number: u64,
     ) -> Result<LogPlan, AllocError>
-        ensures { IfOk result (Plans self.now.table (filter_status self.now.table client name.now mask)
-            false (Some (record { since = number; mask = mask }))
-            (Filtered client name.now mask number)) }
+        ensures { IfOk result (PlansFilter self.now.table client name.now mask number) }
     {
         let status = self.filter_status(client, name, mask);
         if status != Status::Ok {
@@ -73,10 +71,7 @@ impl LogState {
         mask: u32,
         number: u64,
     ) -> Result<LogPlan, AllocError>
-        ensures ok { IfOk result (Plans self.old.table
-            (filter_status self.old.table client name.now mask)
-            false (Some (record { since = number; mask = mask }))
-            (Filtered client name.now mask number)) }
+        ensures ok { IfOk result (PlansFilter self.old.table client name.now mask number) }
         ensures table { self.new.table ≡ self.old.table }
         ensures room { OnOk result (1 ≤ self.new.spare) }
     {

@@ -7,9 +7,9 @@ ghost use Rattle.log_history.specs.Changes.{LogChange};
 ghost use Rattle.log_history.specs.Chronicle.{LogSetup};
 ghost use Rattle.log_history.specs.Legal.{IsLogHistory};
 ghost use Rattle.log_history.specs.Table.{table, table_after};
-ghost use Rattle.log_history.specs.Answers.{begin_answer, filter_answer, close_answer, end_answer, store_answer, making_of};
-ghost use Rattle.log_history.specs.KeptAnswers.{begin_status, filter_status, close_status, end_status, store_status, making_in};
-ghost use Rattle.log_service.specs.Laws.{OpensByRows, WritesByRows};
+ghost use Rattle.log_history.specs.Answers.{begin_answer, close_answer, end_answer, store_answer, making_of};
+ghost use Rattle.log_history.specs.KeptAnswers.{begin_status, close_status, end_status, store_status, making_in};
+ghost use Rattle.log_service.specs.Laws.{OpensByRows, WritesByRows, FiltersByRows};
 
 /// A state that stands for all that changed answers by the rows of that history, and one more change makes of it
 /// the state that stands for the longer one.
@@ -25,8 +25,7 @@ pub fn law_of_history()
     ensures write { (setup : LogSetup) (past : List LogChange) → IsLogHistory setup past →
         WritesByRows setup past }
     ensures filter { (setup : LogSetup) (past : List LogChange) → IsLogHistory setup past →
-        (client : ℕ) (name : StreamName) (mask : ℕ) →
-        filter_status (table setup past) client name mask ≡ filter_answer setup past client name mask }
+        FiltersByRows setup past }
     ensures close { (setup : LogSetup) (past : List LogChange) → IsLogHistory setup past →
         (client : ℕ) (name : StreamName) →
         close_status (table setup past) client name ≡ close_answer setup past client name }

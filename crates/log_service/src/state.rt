@@ -15,8 +15,9 @@ ghost use Rattle.log_history.specs.Times.{filled_time, filled_header, record_at}
 ghost use Rattle.log_history.specs.Marks.{is_filtered};
 ghost use Rattle.log_history.specs.KeptAnswers.{begin_status, open_status, write_status, close_status, end_status, store_status, has_opener, is_filled, kept_mark, is_crowd, kept_attrs};
 ghost use Rattle.log_service.specs.Moments.{IsTimeOfCall, second_of};
-ghost use Rattle.log_service.specs.State.{IsCallTime, HasNumberLeft, Made, Came, Left, Tells, stream_of_kind, IsNotified, BeginsWith, CanBeginWith, HasBegun, table_with, joined_streams, IsSoundTable};
+ghost use Rattle.log_service.specs.State.{IsCallTime, HasNumberLeft, Made, Left, Tells, stream_of_kind, IsNotified, BeginsWith, CanBeginWith, HasBegun, table_with, joined_streams, IsSoundTable};
 ghost use Rattle.log_service.specs.Opening.{opening_in, mark_in};
+ghost use Rattle.log_service.specs.Calls.{filters_in, mark_told, PlansOpening, PlansWrite, HasWritten};
 ghost use Rattle.log_service.specs.Changing.{making_status};
 ghost use Rattle.log_service.specs.Planning.{step_of, planned, CanCommit, Plans};
 
@@ -421,11 +422,8 @@ impl LogState {
         number: u64,
     ) -> Result<LogPlan, AllocError>
         requires { IsCallTime self.now.table now }
-        ensures { IfOk result (Plans self.now.table
-            (open_status self.now.table client name.now (option_copied create.entry)) false
-            (Some (mark_in self.now.table.streams name.now (option_copied create.entry) number))
-            (opening_in self.now.table.streams client name.now (option_copied create.entry) now
-            number)) }
+        ensures { IfOk result (PlansOpening self.now.table client name.now
+            (option_copied create.entry) now number) }
     {
         let status = self.open_status(client, name, create);
         if status != Status::Ok {
@@ -449,11 +447,8 @@ impl LogState {
         number: u64,
     ) -> Result<LogPlan, AllocError>
         requires { IsCallTime self.old.table now }
-        ensures ok { IfOk result (Plans self.old.table
-            (open_status self.old.table client name.now (option_copied create.entry)) false
-            (Some (mark_in self.old.table.streams name.now (option_copied create.entry) number))
-            (opening_in self.old.table.streams client name.now (option_copied create.entry) now
-            number)) }
+        ensures ok { IfOk result (PlansOpening self.old.table client name.now
+            (option_copied create.entry) now number) }
         ensures table { self.new.table ≡ self.old.table }
         ensures room { OnOk result (1 ≤ self.new.spare) }
     {
@@ -593,11 +588,8 @@ impl LogState {
     ) -> Result<LogPlan, AllocError>
         requires moment { IsCallTime self.now.table now }
         requires numbers { HasNumberLeft self.now.table name.now }
-        ensures { IfOk result (Plans self.now.table
-            (write_status self.now.table client name.now flags time header.now body.now now)
-            (is_filtered (kept_mark self.now.table.streams name.now).mask header.now)
-            (Some (kept_mark self.now.table.streams name.now))
-            (Stored name.now (record_at time header.now body.now now) (second_of now))) }
+        ensures { IfOk result (PlansWrite self.now.table client name.now flags time
+            header.now body.now now) }
     {
         let status = self.write_status(client, name, flags, time, header, body, now);
         if status != Status::Ok {
@@ -626,11 +618,8 @@ impl LogState {
     ) -> Result<LogPlan, AllocError>
         requires moment { IsCallTime self.old.table now }
         requires numbers { HasNumberLeft self.old.table name.now }
-        ensures ok { IfOk result (Plans self.old.table
-            (write_status self.old.table client name.now flags time header.now body.now now)
-            (is_filtered (kept_mark self.old.table.streams name.now).mask header.now)
-            (Some (kept_mark self.old.table.streams name.now))
-            (Stored name.now (record_at time header.now body.now now) (second_of now))) }
+        ensures ok { IfOk result (PlansWrite self.old.table client name.now flags time
+            header.now body.now now) }
         ensures table { self.new.table ≡ self.old.table }
         ensures room { OnOk result (1 ≤ self.new.spare) }
     {
@@ -661,13 +650,11 @@ impl LogState {
         requires numbers { HasNumberLeft self.old.table name.now }
         ensures status { IfOk result (λ step. step.status
             ≡ write_status self.old.table client name.now flags time header.now body.now now) }
-        ensures told { IfOk result (Tells
-            (is_filtered (kept_mark self.old.table.streams name.now).mask header.now)
-            (Some (kept_mark self.old.table.streams name.now))) }
+        ensures told { IfOk result (Tells (filters_in self.old.table name.now header.now)
+            (mark_told self.old.table name.now)) }
         ensures ok { IfOk result (λ step. step.status ≡ Status.Ok
-            → Came (is_filtered (kept_mark self.old.table.streams name.now).mask header.now)
-            (Stored name.now (record_at time header.now body.now now) (second_of now))
-            self.old.table self.new.table step.events) }
+            → HasWritten name.now time header.now body.now now self.old.table self.new.table
+            step.events) }
         ensures refused { IfOk result (λ step. step.status ≢ Status.Ok
             → Left self.old.table self.new.table step.events) }
         ensures err { OnErr result (self.new.table ≡ self.old.table) }

@@ -42,7 +42,8 @@ impl Step {
 
     /// The step of a call that did this.
     pub(crate) fn done(events: Seq<StreamEvent>) -> Step
-        ensures { result ≡ record { status = Status.Ok; filtered = false; mark = None; events = events } }
+        ensures { result
+            ≡ record { status = Status.Ok; filtered = false; mark = None; events = events } }
     {
         Step {
             status: Status::Ok,

@@ -36,17 +36,6 @@ older-joined net (first ∷ strings) [] string place all is = absurd all
 older-joined net (first ∷ strings) (one ∷ older) string place all is =
     (all.0, older-joined (first.items ∷ net) strings older string place all.1 is)
 
--- nothing is found where nothing was posted
-pub found-none : (strings : List (Vec ℕ)) (places : ℕ → Option ℕ) (older : List (Option ℕ)) → strings ≡ [] → ((front : ℕ) → places front ≡ None) → older ≡ [] → AreFound strings places older
-found-none strings places older none nowhere also =
-    let one = ap length none in
-    let two = ap length also in
-    record {
-      newest = λ front. nowhere front ∙ sym (ap (λ (s : List (Vec ℕ)). newest_with front (net_from s)) none);
-      count = omega arith;
-      older = subst (λ (y : List (Vec ℕ) × List (Option ℕ)). AreOlder [] y.0 y.1) (λ i. (sym none i, sym also i)) tt;
-    }
-
 -- what is found where one string more was posted
 pub found-joined : (strings new : List (Vec ℕ)) (string : Vec ℕ) (old now : ℕ → Option ℕ) (older more : List (Option ℕ)) (front place : ℕ) → AreFound strings old older → new ≡ strings ++ string ∷ [] → front ≡ front_of string.items → place ≡ length new → ((other : ℕ) → now other ≡ (if nat_eq front other then Some place else old other)) → more ≡ older ++ old front ∷ [] → AreFound new now more
 found-joined strings new string old now older more front place found is front_is place_is joined added =

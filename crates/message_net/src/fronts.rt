@@ -33,7 +33,8 @@ pub(crate) fn reserve(
 ) -> Result<(), AllocError>
     ensures newest { (front : ℕ) → get nat_eq newest.new front ≡ get nat_eq newest.old front }
     ensures older { older.new.items ≡ older.old.items }
-    ensures ok { OnOk result ((0 < spare newest.new) × (vec_len older.new < vec_capacity older.new)) }
+    ensures ok { OnOk result ((0 < spare newest.new)
+        × (vec_len older.new < vec_capacity older.new)) }
 {
     older.reserve(1)?;
     newest.reserve(1)?;

@@ -8,7 +8,8 @@ use Rattle.calls.specs.declared.call.Call.{Call}
 use Rattle.calls.specs.declared.call.Call.TheVariants.{LogInit, LogOpen, LogWrite, LogFilter, LogClose, LogFini, NtfInit, NtfSend}
 use Rattle.calls.specs.declared.call.Call.TheVariants.{NtfSubscribe, NtfUnsubscribe, ReaderStart, ReaderRead, ReaderEnd, NtfFini}
 use Rattle.log_history.specs.Handles.{is_using, is_open}
-use Rattle.log_history.specs.Answers.{answer, begin_rows, open_rows, write_rows, filter_rows, close_rows, end_rows, living_attrs, is_place_taken, is_crowded, is_full}
+use Rattle.log_history.specs.Answers.{answer, begin_rows, open_rows, write_rows, filter_rows, close_rows, end_rows, living_attrs, is_place_taken}
+use Rattle.log_history.specs.Answers.{is_crowded, is_full}
 use Rattle.log_history.specs.Marks.{is_filtered, mark_after}
 use Rattle.log_history.specs.Times.{record_at}
 use Rattle.ntf_history.specs.Rows as ntf

@@ -16,7 +16,7 @@ use Rattle.service_fit.specs.Fit.{IsAlarmFirst, alarm_count}
 use Rattle.service_fit.proofs.AlarmsFit.{can-add}
 use Rattle.service_fit.proofs.LogFit.{inside}
 use Rattle.service_core.specs.Acting.{table_of}
-use Rattle.service_core.specs.Sending.{sent_with, stored_of, HasSent}
+use Rattle.service_core.specs.Sending.{sent_with, stored_of}
 use Rattle.service_core.proofs.LogConditions.{number-left, planned-fit, planned-first, first-now}
 use Rattle.service_core.proofs.SendActs.{room-left, done-sent}
 use Rattle.service_core.proofs.sending.send_accepted.Goals as goal
