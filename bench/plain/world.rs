@@ -311,7 +311,7 @@ impl World {
             ["mirror"] => self.join(),
             ["ack"] => {}
             ["servers"] => (0..2).for_each(|place| self.tell_role(place)),
-            ["dispatch", client, "all", "workers=1"] => self.dispatch(number(client)),
+            ["dispatch", client, "all", workers] if workers.starts_with("workers=") => self.dispatch(number(client)),
             ["files"] => self.show_files()?,
             ["log" | "ntf", client, ..] => {
                 let call = call_of(&words).unwrap_or_else(|| panic!("no line of these scripts: {words:?}"));
