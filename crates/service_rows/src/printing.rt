@@ -2,6 +2,7 @@
 use ais_values::Status;
 use calls::{Held, Reply};
 use std::alloc::{AllocError, Global};
+use stream_config::Mark;
 use sub_queue::{Content, Lost};
 
 /// Adds bytes.
@@ -15,6 +16,17 @@ pub(crate) fn put_line(out: &mut Vec<u8>, line: String) -> Result<(), AllocError
     out.extend_from_slice(line.as_bytes())?;
     out.push(b'\n')?;
     Ok(())
+}
+
+/// The words of an ok: whether a write was filtered, and the stream's mark where an entry made it.
+fn ok_words(alloc: Global, filtered: bool, mark: Mark) -> Result<String, AllocError> {
+    let since = mark.since;
+    let mask = mark.mask;
+    let ok = if filtered { "ok filtered" } else { "ok" };
+    if since == 0 && mask == 127 {
+        return String::from_str(alloc, ok);
+    }
+    format!(in alloc; "{ok} since={since} mask={mask}")
 }
 
 /// The words of a reply.
@@ -31,6 +43,7 @@ fn reply_words(alloc: Global, reply: &Reply) -> Result<String, AllocError> {
             let time = notification.get().event_time;
             format!(in alloc; "ok alarm id={id} time={time}")
         }
+        Reply::Marked { filtered, mark } => ok_words(alloc, *filtered, *mark),
     }
 }
 
