@@ -1,0 +1,5 @@
+//! Tests of a journal of commands on a disk in memory, and of servers that start from it.
+#![tactic(auto)]
+
+#[cfg(test)]
+mod journal_start_tests;
