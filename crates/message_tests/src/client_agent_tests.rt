@@ -15,7 +15,7 @@ use std::sync::Wait;
 use std::sync::atomic::AtomicU32;
 use std::sync::atomic::Ordering::SeqCst;
 use std::thread::Threads;
-use stream_config::StreamName;
+use stream_config::{Mark, StreamName};
 use sub_queue::{Content, Item, Lost};
 use wire::Message;
 
@@ -26,6 +26,8 @@ enum Asked {
     /// A write to the system stream that asks for a callback.
     Write { invocation: u64 },
     Subscribe,
+    /// Sets the mask of the system stream.
+    Filter { mask: u32 },
     EndLog,
 }
 
@@ -77,6 +79,12 @@ fn ask_of(rt: &impl Abort, alloc: Global, asked: Asked) -> Ask {
         },
         Asked::Subscribe => Ask::Plain {
             call: subscribe(rt, alloc),
+        },
+        Asked::Filter { mask } => Ask::Plain {
+            call: Call::LogFilter {
+                stream: StreamName::System,
+                mask,
+            },
         },
         Asked::EndLog => Ask::Plain {
             call: Call::LogFini,
@@ -369,6 +377,155 @@ fn calls_back_for_writes_in_order(rt: HostRuntime) {
     assert!(rt; tells_of_both(&given));
     drop(given);
     assert!(rt; replied(&rt, alloc, &mut agent, 4, Reply::Done) == 4);
+    drop(agent);
+}
+
+/// What a reply comes to that tells a mark of the system stream. Where memory runs out it comes once more.
+fn told<R: Abort + Wait>(rt: &R, alloc: Global, agent: &mut Agent, seq: u32, mark: Mark) -> u32 {
+    assert!(rt; agent.client() == 7);
+    let reply = Reply::Marked {
+        filtered: false,
+        mark,
+    };
+    let message = Message::Reply {
+        client: 7,
+        seq,
+        reply,
+    };
+    let taken = match agent.receive(rt, alloc, &message) {
+        Ok(taken) => taken,
+        Err(_) => agent.receive(rt, alloc, &message).expect(rt, "memory"),
+    };
+    drop(message);
+    let number = number_taken(&taken);
+    drop(taken);
+    number
+}
+
+/// 100 times the mask of the system stream and the invocation that is told with it, or 90,000 and that of a write
+/// alone; 0 for any other callback.
+fn code_of(callback: &Callback) -> u64 {
+    match callback {
+        Callback::FilterSet {
+            stream: StreamName::System,
+            mask,
+            written,
+        } => u64::from(*mask)
+            .saturating_mul(100)
+            .saturating_add(written.unwrap_or(0)),
+        Callback::Written { invocation, .. } => invocation.saturating_add(90_000),
+        _ => 0,
+    }
+}
+
+/// The codes of the callbacks that are handed out, five digits each.
+fn codes_of(dispatched: &Dispatched) -> u64 {
+    match dispatched {
+        Dispatched::Refused { .. } => 0,
+        Dispatched::Given { taken } => {
+            let mut codes: u64 = 0;
+            for numbered in taken.as_slice() {
+                let code = code_of(&numbered.callback);
+                codes = codes.saturating_mul(100_000).saturating_add(code);
+            }
+            codes
+        }
+    }
+}
+
+/// The codes of all callbacks that wait.
+fn codes_handed<R: Abort + Threads + Wait + Sync>(rt: &R, alloc: Global, agent: &mut Agent) -> u64 {
+    let all = How::All { workers: 1 };
+    let dispatched = agent
+        .dispatch(rt, alloc, all, &OpenGate)
+        .expect(rt, "memory");
+    let codes = codes_of(&dispatched);
+    drop(dispatched);
+    codes
+}
+
+/// The agent of a client that has set a mask by call 2, written under the invocation 7 by call 3, and set a mask again
+/// by call 4, with a queue of so many places.
+fn filtering(rt: &impl Abort, alloc: Global, places: u32) -> Agent {
+    let mut agent = Agent::new(rt, alloc, 7, places).expect(rt, "memory");
+    let service = Which::Log;
+    for (asked, number) in [
+        (Asked::Start { service, major: 2 }, 1),
+        (Asked::Filter { mask: 8 }, 2),
+        (Asked::Write { invocation: 7 }, 3),
+        (Asked::Filter { mask: 1 }, 4),
+    ] {
+        assert!(rt; sent(rt, alloc, &mut agent, asked) == number, "{number}");
+    }
+    agent
+}
+
+/// The callbacks where replies with these marks to the calls 2, 3 and 4 come in this order.
+fn masks_told<R: Abort + Threads + Wait + Sync>(
+    rt: &R,
+    alloc: Global,
+    marks: [(u64, u32); 3],
+    order: [u32; 3],
+) -> u64 {
+    let mut agent = filtering(rt, alloc, 8);
+    for seq in order {
+        let (since, mask) = match seq {
+            2 => marks[0],
+            3 => marks[1],
+            _ => marks[2],
+        };
+        let taken = told(rt, alloc, &mut agent, seq, Mark { since, mask });
+        assert!(rt; taken == seq, "{seq}");
+    }
+    let codes = codes_handed(rt, alloc, &mut agent);
+    drop(agent);
+    codes
+}
+
+/// Two clients set the mask in turn: one by the entries 5 and 12 to 8 and 1, the other by 8 and 15 to 127 and 8; each
+/// writes between. What each is told of it, whichever order its replies come in.
+#[test]
+fn tells_masks_by_the_latest_mark(rt: HostRuntime) {
+    let one = [(5, 8), (8, 127), (12, 1)];
+    let other = [(8, 127), (12, 1), (15, 8)];
+    for (order, one_told, other_told) in [
+        ([2, 3, 4], 800_12707_00100, 107_00800),
+        ([2, 4, 3], 800_00100_90007, 800_90007),
+        ([3, 2, 4], 90007_00100, 107_00800),
+        ([3, 4, 2], 90007_00100, 107_00800),
+        ([4, 2, 3], 100_90007, 800_90007),
+        ([4, 3, 2], 100_90007, 800_90007),
+    ] {
+        assert!(rt;
+            masks_told(&rt, rt.alloc(), one, order) == one_told,
+            "{one_told}"
+        );
+        assert!(rt;
+            masks_told(&rt, rt.alloc(), other, order) == other_told,
+            "{other_told}"
+        );
+    }
+}
+
+/// A mask that is another waits for a place; a later mark with the same mask wants none, and does not replace it.
+#[test]
+fn leaves_a_mask_that_has_no_place(rt: HostRuntime) {
+    let alloc = rt.alloc();
+    let mut agent = filtering(&rt, alloc, 1);
+    for (seq, since, mask, want) in [
+        (3, 0, 127, 3),
+        (2, 5, 8, 1002),
+        (4, 4, 127, 4),
+        (2, 5, 8, 1002),
+    ] {
+        assert!(rt;
+            told(&rt, alloc, &mut agent, seq, Mark { since, mask }) == want,
+            "{want}"
+        );
+    }
+    assert!(rt; codes_handed(&rt, alloc, &mut agent) == 90_007);
+    assert!(rt; told(&rt, alloc, &mut agent, 2, Mark { since: 5, mask: 8 }) == 2);
+    assert!(rt; codes_handed(&rt, alloc, &mut agent) == 800);
     drop(agent);
 }
 

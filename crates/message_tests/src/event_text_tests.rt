@@ -10,6 +10,7 @@ use ntf_types::{Body, Notification};
 use script_lines::{Line, Server};
 use std::alloc::Global;
 use std::process::Abort;
+use stream_config::{Mark, StreamName};
 use sub_queue::{Content, Item, Lost};
 use wire::{Message, WireWhy};
 
@@ -226,6 +227,13 @@ fn tells_of_replies(rt: HostRuntime) {
     let refused = Reply::Refused { status };
     answer(&rt, alloc, 5, refused, b"reply 1 5 NO_SPACE\n");
     answer(&rt, alloc, 6, Reply::Sent { id: 1 }, b"reply 1 6 ok id=1\n");
+    let mark = Mark { since: 5, mask: 8 };
+    for (filtered, want) in [
+        (false, b"reply 1 7 ok\n".as_slice()),
+        (true, b"reply 1 7 ok filtered\n".as_slice()),
+    ] {
+        answer(&rt, alloc, 7, Reply::Marked { filtered, mark }, want);
+    }
     let mut lines = Vec::new(alloc);
     put_declined(alloc, &mut lines, 1, Status::BadHandle).expect(&rt, "memory");
     put_dispatched(alloc, &mut lines, 1, 8).expect(&rt, "memory");
@@ -266,6 +274,29 @@ fn losses(rt: &impl Abort, alloc: Global) -> Seq<Lost> {
         lost.push(Lost { kind, id }).expect(rt, "memory");
     }
     lost
+}
+
+/// A mask became another one, which a reply to this write told, or to none that asked for a callback.
+fn filter(rt: &impl Abort, alloc: Global, stream: StreamName, written: Option<u64>, want: &[u8]) {
+    let mask = 8;
+    let callback = Callback::FilterSet {
+        stream,
+        mask,
+        written,
+    };
+    hand_out(rt, alloc, 2, callback, want);
+}
+
+#[test]
+fn tells_of_masks(rt: HostRuntime) {
+    let alloc = rt.alloc();
+    let alone = b"callback 1 2 filter system mask=8\n".as_slice();
+    filter(&rt, alloc, StreamName::System, None, alone);
+    let both = b"callback 1 2 filter system mask=8\ncallback 1 2 write 7 ok\n".as_slice();
+    filter(&rt, alloc, StreamName::System, Some(7), both);
+    let name = Name::new(alloc, b"a \"b\"").expect(&rt, "memory");
+    let quoted = b"callback 1 2 filter app:\"a \\\"b\\\"\" mask=8\n".as_slice();
+    filter(&rt, alloc, StreamName::App { name }, None, quoted);
 }
 
 #[test]

@@ -18,7 +18,7 @@ const FORMS: &str =
     log 1 write alarm inv=18446744073709551615 flags=4294967295 time=-5 ntfh id=9 type=0x4001 obj=\"o\" by=\"n\" \
     class=4294967295.65535.65535 evtime=9223372036854775807 body=\"\\x00\"\n\
     log 1 write alarm inv=0 flags=0 ntfh id=0 type=0xffff obj=\"o\" by=\"n\" class=0.0.0 body=\"\"\n\
-    log 8 close app:\"b\"\nlog 4096 fini\nntf 1 init Z.255.0\n\
+    log 8 close app:\"b\"\nlog 1 filter system mask=127\nlog 2 filter app:\"a b\" mask=0\nlog 4096 fini\nntf 1 init Z.255.0\n\
     ntf 1 send objects type=0x1001 obj=\"o\" by=\"n\" class=1.2.3 time=0 corr=1,18446744073709551615 text=\"t\" \
     info=0:int:-1,65535:name:\"a b\" source=65535 attrs=1:text:\"\",2:bin:\"\\xff\"\n\
     ntf 1 send attributes type=0x2003 obj=\"o\" by=\"n\" class=1.2.3 text=\"\" source=1 changes=1:int:2<int:-9223372036854775808,2:int:0\n\
@@ -36,6 +36,7 @@ const FORMS: &str =
 const SPELLINGS: &str = "\
     cat \"\\x41\">cat \"A\"\n\
     inject \"\\x01\\x7e\\x22\\x5c\\x7f\\x00\">inject \"\\x01~\\\"\\\\\\x7f\\x00\"\n\
+    log 1 filter app:\"\\x61\" mask=8>log 1 filter app:\"a\" mask=8\n\
     ntf 1 reader mode=0 value=-0>ntf 1 reader mode=0 value=0\n\
     log 1 open app:\"\\x61\" create file=\"f\" path=\".\" max=1 rec=1 ha=0 full=wrap rot=1 \
     fmt=\"@Cr @Ch:@Cn:@Cs @Cm/@Cd/@CY @Sv @Sl \\\"@Cb\\\"\"\
@@ -66,6 +67,7 @@ const GREATEST: &str = "\
     log 1 write system inv=1 flags=0 gen sev=1 class=1.#.1 user=\"u\" body=\"\"|65535|65536\n\
     log 1 write system inv=1 flags=0 gen sev=1 class=1.1.# user=\"u\" body=\"\"|65535|65536\n\
     log 1 write alarm inv=1 flags=0 ntfh id=# type=0x4001 obj=\"o\" by=\"n\" class=0.0.0 body=\"\"|18446744073709551615|18446744073709551616\n\
+    log 1 filter system mask=#|4294967295|4294967296\n\
     ntf 1 send alarm type=0x4001 obj=\"o\" by=\"n\" class=1.2.3 corr=# text=\"\" cause=1 sev=2|18446744073709551615|18446744073709551616\n\
     ntf 1 send alarm type=0x4001 obj=\"o\" by=\"n\" class=1.2.3 text=\"\" info=#:int:1 cause=1 sev=2|65535|65536\n\
     ntf 1 send alarm type=0x4001 obj=\"o\" by=\"n\" class=1.2.3 text=\"\" info=1:int:# cause=1 sev=2|9223372036854775807|9223372036854775808\n\
@@ -124,6 +126,16 @@ const FORMLESS: &str = "\
     log 1 write system inv=1 flags=0 gen sev=1 class=1.1.1.1 user=\"u\" body=\"\"\n\
     log 1 write system inv=1 flags=0 gen sev=1 class=1.1.1 user=\"u\" body=\"x\n\
     log 1 write system inv=1 flags=0 gen sev=1 class=1.1.1 user=\"u\" body=\"\\x0A\"\n\
+    log 1 filter system\n\
+    log 1 filter mask=1\n\
+    log 1 filter system mask=\n\
+    log 1 filter system mask=08\n\
+    log 1 filter system mask=-1\n\
+    log 1 filter system mask=8 \n\
+    log 1 filter system  mask=8\n\
+    log 1 filter web mask=8\n\
+    log 1 filter app:web mask=8\n\
+    ntf 1 filter system mask=8\n\
     ntf 1 send alarm type=0x401 obj=\"o\" by=\"n\" class=1.2.3 text=\"\" cause=1 sev=2\n\
     ntf 1 send alarm type=0x4001 obj=\"o\" by=\"n\" class=1.2.3 corr= text=\"\" cause=1 sev=2\n\
     ntf 1 send alarm type=0x4001 obj=\"o\" by=\"n\" class=1.2.3 text=\"\" corr=1 cause=1 sev=2\n\
@@ -191,7 +203,7 @@ fn each_form_is_written_and_read(rt: HostRuntime) {
         }
         Err(answer) => assert!(rt; false, "{answer:?}"),
     }
-    assert!(rt; told(&rt, alloc, FORMS.as_bytes()).as_str() == "45");
+    assert!(rt; told(&rt, alloc, FORMS.as_bytes()).as_str() == "47");
 }
 
 /// The second of two lines as it is written, or nothing where there are not two.

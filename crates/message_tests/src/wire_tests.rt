@@ -5,7 +5,7 @@ use ais_values::{Duplicate, Name, Seq, Text};
 use calls::{Boxed, Call, Entry, Reply, Saved, SavedStream};
 use std::alloc::Global;
 use std::process::Abort;
-use stream_config::{FullAction, LogFile, StreamAttrs, StreamName, StreamState};
+use stream_config::{FullAction, LogFile, Mark, StreamAttrs, StreamName, StreamState};
 use sub_queue::{Content, Item, Lost};
 use wire::{Message, WireAnswer, WireWhy, decode, encode};
 
@@ -79,6 +79,35 @@ fn requests_replies_and_receipts(rt: HostRuntime) {
         through: 2,
     };
     spelled(&rt, alloc, receipt, &[4, 0, 1, 0, 0, 0, 2, 0, 0, 0, 2]);
+}
+
+#[test]
+fn a_mask_and_a_mark(rt: HostRuntime) {
+    let alloc = rt.alloc();
+    let stream = StreamName::System;
+    let request = Message::Request {
+        client: 1,
+        seq: 1,
+        call: Call::LogFilter { stream, mask: 258 },
+    };
+    spelled(
+        &rt,
+        alloc,
+        request,
+        &[1, 0, 1, 0, 0, 0, 1, 14, 3, 0, 0, 1, 2],
+    );
+    let mark = Mark { since: 9, mask: 8 };
+    for (filtered, flag) in [(false, 0), (true, 1)] {
+        let reply = Message::Reply {
+            client: 1,
+            seq: 1,
+            reply: Reply::Marked { filtered, mark },
+        };
+        let want = [
+            2, 0, 1, 0, 0, 0, 1, 5, flag, 0, 0, 0, 0, 0, 0, 0, 9, 0, 0, 0, 8,
+        ];
+        spelled(&rt, alloc, reply, &want);
+    }
 }
 
 #[test]
@@ -172,7 +201,7 @@ fn file(created: i64, closed: Option<i64>, first: u32, bytes: u64) -> LogFile {
     }
 }
 
-/// The system stream with records of varying size, of which three stand in two files. Client 1 has it open.
+/// The system stream with records of varying size, of which three stand in two files. Client 1 has it open, and entry 6 set its mask.
 fn system_stream(rt: &impl Abort, alloc: Global) -> SavedStream {
     let attrs = StreamAttrs {
         file: Text::new(alloc, b"s").expect(rt, "a text"),
@@ -196,15 +225,20 @@ fn system_stream(rt: &impl Abort, alloc: Global) -> SavedStream {
         opened: 2,
         files,
     };
-    SavedStream { state, openers }
+    let mark = Mark { since: 6, mask: 65 };
+    SavedStream {
+        state,
+        openers,
+        mark,
+    }
 }
 
-/// The spelling of that stream: its name and attributes, what it has taken, its files and who has it open.
-const SYSTEM_STREAM: [u8; 98] = [
+/// The spelling of that stream: its name and attributes, what it has taken, its files, who has it open, and its mark.
+const SYSTEM_STREAM: [u8; 110] = [
     3, 0, 1, 115, 0, 1, 46, 0, 0, 0, 0, 0, 0, 64, 0, 0, 0, 0, 0, 0, 3, 0, 0, 0, 2, 0, 3, 64, 67,
     98, 0, 0, 0, 3, 0, 0, 0, 2, 0, 0, 0, 2, 0, 0, 0, 0, 0, 0, 0, 5, 1, 0, 0, 0, 0, 0, 0, 0, 7, 0,
     0, 0, 0, 0, 0, 0, 0, 0, 0, 62, 128, 0, 0, 0, 0, 0, 0, 0, 8, 0, 0, 0, 0, 2, 0, 0, 0, 0, 0, 0, 1,
-    144, 0, 0, 0, 1, 0, 1,
+    144, 0, 0, 0, 1, 0, 1, 0, 0, 0, 0, 0, 0, 0, 6, 0, 0, 0, 65,
 ];
 
 /// The value of a service without users, entries and ids, which has that stream alone.
@@ -257,7 +291,7 @@ fn a_name_and_a_text(rt: HostRuntime) {
 
 #[test]
 fn wrong_bytes_have_a_place(rt: HostRuntime) {
-    let table: [(&[u8], u32, WireWhy); 13] = [
+    let table: [(&[u8], u32, WireWhy); 15] = [
         (b"", 0, WireWhy::Short),
         (b"\x01\0\x01\0\0\0\x01\x01\0", 8, WireWhy::Trailing),
         (b"\x09", 0, WireWhy::BadValue),
@@ -270,6 +304,9 @@ fn wrong_bytes_have_a_place(rt: HostRuntime) {
         (b"\x02\0\x01\0\0\0\0", 6, WireWhy::BadValue),
         // an option that begins with 2
         (b"\x01\0\x01\0\0\0\x01\x02\x03\x02", 9, WireWhy::BadValue),
+        // a reply of no kind, and a flag of 2
+        (b"\x02\0\x01\0\0\0\x01\x06", 7, WireWhy::BadValue),
+        (b"\x02\0\x01\0\0\0\x01\x05\x02", 8, WireWhy::BadValue),
         // a name of 257 bytes, an empty one, and one with a byte 31
         (
             b"\x01\0\x01\0\0\0\x01\x04\x04\x01\x01",
@@ -338,7 +375,8 @@ fn other_bytes_are_no_message(rt: HostRuntime) {
         (6, 0, 6, WireWhy::BadValue),
         (7, 0, 7, WireWhy::BadValue),
         (7, 2, 8, WireWhy::Short),
-        (7, 14, 7, WireWhy::BadValue),
+        (7, 14, 8, WireWhy::Short),
+        (7, 15, 7, WireWhy::BadValue),
     ];
     for (at, byte, place, why) in table {
         refused(&rt, rt.alloc(), &changed(at, byte), place, why);
