@@ -5,6 +5,9 @@ use crate::words::{Words, are_numbers, last_field, last_word, number_of};
 /// The greatest number of bytes that a line of a script puts into the net.
 const LONGEST: u64 = 16_384;
 
+/// The mask of a stream that lets all severities pass.
+const GREATEST_MASK: u64 = 127;
+
 /// What a line tells, if a run prints such a line. What stands in it as in a script is not looked at.
 pub(crate) fn event_of(line: &[u8]) -> Option<Event> {
     if let Some(text) = line.strip_prefix(b"text ") {
@@ -156,7 +159,15 @@ fn is_result(mut words: Words) -> bool {
     if word != b"ok".as_slice() {
         return false;
     }
-    words.is_at_end() || is_sent(words) || is_note(words)
+    words.is_at_end() || is_filtered(words) || is_sent(words) || is_note(words)
+}
+
+// Whether these words are `filtered`.
+fn is_filtered(mut words: Words) -> bool {
+    match words.word() {
+        Some(b"filtered") => words.is_at_end(),
+        _ => false,
+    }
 }
 
 // Whether these words are `id=N`.
@@ -196,6 +207,7 @@ fn called_back(mut words: Words) -> Option<Event> {
     words.count()?;
     let shown = match words.word()? {
         b"write" => is_write(words),
+        b"filter" => is_mask(words),
         b"ntf" => words.number().is_some() && is_note(words),
         b"lost" => is_loss(words),
         _ => false,
@@ -214,6 +226,20 @@ fn is_write(mut words: Words) -> bool {
         Some(word) => numbered
             && words.is_at_end()
             && (word == b"ok".as_slice() || is_refusal(word)),
+        None => false,
+    }
+}
+
+// Whether these words end with a stream's mask. What stands before it `spelled` judges.
+fn is_mask(words: Words) -> bool {
+    let Some(rest) = words.rest() else {
+        return false;
+    };
+    let Some((_, digits)) = last_field(rest, b"mask=") else {
+        return false;
+    };
+    match number_of(digits) {
+        Some(mask) => mask <= GREATEST_MASK,
         None => false,
     }
 }

@@ -1,4 +1,5 @@
-//! What stands in a printed line as in a script: notifications, and the lines that were refused. The reader of scripts judges it.
+//! What stands in a printed line as in a script: notifications, masks of streams, and the lines that were refused. The reader of
+//! scripts judges it.
 use crate::events::Event;
 use crate::reading::{event_of, is_kind, refused_line};
 use crate::words::{Words, behind};
@@ -30,10 +31,11 @@ fn is_answer(alloc: Global, text: &[u8]) -> Result<bool, AllocError> {
     }
 }
 
-// Whether a callback's notification is right, if it has one.
+// Whether a callback's notification is right, or its stream with the mask, if it has one.
 fn is_callback(alloc: Global, text: &[u8]) -> Result<bool, AllocError> {
     match Words::of(text).word() {
         Some(b"ntf") => is_note(alloc, behind(text, 2)),
+        Some(b"filter") => is_line(alloc, b"log 1 ", text),
         _ => Ok(true),
     }
 }
