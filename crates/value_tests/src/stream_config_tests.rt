@@ -2,8 +2,8 @@ use ais_values::{Duplicate, Name, Seq, StreamKind, Text};
 use std::alloc::Global;
 use std::process::Abort;
 use stream_config::{
-    FullAction, LogFile, StreamAttrs, StreamEvent, StreamName, StreamState, cfg_text, check_attrs,
-    first_standing, has_room, have_one_place, per_file, stamp, well_known,
+    FullAction, LogFile, Mark, StreamAttrs, StreamEvent, StreamName, StreamState, cfg_text,
+    check_attrs, first_standing, has_room, have_one_place, lets_pass, per_file, stamp, well_known,
 };
 
 const LONGEST: &[u8] = b"aaaaaaaaaaaaaaaaaaaaaaaaaaaaaaaaaaaaaaaaaaaaaaaaaaaaaaaaaaaaaaaa";
@@ -234,6 +234,27 @@ fn a_record_fits_up_to_the_last_byte(rt: HostRuntime) {
         );
     }
     drop(attrs);
+}
+
+/// A mask, a severity, and whether the mask lets it pass.
+#[test]
+fn a_mask_lets_the_severities_of_its_bits_pass(rt: HostRuntime) {
+    for (mask, severity, passes) in [
+        (0, 0, false),
+        (1, 0, true),
+        (126, 0, false),
+        (8, 2, false),
+        (8, 3, true),
+        (8, 4, false),
+        (63, 6, false),
+        (64, 6, true),
+        (127, 6, true),
+        (u32::MAX, 5, true),
+    ] {
+        assert!(rt; severity <= 6);
+        assert!(rt; lets_pass(mask, severity) == passes, "{mask} {severity}");
+    }
+    assert!(rt; Mark::first().since == 0 && Mark::first().mask == 127);
 }
 
 #[test]
