@@ -1,5 +1,5 @@
 //! Calls of clients, and what they do to streams.
-ghost use Rattle.std.specs.Prelude.{◌≡◌, ◌≤◌, ◌+◌, IfOk};
+ghost use Rattle.std.specs.Prelude.{◌≡◌, ◌≤◌, ◌+◌, ◌∷◌, [], IfOk};
 ghost use Rattle.ais_values.specs.declared.kind.StreamKind.TheVariants.{Alarm, System};
 ghost use Rattle.stream_config.specs.Attributes.{PassesAttrs};
 ghost use Rattle.stream_config.specs.WellKnown.{default_file};
@@ -11,7 +11,7 @@ use record_print::{Header, LogRecord};
 use std::alloc::{AllocError, Global};
 use std::process::Abort;
 use stream_config::{
-    FullAction, LogFile, StreamAttrs, StreamEvent, StreamName, StreamState, well_known,
+    FullAction, LogFile, Mark, StreamAttrs, StreamEvent, StreamName, StreamState, well_known,
 };
 
 /// 2024-01-01 00:00:00, and its second.
@@ -73,16 +73,42 @@ fn init(rt: &impl Abort, alloc: Global, state: &mut LogState, client: u16) -> St
     status
 }
 
-/// The status of a step that came as it was planned.
-fn status_as_planned(rt: &impl Abort, step: Step, plan: LogPlan) -> Status {
-    let status = step.status;
+/// The answer of a call, whether it was filtered, and the mark that it told.
+type Answer = (Status, bool, Option<Mark>);
+
+/// The answer of a step that came as it was planned.
+fn answer_as_planned(rt: &impl Abort, step: Step, plan: LogPlan) -> Answer {
+    let answer = (step.status, step.filtered, step.mark);
     assert!(rt; step == *plan.step());
     drop(step);
     drop(plan);
-    status
+    answer
 }
 
-/// A client opens a stream. What was planned comes.
+fn mark(since: u64, mask: u32) -> Mark {
+    Mark { since, mask }
+}
+
+/// A client opens a stream, by the entry of this number. What was planned comes.
+fn opens(
+    rt: &impl Abort,
+    alloc: Global,
+    state: &mut LogState,
+    client: u16,
+    name: &StreamName,
+    create: Option<&StreamAttrs>,
+    number: u64,
+) -> Answer {
+    assert!(rt; state.is_call_time(START));
+    let plan = state
+        .plan_open_stream(alloc, client, name, create, START, number)
+        .expect(rt, "memory");
+    let step = state
+        .open_stream(alloc, client, name, create, START, number)
+        .expect(rt, "memory");
+    answer_as_planned(rt, step, plan)
+}
+
 fn open(
     rt: &impl Abort,
     alloc: Global,
@@ -91,14 +117,7 @@ fn open(
     name: &StreamName,
     create: Option<&StreamAttrs>,
 ) -> Status {
-    assert!(rt; state.is_call_time(START));
-    let plan = state
-        .plan_open_stream(alloc, client, name, create, START)
-        .expect(rt, "memory");
-    let step = state
-        .open_stream(alloc, client, name, create, START)
-        .expect(rt, "memory");
-    status_as_planned(rt, step, plan)
+    opens(rt, alloc, state, client, name, create, 1).0
 }
 
 /// A client asks for the application's stream that is named by a letter.
@@ -123,7 +142,7 @@ fn app(rt: &impl Abort, alloc: Global, letter: u8) -> StreamName {
     }
 }
 
-fn header(rt: &impl Abort, alloc: Global) -> Header {
+fn header(rt: &impl Abort, alloc: Global, severity: u16) -> Header {
     Header::Generic {
         class: ClassId {
             vendor: 0,
@@ -131,25 +150,65 @@ fn header(rt: &impl Abort, alloc: Global) -> Header {
             minor: 0,
         },
         user: Name::new(alloc, b"u").expect(rt, "a name"),
-        severity: 6,
+        severity,
     }
 }
 
-/// Client 1 writes a record to the system stream. What was planned comes.
-fn writes(rt: &impl Abort, alloc: Global, state: &mut LogState) -> Status {
-    let header = header(rt, alloc);
+/// Client 1 writes a record with this header to a stream. What was planned comes.
+fn writes_to(
+    rt: &impl Abort,
+    alloc: Global,
+    state: &mut LogState,
+    name: &StreamName,
+    flags: u32,
+    header: &Header,
+) -> Answer {
     let body = Text::new(alloc, b"x").expect(rt, "a text");
-    let name = StreamName::System;
     assert!(rt; state.is_call_time(START));
-    assert!(rt; state.has_number_left(&name));
+    assert!(rt; state.has_number_left(name));
     let plan = state
-        .plan_write(alloc, 1, &name, 0, START, &header, &body, START)
+        .plan_write(alloc, 1, name, flags, START, header, &body, START)
         .expect(rt, "memory");
     let step = state
-        .write(alloc, 1, &name, 0, START, &header, &body, START)
+        .write(alloc, 1, name, flags, START, header, &body, START)
         .expect(rt, "memory");
+    answer_as_planned(rt, step, plan)
+}
+
+/// Client 1 writes a record of a severity to the system stream.
+fn writes_of(
+    rt: &impl Abort,
+    alloc: Global,
+    state: &mut LogState,
+    flags: u32,
+    severity: u16,
+) -> Answer {
+    let header = header(rt, alloc, severity);
+    let answer = writes_to(rt, alloc, state, &StreamName::System, flags, &header);
     drop(header);
-    status_as_planned(rt, step, plan)
+    answer
+}
+
+fn writes(rt: &impl Abort, alloc: Global, state: &mut LogState) -> Status {
+    writes_of(rt, alloc, state, 0, 6).0
+}
+
+/// A client sets the mask of a stream, by the entry of this number. What was planned comes.
+fn sets(
+    rt: &impl Abort,
+    alloc: Global,
+    state: &mut LogState,
+    client: u16,
+    name: &StreamName,
+    given: Mark,
+) -> Answer {
+    let plan = state
+        .plan_set_filter(alloc, client, name, given.mask, given.since)
+        .expect(rt, "memory");
+    let step = state
+        .set_filter(alloc, client, name, given.mask, given.since)
+        .expect(rt, "memory");
+    answer_as_planned(rt, step, plan)
 }
 
 /// A service with such a system stream, which client 1 has open.
@@ -430,19 +489,26 @@ fn stores_for_notifications(rt: HostRuntime) {
     drop(rec);
 }
 
-/// A state of this stream alone, which nobody has open, and of one user.
-fn again(rt: &impl Abort, alloc: Global, stream: StreamState) -> LogState
+/// One element alone.
+fn alone<T: Drop>(rt: &impl Abort, alloc: Global, value: T) -> Seq<T>
+    ensures { result ≡ value ∷ [] }
+{
+    let mut all = Seq::new(alloc);
+    all.push(value).expect(rt, "memory");
+    all
+}
+
+/// A state of this stream alone, which client 1, the one user, has open, with this mark.
+fn again(rt: &impl Abort, alloc: Global, stream: StreamState, mark: Mark) -> LogState
     requires name { stream.name ≡ StreamName.Alarm }
     requires passes { PassesAttrs Alarm stream.attrs }
     requires few { stream.opened ≤ stream.taken + 1 }
 {
-    let mut users = Seq::new(alloc);
-    users.push(1).expect(rt, "memory");
-    let mut streams = Seq::new(alloc);
-    streams.push(stream).expect(rt, "memory");
-    let mut openers = Seq::new(alloc);
-    openers.push(Seq::new(alloc)).expect(rt, "memory");
-    LogState::rebuild(alloc, 7, users, streams, openers).expect(rt, "memory")
+    let users = alone(rt, alloc, 1);
+    let streams = alone(rt, alloc, stream);
+    let openers = alone(rt, alloc, alone(rt, alloc, 1));
+    let marks = alone(rt, alloc, mark);
+    LogState::rebuild(alloc, 7, users, streams, openers, marks).expect(rt, "memory")
 }
 
 /// A state is made again of its parts.
@@ -450,8 +516,149 @@ fn again(rt: &impl Abort, alloc: Global, stream: StreamState) -> LogState
 fn rebuilds(rt: HostRuntime) {
     let alloc = rt.alloc();
     let stream = alarm_state(&rt, alloc);
-    let state = again(&rt, alloc, stream);
+    let state = again(&rt, alloc, stream, mark(3, 64));
     assert!(rt; state.last_stamp() == 7 && state.users() == [1].as_slice());
     assert!(rt; told(&state, 0) == (0, 7) && state.count() == 1);
+    assert!(rt; state.mark_at(0) == Some(mark(3, 64)) && state.mark_at(1).is_none());
+    drop(state);
+}
+
+/// A mask lets these severities pass alone: a write of each other one is ok, filtered and not stored. Each tells the
+/// mark.
+fn lets_pass(rt: &impl Abort, alloc: Global, mask: u32, passing: [bool; 7]) -> bool {
+    let mut state = opened(rt, alloc, 64, FullAction::Wrap);
+    let given = mark(5, mask);
+    let set = sets(rt, alloc, &mut state, 1, &StreamName::System, given);
+    let mut same = set == (Status::Ok, false, Some(given));
+    let mut taken = 0u32;
+    let mut severity = 0u16;
+    for passes in passing {
+        let answer = writes_of(rt, alloc, &mut state, 0, severity);
+        taken = taken.saturating_add(u32::from(passes));
+        severity = severity.saturating_add(1);
+        same = same && answer == (Status::Ok, !passes, Some(given)) && told(&state, 2).0 == taken;
+    }
+    drop(state);
+    same
+}
+
+#[test]
+fn masks_let_severities_pass(rt: HostRuntime) {
+    let table = [
+        (127, [true, true, true, true, true, true, true]),
+        (0, [false, false, false, false, false, false, false]),
+        (1, [true, false, false, false, false, false, false]),
+        (8, [false, false, false, true, false, false, false]),
+        (64, [false, false, false, false, false, false, true]),
+        (63, [true, true, true, true, true, true, false]),
+        (85, [true, false, true, false, true, false, true]),
+    ];
+    for (mask, passing) in table {
+        let same = lets_pass(&rt, rt.alloc(), mask, passing);
+        assert!(rt; same, "{mask}");
+    }
+}
+
+/// A record of a filtered severity is ok on a stream that is full, and refused only for what comes before the mask.
+#[test]
+fn filtered_before_room(rt: HostRuntime) {
+    let alloc = rt.alloc();
+    let mut state = opened(&rt, alloc, 32, FullAction::Halt);
+    let first = Some(mark(0, 127));
+    assert!(rt; writes_of(&rt, alloc, &mut state, 1, 6) == (Status::Ok, false, first));
+    let given = mark(9, 63);
+    let set = sets(&rt, alloc, &mut state, 1, &StreamName::System, given);
+    assert!(rt; set == (Status::Ok, false, Some(given)));
+    let table = [
+        (0, 6, (Status::Ok, true, Some(given))),
+        (1, 6, (Status::Ok, true, Some(given))),
+        (0, 5, (Status::NoSpace, false, None)),
+        (2, 6, (Status::BadFlags, false, None)),
+        (0, 7, (Status::InvalidParam, false, None)),
+    ];
+    for (flags, severity, expected) in table {
+        let answer = writes_of(&rt, alloc, &mut state, flags, severity);
+        assert!(rt; answer == expected, "{flags} {severity}");
+    }
+    assert!(rt; told(&state, 2).0 == 1);
+    drop(state);
+}
+
+fn well_known_name(kind: StreamKind) -> StreamName {
+    match kind {
+        StreamKind::Alarm => StreamName::Alarm,
+        StreamKind::Notification => StreamName::Notification,
+        StreamKind::System | StreamKind::Application => StreamName::System,
+    }
+}
+
+/// Which masks a client may set on which stream. One that is refused leaves the mark.
+#[test]
+fn masks_that_are_refused(rt: HostRuntime) {
+    let alloc = rt.alloc();
+    let mut state = opened(&rt, alloc, 64, FullAction::Wrap);
+    assert!(rt; init(&rt, alloc, &mut state, 2) == Status::Ok);
+    assert!(rt; open(&rt, alloc, &mut state, 1, &StreamName::Alarm, None) == Status::Ok);
+    let table = [
+        (1, StreamKind::System, 128, Status::InvalidParam),
+        (1, StreamKind::System, u32::MAX, Status::InvalidParam),
+        (1, StreamKind::Alarm, 1, Status::InvalidParam),
+        (1, StreamKind::Alarm, 128, Status::InvalidParam),
+        (1, StreamKind::Notification, 1, Status::BadHandle),
+        (2, StreamKind::System, 1, Status::BadHandle),
+        (3, StreamKind::System, 128, Status::BadHandle),
+    ];
+    for (client, kind, mask, status) in table {
+        let name = well_known_name(kind);
+        let answer = sets(&rt, alloc, &mut state, client, &name, mark(4, mask));
+        drop(name);
+        assert!(rt; answer == (status, false, None), "{client} {kind:?} {mask}");
+    }
+    for place in 0..3 {
+        assert!(rt; state.mark_at(place) == Some(mark(0, 127)));
+    }
+    drop(state);
+}
+
+/// No mask stops a record with the header of a notification.
+#[test]
+fn no_mask_stops_notified_records(rt: HostRuntime) {
+    let alloc = rt.alloc();
+    let rec = notified(&rt, alloc);
+    let mut state = again(&rt, alloc, alarm_state(&rt, alloc), mark(3, 0));
+    let answer = writes_to(&rt, alloc, &mut state, &StreamName::Alarm, 0, &rec.header);
+    assert!(rt; answer == (Status::Ok, false, Some(mark(3, 0))) && told(&state, 0).0 == 1);
+    drop(state);
+    drop(rec);
+}
+
+/// Client 1 opens an application's stream by the entry 6, client 2 by the entry 7, and sets its mask by the entry 8.
+fn opened_and_set(rt: &impl Abort, alloc: Global, state: &mut LogState, name: &StreamName) -> bool {
+    let own = attrs(rt, alloc, b"own");
+    let made = (Status::Ok, false, Some(mark(6, 127)));
+    let first = opens(rt, alloc, state, 1, name, Some(&own), 6);
+    drop(own);
+    let second = opens(rt, alloc, state, 2, name, None, 7);
+    let set = sets(rt, alloc, state, 2, name, mark(8, 5));
+    let third = opens(rt, alloc, state, 1, name, None, 9);
+    let given = (Status::Ok, false, Some(mark(8, 5)));
+    first == made && second == made && set == given && third == given
+}
+
+/// A stream that is made lets all severities pass, and keeps its mask while it lives.
+#[test]
+fn marks_of_application_streams(rt: HostRuntime) {
+    let alloc = rt.alloc();
+    let mut state = opened(&rt, alloc, 64, FullAction::Wrap);
+    assert!(rt; init(&rt, alloc, &mut state, 2) == Status::Ok);
+    let name = app(&rt, alloc, b'a');
+    let first = opened_and_set(&rt, alloc, &mut state, &name);
+    assert!(rt; first && state.mark_at(3) == Some(mark(8, 5)) && state.mark_at(4).is_none());
+    assert!(rt; closes(&rt, alloc, &mut state, b'a') == (0, 0));
+    assert!(rt; closes_all(&rt, alloc, &mut state, 1) == (SECOND + 4, 1));
+    assert!(rt; init(&rt, alloc, &mut state, 1) == Status::Ok);
+    let again = opened_and_set(&rt, alloc, &mut state, &name);
+    drop(name);
+    assert!(rt; again);
     drop(state);
 }

@@ -10,6 +10,7 @@ use service_parts::{
 };
 use std::alloc::Global;
 use std::process::Abort;
+use stream_config::Mark;
 
 /// The stored alarms are one of id 1, at the time 100.
 fn one_alarm(rt: &impl Abort, alloc: Global) -> AlarmView {
@@ -112,6 +113,7 @@ fn a_reply_is_told_twice(rt: HostRuntime) {
     assert!(rt; tells(Told::refused(Status::Exist), Status::Exist));
     assert!(rt; !tells(Told::done(), Status::Ok));
     assert!(rt; !tells(Told::sent(3), Status::Ok));
+    assert!(rt; !tells(Told::marked(true, Mark::first()), Status::Ok));
 }
 
 #[test]
