@@ -38,7 +38,7 @@ impl Journal {
     ///
     /// Seven changing calls are made in order, up to the first that is not done, and no others; or none, where memory runs
     /// out before, as it does for a spelling of more than 4,294,967,294 bytes. `Failed` comes exactly where the disk's count
-    /// of faults rose, and `Stopped` exactly where its count of stops rose.
+    /// of faults rose, and `Stopped` exactly where its count of stops rose; after either only `cold_start` goes on.
     pub fn make<J: SharedDisk>(
         alloc: Global,
         journal: &mut J,
