@@ -1,5 +1,5 @@
 -- The plans of a state's calls, by what they do to its parts.
-use Rattle.std.proofs.Common.{◌≡◌, ◌≢◌, ℕ, Bool, true, false, List, [], refl, ap, sym, subst, ◌∙◌}
+use Rattle.std.proofs.Common.{◌≡◌, ◌≢◌, ◌≤◌, ℕ, Bool, true, false, List, [], refl, ap, sym, subst, ◌∙◌}
 use Rattle.std.specs.Prelude.{Option, Some, None, ℤ, pos, ◌≤ℤ◌, unsigned_abs}
 use Rattle.std.specs.List.{list_any}
 use Rattle.ais_values.specs.declared.status.Status.{Status}
@@ -16,14 +16,28 @@ use Rattle.log_service.specs.Moments.{IsMoment, second_of}
 use Rattle.log_service.specs.State.{Made, Came, AreFew, table_with}
 use Rattle.log_service.specs.Opening.{opening_in}
 use Rattle.log_service.specs.Changing.{AreEndsIn}
-use Rattle.log_service.specs.Planning.{marked_plan, planned, CanCommit, Plans, streams_after}
+use Rattle.log_service.specs.Planning.{marked_plan, planned, CanCommit, HasRoom, IsRoomFor, Plans, streams_after}
 use Rattle.log_service.specs.PlanningParts.{IsOfStreams, PlansOpening, PlansMarking, PlansStoring}
-use Rattle.log_service.specs.declared.plan.Doing.TheVariants.{Stay, Leave, End}
+use Rattle.log_service.specs.declared.plan.Doing.{Doing}
+use Rattle.log_service.specs.declared.plan.Doing.TheVariants.{Stay, Begin, Join, Make, Store, Set, Leave, End}
 use Rattle.log_service.specs.declared.plan.LogPlan.{LogPlan}
 use Rattle.log_service.proofs.KeptLemmas.{AreFew-changed, AreFew-mapped, AreFew-filtered, busy-kept, busy-changed, ended-from}
 use Rattle.log_service.proofs.WriteLemmas.{made-stored, stored-from}
 use Rattle.log_service.proofs.OpenLemmas.{makes-new, made-opened, kept-open}
 use Rattle.log_service.proofs.StreamPlans.{accepted_plan}
+
+-- where there is room for one stream more, there is room for what any plan makes
+pub room-for : (plan : LogPlan) (spare : ℕ) → 1 ≤ spare → HasRoom plan spare
+room-for plan spare one = by plan.doing where
+  by : (doing : Doing) → IsRoomFor doing spare
+  by Stay = tt
+  by (Begin users) = tt
+  by (Join place openers) = tt
+  by (Make stream) = one
+  by (Store place taken opened files) = tt
+  by (Set place mark) = tt
+  by (Leave name client) = tt
+  by (End client) = tt
 
 -- a state's parts
 module _ (last : ℤ) (users : List ℕ) (streams : List OpenStream) (kept : LogTable) (view : table_with (unsigned_abs last) users streams ≡ kept) (few : AreFew streams) (busy : list_any has_nobody streams ≡ false) where

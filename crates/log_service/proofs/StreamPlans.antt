@@ -45,6 +45,7 @@ stores-nowhere last now name rec streams events plan from events_are nowhere is 
         events = events_are ∙ ap (events_of (unsigned_abs last) (second_of now) rec) (sym nowhere.none);
         streams = sym (nowhere.unchanged (with_stored (unsigned_abs last) (second_of now) rec));
       };
+      room = λ spare. tt;
     })
 
 -- where there is one, it is stored there
@@ -63,6 +64,7 @@ stores-at last now name rec streams place read taken stamp opened files event ev
         streams = sym (set-change_at (with_files taken opened files) streams place read is first.within)
             ∙ changed-at (is_named name) streams place read (with_files taken opened files read) (with_stored (unsigned_abs last) (second_of now) rec) first is new;
       };
+      room = λ spare. tt;
     })
 
 pub joins-nowhere : (last : ℤ) (client : ℕ) (name : StreamName) (streams : List OpenStream) (events : List StreamEvent) (plan : LogPlan) → events ≡ [] → IsNowhere (is_named name) streams → plan ≡ accepted_plan events last Stay → PlansJoining last client name streams plan
@@ -91,6 +93,7 @@ marks-nowhere last name mark streams events plan events_are nowhere is =
       stamp = refl;
       events = events_are;
       now = sym (nowhere.unchanged (with_mark mark));
+      room = λ spare. tt;
     })
 
 pub marks-at : (last : ℤ) (name : StreamName) (mark : Mark) (streams : List OpenStream) (place : ℕ) (events : List StreamEvent) (plan : LogPlan) → IsFirst (is_named name) streams place → events ≡ [] → plan ≡ accepted_plan events last (Set place mark) → PlansMarking last name mark streams plan
@@ -100,6 +103,7 @@ marks-at last name mark streams place events plan first events_are is =
       stamp = refl;
       events = events_are;
       now = at streams first.within (λ d. first.changed (with_mark mark) d);
+      room = λ spare. tt;
     }) where
       at : (these : List OpenStream) → place < length these → ((d : OpenStream) → change_first (is_named name) (with_mark mark) these ≡ set these place (with_mark mark (get_or these place d))) → change_at (with_mark mark) these place ≡ change_first (is_named name) (with_mark mark) these
       at [] within changed = absurd (omega (arith, within))

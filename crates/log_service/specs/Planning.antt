@@ -53,6 +53,11 @@ CanDo (Store place taken opened files) streams = (place < length streams) × (op
 CanDo (Set place mark) streams = place < length streams
 CanDo _ streams = Unit {0}
 
+-- there is room for the stream that is made, if one is made
+abbrev pub IsRoomFor : Doing → (spare : ℕ) → Type 0
+IsRoomFor (Make stream) spare = 1 ≤ spare
+IsRoomFor _ spare = Unit {0}
+
 -- what the planned call makes of a state
 abbrev pub planned : LogPlan → LogTable → LogTable
 planned plan before =
@@ -64,6 +69,10 @@ pub record CanCommit (before : LogTable) (plan : LogPlan) : Type 0 where
   pub can : CanDo plan.doing before.streams
   pub few : AreFew (streams_after plan.doing before.streams)
   pub busy : list_any has_nobody (streams_after plan.doing before.streams) ≡ false
+
+-- there is room for the stream that the planned call makes, if it makes one
+abbrev pub HasRoom : LogPlan → (spare : ℕ) → Type 0
+HasRoom plan spare = IsRoomFor plan.doing spare
 
 -- the plan with a mark told
 abbrev pub marked_plan : Mark → LogPlan → LogPlan

@@ -9,7 +9,7 @@ use Rattle.log_history.specs.Firsts.{change_first}
 use Rattle.log_history.specs.Table.{OpenStream, is_named, with_opener, with_mark}
 use Rattle.log_service.specs.State.{made_event}
 use Rattle.log_service.specs.Changing.{OpensIn, StoresIn}
-use Rattle.log_service.specs.Planning.{CanDo, streams_after, users_after}
+use Rattle.log_service.specs.Planning.{CanDo, HasRoom, streams_after, users_after}
 use Rattle.log_service.specs.declared.plan.LogPlan.{LogPlan}
 
 -- a plan of an ok call that leaves the clients that use the service, and tells nothing more
@@ -46,8 +46,10 @@ pub record PlansMarking (last : ℤ) (name : StreamName) (mark : Mark) (streams 
   pub stamp : plan.last ≡ last
   pub events : plan.step.events ≡ []
   pub now : streams_after plan.doing streams ≡ change_first (is_named name) (with_mark mark) streams
+  pub room : (spare : ℕ) → HasRoom plan spare
 
 -- by it a record is stored
 pub record PlansStoring (last now : ℤ) (name : StreamName) (rec : LogRecord) (streams : List OpenStream) (plan : LogPlan) : Type 0 where
   pub sound : IsOfStreams streams plan
   pub stores : StoresIn last now name rec streams (streams_after plan.doing streams) (plan.last, plan.step.events)
+  pub room : (spare : ℕ) → HasRoom plan spare

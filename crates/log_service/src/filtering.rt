@@ -6,6 +6,7 @@ ghost use Rattle.log_history.specs.Changes.{Filtered};
 ghost use Rattle.log_history.specs.KeptAnswers.{filter_status};
 ghost use Rattle.log_service.specs.State.{Made, Left, Tells};
 ghost use Rattle.log_service.specs.Calls.{PlansFilter};
+ghost use Rattle.log_service.specs.Planning.{HasRoom};
 
 use crate::plan::LogPlan;
 use crate::state::LogState;
@@ -38,8 +39,9 @@ impl LogState {
         Status::Ok
     }
 
-    /// The plan of `set_filter` for the state as it is. An error is want of memory.
-    fn set_filter_plan(
+    /// Plans `set_filter` for the state as it is. A call that is refused takes no memory: an error, which is want of
+    /// memory, comes only where the answer would be ok.
+    pub fn plan_set_filter(
         &self,
         alloc: Global,
         client: u16,
@@ -47,7 +49,10 @@ impl LogState {
         mask: u32,
         number: u64,
     ) -> Result<LogPlan, AllocError>
-        ensures { IfOk result (PlansFilter self.now.table client name.now mask number) }
+        ensures ok { IfOk result (PlansFilter self.now.table client name.now mask number) }
+        ensures room { IfOk result (λ plan. HasRoom plan self.now.spare) }
+        ensures memory { OnErr result
+            (filter_status self.now.table client name.now mask ≡ Status.Ok) }
     {
         let status = self.filter_status(client, name, mask);
         if status != Status::Ok {
@@ -62,29 +67,11 @@ impl LogState {
         Ok(plan.marked(mark))
     }
 
-    /// Plans `set_filter`, and makes room for one stream more. The state stays as it is; an error is want of memory.
-    pub fn plan_set_filter(
-        &mut self,
-        alloc: Global,
-        client: u16,
-        name: &StreamName,
-        mask: u32,
-        number: u64,
-    ) -> Result<LogPlan, AllocError>
-        ensures ok { IfOk result (PlansFilter self.old.table client name.now mask number) }
-        ensures table { self.new.table ≡ self.old.table }
-        ensures room { OnOk result (1 ≤ self.new.spare) }
-    {
-        match self.make_room() {
-            Ok(()) => self.set_filter_plan(alloc, client, name, mask, number),
-            Err(error) => Err(error),
-        }
-    }
-
     /// Sets which severities of records a stream lets pass, by the entry of this number: bit `2^s` of the mask lets
     /// severity s pass. `BadHandle` exactly where the client does not use the service or does not have the stream
     /// open; else `InvalidParam` exactly for the alarm and the notification stream, and for a mask above 127. An ok
-    /// call tells the stream's mark. On an error, and with another answer than ok, nothing changes.
+    /// call tells the stream's mark. On an error, and with another answer than ok, nothing changes; an error comes only
+    /// where the answer would be ok.
     pub fn set_filter(
         &mut self,
         alloc: Global,
@@ -102,6 +89,8 @@ impl LogState {
         ensures refused { IfOk result (λ step. step.status ≢ Status.Ok
             → Left self.old.table self.new.table step.events) }
         ensures err { OnErr result (self.new.table ≡ self.old.table) }
+        ensures memory { OnErr result
+            (filter_status self.old.table client name.now mask ≡ Status.Ok) }
     {
         match self.plan_set_filter(alloc, client, name, mask, number) {
             Ok(plan) => Ok(self.carry(plan)),

@@ -1,8 +1,8 @@
 //! What a call would do, planned with all the memory that it takes.
-ghost use Rattle.std.specs.Prelude.{◌≡◌, ◌<◌, ◌≤◌, ◌+◌, ◌++◌, ◌∷◌, [], true, false, Some, None, vec_len, vec_capacity};
+ghost use Rattle.std.specs.Prelude.{◌≡◌, ◌<◌, ◌≤◌, ◌+◌, ◌-◌, ◌++◌, ◌∷◌, [], true, false, Some, None, vec_len, vec_capacity};
 ghost use Rattle.client_set.specs.Edits.{change_at};
 ghost use Rattle.log_history.specs.Table.{with_mark};
-ghost use Rattle.log_service.specs.Planning.{step_of, marked_plan, with_openers, with_files, CanDo, streams_after, users_after};
+ghost use Rattle.log_service.specs.Planning.{step_of, marked_plan, with_openers, with_files, CanDo, IsRoomFor, streams_after, users_after};
 
 use crate::live::LiveStream;
 use crate::step::Step;
@@ -166,10 +166,10 @@ fn put_mark(streams: &mut Vec<LiveStream>, place: usize, mark: Mark)
     streams[place].put_mark(mark);
 }
 
-/// Does what was planned. It takes no memory.
+/// Does what was planned, where there is room for the stream that is made. It takes no memory.
 pub(crate) fn carry_out(streams: &mut Vec<LiveStream>, users: &mut ClientSet, doing: Doing)
     requires can { CanDo doing streams.old.items }
-    requires room { vec_len streams.old < vec_capacity streams.old }
+    requires room { IsRoomFor doing (vec_capacity streams.old - vec_len streams.old) }
     ensures streams { streams.new.items ≡ streams_after doing streams.old.items }
     ensures users { users.new ≡ users_after doing users.old }
 {

@@ -1,5 +1,5 @@
 //! The state, and what each call answers and makes of it.
-ghost use Rattle.std.specs.Prelude.{◌≡◌, ◌≢◌, ◌<◌, ◌≤◌, ◌≤ℤ◌, pos, unsigned_abs, false, Some, None, length, map, IfOk, OnOk, OnErr, IsTrue, []};
+ghost use Rattle.std.specs.Prelude.{◌≡◌, ◌≢◌, ◌<◌, ◌≤◌, ◌≤ℤ◌, Bool, Option, pos, unsigned_abs, false, Some, None, length, map, IfOk, OnOk, OnErr, IsTrue, []};
 ghost use Rattle.std.specs.Option.{option_copied};
 ghost use Rattle.client_set.specs.Members.{has};
 ghost use Rattle.stream_config.specs.AttributeTests.{passes_attrs};
@@ -10,7 +10,8 @@ ghost use Rattle.record_print.specs.Lengths.{HasParts};
 ghost use Rattle.record_print.specs.declared.record.LogRecord.{LogRecord as RecordOf};
 ghost use Rattle.log_history.specs.Names.{is_application};
 ghost use Rattle.log_history.specs.Chronicle.{LogSetup};
-ghost use Rattle.log_history.specs.Changes.{Began, Stored, Closed, Ended};
+ghost use Rattle.stream_config.specs.declared.mark.Mark.{Mark as MarkOf};
+ghost use Rattle.log_history.specs.Changes.{LogChange, Began, Stored, Closed, Ended};
 ghost use Rattle.log_history.specs.Times.{filled_time, filled_header, record_at};
 ghost use Rattle.log_history.specs.Marks.{is_filtered};
 ghost use Rattle.log_history.specs.KeptAnswers.{begin_status, open_status, write_status, close_status, end_status, store_status, has_opener, is_filled, kept_mark, is_crowd, kept_attrs};
@@ -19,7 +20,7 @@ ghost use Rattle.log_service.specs.State.{IsCallTime, HasNumberLeft, Made, Left,
 ghost use Rattle.log_service.specs.Opening.{opening_in, mark_in};
 ghost use Rattle.log_service.specs.Calls.{filters_in, mark_told, PlansOpening, PlansWrite, HasWritten};
 ghost use Rattle.log_service.specs.Changing.{making_status};
-ghost use Rattle.log_service.specs.Planning.{step_of, planned, CanCommit, Plans};
+ghost use Rattle.log_service.specs.Planning.{step_of, planned, CanCommit, HasRoom, Plans};
 
 use crate::live::LiveStream;
 use crate::plan::{Doing, LogPlan, carry_out};
@@ -120,8 +121,7 @@ impl LogState {
     }
 
     /// Makes room for one stream more. What is kept stays as it is; an error is want of memory.
-    // Its callers match, and do not use `?`: a second way out would let go what the plan holds.
-    pub(crate) fn make_room(&mut self) -> Result<(), AllocError>
+    fn make_room(&mut self) -> Result<(), AllocError>
         ensures table { self.new.table ≡ self.old.table }
         ensures ok { OnOk result (1 ≤ self.new.spare) }
     {
@@ -129,10 +129,10 @@ impl LogState {
         Ok(())
     }
 
-    /// Makes a planned call. The answer is what the plan told.
+    /// Makes a planned call, where there is room for the stream that it makes. The answer is what the plan told.
     pub(crate) fn carry(&mut self, plan: LogPlan) -> Step
         requires can { CanCommit self.old.table plan }
-        requires room { 1 ≤ self.old.spare }
+        requires room { HasRoom plan self.old.spare }
         ensures now { self.new.table ≡ planned plan self.old.table }
         ensures step { result ≡ step_of plan }
     {
@@ -142,10 +142,11 @@ impl LogState {
         step
     }
 
-    /// Makes a call that was planned for the state as it is, into room that was made for it. It takes no memory.
+    /// Makes a call that was planned for the state as it is, where there is room for the stream that it makes. It takes no
+    /// memory.
     pub fn commit(&mut self, plan: LogPlan)
         requires can { CanCommit self.old.table plan }
-        requires room { 1 ≤ self.old.spare }
+        requires room { HasRoom plan self.old.spare }
         ensures { self.new.table ≡ planned plan self.old.table }
     {
         drop(self.carry(plan));
@@ -162,10 +163,13 @@ impl LogState {
         }
     }
 
-    /// The plan of `init` for the state as it is. An error is want of memory.
-    fn init_plan(&self, alloc: Global, client: u16) -> Result<LogPlan, AllocError>
-        ensures { IfOk result (Plans self.now.table (begin_status self.now.table client)
+    /// Plans `init` for the state as it is. A call that is refused takes no memory: an error, which is want of memory,
+    /// comes only where the answer would be ok.
+    pub fn plan_init(&self, alloc: Global, client: u16, _now: i64) -> Result<LogPlan, AllocError>
+        ensures ok { IfOk result (Plans self.now.table (begin_status self.now.table client)
             false None (Began client)) }
+        ensures room { IfOk result (λ plan. HasRoom plan self.now.spare) }
+        ensures memory { OnErr result (begin_status self.now.table client ≡ Status.Ok) }
     {
         let status = self.begin_status(client);
         if status != Status::Ok {
@@ -176,26 +180,9 @@ impl LogState {
         Ok(LogPlan::accepted(Seq::new(alloc), self.last, Doing::Begin { users }))
     }
 
-    /// Plans `init`, and makes room for one stream more. The state stays as it is; an error is want of memory.
-    pub fn plan_init(
-        &mut self,
-        alloc: Global,
-        client: u16,
-        _now: i64,
-    ) -> Result<LogPlan, AllocError>
-        ensures ok { IfOk result (Plans self.old.table (begin_status self.old.table client)
-            false None (Began client)) }
-        ensures table { self.new.table ≡ self.old.table }
-        ensures room { OnOk result (1 ≤ self.new.spare) }
-    {
-        match self.make_room() {
-            Ok(()) => self.init_plan(alloc, client),
-            Err(error) => Err(error),
-        }
-    }
-
     /// Begins a client's use of the service (the library call for initialisation). `NoResources` exactly where it
-    /// uses the service already. On an error, and with another answer than ok, nothing changes.
+    /// uses the service already. On an error, and with another answer than ok, nothing changes; an error comes only
+    /// where the answer would be ok.
     pub fn init(&mut self, alloc: Global, client: u16, now: i64) -> Result<Step, AllocError>
         ensures status { IfOk result (λ step. step.status ≡ begin_status self.old.table client) }
         ensures told { IfOk result (Tells false None) }
@@ -204,6 +191,7 @@ impl LogState {
         ensures refused { IfOk result (λ step. step.status ≢ Status.Ok
             → Left self.old.table self.new.table step.events) }
         ensures err { OnErr result (self.new.table ≡ self.old.table) }
+        ensures memory { OnErr result (begin_status self.old.table client ≡ Status.Ok) }
     {
         match self.plan_init(alloc, client, now) {
             Ok(plan) => Ok(self.carry(plan)),
@@ -222,11 +210,19 @@ impl LogState {
         }
     }
 
-    /// The plan of `close_all` for the state as it is. An error is want of memory.
-    fn close_all_plan(&self, alloc: Global, client: u16, now: i64) -> Result<LogPlan, AllocError>
+    /// Plans `close_all` for the state as it is. A call that is refused takes no memory: an error, which is want of
+    /// memory, comes only where the answer would be ok.
+    pub fn plan_close_all(
+        &self,
+        alloc: Global,
+        client: u16,
+        now: i64,
+    ) -> Result<LogPlan, AllocError>
         requires { IsCallTime self.now.table now }
-        ensures { IfOk result (Plans self.now.table (end_status self.now.table client)
+        ensures ok { IfOk result (Plans self.now.table (end_status self.now.table client)
             false None (Ended client (second_of now))) }
+        ensures room { IfOk result (λ plan. HasRoom plan self.now.spare) }
+        ensures memory { OnErr result (end_status self.now.table client ≡ Status.Ok) }
     {
         let status = self.end_status(client);
         if status != Status::Ok {
@@ -237,28 +233,10 @@ impl LogState {
         Ok(LogPlan::accepted(events, last, Doing::End { client }))
     }
 
-    /// Plans `close_all`, and makes room for one stream more. The state stays as it is; an error is want of memory.
-    pub fn plan_close_all(
-        &mut self,
-        alloc: Global,
-        client: u16,
-        now: i64,
-    ) -> Result<LogPlan, AllocError>
-        requires { IsCallTime self.old.table now }
-        ensures ok { IfOk result (Plans self.old.table (end_status self.old.table client)
-            false None (Ended client (second_of now))) }
-        ensures table { self.new.table ≡ self.old.table }
-        ensures room { OnOk result (1 ≤ self.new.spare) }
-    {
-        match self.make_room() {
-            Ok(()) => self.close_all_plan(alloc, client, now),
-            Err(error) => Err(error),
-        }
-    }
-
     /// Ends a client's use of the service, and with it all that it has open. `BadHandle` exactly where it does
     /// not use the service. An application's stream that nobody has open any more ends; streams that end do so
-    /// in order of creation. On an error, and with another answer than ok, nothing changes.
+    /// in order of creation. On an error, and with another answer than ok, nothing changes; an error comes only
+    /// where the answer would be ok.
     pub fn close_all(&mut self, alloc: Global, client: u16, now: i64) -> Result<Step, AllocError>
         requires { IsCallTime self.old.table now }
         ensures status { IfOk result (λ step. step.status ≡ end_status self.old.table client) }
@@ -268,6 +246,7 @@ impl LogState {
         ensures refused { IfOk result (λ step. step.status ≢ Status.Ok
             → Left self.old.table self.new.table step.events) }
         ensures err { OnErr result (self.new.table ≡ self.old.table) }
+        ensures memory { OnErr result (end_status self.old.table client ≡ Status.Ok) }
     {
         match self.plan_close_all(alloc, client, now) {
             Ok(plan) => Ok(self.carry(plan)),
@@ -296,8 +275,9 @@ impl LogState {
         }
     }
 
-    /// The plan of `close` for the state as it is. An error is want of memory.
-    fn close_plan(
+    /// Plans `close` for the state as it is. A call that is refused takes no memory: an error, which is want of memory,
+    /// comes only where the answer would be ok.
+    pub fn plan_close(
         &self,
         alloc: Global,
         client: u16,
@@ -305,8 +285,10 @@ impl LogState {
         now: i64,
     ) -> Result<LogPlan, AllocError>
         requires { IsCallTime self.now.table now }
-        ensures { IfOk result (Plans self.now.table (close_status self.now.table client name.now)
+        ensures ok { IfOk result (Plans self.now.table (close_status self.now.table client name.now)
             false None (Closed client name.now (second_of now))) }
+        ensures room { IfOk result (λ plan. HasRoom plan self.now.spare) }
+        ensures memory { OnErr result (close_status self.now.table client name.now ≡ Status.Ok) }
     {
         let status = self.close_status(client, name);
         if status != Status::Ok {
@@ -318,29 +300,9 @@ impl LogState {
         Ok(LogPlan::accepted(events, last, Doing::Leave { name, client }))
     }
 
-    /// Plans `close`, and makes room for one stream more. The state stays as it is; an error is want of memory.
-    pub fn plan_close(
-        &mut self,
-        alloc: Global,
-        client: u16,
-        name: &StreamName,
-        now: i64,
-    ) -> Result<LogPlan, AllocError>
-        requires { IsCallTime self.old.table now }
-        ensures ok { IfOk result (Plans self.old.table (close_status self.old.table client name.now)
-            false None (Closed client name.now (second_of now))) }
-        ensures table { self.new.table ≡ self.old.table }
-        ensures room { OnOk result (1 ≤ self.new.spare) }
-    {
-        match self.make_room() {
-            Ok(()) => self.close_plan(alloc, client, name, now),
-            Err(error) => Err(error),
-        }
-    }
-
     /// Closes a stream for a client. `BadHandle` exactly where the client does not use the service or does not
     /// have the stream open. An application's stream that nobody has open any more ends. On an error, and with
-    /// another answer than ok, nothing changes.
+    /// another answer than ok, nothing changes; an error comes only where the answer would be ok.
     pub fn close(
         &mut self,
         alloc: Global,
@@ -358,6 +320,7 @@ impl LogState {
         ensures refused { IfOk result (λ step. step.status ≢ Status.Ok
             → Left self.old.table self.new.table step.events) }
         ensures err { OnErr result (self.new.table ≡ self.old.table) }
+        ensures memory { OnErr result (close_status self.old.table client name.now ≡ Status.Ok) }
     {
         match self.plan_close(alloc, client, name, now) {
             Ok(plan) => Ok(self.carry(plan)),
@@ -411,8 +374,9 @@ impl LogState {
         }
     }
 
-    /// The plan of `open_stream` for the state as it is. An error is want of memory.
-    fn open_stream_plan(
+    /// The plan of an open that is ok, for the state as it is, in which there is room for one stream more. An error is
+    /// want of memory.
+    fn accepted_open(
         &self,
         alloc: Global,
         client: u16,
@@ -421,14 +385,14 @@ impl LogState {
         now: i64,
         number: u64,
     ) -> Result<LogPlan, AllocError>
-        requires { IsCallTime self.now.table now }
-        ensures { IfOk result (PlansOpening self.now.table client name.now
+        requires moment { IsCallTime self.now.table now }
+        requires ok { open_status self.now.table client name.now (option_copied create)
+            ≡ Status.Ok }
+        requires room { 1 ≤ self.now.spare }
+        ensures ok { IfOk result (PlansOpening self.now.table client name.now
             (option_copied create.entry) now number) }
+        ensures room { IfOk result (λ plan. HasRoom plan self.now.spare) }
     {
-        let status = self.open_status(client, name, create);
-        if status != Status::Ok {
-            return Ok(LogPlan::refused(alloc, self.last, status));
-        }
         let streams = self.streams.as_slice();
         let mark = streams::mark_opened(streams, name, create, number);
         let last = self.last;
@@ -436,7 +400,18 @@ impl LogState {
         Ok(plan.marked(mark))
     }
 
-    /// Plans `open_stream`, and makes room for one stream more. The state stays as it is; an error is want of memory.
+    /// The plan of a call that is refused with this answer, for the state as it is. It takes no memory.
+    fn refusal(&self, alloc: Global, answer: Status) -> LogPlan
+        requires { answer ≢ Status.Ok }
+        ensures plan { (filtered : Bool) (mark : Option MarkOf) (change : LogChange) →
+            Plans self.now.table answer filtered mark change result }
+        ensures room { HasRoom result self.now.spare }
+    {
+        LogPlan::refused(alloc, self.last, answer)
+    }
+
+    /// Plans `open_stream`, and makes room for one stream more where it is ok. The state stays as it is. A call that is
+    /// refused takes no memory: an error, which is want of memory, comes only where the answer would be ok.
     pub fn plan_open_stream(
         &mut self,
         alloc: Global,
@@ -450,12 +425,17 @@ impl LogState {
         ensures ok { IfOk result (PlansOpening self.old.table client name.now
             (option_copied create.entry) now number) }
         ensures table { self.new.table ≡ self.old.table }
-        ensures room { OnOk result (1 ≤ self.new.spare) }
+        ensures room { IfOk result (λ plan. HasRoom plan self.new.spare) }
+        ensures memory { OnErr result (open_status self.old.table client name.now
+            (option_copied create.entry) ≡ Status.Ok) }
     {
-        match self.make_room() {
-            Ok(()) => self.open_stream_plan(alloc, client, name, create, now, number),
-            Err(error) => Err(error),
+        let status = self.open_status(client, name, create);
+        if status != Status::Ok {
+            return Ok(self.refusal(alloc, status));
         }
+        self.make_room()?;
+        let plan = self.accepted_open(alloc, client, name, create, now, number)?;
+        Ok(plan)
     }
 
     /// Opens a stream for a client, by the entry of this number; with attributes it makes an application's stream
@@ -464,7 +444,8 @@ impl LogState {
     /// without attributes `NotExist`, no stream of the name lives; with attributes `InvalidParam`, the stream is
     /// a well-known one or the attributes do not pass; ok, it lives with equal attributes; `Exist`, it lives with
     /// others, or another one has the path and file; `NoResources`, 64 streams of applications live. Where none
-    /// holds the answer is ok. On an error, and with another answer, nothing changes.
+    /// holds the answer is ok. On an error, and with another answer, nothing changes; an error comes only where the
+    /// answer would be ok.
     pub fn open_stream(
         &mut self,
         alloc: Global,
@@ -485,6 +466,8 @@ impl LogState {
         ensures refused { IfOk result (λ step. step.status ≢ Status.Ok
             → Left self.old.table self.new.table step.events) }
         ensures err { OnErr result (self.new.table ≡ self.old.table) }
+        ensures memory { OnErr result (open_status self.old.table client name.now
+            (option_copied create.entry) ≡ Status.Ok) }
     {
         match self.plan_open_stream(alloc, client, name, create, now, number) {
             Ok(plan) => Ok(self.carry(plan)),
@@ -574,8 +557,9 @@ impl LogState {
         }
     }
 
-    /// The plan of `write` for the state as it is. An error is want of memory.
-    fn write_plan(
+    /// Plans `write` for the state as it is. A write that is refused takes no memory, and neither does one whose record
+    /// is filtered: an error, which is want of memory, comes only where the record would be stored.
+    pub fn plan_write(
         &self,
         alloc: Global,
         client: u16,
@@ -588,8 +572,12 @@ impl LogState {
     ) -> Result<LogPlan, AllocError>
         requires moment { IsCallTime self.now.table now }
         requires numbers { HasNumberLeft self.now.table name.now }
-        ensures { IfOk result (PlansWrite self.now.table client name.now flags time
+        ensures ok { IfOk result (PlansWrite self.now.table client name.now flags time
             header.now body.now now) }
+        ensures room { IfOk result (λ plan. HasRoom plan self.now.spare) }
+        ensures memory { OnErr result (write_status self.now.table client name.now flags time
+            header.now body.now now ≡ Status.Ok) }
+        ensures passes { OnErr result (filters_in self.now.table name.now header.now ≡ false) }
     {
         let status = self.write_status(client, name, flags, time, header, body, now);
         if status != Status::Ok {
@@ -604,37 +592,13 @@ impl LogState {
         Ok(plan.marked(mark))
     }
 
-    /// Plans `write`, and makes room for one stream more. The state stays as it is; an error is want of memory.
-    pub fn plan_write(
-        &mut self,
-        alloc: Global,
-        client: u16,
-        name: &StreamName,
-        flags: u32,
-        time: i64,
-        header: &Header,
-        body: &Text,
-        now: i64,
-    ) -> Result<LogPlan, AllocError>
-        requires moment { IsCallTime self.old.table now }
-        requires numbers { HasNumberLeft self.old.table name.now }
-        ensures ok { IfOk result (PlansWrite self.old.table client name.now flags time
-            header.now body.now now) }
-        ensures table { self.new.table ≡ self.old.table }
-        ensures room { OnOk result (1 ≤ self.new.spare) }
-    {
-        match self.make_room() {
-            Ok(()) => self.write_plan(alloc, client, name, flags, time, header, body, now),
-            Err(error) => Err(error),
-        }
-    }
-
     /// Writes a record to a stream. An unknown time stands for this moment. The answer is that of the first of
     /// these that holds: `BadHandle`, the client does not use the service or does not have the stream open;
     /// `BadFlags`, flags are above 1; `InvalidParam`, the record may not be written to a stream of the kind; ok
     /// and filtered, the stream's mask does not let the record's severity pass; `NoSpace`, the record does not fit
     /// the stream, which halts. Where none holds the record is stored, and the answer is ok. An ok call tells the
-    /// stream's mark. On an error, with another answer, and where the record is filtered, nothing changes.
+    /// stream's mark. On an error, with another answer, and where the record is filtered, nothing changes; an error
+    /// comes only where the record would be stored.
     pub fn write(
         &mut self,
         alloc: Global,
@@ -658,6 +622,9 @@ impl LogState {
         ensures refused { IfOk result (λ step. step.status ≢ Status.Ok
             → Left self.old.table self.new.table step.events) }
         ensures err { OnErr result (self.new.table ≡ self.old.table) }
+        ensures memory { OnErr result (write_status self.old.table client name.now flags time
+            header.now body.now now ≡ Status.Ok) }
+        ensures passes { OnErr result (filters_in self.old.table name.now header.now ≡ false) }
     {
         match self.plan_write(alloc, client, name, flags, time, header, body, now) {
             Ok(plan) => Ok(self.carry(plan)),
@@ -678,8 +645,9 @@ impl LogState {
         if full { Status::NoSpace } else { Status::Ok }
     }
 
-    /// The plan of `store` for the state as it is. An error is want of memory.
-    fn store_plan(
+    /// Plans `store` for the state as it is. A call that is refused takes no memory: an error, which is want of memory,
+    /// comes only where the answer would be ok.
+    pub fn plan_store(
         &self,
         alloc: Global,
         kind: StreamKind,
@@ -689,9 +657,12 @@ impl LogState {
         requires moment { IsCallTime self.now.table now }
         requires notified { IsNotified kind rec.now }
         requires numbers { HasNumberLeft self.now.table (stream_of_kind kind) }
-        ensures { IfOk result (Plans self.now.table
+        ensures ok { IfOk result (Plans self.now.table
             (store_status self.now.table (stream_of_kind kind) rec.now)
             false None (Stored (stream_of_kind kind) rec.now (second_of now))) }
+        ensures room { IfOk result (λ plan. HasRoom plan self.now.spare) }
+        ensures memory { OnErr result
+            (store_status self.now.table (stream_of_kind kind) rec.now ≡ Status.Ok) }
     {
         let name = stream_of_kind(kind);
         let status = self.store_status(&name, rec);
@@ -703,31 +674,8 @@ impl LogState {
         Ok(plan)
     }
 
-    /// Plans `store`, and makes room for one stream more. The state stays as it is; an error is want of memory.
-    pub fn plan_store(
-        &mut self,
-        alloc: Global,
-        kind: StreamKind,
-        rec: &LogRecord,
-        now: i64,
-    ) -> Result<LogPlan, AllocError>
-        requires moment { IsCallTime self.old.table now }
-        requires notified { IsNotified kind rec.now }
-        requires numbers { HasNumberLeft self.old.table (stream_of_kind kind) }
-        ensures ok { IfOk result (Plans self.old.table
-            (store_status self.old.table (stream_of_kind kind) rec.now)
-            false None (Stored (stream_of_kind kind) rec.now (second_of now))) }
-        ensures table { self.new.table ≡ self.old.table }
-        ensures room { OnOk result (1 ≤ self.new.spare) }
-    {
-        match self.make_room() {
-            Ok(()) => self.store_plan(alloc, kind, rec, now),
-            Err(error) => Err(error),
-        }
-    }
-
     /// Stores the record of a notification in the stream of its kind. `NoSpace` exactly where it does not fit.
-    /// On an error, and with another answer than ok, nothing changes.
+    /// On an error, and with another answer than ok, nothing changes; an error comes only where the answer would be ok.
     pub fn store(
         &mut self,
         alloc: Global,
@@ -747,6 +695,8 @@ impl LogState {
         ensures refused { IfOk result (λ step. step.status ≢ Status.Ok
             → Left self.old.table self.new.table step.events) }
         ensures err { OnErr result (self.new.table ≡ self.old.table) }
+        ensures memory { OnErr result
+            (store_status self.old.table (stream_of_kind kind) rec.now ≡ Status.Ok) }
     {
         match self.plan_store(alloc, kind, rec, now) {
             Ok(plan) => Ok(self.carry(plan)),

@@ -6,15 +6,15 @@ use Rattle.log_history.specs.Table.{OpenStream, LogTable, without_opener, left_s
 use Rattle.log_service.specs.Changing.{AreEndsIn}
 use Rattle.log_service.proofs.KeptLemmas.{AreFew-mapped, few-bound, ends-fit, moment-of, moment-fits, same_table}
 use Rattle.log_service.proofs.StatePlans.{ended-as}
-use Rattle.log_service.proofs.state.LogState.close_all_plan.Goals as goal
+use Rattle.log_service.proofs.state.LogState.plan_close_all.Goals as goal
 
 pub endings-requires-clause-few : goal.endings-requires-clause-few
 endings-requires-clause-few c =
     let short = few-bound c.self.inside.streams.items c.self.invariant.few in
     omega (arith, ap length c.as_slice-streams.ensures.value)
 
-pub returns : goal.returns
-returns c =
+pub returns-clause-ok : goal.returns-clause-ok
+returns-clause-ok c =
     let now_fits = c.ranges.now in
     let last = c.self.inside.last in
     let moment = moment-of last c.args.now c.args.self.now.table c.self.invariant.from (ap (λ (kept : LogTable). kept.last) (same_table c.self.view_is)) c.requires in

@@ -6,10 +6,10 @@ use Rattle.log_history.specs.Table.{OpenStream, LogTable, is_named, without_open
 use Rattle.log_service.specs.Changing.{AreEndsIn}
 use Rattle.log_service.proofs.KeptLemmas.{AreFew-changed, few-bound, ends-fit, moment-of, moment-fits, same_table}
 use Rattle.log_service.proofs.StatePlans.{closed-as}
-use Rattle.log_service.proofs.state.LogState.close_plan.Goals as goal
+use Rattle.log_service.proofs.state.LogState.plan_close.Goals as goal
 
-pub returns : goal.returns
-returns c =
+pub returns-clause-ok : goal.returns-clause-ok
+returns-clause-ok c =
     let now_fits = c.ranges.now in
     let last = c.self.inside.last in
     let moment = moment-of last c.args.now c.args.self.now.table c.self.invariant.from (ap (λ (kept : LogTable). kept.last) (same_table c.self.view_is)) c.requires in

@@ -2,20 +2,21 @@ use Rattle.std.proofs.Common.{◌≡◌, ◌≢◌, true, List, [], sym, subst, 
 use Rattle.std.specs.Prelude.{Some}
 use Rattle.std.proofs.lemmas.Int.{to_z-of_z}
 use Rattle.ais_values.specs.declared.status.Status.TheVariants as status
+use Rattle.ais_values.proofs.Basics.{OnErr-from}
 use Rattle.stream_config.specs.Attributes.{kind_of}
 use Rattle.stream_config.specs.declared.mark.Mark.{Mark}
 use Rattle.log_history.specs.Changes.{LogChange, Stored}
 use Rattle.log_history.specs.Times.{second_of, record_at}
 use Rattle.log_history.specs.Table.{OpenStream, LogTable}
 use Rattle.log_history.specs.KeptAnswers.{write_status, is_filled, kept_mark}
-use Rattle.log_service.specs.Planning.{marked_plan, Plans}
+use Rattle.log_service.specs.Planning.{marked_plan, HasRoom, Plans}
 use Rattle.log_service.specs.PlanningParts.{PlansStoring}
 use Rattle.log_service.specs.declared.plan.Doing.TheVariants.{Stay}
 use Rattle.log_service.specs.declared.plan.LogPlan.{LogPlan}
 use Rattle.log_service.proofs.KeptLemmas.{moment-of, moment-fits, same_table}
 use Rattle.log_service.proofs.WriteLemmas.{write-rows, write-room, printable}
 use Rattle.log_service.proofs.StatePlans.{stored-as, marked-as, filtered-as, refused-as}
-use Rattle.log_service.proofs.state.LogState.write_plan.Goals as goal
+use Rattle.log_service.proofs.state.LogState.plan_write.Goals as goal
 
 pub writing_plan-requires-clause-printable : goal.writing_plan-requires-clause-printable
 writing_plan-requires-clause-printable c =
@@ -41,8 +42,8 @@ filters-requires c =
     let ok : c.write_status-status.result ≡ status.Ok = search rules in
     simp to_z-of_z (write-rows _ _ _ _ (kind_of c.args.name.now) c.args.flags c.args.time c.args.header.now (sym (simp to_z-of_z at c.write_status-status.ensures) ∙ ok))
 
-pub returns-then-filters : goal.returns-then-filters
-returns-then-filters c =
+pub returns-then-filters-clause-ok : goal.returns-then-filters-clause-ok
+returns-then-filters-clause-ok c =
     let time_fits = c.ranges.time in
     let now_fits = c.ranges.now in
     let table = c.args.self.now.table in
@@ -56,8 +57,8 @@ returns-then-filters c =
     subst (λ masked. Plans table (write_status table c.args.client c.args.name.now c.args.flags c.args.time c.args.header.now c.args.body.now c.args.now) masked (Some mark) (Stored c.args.name.now (record_at c.args.time c.args.header.now c.args.body.now c.args.now) (second_of c.args.now)) c.filtered.result) c.if-filters.ensures
     (filtered-as last c.self.inside.users c.self.inside.streams.items table (same_table c.self.view_is) c.self.invariant.few c.self.invariant.busy _ mark _ c.filtered.result (sym ok ∙ answered) c.self.invariant.from told)
 
-pub returns : goal.returns
-returns c =
+pub returns-clause-ok : goal.returns-clause-ok
+returns-clause-ok c =
     let time_fits = c.ranges.time in
     let now_fits = c.ranges.now in
     let table = c.args.self.now.table in
@@ -76,8 +77,8 @@ returns c =
     let marked = marked-as last c.self.inside.users items table (same_table c.self.view_is) c.self.invariant.few c.self.invariant.busy expected (kept_mark table.streams c.args.name.now) change c.in_ok-plan.plan c.marked.result plans.sound.ok stored (c.marked.ensures ∙ ap (λ (m : Mark). marked_plan m c.in_ok-plan.plan) c.mark_of-mark.ensures) in
     subst (λ masked. Plans table expected masked (Some (kept_mark table.streams c.args.name.now)) change c.marked.result) c.if-filters.ensures marked
 
-pub returns-then-ne : goal.returns-then-ne
-returns-then-ne c =
+pub returns-then-ne-clause-ok : goal.returns-then-ne-clause-ok
+returns-then-ne-clause-ok c =
     let time_fits = c.ranges.time in
     let now_fits = c.ranges.now in
     let last = c.self.inside.last in
@@ -86,3 +87,14 @@ returns-then-ne c =
     let wrong : c.write_status-status.result ≢ status.Ok = search rules in
     refused-as last c.self.inside.users c.self.inside.streams.items c.args.self.now.table (same_table c.self.view_is) c.self.invariant.few c.self.invariant.busy
     _ _ _ _ c.write_status-status.result c.refused.result (simp to_z-of_z at c.write_status-status.ensures) wrong c.self.invariant.from (simp to_z-of_z at c.refused.ensures)
+
+pub returns-clause-room : goal.returns-clause-room
+returns-clause-room c =
+    subst (λ (p : LogPlan). HasRoom p c.args.self.now.spare) (sym c.marked.ensures) (c.in_ok-plan.ensures.room c.args.self.now.spare)
+
+pub returns-in_err-plan-clause-memory : goal.returns-in_err-plan-clause-memory
+returns-in_err-plan-clause-memory c =
+    let time_fits = c.ranges.time in
+    let now_fits = c.ranges.now in
+    let ok : c.write_status-status.result ≡ status.Ok = search rules in
+    OnErr-from c.from_residual.result (sym (simp to_z-of_z at c.write_status-status.ensures) ∙ ok)
