@@ -38,6 +38,16 @@ by-answer : {X : Type 0} (answered : Status) → (answered ≡ status.Ok → X) 
 by-answer status.Ok ok refused = ok refl
 by-answer _ ok refused = refused (λ e. cc)
 
+-- where something is done to streams the call is ok, and its record is not filtered
+pub done-ok : (kept : LogTable) (change : LogChange) (answered : Status) (filtered : Bool) (mark : Option Mark) (plan : LogPlan) → Plans kept answered filtered mark change plan → plan.step.events ≢ [] → answered ≡ status.Ok
+done-ok kept change answered filtered mark plan plans some =
+    by-answer plan.step.status (λ e. sym plans.answer ∙ e) (λ n. absurd (some (plans.refused n).done))
+
+pub done-passes : (kept : LogTable) (change : LogChange) (answered : Status) (filtered : Bool) (mark : Option Mark) (plan : LogPlan) → Plans kept answered filtered mark change plan → plan.step.events ≢ [] → filtered ≡ false
+done-passes kept change answered false mark plan plans some = refl
+done-passes kept change answered true mark plan plans some =
+    absurd (some (by-answer plan.step.status (λ e. (plans.ok e).done) (λ n. (plans.refused n).done)))
+
 -- what was planned can happen
 pub planned-fit : (kept : LogTable) (now : ℤ) (change : LogChange) (answered : Status) (filtered : Bool) (mark : Option Mark) (plan : LogPlan) → CanCallLog kept now → second_in change ≤ 9000000000 → (answered ≡ status.Ok → filtered ≡ false → CanChange kept change) → Plans kept answered filtered mark change plan → AllByRecursion IsFitEvent plan.step.events
 planned-fit kept now change answered false mark plan can early may plans =

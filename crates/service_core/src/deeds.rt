@@ -1,5 +1,5 @@
 //! The deeds of what happens to streams.
-ghost use Rattle.std.specs.Prelude.{◌≡◌, ◌++◌, IfOk, OnOk};
+ghost use Rattle.std.specs.Prelude.{◌≡◌, ◌≢◌, [], ◌++◌, IfOk, OnOk, OnErr};
 ghost use Rattle.std.specs.List.{AllByRecursion};
 ghost use Rattle.stream_layout.specs.Carrying.{IsFitEvent};
 ghost use Rattle.log_history.specs.Deeds.{deeds_of_all};
@@ -18,10 +18,11 @@ fn put_behind(all: &mut Vec<Deed>, more: Seq<Deed>) -> Result<(), AllocError>
     Ok(())
 }
 
-/// The deeds of all events, in order.
+/// The deeds of all events, in order. Of no event it takes no memory.
 pub(crate) fn deeds_of_all(alloc: Global, events: &[StreamEvent]) -> Result<Seq<Deed>, AllocError>
     requires { AllByRecursion IsFitEvent events.now }
-    ensures { IfOk result (λ deeds. deeds ≡ deeds_of_all events.now) }
+    ensures ok { IfOk result (λ deeds. deeds ≡ deeds_of_all events.now) }
+    ensures memory { OnErr result (events.now ≢ []) }
 {
     let mut all = Vec::new(alloc);
     for event in events {

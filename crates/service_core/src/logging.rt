@@ -3,14 +3,17 @@ ghost use Rattle.std.specs.Prelude.{◌≡◌, ◌<◌, ℕ, ℤ, IfOk, OnErr};
 ghost use Rattle.std.specs.Option.{option_copied};
 ghost use Rattle.calls.specs.declared.call.Call.TheVariants.{LogInit, LogOpen, LogFilter, LogClose, LogFini};
 ghost use Rattle.service_fit.specs.Conditions.{CanCallLog};
+ghost use Rattle.service_table.specs.Answering.{status_in};
 ghost use Rattle.service_core.specs.Acting.{table_of, HasActed};
 
 use crate::parts::{Acted, Parts};
 use crate::planning::make_planned;
+use ais_values::Status;
 use std::alloc::{AllocError, Global};
 use stream_config::{StreamAttrs, StreamName};
 
-/// A client begins to use the service.
+/// A client begins to use the service. A call that is refused takes no memory: an error comes only where the answer
+/// would be ok.
 pub(crate) fn log_init(
     parts: &mut Parts,
     alloc: Global,
@@ -20,13 +23,15 @@ pub(crate) fn log_init(
     ensures ok { IfOk result (λ acted. (seq : ℕ) →
         HasActed (table_of parts.old) client seq now LogInit (table_of parts.new) acted) }
     ensures err { OnErr result (table_of parts.new ≡ table_of parts.old) }
+    ensures memory { OnErr result (status_in (table_of parts.old) client now LogInit ≡ Status.Ok) }
 {
     let plan = parts.log.plan_init(alloc, client, now)?;
     let acted = make_planned(&mut parts.log, alloc, plan)?;
     Ok(acted)
 }
 
-/// A client ends its use of the service.
+/// A client ends its use of the service. A call that is refused takes no memory: an error comes only where the answer
+/// would be ok.
 pub(crate) fn log_fini(
     parts: &mut Parts,
     alloc: Global,
@@ -37,13 +42,14 @@ pub(crate) fn log_fini(
     ensures ok { IfOk result (λ acted. (seq : ℕ) →
         HasActed (table_of parts.old) client seq now LogFini (table_of parts.new) acted) }
     ensures err { OnErr result (table_of parts.new ≡ table_of parts.old) }
+    ensures memory { OnErr result (status_in (table_of parts.old) client now LogFini ≡ Status.Ok) }
 {
     let plan = parts.log.plan_close_all(alloc, client, now)?;
     let acted = make_planned(&mut parts.log, alloc, plan)?;
     Ok(acted)
 }
 
-/// A client opens a stream.
+/// A client opens a stream. A call that is refused takes no memory: an error comes only where the answer would be ok.
 pub(crate) fn log_open(
     parts: &mut Parts,
     alloc: Global,
@@ -58,6 +64,8 @@ pub(crate) fn log_open(
         HasActed (table_of parts.old) client seq now (LogOpen name.now (option_copied create.entry))
         (table_of parts.new) acted) }
     ensures err { OnErr result (table_of parts.new ≡ table_of parts.old) }
+    ensures memory { OnErr result (status_in (table_of parts.old) client now
+        (LogOpen name.now (option_copied create.entry)) ≡ Status.Ok) }
 {
     let number = parts.number + 1;
     let plan = parts
@@ -67,7 +75,8 @@ pub(crate) fn log_open(
     Ok(acted)
 }
 
-/// A client sets which severities of records a stream lets pass.
+/// A client sets which severities of records a stream lets pass. A call that is refused takes no memory: an error comes
+/// only where the answer would be ok.
 pub(crate) fn log_filter(
     parts: &mut Parts,
     alloc: Global,
@@ -80,6 +89,8 @@ pub(crate) fn log_filter(
         HasActed (table_of parts.old) client seq now (LogFilter name.now mask)
         (table_of parts.new) acted) }
     ensures err { OnErr result (table_of parts.new ≡ table_of parts.old) }
+    ensures memory { OnErr result ((now : ℤ) →
+        status_in (table_of parts.old) client now (LogFilter name.now mask) ≡ Status.Ok) }
 {
     let number = parts.number + 1;
     let plan = parts
@@ -89,7 +100,7 @@ pub(crate) fn log_filter(
     Ok(acted)
 }
 
-/// A client closes a stream.
+/// A client closes a stream. A call that is refused takes no memory: an error comes only where the answer would be ok.
 pub(crate) fn log_close(
     parts: &mut Parts,
     alloc: Global,
@@ -102,6 +113,8 @@ pub(crate) fn log_close(
         HasActed (table_of parts.old) client seq now (LogClose name.now) (table_of parts.new)
         acted) }
     ensures err { OnErr result (table_of parts.new ≡ table_of parts.old) }
+    ensures memory { OnErr result
+        (status_in (table_of parts.old) client now (LogClose name.now) ≡ Status.Ok) }
 {
     let plan = parts.log.plan_close(alloc, client, name, now)?;
     let acted = make_planned(&mut parts.log, alloc, plan)?;

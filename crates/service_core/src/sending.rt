@@ -7,7 +7,7 @@ ghost use Rattle.calls.specs.declared.call.Call.TheVariants.{NtfSend};
 ghost use Rattle.calls.specs.declared.reply.Reply.TheVariants as reply;
 ghost use Rattle.format_expr.specs.Language.{is_notified};
 ghost use Rattle.log_history.specs.Deeds.{deeds_of_all};
-ghost use Rattle.log_service.specs.Planning.{step_of, planned, CanCommit};
+ghost use Rattle.log_service.specs.Planning.{step_of, planned, CanCommit, HasRoom};
 ghost use Rattle.log_service.specs.State.{stream_of_kind};
 ghost use Rattle.ntf_history.specs.Changes.{Sent};
 ghost use Rattle.ntf_history.specs.StoredAlarms.{is_alarm};
@@ -149,7 +149,7 @@ fn send_planned(
     sent: &Notification,
 ) -> Result<u64, AllocError>
     requires can { CanCommit parts.old.log.table plan }
-    requires room { 1 ≤ parts.old.log.spare }
+    requires room { HasRoom plan parts.old.log.spare }
     requires first { IsAlarmFirst parts.old.log.table.streams }
     requires stands { IsAlarmFirst (planned plan parts.old.log.table).streams }
     requires sending { CanSendMore parts.old.ntf.table }
@@ -183,7 +183,7 @@ fn send_stored(
     sent: &Notification,
 ) -> Result<Acted, AllocError>
     requires can { CanCommit parts.old.log.table plan }
-    requires room { 1 ≤ parts.old.log.spare }
+    requires room { HasRoom plan parts.old.log.spare }
     requires events { AllByRecursion IsFitEvent (step_of plan).events }
     requires first { IsAlarmFirst parts.old.log.table.streams }
     requires stands { IsAlarmFirst (planned plan parts.old.log.table).streams }

@@ -1,8 +1,10 @@
 //! Records that clients write.
-ghost use Rattle.std.specs.Prelude.{◌≡◌, ℕ, if◌then◌else◌, IfOk, OnErr};
+ghost use Rattle.std.specs.Prelude.{◌≡◌, ℕ, false, if◌then◌else◌, IfOk, OnErr};
 ghost use Rattle.alarm_view.specs.Alarms.{from_record};
 ghost use Rattle.calls.specs.declared.call.Call.TheVariants.{LogWrite};
 ghost use Rattle.service_fit.specs.Conditions.{CanCallLog};
+ghost use Rattle.log_service.specs.Calls.{filters_in};
+ghost use Rattle.service_table.specs.Answering.{status_in};
 ghost use Rattle.service_table.specs.Steps.{standing_from, where_ok};
 ghost use Rattle.service_fit.specs.Fit.{IsAlarmFirst};
 ghost use Rattle.service_core.specs.Acting.{table_of, HasActed};
@@ -41,7 +43,8 @@ fn keep_after(alarms: &mut AlarmView, log: &LogState, status: Status, filtered: 
     }
 }
 
-/// A client writes a record.
+/// A client writes a record. A write that is refused takes no memory, and neither does one whose record is filtered: an
+/// error comes only where the record would be stored.
 pub(crate) fn log_write(
     parts: &mut Parts,
     alloc: Global,
@@ -58,6 +61,9 @@ pub(crate) fn log_write(
         HasActed (table_of parts.old) client seq now
         (LogWrite name.now invocation flags time header.now body.now) (table_of parts.new) acted) }
     ensures err { OnErr result (table_of parts.new ≡ table_of parts.old) }
+    ensures memory { OnErr result ((invocation : ℕ) → status_in (table_of parts.old) client now
+        (LogWrite name.now invocation flags time header.now body.now) ≡ Status.Ok) }
+    ensures passes { OnErr result (filters_in parts.old.log.table name.now header.now ≡ false) }
 {
     let plan = parts
         .log

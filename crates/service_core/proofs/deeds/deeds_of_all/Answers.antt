@@ -18,6 +18,6 @@ loop-event-preserved c =
     let more : take (n + 1) events ≡ take n events ++ c.event-item.result ∷ [] = take_more events n c.event-item.result c.loop-event-test.true ∙ ap (λ (e : StreamEvent). take n events ++ e ∷ []) (sym c.event-item.is) in
     c.in_ok-put_behind.ensures ∙ ap (λ front. front ++ c.in_ok-more.more) c.loop-event.invariant ∙ ap (λ (d : List Deed). deeds_of_all (take n events) ++ d) c.in_ok-more.ensures.list ∙ sym (deeds-more (take n events) c.event-item.result) ∙ ap deeds_of_all (sym more)
 
-pub returns : goal.returns
-returns c =
+pub returns-clause-ok : goal.returns-clause-ok
+returns-clause-ok c =
     c.from_vec.ensures ∙ c.loop-event.invariant ∙ ap deeds_of_all (take_all c.loop-event.event-index c.args.events.now (omega (arith, c.loop-event-test.false)))

@@ -1,14 +1,13 @@
-use Rattle.std.proofs.Common.{false, refl, ap, sym, subst, ◌∙◌}
-use Rattle.log_history.specs.Table.{LogTable}
-use Rattle.log_service.specs.Planning.{CanCommit, planned}
+use Rattle.std.proofs.Common.{false, refl}
 use Rattle.std.specs.Prelude.{None}
 use Rattle.std.proofs.lemmas.Int.{to_z-of_z}
 use Rattle.calls.specs.declared.call.Call.TheVariants.{LogFini}
 use Rattle.log_history.specs.Changes.{Ended}
 use Rattle.log_history.specs.Times.{second_of}
+use Rattle.ais_values.proofs.Basics.{OnErr-from}
 use Rattle.service_core.specs.Acting.{table_of}
 use Rattle.service_core.proofs.ActLaws.{log-acted}
-use Rattle.service_core.proofs.LogConditions.{call-time, planned-fit}
+use Rattle.service_core.proofs.LogConditions.{call-time, done-ok, planned-fit}
 use Rattle.service_core.proofs.logging.log_fini.Goals as goal
 use Rattle.plain_service.proofs.HistoryEvents.{second-bound}
 
@@ -19,7 +18,7 @@ pub make_planned-requires-clause-can : goal.make_planned-requires-clause-can
 make_planned-requires-clause-can c =
     let fits = c.ranges.now in
     let plans = simp to_z-of_z at c.in_ok-plan.ensures.ok in
-    subst (λ (t : LogTable). CanCommit t c.in_ok-plan.plan) (sym c.in_ok-plan.ensures.table) plans.can
+    plans.can
 
 pub make_planned-requires-clause-events : goal.make_planned-requires-clause-events
 make_planned-requires-clause-events c =
@@ -32,4 +31,10 @@ returns-clause-ok c =
     let fits = c.ranges.now in
     let plans = simp to_z-of_z at c.in_ok-plan.ensures.ok in
     let acted = c.in_ok-acted.ensures in
-    λ seq. log-acted (table_of c.args.parts.now) c.args.client seq c.args.now LogFini None (Ended c.args.client (second_of c.args.now)) c.in_ok-plan.plan c.make_planned.new.log.table c.in_ok-acted.acted tt refl refl plans (acted.now ∙ ap (planned c.in_ok-plan.plan) c.in_ok-plan.ensures.table) acted.told acted.deeds
+    λ seq. log-acted (table_of c.args.parts.now) c.args.client seq c.args.now LogFini None (Ended c.args.client (second_of c.args.now)) c.in_ok-plan.plan c.make_planned.new.log.table c.in_ok-acted.acted tt refl refl plans acted.now acted.told acted.deeds
+
+pub returns-in_err-acted-clause-memory : goal.returns-in_err-acted-clause-memory
+returns-in_err-acted-clause-memory c =
+    let fits = c.ranges.now in
+    let plans = simp to_z-of_z at c.in_ok-plan.ensures.ok in
+    OnErr-from c.from_residual-in_err-acted.result (done-ok c.args.parts.now.log.table (Ended c.args.client (second_of c.args.now)) _ false None c.in_ok-plan.plan plans c.in_err-acted.ensures.memory)

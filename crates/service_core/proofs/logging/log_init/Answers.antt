@@ -1,18 +1,18 @@
-use Rattle.std.proofs.Common.{refl, ap, sym, subst, ◌∙◌}
+use Rattle.std.proofs.Common.{false, refl}
 use Rattle.std.specs.Prelude.{None}
-use Rattle.log_history.specs.Table.{LogTable}
-use Rattle.log_service.specs.Planning.{CanCommit, planned}
 use Rattle.calls.specs.declared.call.Call.TheVariants.{LogInit}
 use Rattle.log_history.specs.Changes.{Began}
 use Rattle.service_fit.proofs.CallLaws.{fit-by}
+use Rattle.ais_values.proofs.Basics.{OnErr-from}
 use Rattle.service_core.specs.Acting.{table_of}
 use Rattle.service_core.proofs.ActLaws.{log-acted}
+use Rattle.service_core.proofs.LogConditions.{done-ok}
 use Rattle.service_core.proofs.logging.log_init.Goals as goal
 
 pub make_planned-requires-clause-can : goal.make_planned-requires-clause-can
 make_planned-requires-clause-can c =
     let plans = c.in_ok-plan.ensures.ok in
-    subst (λ (t : LogTable). CanCommit t c.in_ok-plan.plan) (sym c.in_ok-plan.ensures.table) plans.can
+    plans.can
 
 pub make_planned-requires-clause-events : goal.make_planned-requires-clause-events
 make_planned-requires-clause-events c =
@@ -22,4 +22,8 @@ make_planned-requires-clause-events c =
 pub returns-clause-ok : goal.returns-clause-ok
 returns-clause-ok c =
     let acted = c.in_ok-acted.ensures in
-    λ seq. log-acted (table_of c.args.parts.now) c.args.client seq c.args.now LogInit None (Began c.args.client) c.in_ok-plan.plan c.make_planned.new.log.table c.in_ok-acted.acted tt refl refl c.in_ok-plan.ensures.ok (acted.now ∙ ap (planned c.in_ok-plan.plan) c.in_ok-plan.ensures.table) acted.told acted.deeds
+    λ seq. log-acted (table_of c.args.parts.now) c.args.client seq c.args.now LogInit None (Began c.args.client) c.in_ok-plan.plan c.make_planned.new.log.table c.in_ok-acted.acted tt refl refl c.in_ok-plan.ensures.ok acted.now acted.told acted.deeds
+
+pub returns-in_err-acted-clause-memory : goal.returns-in_err-acted-clause-memory
+returns-in_err-acted-clause-memory c =
+    OnErr-from c.from_residual-in_err-acted.result (done-ok c.args.parts.now.log.table (Began c.args.client) _ false None c.in_ok-plan.plan c.in_ok-plan.ensures.ok c.in_err-acted.ensures.memory)

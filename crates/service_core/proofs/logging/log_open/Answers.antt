@@ -10,9 +10,10 @@ use Rattle.log_history.specs.Changes.{Opened}
 use Rattle.log_history.specs.KeptAnswers.{making_in}
 use Rattle.log_history.specs.Times.{second_of}
 use Rattle.service_fit.proofs.OkCalls.{opening-can}
+use Rattle.ais_values.proofs.Basics.{OnErr-from}
 use Rattle.service_core.specs.Acting.{table_of}
 use Rattle.service_core.proofs.ActLaws.{log-acted}
-use Rattle.service_core.proofs.LogConditions.{call-time, planned-fit}
+use Rattle.service_core.proofs.LogConditions.{call-time, done-ok, planned-fit}
 use Rattle.service_core.proofs.logging.log_open.Goals as goal
 use Rattle.plain_service.proofs.HistoryEvents.{second-bound}
 
@@ -37,3 +38,12 @@ returns-clause-ok c =
     let plans = simp to_z-of_z at c.in_ok-plan.ensures.ok in
     let acted = c.in_ok-acted.ensures in
     λ seq. log-acted (table_of c.args.parts.now) c.args.client seq c.args.now (LogOpen c.args.name.now (option_copied c.args.create)) (Some (mark_in c.args.parts.now.log.table.streams c.args.name.now (option_copied c.args.create) (c.args.parts.now.number + 1))) (Opened c.args.client c.args.name.now (making_in c.args.parts.now.log.table.streams c.args.name.now (option_copied c.args.create)) (second_of c.args.now) (c.args.parts.now.number + 1)) c.in_ok-plan.plan c.make_planned.new.log.table c.in_ok-acted.acted tt refl refl plans (acted.now ∙ ap (planned c.in_ok-plan.plan) c.in_ok-plan.ensures.table) acted.told acted.deeds
+
+pub returns-in_err-acted-clause-memory : goal.returns-in_err-acted-clause-memory
+returns-in_err-acted-clause-memory c =
+    let fits = c.ranges.now in
+    let plans = simp to_z-of_z at c.in_ok-plan.ensures.ok in
+    let log = c.args.parts.now.log.table in
+    let create = option_copied c.args.create in
+    let number = c.args.parts.now.number + 1 in
+    OnErr-from c.from_residual-in_err-acted.result (done-ok log (Opened c.args.client c.args.name.now (making_in log.streams c.args.name.now create) (second_of c.args.now) number) _ false (Some (mark_in log.streams c.args.name.now create number)) c.in_ok-plan.plan plans c.in_err-acted.ensures.memory)

@@ -16,4 +16,4 @@ returns c =
     let log = c.in_ok-log.log.table in
     let events = c.in_ok-log.events in
     let begun = subst (λ (start : ℤ). LogBegins start c.args.wells log events) (to_z-of_z w64 c.args.start c.ranges.start) c.in_ok-log.ensures in
-    opened-as c.args.start c.args.cap c.args.wells log events c.as_slice.result.now c.in_ok-deeds.deeds c.unused.result begun c.as_slice.ensures c.in_ok-deeds.ensures c.unused.ensures
+    opened-as c.args.start c.args.cap c.args.wells log events c.as_slice.result.now c.in_ok-deeds.deeds c.unused.result begun c.as_slice.ensures c.in_ok-deeds.ensures.ok c.unused.ensures

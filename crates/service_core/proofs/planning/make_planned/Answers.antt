@@ -17,4 +17,8 @@ returns-in-Ok-clause-told c =
 
 pub returns-in-Ok-clause-deeds : goal.returns-in-Ok-clause-deeds
 returns-in-Ok-clause-deeds c =
-    c.in-Ok.ensures ∙ ap deeds_of_all (c.as_slice.ensures ∙ ap (λ (s : Step). s.events) c.step-step.ensures)
+    c.in-Ok.ensures.ok ∙ ap deeds_of_all (c.as_slice.ensures ∙ ap (λ (s : Step). s.events) c.step-step.ensures)
+
+pub returns-in-Err-clause-memory : goal.returns-in-Err-clause-memory
+returns-in-Err-clause-memory c =
+    λ none. c.in-Err.ensures.memory (c.as_slice.ensures ∙ ap (λ (s : Step). s.events) c.step-step.ensures ∙ none)

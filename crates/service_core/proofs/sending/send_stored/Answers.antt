@@ -11,4 +11,4 @@ deeds_of_all-requires c =
 
 pub returns-in_ok-id-in-Ok-clause-deeds : goal.returns-in_ok-id-in-Ok-clause-deeds
 returns-in_ok-id-in-Ok-clause-deeds c =
-    c.in-Ok.ensures ∙ ap deeds_of_all (c.as_slice.ensures ∙ ap (λ (s : Step). s.events) c.step-step.ensures)
+    c.in-Ok.ensures.ok ∙ ap deeds_of_all (c.as_slice.ensures ∙ ap (λ (s : Step). s.events) c.step-step.ensures)
