@@ -20,7 +20,7 @@ use Rattle.client_agent.specs.Seen.{Seen, seen_of}
 use Rattle.client_agent.specs.Steps.{IsSent}
 use Rattle.event_text.specs.Texts.{printed, declined_line}
 use Rattle.cluster_clients.specs.Spelled.{AreSpelled, Posts, PostsOrNot}
-use Rattle.cluster_clients.specs.Clients.{seen_all, ShowsAgents, place_of}
+use Rattle.cluster_clients.specs.Clients.{seen_all, ShowsAgents, StandsAt, IsAbsent}
 use Rattle.cluster_clients.specs.Asked.{CanCallAt, IsSentAt, HasFitRequest, IsToldSent, place_for, IsPlaced, Asks, MayPost, IsPartlyPlaced}
 use Rattle.cluster_clients.specs.PartlyDone.{PartlyShows, AsksPartly}
 use Rattle.cluster_clients.proofs.DispatchSteps.{fresh-agent, first-above, others-same, seen-at, set-same, handed-shows}
@@ -36,7 +36,7 @@ fit-sent client places asked agent (Posted message) seen from to first last is =
 fit-sent client places asked agent (Refused status) seen from to first last is = tt
 
 -- a client that is found can send
-pub fit-at : (client at : ℕ) (asked : Ask) (old new : List Seen) (sent : Sent) → place_of client old ≡ Some at → 1 ≤ client → client ≤ 4096 → CanCallAt at old → at < length old → IsSentAt asked at old sent new → HasFitRequest sent
+pub fit-at : (client at : ℕ) (asked : Ask) (old new : List Seen) (sent : Sent) → StandsAt client at old → 1 ≤ client → client ≤ 4096 → CanCallAt at old → at < length old → IsSentAt asked at old sent new → HasFitRequest sent
 fit-at client at asked old new sent found from to numbers within is =
     let one = get-some old at within in
     let seen = one.0 in
@@ -134,7 +134,7 @@ asks-sent plain client asked message world new_net new before after passed is sp
     let whole : Ends new_net new before after (send plain client (call_of asked) world) = (subst A is spelled, shows, subst L is lines) in
     subst (Ends new_net new before after) (sym (asked-by plain client asked world None passed)) whole
 
-pub asks-at : (callbacks client at : ℕ) (asked : Ask) (old_net new_net : List (List ℕ)) (old new : List Seen) (before after : List (List ℕ)) (sent : Sent) → place_of client old ≡ Some at → IsSentAt asked at old sent new → IsToldSent client sent old_net new_net before after → Asks callbacks client asked old_net new_net old new before after
+pub asks-at : (callbacks client at : ℕ) (asked : Ask) (old_net new_net : List (List ℕ)) (old new : List Seen) (before after : List (List ℕ)) (sent : Sent) → StandsAt client at old → IsSentAt asked at old sent new → IsToldSent client sent old_net new_net before after → Asks callbacks client asked old_net new_net old new before after
 asks-at callbacks client at asked old_net new_net old new before after (Refused status) found is told plain world is_plain spelled shows places =
     let there = seen-at client at old world shows found in
     let done = is client world.places (world.agents client) there.1 in
@@ -154,12 +154,12 @@ asks-at callbacks client at asked old_net new_net old new before after (Posted m
       listed = λ other. subst (λ cs. Stands other cs ⊎ (agents other ≡ fresh)) (sym stays) (moved.listed other);
     })
 
-pub asks-first-refused : (callbacks client : ℕ) (asked : Ask) (status : Status) (seen : Seen) (old_net new_net : List (List ℕ)) (old new : List Seen) (before after : List (List ℕ)) → place_of client old ≡ None → IsSent client callbacks asked fresh (Refused status) seen → new_net ≡ old_net → new ≡ old → after ≡ before ++ declined_line client status ∷ [] → Asks callbacks client asked old_net new_net old new before after
+pub asks-first-refused : (callbacks client : ℕ) (asked : Ask) (status : Status) (seen : Seen) (old_net new_net : List (List ℕ)) (old new : List Seen) (before after : List (List ℕ)) → IsAbsent client old → IsSent client callbacks asked fresh (Refused status) seen → new_net ≡ old_net → new ≡ old → after ≡ before ++ declined_line client status ∷ [] → Asks callbacks client asked old_net new_net old new before after
 asks-first-refused callbacks client asked status seen old_net new_net old new before after none is net agents lines plain world is_plain spelled shows places =
     let own = (fresh-agent client old world shows none).1 in
     asks-refused plain client asked status world new_net new before after (ap (refusal asked) own ∙ is.0) (subst (λ n. AreSpelled world.net n) (sym net) spelled) (subst (λ s. ShowsAgents world s) (sym agents) shows) lines
 
-pub asks-first-sent : (callbacks client : ℕ) (asked : Ask) (message : Message) (seen : Seen) (old_net new_net : List (List ℕ)) (old new : List Seen) (before after : List (List ℕ)) → place_of client old ≡ None → IsSent client callbacks asked fresh (Posted message) seen → new ≡ insert old (place_for client old) seen → Posts message old_net new_net before after → Asks callbacks client asked old_net new_net old new before after
+pub asks-first-sent : (callbacks client : ℕ) (asked : Ask) (message : Message) (seen : Seen) (old_net new_net : List (List ℕ)) (old new : List Seen) (before after : List (List ℕ)) → IsAbsent client old → IsSent client callbacks asked fresh (Posted message) seen → new ≡ insert old (place_for client old) seen → Posts message old_net new_net before after → Asks callbacks client asked old_net new_net old new before after
 asks-first-sent callbacks client asked message seen old_net new_net old new before after none is put_in posts plain world is_plain spelled shows places =
     let at_first = fresh-agent client old world shows none in
     let own = at_first.1 in
@@ -185,7 +185,7 @@ asks-first-sent callbacks client asked message seen old_net new_net old new befo
     })
 
 -- the first call of a client
-pub asks-first : (callbacks client : ℕ) (asked : Ask) (sent : Sent) (seen : Seen) (old_net new_net : List (List ℕ)) (old new : List Seen) (before after : List (List ℕ)) → place_of client old ≡ None → IsSent client callbacks asked fresh sent seen → IsPlaced client seen sent old_net new_net old new before after → Asks callbacks client asked old_net new_net old new before after
+pub asks-first : (callbacks client : ℕ) (asked : Ask) (sent : Sent) (seen : Seen) (old_net new_net : List (List ℕ)) (old new : List Seen) (before after : List (List ℕ)) → IsAbsent client old → IsSent client callbacks asked fresh sent seen → IsPlaced client seen sent old_net new_net old new before after → Asks callbacks client asked old_net new_net old new before after
 asks-first callbacks client asked (Posted message) seen old_net new_net old new before after none is placed =
     asks-first-sent callbacks client asked message seen old_net new_net old new before after none is placed.1 placed.0
 asks-first callbacks client asked (Refused status) seen old_net new_net old new before after none is placed =
@@ -216,7 +216,7 @@ partly-sent plain client asked message world new_net new passed is nets shows = 
   agents_are = inr (asked-agents plain client asked world new passed shows);
 }
 
-pub partly-at : (callbacks client at : ℕ) (asked : Ask) (old_net new_net : List (List ℕ)) (old new : List Seen) (sent : Sent) → place_of client old ≡ Some at → IsSentAt asked at old sent new → MayPost sent old_net new_net → AsksPartly callbacks client asked old_net new_net old new
+pub partly-at : (callbacks client at : ℕ) (asked : Ask) (old_net new_net : List (List ℕ)) (old new : List Seen) (sent : Sent) → StandsAt client at old → IsSentAt asked at old sent new → MayPost sent old_net new_net → AsksPartly callbacks client asked old_net new_net old new
 partly-at callbacks client at asked old_net new_net old new (Refused status) found is may plain world is_plain spelled shows places =
     let there = seen-at client at old world shows found in
     let done = is client world.places (world.agents client) there.1 in
@@ -235,7 +235,7 @@ partly-at callbacks client at asked old_net new_net old new (Posted message) fou
       listed = λ other. subst (λ cs. Stands other cs ⊎ (agents other ≡ fresh)) (sym stays) (moved.listed other);
     })
 
-first-shows : (callbacks client : ℕ) (asked : Ask) (plain : Plain) (seen : Seen) (old new : List Seen) (world : World) → place_of client old ≡ None → ShowsAgents world old → world.places ≡ callbacks → seen ≡ seen_of client callbacks (after_call (call_of asked) fresh) → new ≡ insert old (place_for client old) seen → ShowsAgents (send plain client (call_of asked) world).state new
+first-shows : (callbacks client : ℕ) (asked : Ask) (plain : Plain) (seen : Seen) (old new : List Seen) (world : World) → IsAbsent client old → ShowsAgents world old → world.places ≡ callbacks → seen ≡ seen_of client callbacks (after_call (call_of asked) fresh) → new ≡ insert old (place_for client old) seen → ShowsAgents (send plain client (call_of asked) world).state new
 first-shows callbacks client asked plain seen old new world none shows places is put_in =
     let at_first = fresh-agent client old world shows none in
     let own = at_first.1 in
@@ -259,12 +259,12 @@ first-shows callbacks client asked plain seen old new world none shows places is
       ];
     }
 
-partly-first-sent : (callbacks client : ℕ) (asked : Ask) (message : Message) (seen : Seen) (old_net new_net : List (List ℕ)) (old new : List Seen) → place_of client old ≡ None → IsSent client callbacks asked fresh (Posted message) seen → PostsOrNot message old_net new_net → new ≡ insert old (place_for client old) seen → AsksPartly callbacks client asked old_net new_net old new
+partly-first-sent : (callbacks client : ℕ) (asked : Ask) (message : Message) (seen : Seen) (old_net new_net : List (List ℕ)) (old new : List Seen) → IsAbsent client old → IsSent client callbacks asked fresh (Posted message) seen → PostsOrNot message old_net new_net → new ≡ insert old (place_for client old) seen → AsksPartly callbacks client asked old_net new_net old new
 partly-first-sent callbacks client asked message seen old_net new_net old new none is may put_in plain world is_plain spelled shows places =
     let own = (fresh-agent client old world shows none).1 in
     partly-sent plain client asked message world new_net new (ap (refusal asked) own ∙ is.0) (is.1 ∙ ap (λ (a : Agent). Request client a.next (call_of asked)) (sym own)) (may plain world.net is_plain spelled) (first-shows callbacks client asked plain seen old new world none shows places is.2 put_in)
 
-pub partly-first : (callbacks client : ℕ) (asked : Ask) (sent : Sent) (seen : Seen) (old_net new_net : List (List ℕ)) (old new : List Seen) → place_of client old ≡ None → IsSent client callbacks asked fresh sent seen → IsPartlyPlaced client seen sent old_net new_net old new → AsksPartly callbacks client asked old_net new_net old new
+pub partly-first : (callbacks client : ℕ) (asked : Ask) (sent : Sent) (seen : Seen) (old_net new_net : List (List ℕ)) (old new : List Seen) → IsAbsent client old → IsSent client callbacks asked fresh sent seen → IsPartlyPlaced client seen sent old_net new_net old new → AsksPartly callbacks client asked old_net new_net old new
 partly-first callbacks client asked sent seen old_net new_net old new none is (inl same) = partly-nothing callbacks client asked old_net new_net old new same.0 same.1
 partly-first callbacks client asked (Refused status) seen old_net new_net old new none is (inr placed) = partly-nothing callbacks client asked old_net new_net old new placed.0 placed.1
 partly-first callbacks client asked (Posted message) seen old_net new_net old new none is (inr placed) = partly-first-sent callbacks client asked message seen old_net new_net old new none is placed.0 placed.1

@@ -1,13 +1,11 @@
 -- What an agent makes of a reply or an item is what the world has it make.
-use Rattle.std.proofs.Common.{◌≡◌, ℕ, zero, suc, ◌+◌, ◌<◌, Bool, true, false, ◌==◌, cond, nat_lt, nat_le, if◌then◌else◌, Option, Some, None, List, [], ◌∷◌, length, slice_get, slice_set, refl, ap, sym, ◌∙◌, subst, arith}
-use Rattle.std.specs.List.{position_from}
-use Rattle.std.proofs.lemmas.Iterator.Adapters.{position_from-zero}
+use Rattle.std.proofs.Common.{◌≡◌, ℕ, zero, suc, ◌<◌, Bool, true, false, nat_lt, nat_le, if◌then◌else◌, Option, Some, None, List, [], ◌∷◌, length, slice_get, slice_set, refl, ap, sym, ◌∙◌, subst, arith}
+use Rattle.std.specs.Prelude.{option_map}
 use Rattle.wire.specs.MessageSpelling.{MessageInRange}
 use Rattle.cluster_facts.specs.Types.{Call, Reply, Item, Callback, Written, Success, Message, Answer, Delivery, Receipt}
 use Rattle.cluster_facts.specs.Service.{Plain}
 use Rattle.cluster_facts.specs.Agents.{Living, Agent, kept_call, callbacks_of, lacks_place, after_reply, find_living, after_item}
 use Rattle.cluster_facts.specs.World.{World, posted, with_agent}
-use Rattle.cluster_facts.proofs.Words.{by_test}
 use Rattle.cluster_events.specs.Lines.{Ignored, Replied}
 use Rattle.cluster_events.specs.Outcomes.{Outcome}
 use Rattle.cluster_events.specs.ClientEvents.{post_lines, reply_by, take_reply, item_as, item_by, take_item, Takes as TakesIt, Misses}
@@ -16,53 +14,22 @@ use Rattle.client_agent.specs.declared.answers.Taken.{Taken}
 use Rattle.client_agent.specs.declared.answers.Taken.TheVariants.{Answered, Item as TookItem, Missed}
 use Rattle.client_agent.specs.Seen.{Seen, seen_of}
 use Rattle.client_agent.specs.Steps.{IsReplyTo, IsReply, IsItemBy, IsItem, IsTaken, IsFor}
-use Rattle.cluster_clients.specs.Clients.{ShowsAgents, place_of}
+use Rattle.cluster_clients.specs.Clients.{ShowsAgents, StandsAt}
 use Rattle.cluster_clients.specs.Taken.{taken_as}
 use Rattle.cluster_clients.specs.Taking.{receiver_of, why_of, IsTakenAt, HasFitReceipt}
 use Rattle.cluster_clients.proofs.DispatchSteps.{seen-at}
 
 -- The agent that is found is its client's.
 
-abbrev is_of : ℕ → Seen → Bool
-is_of client one = one.client == client
+pub found-within : (client at : ℕ) (seen : List Seen) → StandsAt client at seen → at < length seen
+found-within client at [] stands = cc
+found-within client zero (first ∷ seen) stands = omega arith
+found-within client (suc at) (first ∷ seen) stands = let rest = found-within client at seen stands in omega arith
 
-record IsThere (client at start : ℕ) (seen : List Seen) : Type 0 where
-  pub index : ℕ
-  pub at_is : at ≡ start + index
-  pub within : index < length seen
-  pub own : (one : Seen) → slice_get seen index ≡ Some one → one.client ≡ client
-
-there-from : (client at start : ℕ) (seen : List Seen) → position_from (is_of client) start seen ≡ Some at → IsThere client at start seen
-there-from client at start [] found = cc
-there-from client at start (first ∷ seen) found =
-    let P : Bool → Type 0 = λ b. cond b (Some start) (position_from (is_of client) (start + 1) seen) ≡ Some at → IsThere client at start (first ∷ seen) in
-    by_test P first.client client
-    (λ same here.
-    let is : start ≡ at = cc in
-    record { index = 0; at_is = omega arith; within = omega arith; own = λ one is_one. let it : first ≡ one = cc in ap (λ (s : Seen). s.client) (sym it) ∙ same })
-    (λ different there.
-    let deeper = there-from client at (start + 1) seen there in
-    let is = deeper.at_is in
-    let below = deeper.within in
-    record { index = suc deeper.index; at_is = omega arith; within = omega arith; own = deeper.own })
-    found
-
-there : (client at : ℕ) (seen : List Seen) → place_of client seen ≡ Some at → IsThere client at 0 seen
-there client at seen found = there-from client at 0 seen (sym (position_from-zero (is_of client) seen) ∙ found)
-
-pub found-within : (client at : ℕ) (seen : List Seen) → place_of client seen ≡ Some at → at < length seen
-found-within client at seen found =
-    let it = there client at seen found in
-    let is = it.at_is in
-    let below = it.within in
-    omega arith
-
-pub found-own : (client at : ℕ) (seen : List Seen) (one : Seen) → place_of client seen ≡ Some at → slice_get seen at ≡ Some one → one.client ≡ client
-found-own client at seen one found is =
-    let it = there client at seen found in
-    let e = it.at_is in
-    let same : at ≡ it.index = omega arith in
-    it.own one (subst (λ i. slice_get seen i ≡ Some one) same is)
+pub found-own : (client at : ℕ) (seen : List Seen) (one : Seen) → StandsAt client at seen → slice_get seen at ≡ Some one → one.client ≡ client
+found-own client at seen one stands is =
+    let same : Some one.client ≡ Some client = sym (ap (option_map (λ (s : Seen). s.client)) is) ∙ stands in
+    cc
 
 for-receiver : (message : Message) (client other : ℕ) → receiver_of message ≡ Some client → other ≡ client → IsFor other message
 for-receiver (Answer receiver number reply) client other is same = let e : receiver ≡ client = cc in e ∙ sym same
@@ -70,7 +37,7 @@ for-receiver (Delivery receiver key item) client other is same = let e : receive
 for-receiver _ client other is same = cc
 
 -- so it may take the message
-pub found-for : (client at : ℕ) (seen : List Seen) (message : Message) → place_of client seen ≡ Some at → receiver_of message ≡ Some client → (one : Seen) → slice_get seen at ≡ Some one → IsFor one.client message
+pub found-for : (client at : ℕ) (seen : List Seen) (message : Message) → StandsAt client at seen → receiver_of message ≡ Some client → (one : Seen) → slice_get seen at ≡ Some one → IsFor one.client message
 found-for client at seen message found receiver one is =
     for-receiver message client one.client receiver (found-own client at seen one found is)
 
@@ -145,7 +112,7 @@ taken-receipt client places (Delivery receiver key item) agent receipt seen own 
     subst P (sym e) (subst R own (range.0, range.1, range.2.number))
 taken-receipt client places _ agent receipt seen own range is = elim is [ ]
 
-pub receipt-range : (client at : ℕ) (message : Message) (old new : List Seen) (receipt : Message) → place_of client old ≡ Some at → receiver_of message ≡ Some client → MessageInRange message → at < length old → IsTakenAt at message old (TookItem receipt) new → MessageInRange receipt
+pub receipt-range : (client at : ℕ) (message : Message) (old new : List Seen) (receipt : Message) → StandsAt client at old → receiver_of message ≡ Some client → MessageInRange message → at < length old → IsTakenAt at message old (TookItem receipt) new → MessageInRange receipt
 receipt-range client at message old new receipt found receiver range within is =
     let one = get-some old at within in
     let there : slice_get old at ≡ Some (seen_of one.0.client one.0.places (agent_for one.0)) = one.1 ∙ ap Some (seen-some one.0) in
@@ -227,7 +194,7 @@ pub record Came (plain : Plain) (place client at : ℕ) (message : Message) (wor
   pub new_is : new ≡ slice_set old at seen
   pub old_is : slice_get old at ≡ Some (seen_of client world.places (world.agents client))
 
-pub came : (plain : Plain) (place client at : ℕ) (message : Message) (world : World) (old new : List Seen) (taken : Taken) → ShowsAgents world old → place_of client old ≡ Some at → receiver_of message ≡ Some client → IsTakenAt at message old taken new → Came plain place client at message world old new taken
+pub came : (plain : Plain) (place client at : ℕ) (message : Message) (world : World) (old new : List Seen) (taken : Taken) → ShowsAgents world old → StandsAt client at old → receiver_of message ≡ Some client → IsTakenAt at message old taken new → Came plain place client at message world old new taken
 came plain place client at message world old new taken shows found receiver is =
     let there = seen-at client at old world shows found in
     let done = is client world.places (world.agents client) there.1 in
@@ -239,6 +206,6 @@ came plain place client at message world old new taken shows found receiver is =
       old_is = there.1;
     }
 
-pub fit-receipt : (client at : ℕ) (message : Message) (old new : List Seen) (taken : Taken) → place_of client old ≡ Some at → receiver_of message ≡ Some client → MessageInRange message → at < length old → IsTakenAt at message old taken new → HasFitReceipt taken
+pub fit-receipt : (client at : ℕ) (message : Message) (old new : List Seen) (taken : Taken) → StandsAt client at old → receiver_of message ≡ Some client → MessageInRange message → at < length old → IsTakenAt at message old taken new → HasFitReceipt taken
 fit-receipt client at message old new (TookItem receipt) found receiver range within is = receipt-range client at message old new receipt found receiver range within is
 fit-receipt client at message old new _ found receiver range within is = tt

@@ -1,5 +1,5 @@
 -- Callbacks of a client are handed out as the world has it.
-use Rattle.std.proofs.Common.{◌≡◌, ℕ, zero, suc, ◌+◌, ◌<◌, ◌⊎◌, inl, inr, Bool, ◌==◌, cond, nat_lt, if◌then◌else◌, Option, Some, None, List, [], ◌∷◌, ◌++◌, length, slice_get, slice_set, reverse, refl, ap, sym, ◌∙◌, subst, arith, append_assoc, append-nil}
+use Rattle.std.proofs.Common.{◌≡◌, ℕ, zero, suc, ◌+◌, ◌<◌, ◌⊎◌, inl, inr, Bool, cond, nat_lt, if◌then◌else◌, Option, Some, None, List, [], ◌∷◌, ◌++◌, length, slice_get, slice_set, reverse, refl, ap, sym, ◌∙◌, subst, arith, append_assoc, append-nil}
 use Rattle.std.specs.Prelude.{Result, Ok, Err, OnErr}
 use Rattle.std.specs.List.{flat_map, position_from}
 use Rattle.std.proofs.lemmas.Iterator.Adapters.{position_from-zero}
@@ -20,8 +20,9 @@ use Rattle.client_agent.specs.declared.answers.Dispatched.TheVariants.{Refused, 
 use Rattle.client_agent.specs.Seen.{Seen, seen_of}
 use Rattle.client_agent.specs.Steps.{numbered, handed_out, after_dispatch}
 use Rattle.event_text.specs.Texts.{callback_lines, dispatched_line, declined_line, printed}
-use Rattle.cluster_clients.specs.Clients.{seen_all, ShowsAgents, place_of, IsDispatchedAt, dispatch_as, Dispatches}
+use Rattle.cluster_clients.specs.Clients.{seen_all, ShowsAgents, AreByClient, place_of, StandsAt, IsAbsent, IsDispatchedAt, dispatch_as, Dispatches}
 use Rattle.cluster_clients.specs.PartlyDone.{MayDispatch}
+use Rattle.cluster_clients.proofs.Places.{is_of}
 use Rattle.client_agent.proofs.Handing.{length-numbered}
 
 pub on-err : {T E P : Type 0} (r : Result T E) → P → OnErr r P
@@ -30,8 +31,17 @@ on-err (Err e) holds = holds
 
 -- The place of a client.
 
-abbrev is_of : ℕ → Seen → Bool
-is_of client one = one.client == client
+-- agents that are shown stand by rising client
+seen-first : (client places : ℕ) (agent : Agent) (agents : ℕ → Agent) (clients : List ℕ) → ComesFirst nat_lt client clients → ComesFirst (λ (one other : Seen). nat_lt one.client other.client) (seen_of client places agent) (seen_all places agents clients)
+seen-first client places agent agents [] comes = tt
+seen-first client places agent agents (next ∷ clients) comes = (comes.0, seen-first client places agent agents clients comes.1)
+
+seen-rise : (places : ℕ) (agents : ℕ → Agent) (clients : List ℕ) → IsRising nat_lt clients → AreByClient (seen_all places agents clients)
+seen-rise places agents [] rising = tt
+seen-rise places agents (client ∷ clients) rising = (seen-first client places (agents client) agents clients rising.0, seen-rise places agents clients rising.1)
+
+shown-rise : (world : World) (seen : List Seen) → ShowsAgents world seen → AreByClient seen
+shown-rise world seen shows = subst AreByClient (sym shows.shown) (seen-rise world.places world.agents world.clients shows.rising)
 
 absent-from : (client places start : ℕ) (agents : ℕ → Agent) (clients : List ℕ) → position_from (is_of client) start (seen_all places agents clients) ≡ None → Stands client clients → ⊥
 absent-from client places start agents [] none stands = elim stands [ ]
@@ -43,46 +53,23 @@ absent-from client places start agents (first ∷ clients) none stands =
       | inr there ↦ absent-from client places (start + 1) agents clients deeper there
     ]) none
 
-pub absent : (client places : ℕ) (agents : ℕ → Agent) (clients : List ℕ) → place_of client (seen_all places agents clients) ≡ None → Stands client clients → ⊥
-absent client places agents clients none stands =
-    absent-from client places 0 agents clients (sym (position_from-zero (is_of client) (seen_all places agents clients)) ∙ none) stands
-
 -- **a client that is not found has a fresh agent**
-pub fresh-agent : (client : ℕ) (old : List Seen) (world : World) → ShowsAgents world old → place_of client old ≡ None → (Stands client world.clients → ⊥) × (world.agents client ≡ fresh)
-fresh-agent client old world shows none =
-    let nowhere = absent client world.places world.agents world.clients (ap (place_of client) (sym shows.shown) ∙ none) in
+pub fresh-agent : (client : ℕ) (old : List Seen) (world : World) → ShowsAgents world old → IsAbsent client old → (Stands client world.clients → ⊥) × (world.agents client ≡ fresh)
+fresh-agent client old world shows absent =
+    let shown = seen_all world.places world.agents world.clients in
+    let none : position_from (is_of client) 0 shown ≡ None =
+    sym (position_from-zero (is_of client) shown) ∙ ap (place_of client) (sym shows.shown) ∙ absent (shown-rise world old shows)
+    in
+    let nowhere = absent-from client world.places 0 world.agents world.clients none in
     (nowhere, elim (shows.listed client) [ inl stands ↦ absurd (nowhere stands) | inr is ↦ is ])
 
 -- a client that is found stands at its place
-pub record IsAt (client places place start : ℕ) (agents : ℕ → Agent) (clients : List ℕ) : Type 0 where
-  pub index : ℕ
-  pub place_is : place ≡ start + index
-  pub client_is : slice_get clients index ≡ Some client
-  pub seen_is : slice_get (seen_all places agents clients) index ≡ Some (seen_of client places (agents client))
-
-found-from : (client places place start : ℕ) (agents : ℕ → Agent) (clients : List ℕ) → position_from (is_of client) start (seen_all places agents clients) ≡ Some place → IsAt client places place start agents clients
-found-from client places place start agents [] found = cc
-found-from client places place start agents (first ∷ clients) found =
-    let rest = seen_all places agents clients in
-    let P : Bool → Type 0 = λ b. cond b (Some start) (position_from (is_of client) (start + 1) rest) ≡ Some place → IsAt client places place start agents (first ∷ clients) in
-    by_test P first client
-    (λ same here.
-    let is : start ≡ place = cc in
-    record {
-      index = 0;
-      place_is = omega arith;
-      client_is = ap Some same;
-      seen_is = ap (λ c. Some (seen_of c places (agents c))) same;
-    })
-    (λ different there.
-    let deeper = found-from client places place (start + 1) agents clients there in
-    let is = deeper.place_is in
-    record { index = suc deeper.index; place_is = omega arith; client_is = deeper.client_is; seen_is = deeper.seen_is })
-    found
-
-pub found : (client places place : ℕ) (agents : ℕ → Agent) (clients : List ℕ) → place_of client (seen_all places agents clients) ≡ Some place → IsAt client places place 0 agents clients
-found client places place agents clients is =
-    found-from client places place 0 agents clients (sym (position_from-zero (is_of client) (seen_all places agents clients)) ∙ is)
+found : (client places place : ℕ) (agents : ℕ → Agent) (clients : List ℕ) → StandsAt client place (seen_all places agents clients) → (slice_get clients place ≡ Some client) × (slice_get (seen_all places agents clients) place ≡ Some (seen_of client places (agents client)))
+found client places place agents [] stands = cc
+found client places zero agents (first ∷ clients) stands =
+    let same : first ≡ client = cc in
+    (ap Some same, ap (λ c. Some (seen_of c places (agents c))) same)
+found client places (suc place) agents (first ∷ clients) stands = found client places place agents clients stands
 
 -- One agent changes.
 
@@ -164,20 +151,16 @@ declined how client old new before after status world shows same added refused =
     by-how (All workers) shown = (shown, added)
 
 -- a client without an agent is refused
-pub dispatch-absent : (how : How) (client : ℕ) (old new : List Seen) (before after : List (List ℕ)) → place_of client old ≡ None → new ≡ old → after ≡ before ++ declined_line client BadHandle ∷ [] → Dispatches how client old new before after
+pub dispatch-absent : (how : How) (client : ℕ) (old new : List Seen) (before after : List (List ℕ)) → IsAbsent client old → new ≡ old → after ≡ before ++ declined_line client BadHandle ∷ [] → Dispatches how client old new before after
 dispatch-absent how client old new before after none same added world shows =
     let refused : dispatch_refusal (world.agents client) ≡ Some BadHandle = ap dispatch_refusal (fresh-agent client old world shows none).1 in
     declined how client old new before after BadHandle world shows same added refused
 
 -- the agent at the place, where it is found
-pub seen-at : (client place : ℕ) (old : List Seen) (world : World) → ShowsAgents world old → place_of client old ≡ Some place → (slice_get world.clients place ≡ Some client) × (slice_get old place ≡ Some (seen_of client world.places (world.agents client)))
-seen-at client place old world shows is =
-    let at = found client world.places place world.agents world.clients (ap (place_of client) (sym shows.shown) ∙ is) in
-    let same : place ≡ at.index = let e = at.place_is in omega arith in
-    let old_is : slice_get (seen_all world.places world.agents world.clients) place ≡ Some (seen_of client world.places (world.agents client)) =
-    ap (λ i. slice_get (seen_all world.places world.agents world.clients) i) same ∙ at.seen_is
-    in
-    (ap (λ i. slice_get world.clients i) same ∙ at.client_is, ap (λ s. slice_get s place) shows.shown ∙ old_is)
+pub seen-at : (client place : ℕ) (old : List Seen) (world : World) → ShowsAgents world old → StandsAt client place old → (slice_get world.clients place ≡ Some client) × (slice_get old place ≡ Some (seen_of client world.places (world.agents client)))
+seen-at client place old world shows stands =
+    let at = found client world.places place world.agents world.clients (subst (StandsAt client place) shows.shown stands) in
+    (at.0, ap (λ s. slice_get s place) shows.shown ∙ at.1)
 
 -- setting what stands there already changes nothing
 pub set-same : (seen : List Seen) (place : ℕ) (one : Seen) → slice_get seen place ≡ Some one → slice_set seen place one ≡ seen
@@ -185,7 +168,7 @@ set-same [] place one is = cc
 set-same (first ∷ seen) zero one is = let same : first ≡ one = cc in ap (λ s. s ∷ seen) (sym same)
 set-same (first ∷ seen) (suc place) one is = ap (λ s. first ∷ s) (set-same seen place one is)
 
-pub dispatch-refused : (how : How) (client place : ℕ) (old new : List Seen) (before after : List (List ℕ)) (status : Status) → place_of client old ≡ Some place → IsDispatchedAt how place old (Refused status) new → after ≡ before ++ declined_line client status ∷ [] → Dispatches how client old new before after
+pub dispatch-refused : (how : How) (client place : ℕ) (old new : List Seen) (before after : List (List ℕ)) (status : Status) → StandsAt client place old → IsDispatchedAt how place old (Refused status) new → after ≡ before ++ declined_line client status ∷ [] → Dispatches how client old new before after
 dispatch-refused how client place old new before after status is at added world shows =
     let there = seen-at client place old world shows is in
     let done = at client world.places (world.agents client) there.1 in
@@ -207,7 +190,7 @@ handed : (how : How) (client place : ℕ) (old new : List Seen) (before after : 
 handed One client place old new before after world shows at is lines = (handed-shows client place old new (after_dispatch_one (world.agents client)) world shows at is, lines)
 handed (All workers) client place old new before after world shows at is lines = (handed-shows client place old new (after_dispatch_all (world.agents client)) world shows at is, lines)
 
-pub dispatch-given : (how : How) (client place : ℕ) (old new : List Seen) (before between after : List (List ℕ)) (taken : List Numbered) → place_of client old ≡ Some place → IsDispatchedAt how place old (Given taken) new → between ≡ before ++ lines_for client taken → after ≡ between ++ dispatched_line client (length taken) ∷ [] → Dispatches how client old new before after
+pub dispatch-given : (how : How) (client place : ℕ) (old new : List Seen) (before between after : List (List ℕ)) (taken : List Numbered) → StandsAt client place old → IsDispatchedAt how place old (Given taken) new → between ≡ before ++ lines_for client taken → after ≡ between ++ dispatched_line client (length taken) ∷ [] → Dispatches how client old new before after
 dispatch-given how client place old new before between after taken is at first last world shows =
     let agent = world.agents client in
     let callbacks = handed_out how agent.queue in
@@ -231,11 +214,11 @@ dispatch-given how client place old new before between after taken is at first l
 pub may-same : (how : How) (client : ℕ) (old new : List Seen) → new ≡ old → MayDispatch how client old new
 may-same how client old new same world shows = inl (subst (λ seen. ShowsAgents world seen) (sym same) shows)
 
-pub may-refused : (how : How) (client place : ℕ) (old new : List Seen) (status : Status) → place_of client old ≡ Some place → IsDispatchedAt how place old (Refused status) new → MayDispatch how client old new
+pub may-refused : (how : How) (client place : ℕ) (old new : List Seen) (status : Status) → StandsAt client place old → IsDispatchedAt how place old (Refused status) new → MayDispatch how client old new
 may-refused how client place old new status found at world shows =
     inr (dispatch-refused how client place old new [] (declined_line client status ∷ []) status found at refl world shows).0
 
-pub may-given : (how : How) (client place : ℕ) (old new : List Seen) (taken : List Numbered) → place_of client old ≡ Some place → IsDispatchedAt how place old (Given taken) new → MayDispatch how client old new
+pub may-given : (how : How) (client place : ℕ) (old new : List Seen) (taken : List Numbered) → StandsAt client place old → IsDispatchedAt how place old (Given taken) new → MayDispatch how client old new
 may-given how client place old new taken found at world shows =
     inr (dispatch-given how client place old new [] (lines_for client taken) (lines_for client taken ++ dispatched_line client (length taken) ∷ []) taken found at refl refl world shows).0
 

@@ -11,3 +11,4 @@ pub mod AskSteps
 pub mod TakingSteps
 pub mod ReplySteps
 pub mod FrontSteps
+mod Places

@@ -19,7 +19,7 @@ use Rattle.client_agent.specs.Seen.{Seen, seen_of}
 use Rattle.client_agent.specs.Steps.{IsTaken}
 use Rattle.event_text.specs.Texts.{printed, reply_line}
 use Rattle.cluster_clients.specs.Spelled.{AreSpelled, Posts}
-use Rattle.cluster_clients.specs.Clients.{ShowsAgents, place_of}
+use Rattle.cluster_clients.specs.Clients.{ShowsAgents, StandsAt, IsAbsent}
 use Rattle.cluster_clients.specs.Taken.{taken_as, kept_lines, number_told, lines_told, Takes}
 use Rattle.cluster_clients.specs.Taking.{receiver_of, missed_by_none, why_of, missed_lines, IsTakenAt, IsTold, MayPost}
 use Rattle.cluster_clients.specs.PartlyDone.{TakesPartly}
@@ -91,7 +91,7 @@ takes-nothing place message net seen lines none plain world is_plain spelled sho
     by-message _ is = (spelled, shows, same, refl)
 
 -- a client without an agent misses it
-pub takes-absent : (place : Option ℕ) (client : ℕ) (message : Message) (net : List (List ℕ)) (seen : List Seen) (before after : List (List ℕ)) → receiver_of message ≡ Some client → place_of client seen ≡ None → after ≡ before ++ missed_lines place (missed_by_none message) → Takes place message net net seen seen before after false
+pub takes-absent : (place : Option ℕ) (client : ℕ) (message : Message) (net : List (List ℕ)) (seen : List Seen) (before after : List (List ℕ)) → receiver_of message ≡ Some client → IsAbsent client seen → after ≡ before ++ missed_lines place (missed_by_none message) → Takes place message net net seen seen before after false
 takes-absent place client message net seen before after receiver none lines plain world is_plain spelled shows =
     by-message message receiver lines
   where
@@ -112,7 +112,7 @@ takes-absent place client message net seen before after receiver none lines plai
     by-message _ is lines = cc
 
 -- **the agents after the agent at a place took or missed the message**
-took : (plain : Plain) (place client at : ℕ) (message : Message) (world : World) (old new : List Seen) (taken : Taken) → receiver_of message ≡ Some client → place_of client old ≡ Some at → ShowsAgents world old → IsTakenAt at message old taken new → ShowsAgents (taken_as plain place message world).state new
+took : (plain : Plain) (place client at : ℕ) (message : Message) (world : World) (old new : List Seen) (taken : Taken) → receiver_of message ≡ Some client → StandsAt client at old → ShowsAgents world old → IsTakenAt at message old taken new → ShowsAgents (taken_as plain place message world).state new
 took plain place client at message world old new taken receiver found shows is =
     let came_so = came plain place client at message world old new taken shows found receiver is in
     by-taken taken came_so.seen came_so.here came_so.old_is came_so.new_is came_so.became
@@ -127,13 +127,13 @@ took plain place client at message world old new taken receiver found shows is =
         let same : new ≡ old = new_is ∙ ap (λ s. slice_set old at s) became.1 ∙ set-same old at (seen_of client world.places (world.agents client)) old_is in
         subst (λ (o : Outcome World). ShowsAgents o.state new) (sym became.0) (subst (λ s. ShowsAgents world s) (sym same) shows)
 
-takes-missed : (place : Option ℕ) (client at : ℕ) (message : Message) (net : List (List ℕ)) (old new : List Seen) (before after : List (List ℕ)) (why : MissedWhy) → receiver_of message ≡ Some client → place_of client old ≡ Some at → IsTakenAt at message old (Missed why) new → after ≡ before ++ missed_lines place (why_of why) → Takes place message net net old new before after false
+takes-missed : (place : Option ℕ) (client at : ℕ) (message : Message) (net : List (List ℕ)) (old new : List Seen) (before after : List (List ℕ)) (why : MissedWhy) → receiver_of message ≡ Some client → StandsAt client at old → IsTakenAt at message old (Missed why) new → after ≡ before ++ missed_lines place (why_of why) → Takes place message net net old new before after false
 takes-missed place client at message net old new before after why receiver found is lines plain world is_plain spelled shows =
     let came_so = came plain (number_told place) client at message world old new (Missed why) shows found receiver is in
     let rest = subst (Tells place net before after false) (sym came_so.became.0) (spelled, lines ∙ ap (λ more. before ++ more) (missed-so place (why_of why)), refl) in
     (rest.0, took plain (number_told place) client at message world old new (Missed why) receiver found shows is, rest.1, rest.2)
 
-takes-answered : (place : Option ℕ) (client at number : ℕ) (message : Message) (reply : Reply) (net : List (List ℕ)) (old new : List Seen) (before after : List (List ℕ)) → receiver_of message ≡ Some client → place_of client old ≡ Some at → IsTakenAt at message old (Answered number reply) new → after ≡ before ++ reply_line client number reply ∷ [] → Takes place message net net old new before after true
+takes-answered : (place : Option ℕ) (client at number : ℕ) (message : Message) (reply : Reply) (net : List (List ℕ)) (old new : List Seen) (before after : List (List ℕ)) → receiver_of message ≡ Some client → StandsAt client at old → IsTakenAt at message old (Answered number reply) new → after ≡ before ++ reply_line client number reply ∷ [] → Takes place message net net old new before after true
 takes-answered place client at number message reply net old new before after receiver found is lines plain world is_plain spelled shows =
     let came_so = came plain (number_told place) client at message world old new (Answered number reply) shows found receiver is in
     let told = Replied client number came_so.became.0 reply ∷ [] in
@@ -167,7 +167,7 @@ receipt-loud plain (Receipt client key through) net is =
     ]
 receipt-loud plain _ net is = elim is [ ]
 
-takes-item : (place : Option ℕ) (client at : ℕ) (message receipt : Message) (old_net new_net : List (List ℕ)) (old new : List Seen) (before after : List (List ℕ)) → receiver_of message ≡ Some client → place_of client old ≡ Some at → IsTakenAt at message old (TookItem receipt) new → Posts receipt old_net new_net before after → Takes place message old_net new_net old new before after (nat_lt (length old_net) (length new_net))
+takes-item : (place : Option ℕ) (client at : ℕ) (message receipt : Message) (old_net new_net : List (List ℕ)) (old new : List Seen) (before after : List (List ℕ)) → receiver_of message ≡ Some client → StandsAt client at old → IsTakenAt at message old (TookItem receipt) new → Posts receipt old_net new_net before after → Takes place message old_net new_net old new before after (nat_lt (length old_net) (length new_net))
 takes-item place client at message receipt old_net new_net old new before after receiver found is posts plain world is_plain spelled shows =
     let came_so = came plain (number_told place) client at message world old new (TookItem receipt) shows found receiver is in
     let there = seen-at client at old world shows found in
@@ -184,7 +184,7 @@ takes-item place client at message receipt old_net new_net old new before after 
     (rest.0, took plain (number_told place) client at message world old new (TookItem receipt) receiver found shows is, rest.1, rest.2)
 
 -- the agent at a place took or missed it
-pub takes-told : (place : Option ℕ) (client at : ℕ) (message : Message) (old_net new_net : List (List ℕ)) (old new : List Seen) (before after : List (List ℕ)) (taken : Taken) (loud : Bool) → receiver_of message ≡ Some client → place_of client old ≡ Some at → IsTakenAt at message old taken new → IsTold place client taken old_net new_net before after loud → Takes place message old_net new_net old new before after loud
+pub takes-told : (place : Option ℕ) (client at : ℕ) (message : Message) (old_net new_net : List (List ℕ)) (old new : List Seen) (before after : List (List ℕ)) (taken : Taken) (loud : Bool) → receiver_of message ≡ Some client → StandsAt client at old → IsTakenAt at message old taken new → IsTold place client taken old_net new_net before after loud → Takes place message old_net new_net old new before after loud
 takes-told place client at message old_net new_net old new before after (Answered number reply) loud receiver found is told =
     let T : List (List ℕ) → Bool → Type 0 = λ net b. Takes place message old_net net old new before after b in
     let N : List (List ℕ) → Type 0 = λ net. T net loud in
@@ -204,7 +204,7 @@ pub nothing-taken : (place : ℕ) (message : Message) (net : List (List ℕ)) (a
 nothing-taken place message net agents plain world is_plain spelled shows = record { net_is = inl spelled; agents_are = inl shows }
 
 -- the agent took or missed it, and its receipt was posted or not
-pub taken-partly : (place client at : ℕ) (message : Message) (old_net new_net : List (List ℕ)) (old new : List Seen) (taken : Taken) → receiver_of message ≡ Some client → place_of client old ≡ Some at → IsTakenAt at message old taken new → MayPost taken old_net new_net → TakesPartly place message old_net new_net old new
+pub taken-partly : (place client at : ℕ) (message : Message) (old_net new_net : List (List ℕ)) (old new : List Seen) (taken : Taken) → receiver_of message ≡ Some client → StandsAt client at old → IsTakenAt at message old taken new → MayPost taken old_net new_net → TakesPartly place message old_net new_net old new
 taken-partly place client at message old_net new_net old new taken receiver found is posts plain world is_plain spelled shows = record {
   net_is = by-taken taken is posts;
   agents_are = inr (took plain place client at message world old new taken receiver found shows is);

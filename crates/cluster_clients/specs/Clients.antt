@@ -1,6 +1,7 @@
 -- Words of public clauses: how a list of agents is that of a world.
-use Rattle.std.specs.Prelude.{◌≡◌, ℕ, nat_lt, ◌==◌, ◌⊎◌, Option, List, [], ◌∷◌, ◌++◌, slice_get, slice_set, Some}
+use Rattle.std.specs.Prelude.{◌≡◌, ℕ, nat_lt, ◌==◌, ◌⊎◌, true, false, Option, List, [], ◌∷◌, ◌++◌, slice_get, slice_set, Some, None, option_map}
 use Rattle.std.specs.List.{position}
+use Rattle.std.specs.List.Sorted.{IsPartitionPoint}
 use Rattle.client_set.specs.Rising.{IsRising}
 use Rattle.cluster_facts.specs.Lists.{Stands}
 use Rattle.cluster_facts.specs.Agents.{Agent, fresh}
@@ -25,9 +26,26 @@ pub record ShowsAgents (world : World) (seen : List Seen) : Type 0 where
   pub rising : IsRising nat_lt world.clients
   pub listed : (client : ℕ) → Stands client world.clients ⊎ (world.agents client ≡ fresh)
 
+-- agents stand by rising client
+abbrev pub AreByClient : List Seen → Type 0
+AreByClient seen = IsRising (λ (one other : Seen). nat_lt one.client other.client) seen
+
 -- the place of a client's agent
 abbrev pub place_of : ℕ → List Seen → Option ℕ
 place_of client seen = position (λ (one : Seen). one.client == client) seen
+
+-- the agent at this place is the client's
+abbrev pub StandsAt : ℕ → ℕ → List Seen → Type 0
+StandsAt client place seen = option_map (λ (one : Seen). one.client) (slice_get seen place) ≡ Some client
+
+-- where agents stand by rising client, none of them is the client's
+abbrev pub IsAbsent : ℕ → List Seen → Type 0
+IsAbsent client seen = AreByClient seen → place_of client seen ≡ None
+
+-- the agents before this place, and no others, are those of lower clients
+abbrev pub IsCutAt : ℕ → ℕ → List Seen → Type 0
+IsCutAt client place seen =
+    IsPartitionPoint (λ (one : Seen). nat_lt one.client client ≡ true) (λ (one : Seen). nat_lt one.client client ≡ false) seen place
 
 -- the agent at a place handed out callbacks
 abbrev pub IsDispatchedAt : How → ℕ → List Seen → Dispatched → List Seen → Type 0

@@ -1,12 +1,12 @@
 //! The clients' agents: look-up, and callbacks handed out.
-ghost use Rattle.std.specs.Prelude.{◌≡◌, ◌<◌, ◌++◌, ℕ, length, map, slice_get, Some, IfOk, OnOk, OnErr};
+ghost use Rattle.std.specs.Prelude.{◌≡◌, ◌<◌, ◌≤◌, ◌++◌, ℕ, length, map, slice_get, Some, IfSome, IfOk, OnOk, OnErr};
 ghost use Rattle.std.specs.List.{flat_map};
 ghost use Rattle.cluster_facts.specs.Agents.{Agent as AgentOf, resent};
 ghost use Rattle.client_agent.specs.Seen.{Seen, seen_of};
 ghost use Rattle.client_agent.specs.Steps.{HasWorkers};
 ghost use Rattle.callback_dispatch.specs.declared.numbered.Numbered.{Numbered};
 ghost use Rattle.event_text.specs.Texts.{callback_lines};
-ghost use Rattle.cluster_clients.specs.Clients.{place_of, IsDispatchedAt, Dispatches};
+ghost use Rattle.cluster_clients.specs.Clients.{AreByClient, place_of, StandsAt, IsCutAt, IsDispatchedAt, Dispatches};
 ghost use Rattle.cluster_clients.specs.PartlyDone.{MayDispatch};
 
 use ais_values::{Seq, Status};
@@ -19,11 +19,29 @@ use std::sync::Wait;
 use std::thread::Threads;
 use wire::Message;
 
-/// The place of a client's agent.
-pub fn place_of(agents: &[Agent], client: u16) -> Option<usize>
-    ensures { result ≡ place_of client agents.now }
+/// How many agents are those of lower clients, by halving, where agents stand by rising client.
+fn count_below(agents: &[Agent], client: u16) -> usize
+    ensures bound { result ≤ length agents.now }
+    ensures cut { AreByClient agents.now → IsCutAt client result agents.now }
 {
-    agents.iter().position(|agent| agent.client() == client)
+    agents.partition_point(|agent| agent.client() < client)
+}
+
+/// The place of a client's agent, if it has one, where agents stand by rising client. It is found by halving. Where they stand
+/// otherwise an agent that it finds is the client's, but it may find none.
+pub fn place_of(agents: &[Agent], client: u16) -> Option<usize>
+    ensures bound { IfSome result (λ place. place < length agents.now) }
+    ensures own { IfSome result (λ place. StandsAt client place agents.now) }
+    ensures place { AreByClient agents.now → result ≡ place_of client agents.now }
+{
+    let place = count_below(agents, client);
+    if place >= agents.len() {
+        return None;
+    }
+    if agents[place].client() != client {
+        return None;
+    }
+    Some(place)
 }
 
 /// The clients that were ever called, by rising number.

@@ -3,7 +3,7 @@ ghost use Rattle.std.specs.Prelude.{◌≡◌, ◌≤◌, ◌<◌, length, IsTru
 ghost use Rattle.std.specs.List.{insert};
 ghost use Rattle.cluster_facts.specs.Agents.{fresh};
 ghost use Rattle.client_agent.specs.Steps.{IsSent};
-ghost use Rattle.cluster_clients.specs.Clients.{place_of};
+ghost use Rattle.cluster_clients.specs.Clients.{StandsAt, IsAbsent};
 ghost use Rattle.cluster_clients.specs.Asked.{CanCallAt, AllStarted, IsSentAt, HasFitRequest, IsToldSent, place_for, is_posted, IsPlaced, Asks, MayPost, IsPartlyPlaced};
 ghost use Rattle.cluster_clients.specs.PartlyDone.{AsksPartly};
 
@@ -86,7 +86,7 @@ fn ask_at(
     requires from { 1 ≤ client }
     requires to { client ≤ 4096 }
     requires number { CanCallAt at agents.old }
-    requires found { place_of client agents.old ≡ Some at }
+    requires found { StandsAt client at agents.old }
     ensures ok { OnOk result (Asks callbacks client asked.now net.old net.new agents.old agents.new
         lines.old.items lines.new.items) }
     ensures err { OnErr result (AsksPartly callbacks client asked.now net.old net.new agents.old
@@ -209,7 +209,7 @@ fn ask_first<R>(
 ) -> Result<(), AllocError>
     requires from { 1 ≤ client }
     requires to { client ≤ 4096 }
-    requires absent { place_of client agents.old ≡ None }
+    requires absent { IsAbsent client agents.old }
     ensures ok { OnOk result (Asks callbacks client asked.now net.old net.new agents.old agents.new
         lines.old.items lines.new.items) }
     ensures err { OnErr result (AsksPartly callbacks client asked.now net.old net.new agents.old

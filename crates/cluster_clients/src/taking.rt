@@ -4,7 +4,7 @@ ghost use Rattle.client_agent.specs.Seen.{Seen};
 ghost use Rattle.client_agent.specs.Steps.{IsFor};
 ghost use Rattle.wire.specs.MessageSpelling.{MessageInRange};
 ghost use Rattle.cluster_clients.specs.Spelled.{Posts, PostsOrNot};
-ghost use Rattle.cluster_clients.specs.Clients.{place_of};
+ghost use Rattle.cluster_clients.specs.Clients.{StandsAt};
 ghost use Rattle.cluster_clients.specs.Taken.{number_told, Takes};
 ghost use Rattle.cluster_clients.specs.Taking.{receiver_of, missed_by_none, why_of, missed_lines, IsTakenAt, HasFitReceipt, IsTold, MayPost};
 ghost use Rattle.cluster_clients.specs.PartlyDone.{TakesPartly};
@@ -169,7 +169,7 @@ fn take_at<R: Wait>(
 ) -> Result<bool, AllocError>
     requires range { MessageInRange message.now }
     requires receiver { receiver_of message.now ≡ Some client }
-    requires found { place_of client agents.old ≡ Some at }
+    requires found { StandsAt client at agents.old }
     ensures ok { IfOk result (λ loud. Takes place message.now net.old net.new agents.old agents.new
         lines.old.items lines.new.items loud) }
     ensures err { OnErr result (TakesPartly (number_told place) message.now net.old net.new

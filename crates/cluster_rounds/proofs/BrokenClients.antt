@@ -19,7 +19,7 @@ use Rattle.client_agent.specs.declared.answers.How.{How}
 use Rattle.client_agent.specs.declared.answers.How.TheVariants.{One, All}
 use Rattle.client_agent.specs.Seen.{Seen, seen_of}
 use Rattle.cluster_rounds.specs.declared.cluster.Cluster.{Cluster}
-use Rattle.cluster_clients.specs.Clients.{dispatch_as, place_of}
+use Rattle.cluster_clients.specs.Clients.{dispatch_as, StandsAt}
 use Rattle.cluster_clients.specs.PartlyDone.{AsksPartly, MayDispatch, TakesPartly}
 use Rattle.cluster_clients.specs.declared.fetching.Fetched.TheVariants.{Whole}
 use Rattle.cluster_clients.specs.Spelled.{IsFetched, InjectsOrNot}
@@ -145,7 +145,7 @@ module _ {Peers Group : Type 0} (kit : Kit Peers Group) (laws : IsKit kit) where
       (happened-broken kit laws) setup state done.state done.told held held held new goes.carried (again-files setup front state held) (breaks held setup done.state first.1 first.0 stands)
 
   -- what a client sends again
-  pub resends-break : (client at : ℕ) (old new : Cluster Group) (agent : Seen) (messages : List Message) → place_of client old.agents ≡ Some at → agent ≡ get_or old.agents at agent → ((c places : ℕ) (a : Agent) → agent ≡ seen_of c places a → messages ≡ resent c a) → (BreaksAloneIf kit) (AllStandIn messages) old new → (BreaksAlone kit) old new
+  pub resends-break : (client at : ℕ) (old new : Cluster Group) (agent : Seen) (messages : List Message) → StandsAt client at old.agents → agent ≡ get_or old.agents at agent → ((c places : ℕ) (a : Agent) → agent ≡ seen_of c places a → messages ≡ resent c a) → (BreaksAloneIf kit) (AllStandIn messages) old new → (BreaksAlone kit) old new
   resends-break client at old new agent messages found is are breaks held setup state good shows =
       let same = (resent-by kit laws) client at old agent messages found is are setup state shows in
       let B : List Message → Type 0 = λ ms. (BreaksAloneIf kit) (AllStandIn ms) old new in

@@ -1,5 +1,5 @@
 -- Events of the world of the code, one after another.
-use Rattle.std.proofs.Common.{◌≡◌, ℕ, ◌+◌, ◌<◌, inl, inr, Some, None, List, [], ◌∷◌, ◌++◌, length, get_or, take, ap, sym, ◌∙◌, subst, append_assoc}
+use Rattle.std.proofs.Common.{◌≡◌, ℕ, ◌+◌, ◌<◌, inl, inr, List, [], ◌∷◌, ◌++◌, length, get_or, take, ap, sym, ◌∙◌, subst, append_assoc}
 use Rattle.std.specs.List.{AllByRecursion}
 use Rattle.std.proofs.lemmas.List.{take_more}
 use Rattle.std.proofs.lemmas.Option.{get_or_from_slice_get}
@@ -23,9 +23,9 @@ use Rattle.cluster_events.proofs.Looping.{for_each-append}
 use Rattle.event_text.specs.Texts.{printed}
 use Rattle.cluster_rounds.specs.declared.cluster.Cluster.{Cluster}
 use Rattle.client_agent.specs.Seen.{Seen, seen_of}
-use Rattle.cluster_clients.specs.Clients.{place_of}
+use Rattle.cluster_clients.specs.Clients.{StandsAt, IsAbsent}
 use Rattle.cluster_clients.specs.Spelled.{AreSpelled, IsNumberIn}
-use Rattle.cluster_clients.proofs.DispatchSteps.{absent, seen-at}
+use Rattle.cluster_clients.proofs.DispatchSteps.{fresh-agent, seen-at}
 use Rattle.cluster_clients.proofs.ListSteps.{All-take}
 use Rattle.cluster_clients.proofs.ToldLines.{printed-append}
 use Rattle.cluster_rounds.specs.Delivered.{AllStandIn, HearsAll, again, resent_by}
@@ -126,13 +126,13 @@ module _ {Peers Group : Type 0} (kit : Kit Peers Group) (laws : IsKit kit) where
   resent-stand setup client state good = resent-posted (plain_of setup) client state.world good.steady.sound
 
   -- the messages that the agent of a client sends again
-  pub resent-by : (client at : ℕ) (old : Cluster Group) (agent : Seen) (messages : List Message) → place_of client old.agents ≡ Some at → agent ≡ get_or old.agents at agent → ((c places : ℕ) (a : Agent) → agent ≡ seen_of c places a → messages ≡ resent c a) → (setup : Setup) (state : State Peers) → (Shows kit) setup state old → messages ≡ resent client (state.world.agents client)
+  pub resent-by : (client at : ℕ) (old : Cluster Group) (agent : Seen) (messages : List Message) → StandsAt client at old.agents → agent ≡ get_or old.agents at agent → ((c places : ℕ) (a : Agent) → agent ≡ seen_of c places a → messages ≡ resent c a) → (setup : Setup) (state : State Peers) → (Shows kit) setup state old → messages ≡ resent client (state.world.agents client)
   resent-by client at old agent messages found is are setup state shows =
       let there = seen-at client at old.agents state.world shows.agents found in
       let seen = seen_of client state.world.places (state.world.agents client) in
       are client state.world.places (state.world.agents client) (is ∙ get_or_from_slice_get old.agents at seen agent there.1)
 
-  pub resent-standing : (client at : ℕ) (old : Cluster Group) (agent : Seen) (messages : List Message) → (HasState kit) old → place_of client old.agents ≡ Some at → agent ≡ get_or old.agents at agent → ((c places : ℕ) (a : Agent) → agent ≡ seen_of c places a → messages ≡ resent c a) → (HasStateOf kit) (AllStandIn messages) old
+  pub resent-standing : (client at : ℕ) (old : Cluster Group) (agent : Seen) (messages : List Message) → (HasState kit) old → StandsAt client at old.agents → agent ≡ get_or old.agents at agent → ((c places : ℕ) (a : Agent) → agent ≡ seen_of c places a → messages ≡ resent c a) → (HasStateOf kit) (AllStandIn messages) old
   resent-standing client at old agent messages stands found is are =
       let same = resent-by client at old agent messages found is are stands.setup stands.state stands.shows in
       record {
@@ -143,16 +143,15 @@ module _ {Peers Group : Type 0} (kit : Kit Peers Group) (laws : IsKit kit) where
         so = subst (λ ms. AllByRecursion (λ message. Stands message (messages_in stands.state.world.net)) ms) (sym same) (resent-stand stands.setup client stands.state stands.good);
       }
 
-  pub resends : (client at : ℕ) (old new : Cluster Group) (agent : Seen) (messages : List Message) (before after : List (List ℕ)) → place_of client old.agents ≡ Some at → agent ≡ get_or old.agents at agent → ((c places : ℕ) (a : Agent) → agent ≡ seen_of c places a → messages ≡ resent c a) → (HearsAll kit) messages old new before after → (Does kit) ((resent_by kit) client) old new before after
+  pub resends : (client at : ℕ) (old new : Cluster Group) (agent : Seen) (messages : List Message) (before after : List (List ℕ)) → StandsAt client at old.agents → agent ≡ get_or old.agents at agent → ((c places : ℕ) (a : Agent) → agent ≡ seen_of c places a → messages ≡ resent c a) → (HearsAll kit) messages old new before after → (Does kit) ((resent_by kit) client) old new before after
   resends client at old new agent messages before after found is are hears setup state good shows =
       let same = resent-by client at old agent messages found is are setup state shows in
       let H : List Message → Type 0 = λ ms. (HearsAll kit) ms old new before after in
       subst H same hears setup state good shows (resent-stand setup client state good)
 
   -- a client without an agent sends nothing
-  pub resends-nothing : (client : ℕ) (old : Cluster Group) (before : List (List ℕ)) → place_of client old.agents ≡ None → (Does kit) ((resent_by kit) client) old old before before
+  pub resends-nothing : (client : ℕ) (old : Cluster Group) (before : List (List ℕ)) → IsAbsent client old.agents → (Does kit) ((resent_by kit) client) old old before before
   resends-nothing client old before none setup state good shows =
-      let nowhere = absent client state.world.places state.world.agents state.world.clients (ap (place_of client) (sym shows.agents.shown) ∙ none) in
-      let is_fresh : state.world.agents client ≡ fresh = elim (shows.agents.listed client) [ inl stands ↦ absurd (nowhere stands) | inr is ↦ is ] in
+      let is_fresh : state.world.agents client ≡ fresh = (fresh-agent client old.agents state.world shows.agents none).1 in
       let H : Agent → Type 0 = λ agent. (Happened kit) setup (for_each ((again kit) setup) (resent client agent) state) old before before in
       subst H (sym is_fresh) (shows, good, sym (Rattle.std.proofs.Common.append-nil before))

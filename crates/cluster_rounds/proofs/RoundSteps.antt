@@ -25,7 +25,7 @@ use Rattle.cluster_events.proofs.Carrying.{Goes, IsAtRest, in_world-goes, held-m
 use Rattle.event_text.specs.Texts.{printed}
 use Rattle.cluster_rounds.specs.declared.cluster.Cluster.{Cluster}
 use Rattle.client_agent.specs.Seen.{Seen, seen_of}
-use Rattle.cluster_clients.specs.Clients.{place_of, seen_all}
+use Rattle.cluster_clients.specs.Clients.{StandsAt, seen_all}
 use Rattle.cluster_clients.specs.Replies.{FindsReply}
 use Rattle.cluster_clients.specs.Taken.{Takes, kept_lines, taken_as}
 use Rattle.cluster_clients.proofs.DispatchSteps.{seen-at}
@@ -270,7 +270,7 @@ module _ {Peers Group : Type 0} (kit : Kit Peers Group) (laws : IsKit kit) where
 
   -- A client's messages.
 
-  pub sent-are : (client at : ℕ) (messages : List Message) (world : Cluster Group) → place_of client world.agents ≡ Some at → ((receiver places : ℕ) (agent : Agent) → slice_get world.agents at ≡ Some (seen_of receiver places agent) → messages ≡ resent receiver agent) → (setup : Setup) (state : State Peers) → (Shows kit) setup state world → messages ≡ resent client (state.world.agents client)
+  pub sent-are : (client at : ℕ) (messages : List Message) (world : Cluster Group) → StandsAt client at world.agents → ((receiver places : ℕ) (agent : Agent) → slice_get world.agents at ≡ Some (seen_of receiver places agent) → messages ≡ resent receiver agent) → (setup : Setup) (state : State Peers) → (Shows kit) setup state world → messages ≡ resent client (state.world.agents client)
   sent-are client at messages world found sent setup state shows =
       sent client state.world.places (state.world.agents client) (seen-at client at world.agents state.world shows.agents found).1
 

@@ -21,8 +21,8 @@ use Rattle.cluster_events.specs.Ending.{EndsBehind, DrainEnds, TurnEnds, ClientE
 use Rattle.cluster_events.proofs.Carrying.{resent-posted, take_answer-goes, push_round-goes}
 use Rattle.cluster_events.proofs.Devices.{comes-alone, advances-more, advances-stuck, hear-same, push-same}
 use Rattle.cluster_rounds.specs.declared.cluster.Cluster.{Cluster}
-use Rattle.cluster_clients.specs.Clients.{place_of}
-use Rattle.cluster_clients.proofs.DispatchSteps.{absent}
+use Rattle.cluster_clients.specs.Clients.{IsAbsent}
+use Rattle.cluster_clients.proofs.DispatchSteps.{fresh-agent}
 use Rattle.cluster_clients.proofs.ListSteps.{All-take}
 use Rattle.cluster_rounds.specs.Broken.{BreaksAloneIf}
 use Rattle.cluster_rounds.specs.Came.{Advances, Comes, ComesOff}
@@ -298,11 +298,10 @@ module _ {Peers Group : Type 0} (kit : Kit Peers Group) (laws : IsKit kit) where
       (client-follows client messages old are) off
 
   -- a client without an agent sends nothing again
-  pub client-absent : (client : ℕ) (world : Cluster Group) (lines : List (List ℕ)) (disk : kit.Seen) → place_of client world.agents ≡ None → (Comes kit) IsIdle ((client_by kit) client) world world lines lines false disk disk
+  pub client-absent : (client : ℕ) (world : Cluster Group) (lines : List (List ℕ)) (disk : kit.Seen) → IsAbsent client world.agents → (Comes kit) IsIdle ((client_by kit) client) world world lines lines false disk disk
   client-absent client world lines disk none =
       client-comes client [] world world lines lines false disk disk (λ setup state shows.
-      let nowhere = absent client state.world.places state.world.agents state.world.clients (ap (place_of client) (sym shows.agents.shown) ∙ none) in
-      let is_fresh : state.world.agents client ≡ fresh = elim (shows.agents.listed client) [ inl stands ↦ absurd (nowhere stands) | inr is ↦ is ] in
+      let is_fresh : state.world.agents client ≡ fresh = (fresh-agent client world.agents state.world shows.agents none).1 in
       ap (λ (a : Agent). resent client a) (sym is_fresh)) (loop-begins (IsIdleWithAll []) (turn_by kit) world lines disk)
 
   -- All clients.

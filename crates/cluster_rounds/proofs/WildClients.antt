@@ -13,7 +13,7 @@ use Rattle.cluster_facts.specs.Facts.{IsClient, view_of, Lives}
 use Rattle.cluster_facts.specs.Facts.Lives.{none as none_live, lives, refused}
 use Rattle.cluster_clients.specs.Spelled.{AreSpelled, Injects, IsFetched}
 use Rattle.cluster_clients.specs.Replies.{FindsReply}
-use Rattle.cluster_clients.specs.Clients.{place_of, dispatch_as, Dispatches, ShowsAgents}
+use Rattle.cluster_clients.specs.Clients.{StandsAt, dispatch_as, Dispatches, ShowsAgents}
 use Rattle.cluster_clients.proofs.DispatchSteps.{seen-at}
 use Rattle.cluster_facts.proofs.Words.{each_client, All-map, All-append, by_test, IsCounted-bound, IsNumbered-bound}
 use Rattle.cluster_facts.proofs.Clients.{IsClient-call, IsClient-reply, IsClient-item, find_living-found, subscribed-asked, asked_for-number}
@@ -261,7 +261,7 @@ found-posted client number found net seen finds spelled =
     subst (λ (m : Message). Stands m messages) (sym is.1) stands
 
 -- what the agent of a client sends again stands in the net
-pub sent-posted : {S : Type 0} (client at : ℕ) (messages : List Message) (world : Cluster S) (seen : World) → place_of client world.agents ≡ Some at
+pub sent-posted : {S : Type 0} (client at : ℕ) (messages : List Message) (world : Cluster S) (seen : World) → StandsAt client at world.agents
     → ((receiver places : ℕ) (agent : Agent) → slice_get world.agents at ≡ Some (seen_of receiver places agent) → messages ≡ resent receiver agent)
     → AreClients seen → ShowsClients seen world → AllPosted messages seen
 sent-posted client at messages world seen found sent clients shows =
@@ -339,7 +339,7 @@ pub fetched-posted : {S : Type 0} (place : ℕ) (message : Message) (world : Clu
 fetched-posted place message world seen fetched shows = posting_at-stands place seen.net message (fetched.1 seen.net shows.net)
 
 -- and what the agent of a client sends again, at its place in the list
-pub resent-at : {S : Type 0} (client at : ℕ) (old : Cluster S) (agent : Seen) (messages : List Message) (seen : World) → place_of client old.agents ≡ Some at → agent ≡ get_or old.agents at agent
+pub resent-at : {S : Type 0} (client at : ℕ) (old : Cluster S) (agent : Seen) (messages : List Message) (seen : World) → StandsAt client at old.agents → agent ≡ get_or old.agents at agent
     → ((c places : ℕ) (a : Agent) → agent ≡ seen_of c places a → messages ≡ resent c a) → AreClients seen → ShowsClients seen old → AllPosted messages seen
 resent-at client at old agent messages seen found is are clients shows =
     let there = seen-at client at old.agents seen shows.agents found in

@@ -1,10 +1,10 @@
-use Rattle.std.proofs.Common.{◌≡◌, Some, List, get_or, ap, sym, ◌∙◌, subst}
+use Rattle.std.proofs.Common.{◌≡◌, List, get_or, ap, sym, ◌∙◌, subst}
 use Rattle.std.proofs.lemmas.Result.{on_ok_weaker, on_err_weaker}
 use Rattle.std.specs.Prelude.{OnOk}
 use Rattle.wire.specs.declared.message.Message.{Message}
 use Rattle.client_agent.specs.Seen.{Seen}
 use Rattle.cluster_rounds.proofs.resending.resend.Goals as goal
-use Rattle.cluster_clients.specs.Clients.{place_of}
+use Rattle.cluster_clients.specs.Clients.{StandsAt, IsAbsent}
 use Rattle.cluster_rounds.specs.Broken.{BreaksAloneIf}
 use Rattle.cluster_rounds.specs.Delivered.{AllStandIn, HearsAll}
 use Rattle.cluster_rounds.proofs.BrokenClients.{resends-break, same-breaks}
@@ -15,13 +15,13 @@ use Rattle.cluster_rounds.proofs.WildClients.{resent-at}
 
 pub returns-in-None-clause-ok : goal.returns-in-None-clause-ok
 returns-in-None-clause-ok g c =
-    (resends-nothing g.S.Serving.kit g.met.S.Serving.laws) c.args.client c.args.world.now c.args.lines.now.items (ap (place_of c.args.client) (sym c.as_slice.ensures) ∙ sym c.in-None.ensures)
+    (resends-nothing g.S.Serving.kit g.met.S.Serving.laws) c.args.client c.args.world.now c.args.lines.now.items (subst (IsAbsent c.args.client) c.as_slice.ensures (λ rising. sym (c.in-None.ensures.place rising)))
 
 pub hear_all-heard-requires : goal.hear_all-heard-requires
 hear_all-heard-requires g c =
     let old = c.args.world.now in
     let agent = c.index-as_slice-at.result in
-    let found : place_of c.args.client old.agents ≡ Some c.in-Some.at = ap (place_of c.args.client) (sym c.as_slice.ensures) ∙ sym c.in-Some.ensures in
+    let found : StandsAt c.args.client c.in-Some.at old.agents = subst (StandsAt c.args.client c.in-Some.at) c.as_slice.ensures c.in-Some.ensures.own in
     let is : agent ≡ get_or old.agents c.in-Some.at agent = c.index-as_slice-at.is ∙ ap (λ (s : List Seen). get_or s c.in-Some.at agent) c.as_slice-2.ensures in
     let S : List Message → Type 0 = λ messages. (StandsOf g.S.Serving.kit) (AllStandIn messages) (AllPosted messages) old in
     subst S (sym c.as_slice-in-Ok.ensures)
@@ -34,7 +34,7 @@ returns-in-Ok-clause-ok g c =
     let old = c.args.world.now in
     let new = c.hear_all-heard.new.world in
     let agent = c.index-as_slice-at.result in
-    let found : place_of c.args.client old.agents ≡ Some c.in-Some.at = ap (place_of c.args.client) (sym c.as_slice.ensures) ∙ sym c.in-Some.ensures in
+    let found : StandsAt c.args.client c.in-Some.at old.agents = subst (StandsAt c.args.client c.in-Some.at) c.as_slice.ensures c.in-Some.ensures.own in
     let is : agent ≡ get_or old.agents c.in-Some.at agent = c.index-as_slice-at.is ∙ ap (λ (s : List Seen). get_or s c.in-Some.at agent) c.as_slice-2.ensures in
     let H : List Message → Type 0 = λ messages. (HearsAll g.S.Serving.kit) messages old new c.args.lines.now.items c.hear_all-heard.new.lines.items in
     on_ok_weaker c.hear_all-heard.result (λ hears. (resends g.S.Serving.kit g.met.S.Serving.laws) c.args.client c.in-Some.at old new agent c.in-Ok.messages c.args.lines.now.items c.hear_all-heard.new.lines.items found is c.in-Ok.ensures (subst H c.as_slice-in-Ok.ensures hears)) c.hear_all-heard.ensures.ok
@@ -44,7 +44,7 @@ returns-in-Ok-clause-err g c =
     let old = c.args.world.now in
     let new = c.hear_all-heard.new.world in
     let agent = c.index-as_slice-at.result in
-    let found : place_of c.args.client old.agents ≡ Some c.in-Some.at = ap (place_of c.args.client) (sym c.as_slice.ensures) ∙ sym c.in-Some.ensures in
+    let found : StandsAt c.args.client c.in-Some.at old.agents = subst (StandsAt c.args.client c.in-Some.at) c.as_slice.ensures c.in-Some.ensures.own in
     let is : agent ≡ get_or old.agents c.in-Some.at agent = c.index-as_slice-at.is ∙ ap (λ (s : List Seen). get_or s c.in-Some.at agent) c.as_slice-2.ensures in
     let B : List Message → Type 0 = λ messages. (BreaksAloneIf g.S.Serving.kit) (AllStandIn messages) old new in
     on_err_weaker c.hear_all-heard.result (λ breaks. (resends-break g.S.Serving.kit g.met.S.Serving.laws) c.args.client c.in-Some.at old new agent c.in-Ok.messages found is c.in-Ok.ensures (subst B c.as_slice-in-Ok.ensures breaks)) c.hear_all-heard.ensures.err
@@ -60,7 +60,7 @@ returns-in-Ok-clause-wild g c =
     let old = c.args.world.now in
     let new = c.hear_all-heard.new.world in
     let agent = c.index-as_slice-at.result in
-    let found : place_of c.args.client old.agents ≡ Some c.in-Some.at = ap (place_of c.args.client) (sym c.as_slice.ensures) ∙ sym c.in-Some.ensures in
+    let found : StandsAt c.args.client c.in-Some.at old.agents = subst (StandsAt c.args.client c.in-Some.at) c.as_slice.ensures c.in-Some.ensures.own in
     let is : agent ≡ get_or old.agents c.in-Some.at agent = c.index-as_slice-at.is ∙ ap (λ (s : List Seen). get_or s c.in-Some.at agent) c.as_slice-2.ensures in
     let W : List Message → Type 0 = λ messages. OnOk c.hear_all-heard.result ((KeepsWild g.S.Serving.kit) (AllPosted messages) old new) in
     on_ok_weaker c.hear_all-heard.result (λ (keeps : (KeepsWild g.S.Serving.kit) (AllPosted c.in-Ok.messages) old new). (λ disks seen wild so. keeps disks seen wild (resent-at c.args.client c.in-Some.at old agent c.in-Ok.messages seen found is c.in-Ok.ensures wild.clients wild.shows)))

@@ -1,10 +1,10 @@
-use Rattle.std.proofs.Common.{◌≡◌, ℕ, Some, List, slice_get, ap, sym, ◌∙◌, subst}
+use Rattle.std.proofs.Common.{◌≡◌, ℕ, Some, List, slice_get, sym, subst}
 use Rattle.std.proofs.lemmas.Result.{IfOk-weaker, IfErr-weaker}
 use Rattle.wire.specs.declared.message.Message.{Message}
 use Rattle.cluster_facts.specs.Agents.{Agent, resent}
 use Rattle.client_agent.specs.Seen.{Seen, seen_of}
 use Rattle.cluster_rounds.proofs.rounds.turn_client.Goals as goal
-use Rattle.cluster_clients.specs.Clients.{place_of}
+use Rattle.cluster_clients.specs.Clients.{StandsAt, IsAbsent}
 use Rattle.cluster_rounds.specs.Came.{Comes, ComesOff}
 use Rattle.cluster_rounds.specs.Rounds.{EndsClient, EndsTurns, IsIdleWithAll, turns_by}
 use Rattle.cluster_rounds.specs.Worlds.{IsIdle}
@@ -18,13 +18,13 @@ use Rattle.cluster_rounds.proofs.WildClients.{sent-posted}
 
 pub returns-in-None-clause-ok : goal.returns-in-None-clause-ok
 returns-in-None-clause-ok g c =
-    (client-absent g.S.Serving.kit g.met.S.Serving.laws) c.args.client c.args.world.now c.args.lines.now.items (g.S.Serving.kit.see (g.D.SharedDisk.seen c.args.disk.now) (g.J.SharedDisk.seen c.args.beside.now)) (ap (λ (l : List Seen). place_of c.args.client l) (sym c.as_slice.ensures) ∙ sym c.in-None.ensures)
+    (client-absent g.S.Serving.kit g.met.S.Serving.laws) c.args.client c.args.world.now c.args.lines.now.items (g.S.Serving.kit.see (g.D.SharedDisk.seen c.args.disk.now) (g.J.SharedDisk.seen c.args.beside.now)) (subst (IsAbsent c.args.client) c.as_slice.ensures (λ rising. sym (c.in-None.ensures.place rising)))
 
 pub turn_all-turned-requires : goal.turn_all-turned-requires
 turn_all-turned-requires g c =
     let agents = c.args.world.now.agents in
     let messages = c.in-Ok.messages in
-    let found : place_of c.args.client agents ≡ Some c.in-Some.at = ap (λ (l : List Seen). place_of c.args.client l) (sym c.as_slice.ensures) ∙ sym c.in-Some.ensures in
+    let found : StandsAt c.args.client c.in-Some.at agents = subst (StandsAt c.args.client c.in-Some.at) c.as_slice.ensures c.in-Some.ensures.own in
     let S : List Seen → Type 0 = λ l. (receiver places : ℕ) (agent : Agent) → slice_get l c.in-Some.at ≡ Some (seen_of receiver places agent) → messages ≡ resent receiver agent in
     let sent : S agents = subst S c.as_slice-2.ensures c.in-Ok.ensures in
     let old = c.args.world.now in
@@ -39,7 +39,7 @@ pub returns-in-Ok-clause-ok : goal.returns-in-Ok-clause-ok
 returns-in-Ok-clause-ok g c =
     let agents = c.args.world.now.agents in
     let messages = c.in-Ok.messages in
-    let found : place_of c.args.client agents ≡ Some c.in-Some.at = ap (λ (l : List Seen). place_of c.args.client l) (sym c.as_slice.ensures) ∙ sym c.in-Some.ensures in
+    let found : StandsAt c.args.client c.in-Some.at agents = subst (StandsAt c.args.client c.in-Some.at) c.as_slice.ensures c.in-Some.ensures.own in
     let S : List Seen → Type 0 = λ l. (receiver places : ℕ) (agent : Agent) → slice_get l c.in-Some.at ≡ Some (seen_of receiver places agent) → messages ≡ resent receiver agent in
     let sent : S agents = subst S c.as_slice-2.ensures c.in-Ok.ensures in
     let old = c.args.world.now in
@@ -55,7 +55,7 @@ pub returns-in-Ok-clause-err : goal.returns-in-Ok-clause-err
 returns-in-Ok-clause-err g c =
     let agents = c.args.world.now.agents in
     let messages = c.in-Ok.messages in
-    let found : place_of c.args.client agents ≡ Some c.in-Some.at = ap (λ (l : List Seen). place_of c.args.client l) (sym c.as_slice.ensures) ∙ sym c.in-Some.ensures in
+    let found : StandsAt c.args.client c.in-Some.at agents = subst (StandsAt c.args.client c.in-Some.at) c.as_slice.ensures c.in-Some.ensures.own in
     let S : List Seen → Type 0 = λ l. (receiver places : ℕ) (agent : Agent) → slice_get l c.in-Some.at ≡ Some (seen_of receiver places agent) → messages ≡ resent receiver agent in
     let sent : S agents = subst S c.as_slice-2.ensures c.in-Ok.ensures in
     let old = c.args.world.now in
@@ -82,7 +82,7 @@ returns-in-Ok-clause-wild g c =
     let left = g.S.Serving.kit.see (g.D.SharedDisk.seen c.turn_all-turned.new.disk) (g.J.SharedDisk.seen c.turn_all-turned.new.beside) in
     let agents = c.args.world.now.agents in
     let messages = c.in-Ok.messages in
-    let found : place_of c.args.client agents ≡ Some c.in-Some.at = ap (λ (l : List Seen). place_of c.args.client l) (sym c.as_slice.ensures) ∙ sym c.in-Some.ensures in
+    let found : StandsAt c.args.client c.in-Some.at agents = subst (StandsAt c.args.client c.in-Some.at) c.as_slice.ensures c.in-Some.ensures.own in
     let S : List Seen → Type 0 = λ l. (receiver places : ℕ) (agent : Agent) → slice_get l c.in-Some.at ≡ Some (seen_of receiver places agent) → messages ≡ resent receiver agent in
     let sent : S agents = subst S c.as_slice-2.ensures c.in-Ok.ensures in
     let old = c.args.world.now in

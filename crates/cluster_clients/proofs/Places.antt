@@ -1,0 +1,90 @@
+-- Where a client's agent stands among agents by rising client: a search by halving finds it.
+use Rattle.std.proofs.Common.{◌≡◌, ℕ, zero, suc, ◌+◌, ◌<◌, ◌≤◌, ◌==◌, nat_lt, Bool, cond, Some, None, List, [], ◌∷◌, length, get_or, slice_get, refl, ap, sym, ◌∙◌, arith}
+use Rattle.std.specs.Prelude.{option_map}
+use Rattle.std.specs.List.{position_from}
+use Rattle.std.specs.List.Sorted.{IsNonDecreasingBy}
+use Rattle.std.proofs.lemmas.Bool.{ltb-true, ltb-false}
+use Rattle.std.proofs.lemmas.Iterator.Adapters.{position_from-zero}
+use Rattle.std.proofs.lemmas.Option.{slice_get_past, slice_get_read}
+use Rattle.client_set.specs.Rising.{ComesFirst}
+use Rattle.cluster_facts.proofs.Words.{by_test}
+use Rattle.client_agent.specs.Seen.{Seen}
+use Rattle.cluster_clients.specs.Clients.{AreByClient, place_of, StandsAt, IsCutAt}
+
+abbrev pub is_of : ℕ → Seen → Bool
+is_of client one = one.client == client
+
+abbrev before : Seen → Seen → Bool
+before one other = nat_lt one.client other.client
+
+-- Clients never fall.
+
+first-least : (first : Seen) (seen : List Seen) (place : ℕ) (d : Seen) → ComesFirst before first seen → place < length seen → first.client ≤ (get_or seen place d).client
+first-least first [] place d comes within = absurd (omega arith)
+first-least first (next ∷ seen) zero d comes within = let less = ltb-true first.client next.client comes.0 in omega arith
+first-least first (next ∷ seen) (suc place) d comes within = first-least first seen place d comes.1 (omega arith)
+
+pub never-falling : (seen : List Seen) → AreByClient seen → IsNonDecreasingBy (λ (one : Seen). one.client) seen
+never-falling [] rising i j d order within = absurd (omega arith)
+never-falling (first ∷ seen) rising zero zero d order within = omega arith
+never-falling (first ∷ seen) rising zero (suc j) d order within = first-least first seen j d rising.0 (omega arith)
+never-falling (first ∷ seen) rising (suc i) zero d order within = absurd (omega arith)
+never-falling (first ∷ seen) rising (suc i) (suc j) d order within = never-falling seen rising.1 i j d (omega arith) (omega arith)
+
+-- What stands where the agents of lower clients end.
+
+-- behind an agent of a higher client there is none of the client
+none-behind : (client start : ℕ) (first : Seen) (seen : List Seen) → client < first.client → ComesFirst before first seen → position_from (is_of client) start seen ≡ None
+none-behind client start first [] above comes = refl
+none-behind client start first (next ∷ seen) above comes =
+    let less = ltb-true first.client next.client comes.0 in
+    let P : Bool → Type 0 = λ b. cond b (Some start) (position_from (is_of client) (start + 1) seen) ≡ None in
+    by_test P next.client client (λ same. absurd (omega arith)) (λ different. none-behind client (start + 1) first seen above comes.1)
+
+rest-cut : (client place : ℕ) (first : Seen) (seen : List Seen) → IsCutAt client (suc place) (first ∷ seen) → IsCutAt client place seen
+rest-cut client place first seen cut =
+    (λ k d low high. cut.0 (suc k) d (omega arith) (omega arith), λ k d low high. cut.1 (suc k) d (omega arith) (omega arith))
+
+there-from : (client place start : ℕ) (seen : List Seen) → IsCutAt client place seen → StandsAt client place seen → position_from (is_of client) start seen ≡ Some (start + place)
+there-from client place start [] cut stands = cc
+there-from client zero start (first ∷ seen) cut stands =
+    let same : first.client ≡ client = cc in
+    let P : Bool → Type 0 = λ b. cond b (Some start) (position_from (is_of client) (start + 1) seen) ≡ Some (start + 0) in
+    by_test P first.client client (λ equal. ap Some (omega arith)) (λ different. absurd (different same))
+there-from client (suc place) start (first ∷ seen) cut stands =
+    let less = ltb-true first.client client (cut.0 0 first (omega arith) (omega arith)) in
+    let rest = there-from client place (start + 1) seen (rest-cut client place first seen cut) stands in
+    let P : Bool → Type 0 = λ b. cond b (Some start) (position_from (is_of client) (start + 1) seen) ≡ Some (start + suc place) in
+    by_test P first.client client (λ same. absurd (omega arith)) (λ different. rest ∙ ap Some (omega arith))
+
+none-from : (client place start : ℕ) (seen : List Seen) → AreByClient seen → IsCutAt client place seen → (StandsAt client place seen → ⊥) → position_from (is_of client) start seen ≡ None
+none-from client place start [] rising cut other = refl
+none-from client zero start (first ∷ seen) rising cut other =
+    let least = ltb-false first.client client (cut.1 0 first (omega arith) (omega arith)) in
+    let P : Bool → Type 0 = λ b. cond b (Some start) (position_from (is_of client) (start + 1) seen) ≡ None in
+    by_test P first.client client (λ same. absurd (other (ap Some same))) (λ different. none-behind client (start + 1) first seen (omega arith) rising.0)
+none-from client (suc place) start (first ∷ seen) rising cut other =
+    let less = ltb-true first.client client (cut.0 0 first (omega arith) (omega arith)) in
+    let rest = none-from client place (start + 1) seen rising.1 (rest-cut client place first seen cut) other in
+    let P : Bool → Type 0 = λ b. cond b (Some start) (position_from (is_of client) (start + 1) seen) ≡ None in
+    by_test P first.client client (λ same. absurd (omega arith)) (λ different. rest)
+
+-- the agent that was read is the one at the place
+pub stands-read : (client place count : ℕ) (seen : List Seen) (one : Seen) → count ≡ length seen → place < count → one ≡ get_or seen place one → one.client ≡ client → StandsAt client place seen
+stands-read client place count seen one counted within is own =
+    ap (option_map (λ (s : Seen). s.client)) (slice_get_read seen count place one counted within is) ∙ ap Some own
+
+pub found-place : (client place : ℕ) (seen : List Seen) → IsCutAt client place seen → StandsAt client place seen → Some place ≡ place_of client seen
+found-place client place seen cut stands =
+    let from_zero : Some (0 + place) ≡ Some place = ap Some (omega arith) in
+    sym (position_from-zero (is_of client) seen ∙ there-from client place 0 seen cut stands ∙ from_zero)
+
+pub none-past : (client place : ℕ) (seen : List Seen) → length seen ≤ place → AreByClient seen → IsCutAt client place seen → None ≡ place_of client seen
+none-past client place seen past rising cut =
+    let nothing : option_map (λ (s : Seen). s.client) (slice_get seen place) ≡ None = ap (option_map (λ (s : Seen). s.client)) (slice_get_past seen place past) in
+    sym (position_from-zero (is_of client) seen ∙ none-from client place 0 seen rising cut (λ stands. cc))
+
+pub none-other : (client place count : ℕ) (seen : List Seen) (one : Seen) → count ≡ length seen → place < count → one ≡ get_or seen place one → (one.client ≡ client → ⊥) → AreByClient seen → IsCutAt client place seen → None ≡ place_of client seen
+none-other client place count seen one counted within is other rising cut =
+    let there : option_map (λ (s : Seen). s.client) (slice_get seen place) ≡ Some one.client = ap (option_map (λ (s : Seen). s.client)) (slice_get_read seen count place one counted within is) in
+    sym (position_from-zero (is_of client) seen ∙ none-from client place 0 seen rising cut (λ stands. let same : Some one.client ≡ Some client = sym there ∙ stands in other cc))
