@@ -1,19 +1,23 @@
 -- What a reply makes of the marks that were seen, and which callback it gives.
 use Rattle.std.proofs.Common.{◌≡◌, ℕ, ◌==◌, Bool, true, false, not, ◌&&◌, cond, if◌then◌else◌, Option, Some, None, List, [], ◌∷◌, ◌++◌, length, refl, ap, sym, subst, ◌∙◌}
 use Rattle.std.specs.Prelude.{nat_le}
-use Rattle.std.specs.List.{find}
+use Rattle.std.specs.Global.{Vec}
+use Rattle.std.specs.Map.{lookup}
+use Rattle.std.specs.Str.{bytes_eq}
+use Rattle.indexmap.specs.IndexMap.{insert_entry}
 use Rattle.stream_config.specs.Equality.{same_name}
 use Rattle.stream_config.specs.Marks.{first_mark}
+use Rattle.stream_config.proofs.Equalities.{decides_name}
 use Rattle.cluster_facts.specs.Types.{Call, Reply, Callback, Status, Mark, StreamName}
 use Rattle.cluster_facts.specs.Lists.{without}
-use Rattle.cluster_facts.specs.Agents.{mark_of, is_later, told_mark, marks_with, changed_mask, asked_back, given_by, status_of, callbacks_of, kept_call, lacks_place, living_after_reply, after_reply}
+use Rattle.cluster_facts.specs.Agents.{mark_of, is_later, told_mark, put_mark, marks_with, changed_mask, asked_back, given_by, status_of, callbacks_of, kept_call, lacks_place, living_after_reply, after_reply}
 use Rattle.client_agent.specs.declared.answers.MissedWhy.TheVariants.{Answered as AnsweredBefore, Left}
 use Rattle.client_agent.specs.declared.answers.Taken.{Taken}
 use Rattle.client_agent.specs.declared.answers.Taken.TheVariants.{Answered, Missed}
 use Rattle.client_agent.specs.declared.marks.SeenMark.{SeenMark}
 use Rattle.client_agent.specs.Seen.{Seen, seen_of}
 use Rattle.client_agent.specs.Steps.{IsReply, IsReplyTo}
-use Rattle.client_agent.specs.Inside.{Later, marks_kept, later_mark, kept_of, changed_by, with_seen, gives, agent_of}
+use Rattle.client_agent.specs.Inside.{Later, mark_kept, key_of, marks_kept, AreUnderKeys, later_mark, kept_of, changed_by, with_seen, gives, agent_of}
 use Rattle.client_agent.proofs.Known.{same_seen}
 
 -- the mark of what was found, or the first mark
@@ -21,13 +25,52 @@ abbrev pub mark_found : Option SeenMark → Mark
 mark_found None = first_mark
 mark_found (Some seen) = seen.mark
 
-pub mark_of-find : (stream : StreamName) (marks : List SeenMark) → mark_found (find (λ (seen : SeenMark). same_name seen.stream stream) marks) ≡ mark_of stream (marks_kept marks)
-mark_of-find stream [] = refl
-mark_of-find stream (seen ∷ marks) =
-    let P : Bool → Type 0 = λ b. mark_found (cond b (Some seen) (find (λ (other : SeenMark). same_name other.stream stream) marks)) ≡ (if b then seen.mark else mark_of stream (marks_kept marks)) in
-    let rest = mark_of-find stream marks in
+-- two names are tested in either order
+same-turned : (one other : StreamName) → same_name one other ≡ same_name other one
+same-turned one other = by_cases (same_name one other) (same_name other one) refl refl where
+  by_cases : (b c : Bool) → same_name one other ≡ b → same_name other one ≡ c → b ≡ c
+  by_cases true true is turned = refl
+  by_cases false false is turned = refl
+  by_cases true false is turned = sym ((decides_name other one).1 (sym ((decides_name one other).0 is))) ∙ turned
+  by_cases false true is turned = sym is ∙ (decides_name one other).1 (sym ((decides_name other one).0 turned))
+
+-- the mark of a stream is found by the key of its name
+pub mark_of-found : (stream : StreamName) (key : List ℕ) (entries : List (Vec ℕ × SeenMark)) → key ≡ key_of stream → AreUnderKeys entries → mark_found (lookup (λ (other : Vec ℕ). bytes_eq key other.items) entries) ≡ mark_of stream (marks_kept entries)
+mark_of-found stream key [] is keyed = refl
+mark_of-found stream key (entry ∷ entries) is keyed =
+    let P : Bool → Type 0 = λ b. mark_found (cond b (Some entry.1) (lookup (λ (other : Vec ℕ). bytes_eq key other.items) entries)) ≡ (if b then entry.1.mark else mark_of stream (marks_kept entries)) in
+    let rest = mark_of-found stream key entries is keyed.1 in
     let cases : (b : Bool) → P b = elim [ true ↦ refl | false ↦ rest ] in
-    cases (same_name seen.stream stream)
+    let test : bytes_eq key entry.0.items ≡ same_name entry.1.stream stream = (λ i. bytes_eq (is i) (keyed.0 i)) ∙ same-turned stream entry.1.stream in
+    ap (λ b. mark_found (cond b (Some entry.1) (lookup (λ (other : Vec ℕ). bytes_eq key other.items) entries))) test ∙ cases (same_name entry.1.stream stream)
+
+-- a mark that is put under its key stands in the place of the one of its stream
+pub marks-put : (key : Vec ℕ) (seen : SeenMark) (entries : List (Vec ℕ × SeenMark)) → key.items ≡ key_of seen.stream → AreUnderKeys entries → marks_kept (insert_entry (λ (one other : Vec ℕ). bytes_eq one.items other.items) entries key seen) ≡ put_mark (mark_kept seen) (marks_kept entries)
+marks-put key seen [] is keyed = refl
+marks-put key seen (entry ∷ entries) is keyed =
+    let new = insert_entry (λ (one other : Vec ℕ). bytes_eq one.items other.items) entries key seen in
+    let P : Bool → Type 0 = λ b. marks_kept (if b then (entry.0, seen) ∷ entries else entry ∷ new) ≡ (if b then mark_kept seen ∷ marks_kept entries else mark_kept entry.1 ∷ put_mark (mark_kept seen) (marks_kept entries)) in
+    let rest = marks-put key seen entries is keyed.1 in
+    let cases : (b : Bool) → P b = elim [ true ↦ refl | false ↦ ap (λ (marks : List (StreamName × Mark)). mark_kept entry.1 ∷ marks) rest ] in
+    let test : bytes_eq key.items entry.0.items ≡ same_name seen.stream entry.1.stream = λ i. bytes_eq (is i) (keyed.0 i) in
+    ap (λ b. marks_kept (if b then (entry.0, seen) ∷ entries else entry ∷ new)) test ∙ cases (same_name seen.stream entry.1.stream)
+
+pub keys-put : (key : Vec ℕ) (seen : SeenMark) (entries : List (Vec ℕ × SeenMark)) → key.items ≡ key_of seen.stream → AreUnderKeys entries → AreUnderKeys (insert_entry (λ (one other : Vec ℕ). bytes_eq one.items other.items) entries key seen)
+keys-put key seen [] is keyed = (is, tt)
+keys-put key seen (entry ∷ entries) is keyed =
+    by_case (same_name seen.stream entry.1.stream) refl (keys-put key seen entries is keyed.1)
+  where
+    test : bytes_eq key.items entry.0.items ≡ same_name seen.stream entry.1.stream
+    test = λ i. bytes_eq (is i) (keyed.0 i)
+
+    by_case : (b : Bool) → same_name seen.stream entry.1.stream ≡ b → AreUnderKeys (insert_entry (λ (one other : Vec ℕ). bytes_eq one.items other.items) entries key seen) → AreUnderKeys (insert_entry (λ (one other : Vec ℕ). bytes_eq one.items other.items) (entry ∷ entries) key seen)
+    by_case true same rest =
+        let own : entry.0.items ≡ key_of seen.stream = keyed.0 ∙ ap key_of (sym ((decides_name seen.stream entry.1.stream).0 same)) in
+        let P : Bool → Type 0 = λ b. AreUnderKeys (if b then (entry.0, seen) ∷ entries else entry ∷ insert_entry (λ (one other : Vec ℕ). bytes_eq one.items other.items) entries key seen) in
+        subst P (sym (test ∙ same)) (own, keyed.1)
+    by_case false other rest =
+        let P : Bool → Type 0 = λ b. AreUnderKeys (if b then (entry.0, seen) ∷ entries else entry ∷ insert_entry (λ (one other : Vec ℕ). bytes_eq one.items other.items) entries key seen) in
+        subst P (sym (test ∙ other)) (keyed.0, rest)
 
 -- A later mark is what the definitions of an agent make of a mark that is told.
 
@@ -44,7 +87,7 @@ pub later-kept : (told : Option (StreamName × Mark)) (marks : List (StreamName 
 later-kept None marks = refl
 later-kept (Some told) marks =
     let other = not (told.1.mask == (mark_of told.0 marks).mask) in
-    let with_it = told ∷ without (λ (one : StreamName × Mark). same_name one.0 told.0) marks in
+    let with_it = put_mark told marks in
     elim (is_later marks told) as (λ b. with_seen (kept_of (if b then Some (record { stream = told.0; mark = told.1; changes = other }) else None)) marks ≡ (if b then with_it else marks)) [
       | true ↦ refl
       | false ↦ refl

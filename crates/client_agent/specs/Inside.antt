@@ -1,20 +1,24 @@
 -- Words of bodies alone: how an agent keeps its calls, subscriptions, callbacks and marks, the newest in front.
 use Rattle.std.specs.Prelude.{◌≡◌, ℕ, suc, ◌<◌, ◌≤◌, ◌==◌, ⊤, Bool, true, false, not, if◌then◌else◌, Option, Some, None, option_map, List, [], ◌∷◌}
+use Rattle.std.specs.Global.{Vec}
 use Rattle.std.specs.Prelude.{length, map, take, drop, reverse}
-use Rattle.stream_config.specs.Equality.{same_name}
+use Rattle.indexmap.specs.IndexMap.{spare}
+use Rattle.stream_config.specs.Equality.{name_code, own_name}
 use Rattle.calls.specs.declared.call.Call.{Call}
 use Rattle.calls.specs.declared.reply.Callback.{Callback}
 use Rattle.cluster_facts.specs.Types.{Ask, Start, Other, Status, VersionRefused, BadHandle, Mark, StreamName}
-use Rattle.cluster_facts.specs.Lists.{without}
 use Rattle.callback_dispatch.specs.Seen.{QueueSeen, FeederSeen, TakerSeen, numbered}
-use Rattle.cluster_facts.specs.Agents.{Living, Agent, can_serve, service_of, has_handle, mark_of, is_later}
+use Rattle.cluster_facts.specs.Agents.{Living, Agent, can_serve, service_of, has_handle, mark_of, is_later, put_mark}
 use Rattle.client_agent.specs.declared.kept.Kept.{Kept}
 use Rattle.client_agent.specs.declared.living.Subscription.{Subscription}
 use Rattle.client_agent.specs.declared.marks.SeenMark.{SeenMark}
 use Rattle.client_agent.specs.declared.marks.LaterMark.{LaterMark}
+use Rattle.client_agent.specs.declared.marks.ReadyMark.{ReadyMark}
+use Rattle.client_agent.specs.declared.marks.SeenMarks.TheInside.{Inside as MarksInside}
 use Rattle.client_agent.specs.declared.ring.Ring.TheInside.{Inside as RingInside}
 use Rattle.client_agent.specs.declared.waiting.WaitingCallbacks.TheInside.{Inside as WaitingInside}
 use Rattle.client_agent.specs.declared.agent.Agent.TheInside.{Inside}
+use Rattle.client_agent.specs.Marks.{Marks}
 use Rattle.client_agent.specs.Waiting.{Waiting, none_waits}
 use Rattle.client_agent.specs.Seen.{Seen}
 
@@ -46,8 +50,30 @@ AreBelow bound (subscription ∷ living) = (subscription.key < bound) × AreBelo
 abbrev pub mark_kept : SeenMark → StreamName × Mark
 mark_kept seen = (seen.stream, seen.mark)
 
-abbrev pub marks_kept : List SeenMark → List (StreamName × Mark)
-marks_kept marks = map mark_kept marks
+-- the bytes by which the mark of a stream of this name is found
+abbrev pub key_of : StreamName → List ℕ
+key_of name = name_code name ∷ own_name name
+
+abbrev pub marks_kept : List (Vec ℕ × SeenMark) → List (StreamName × Mark)
+marks_kept entries = map (λ (entry : Vec ℕ × SeenMark). mark_kept entry.1) entries
+
+abbrev pub marks_inside : MarksInside → Marks
+marks_inside inside = record { told = marks_kept inside.marks.entries; spare = spare inside.marks }
+
+-- each mark stands under the key of its stream's name
+abbrev pub AreUnderKeys : List (Vec ℕ × SeenMark) → Type 0
+AreUnderKeys [] = ⊤
+AreUnderKeys (entry ∷ entries) = (entry.0.items ≡ key_of entry.1.stream) × AreUnderKeys entries
+
+abbrev pub AreKeyed : MarksInside → Type 0
+AreKeyed inside = AreUnderKeys inside.marks.entries
+
+abbrev pub mark_ready : ReadyMark → StreamName × Mark
+mark_ready ready = mark_kept ready.seen
+
+-- the mark can be put without memory
+abbrev pub IsReady : ℕ → ReadyMark → Type 0
+IsReady room ready = (ready.key.items ≡ key_of ready.seen.stream) × (0 < room)
 
 abbrev pub seen_inside : Inside → Seen
 seen_inside inside = record {
@@ -60,7 +86,7 @@ seen_inside inside = record {
   living = all_living inside.living.items;
   queue = inside.callbacks.queue;
   given = inside.callbacks.given;
-  marks = marks_kept inside.marks.items;
+  marks = inside.marks.told;
 }
 
 -- each subscription was made by a call of its own that was sent
@@ -114,7 +140,7 @@ changed_by (Some later) = if later.changes then Some (later.stream, later.mark.m
 -- a mark stands in the place of the one of its stream
 abbrev pub with_seen : Option (StreamName × Mark) → List (StreamName × Mark) → List (StreamName × Mark)
 with_seen None marks = marks
-with_seen (Some seen) marks = seen ∷ without (λ other. same_name other.0 seen.0) marks
+with_seen (Some seen) marks = put_mark seen marks
 
 -- whether a callback is given, by the mask that changes and the invocation that is to be told
 abbrev pub gives : Option (StreamName × ℕ) → Option ℕ → Bool

@@ -1,4 +1,5 @@
 pub mod Inside
+pub mod Marks
 pub mod Seen
 pub mod Steps
 pub mod Waiting

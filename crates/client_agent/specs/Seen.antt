@@ -18,7 +18,7 @@ pub record Seen : Type 0 where
   pub queue : List Callback
   -- how many callbacks were handed out
   pub given : ℕ
-  -- the marks of streams that were told last, one of a name
+  -- the marks of streams that were told last, one of a name, by the order in which the names were told first
   pub marks : List (StreamName × Mark)
 
 abbrev pub seen_of : ℕ → ℕ → Agent → Seen

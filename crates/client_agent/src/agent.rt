@@ -13,7 +13,7 @@ use crate::kept::{
 use crate::living::{
     Subscription, add_receipts, find_subscription, note_call, note_item, note_reply,
 };
-use crate::marks::{SeenMark, later_mark, prepare_mark, put_mark};
+use crate::marks::SeenMarks;
 use crate::waiting::WaitingCallbacks;
 use crate::{Dispatched, How, MissedWhy, Sent, Taken};
 use ais_values::{Seq, Status, Version, Which, negotiate};
@@ -43,7 +43,7 @@ pub struct Agent {
     kept: VecDeque<Kept>,
     living: VecDeque<Subscription>,
     callbacks: WaitingCallbacks,
-    marks: VecDeque<SeenMark>,
+    marks: SeenMarks,
 }
 
 impl Model for Agent {
@@ -79,7 +79,7 @@ impl Agent {
             kept: VecDeque::new(alloc),
             living: VecDeque::new(alloc),
             callbacks: WaitingCallbacks::new(callbacks),
-            marks: VecDeque::new(alloc),
+            marks: SeenMarks::new(alloc),
         })
     }
 
@@ -272,15 +272,15 @@ impl Agent {
                 why: MissedWhy::Answered,
             }),
             Some(call) => {
-                let later = later_mark(&self.marks, call, reply);
+                let later = self.marks.later(alloc, call, reply)?;
                 if self.callbacks.lacks_place(gives_callback(call, later)) {
                     let why = MissedWhy::Left;
                     return Ok(Taken::Missed { why });
                 }
-                let seen = prepare_mark(alloc, &mut self.marks, later)?;
+                let ready = self.marks.prepare(alloc, later)?;
                 let callback = callback_of_reply(alloc, call, reply, later)?;
                 let copy = self.callbacks.put_with_copy(rt, alloc, callback, reply)?;
-                put_mark(&mut self.marks, seen);
+                self.marks.put(ready);
                 forget_call(&mut self.kept, number);
                 note_reply(&mut self.living, number, reply);
                 Ok(Taken::Answered {

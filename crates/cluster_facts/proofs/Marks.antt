@@ -6,17 +6,10 @@ use Rattle.stream_config.specs.Equality.{same_name}
 use Rattle.stream_config.proofs.Equalities.{decides_name}
 use Rattle.cluster_facts.specs.Types.{Call, Reply, StreamName, Mark}
 use Rattle.cluster_facts.specs.Lists.{Stands, IsNumbered, without}
-use Rattle.cluster_facts.specs.Agents.{kept_call, mark_of, told_mark, is_later, marks_with}
+use Rattle.cluster_facts.specs.Agents.{kept_call, mark_of, told_mark, is_later, put_mark, marks_with}
 use Rattle.cluster_facts.specs.Facts.{Keeps, IsLast}
 use Rattle.cluster_facts.specs.Facts.Keeps.{starts, waits, answered}
 use Rattle.cluster_facts.proofs.Words.{by_test, Stands-left, Stands-right, Stands-append}
-
--- names that differ are told apart
-named-apart : (one other : StreamName) → one ≢ other → same_name one other ≡ false
-named-apart one other different = by_case (same_name one other) refl where
-  by_case : (b : Bool) → same_name one other ≡ b → b ≡ false
-  by_case true is = absurd (different ((decides_name one other).0 is))
-  by_case false is = refl
 
 -- calls of lower numbers stay as they are
 keeps-others : (number : ℕ) {heard : List (ℕ × Reply)} {sent kept : List (ℕ × Call)} {told : List (StreamName × Mark)} → IsNumbered sent → length sent < number → Keeps heard sent kept told
@@ -80,17 +73,31 @@ keeps-reply number call reply {heard = heard} numbered stands found (answered {s
     let deeper = keeps-reply number call reply numbered.1 stands found rest in
     (option_to_list (told_mark first.1 answer) ++ deeper.0, answered first answer standing deeper.1, more-behind (told_mark call reply) (option_to_list (told_mark first.1 answer)) told deeper.0 deeper.2)
 
--- the mark of another name stands, whatever is taken out of one name
-mark_of-without : (name other : StreamName) (marks : List (StreamName × Mark)) → name ≢ other → mark_of other (without (λ seen. same_name seen.0 name) marks) ≡ mark_of other marks
-mark_of-without name other [] different = refl
-mark_of-without name other (seen ∷ marks) different = by_case (mark_of-without name other marks different) (same_name seen.0 name) refl where
-  by_case : mark_of other (without (λ seen. same_name seen.0 name) marks) ≡ mark_of other marks → (b : Bool) → same_name seen.0 name ≡ b
-      → mark_of other (cond b (without (λ seen. same_name seen.0 name) marks) (seen ∷ without (λ seen. same_name seen.0 name) marks)) ≡ cond (same_name seen.0 other) seen.1 (mark_of other marks)
-  by_case deeper true is =
-      let at : seen.0 ≡ name = (decides_name seen.0 name).0 is in
-      let apart : same_name seen.0 other ≡ false = named-apart seen.0 other (λ same. different (sym at ∙ same)) in
-      deeper ∙ ap (λ b. cond b seen.1 (mark_of other marks)) (sym apart)
-  by_case deeper false is = ap (λ m. cond (same_name seen.0 other) seen.1 m) deeper
+same-twice : {X : Type 0} (b : Bool) (x y z : X) → cond b x y ≡ cond b x (cond b z y)
+same-twice true x y z = refl
+same-twice false x y z = refl
+
+never-both : {X : Type 0} (one other : Bool) (x y z : X) → (one ≡ true → other ≡ true → ⊥) → cond one x (cond other y z) ≡ cond other y (cond one x z)
+never-both true true x y z both = absurd (both refl refl)
+never-both true false x y z both = refl
+never-both false other x y z both = refl
+
+-- the mark that was put is that of its stream, and other streams keep theirs
+mark_of-put : (seen : StreamName × Mark) (name : StreamName) (marks : List (StreamName × Mark)) → mark_of name (put_mark seen marks) ≡ cond (same_name seen.0 name) seen.1 (mark_of name marks)
+mark_of-put seen name [] = refl
+mark_of-put seen name (other ∷ marks) = by_case (same_name seen.0 other.0) refl (mark_of-put seen name marks) where
+  by_case : (b : Bool) → same_name seen.0 other.0 ≡ b → mark_of name (put_mark seen marks) ≡ cond (same_name seen.0 name) seen.1 (mark_of name marks)
+      → mark_of name (cond b (seen ∷ marks) (other ∷ put_mark seen marks)) ≡ cond (same_name seen.0 name) seen.1 (cond (same_name other.0 name) other.1 (mark_of name marks))
+  by_case true is rest =
+      let same : seen.0 ≡ other.0 = (decides_name seen.0 other.0).0 is in
+      same-twice (same_name seen.0 name) seen.1 (mark_of name marks) other.1
+      ∙ ap (λ s. cond (same_name seen.0 name) seen.1 (cond (same_name s name) other.1 (mark_of name marks))) same
+  by_case false is rest =
+      ap (λ m. cond (same_name other.0 name) other.1 m) rest
+      ∙ never-both (same_name other.0 name) (same_name seen.0 name) other.1 seen.1 (mark_of name marks) (λ one two.
+      let same : seen.0 ≡ other.0 = (decides_name seen.0 name).0 two ∙ sym ((decides_name other.0 name).0 one) in
+      let no : true ≡ false = sym ((decides_name seen.0 other.0).1 same) ∙ is in
+      absurd (cc))
 
 -- the last mark behind one more
 last-mark : (one : Option (StreamName × Mark)) (told now marks : List (StreamName × Mark)) (name : StreamName) → IsOneMore one told now → IsLast told name (mark_of name marks) → IsLast now name (mark_of name (marks_with one marks))
@@ -99,11 +106,10 @@ last-mark None told now marks name more last = record {
   most = λ mark there. elim (more.new_is (name, mark) there) [ inl own ↦ absurd own | inr before ↦ last.most mark before ];
 }
 last-mark (Some seen) told now marks name more last = by_case (is_later marks seen) refl where
-  by_case : (b : Bool) → is_later marks seen ≡ b → IsLast now name (mark_of name (cond b (seen ∷ without (λ other. same_name other.0 seen.0) marks) marks))
+  by_case : (b : Bool) → is_later marks seen ≡ b → IsLast now name (mark_of name (cond b (put_mark seen marks) marks))
   by_case true later =
-      let above = ltb-true (mark_of seen.0 marks).since seen.1.since later in
-      by_name (same_name seen.0 name) refl where
-        by_name : (b : Bool) → same_name seen.0 name ≡ b → IsLast now name (cond b seen.1 (mark_of name (without (λ other. same_name other.0 seen.0) marks)))
+      subst (λ m. IsLast now name m) (sym (mark_of-put seen name marks)) (by_name (same_name seen.0 name) refl) where
+        by_name : (b : Bool) → same_name seen.0 name ≡ b → IsLast now name (cond b seen.1 (mark_of name marks))
         by_name true is =
             let same : seen.0 ≡ name = (decides_name seen.0 name).0 is in
             let above = ltb-true (mark_of seen.0 marks).since seen.1.since later in
@@ -119,13 +125,13 @@ last-mark (Some seen) told now marks name more last = by_case (is_later marks se
             }
         by_name false is =
             let different : seen.0 ≢ name = λ same. (let yes : same_name seen.0 name ≡ true = (decides_name seen.0 name).1 same in let no : true ≡ false = sym yes ∙ is in absurd (cc)) in
-            subst (λ m. IsLast now name m) (sym (mark_of-without seen.0 name marks different)) (record {
+            record {
               stands = elim last.stands [ inl first ↦ inl first | inr there ↦ inr (more.old_is (name, mark_of name marks) there) ];
               most = λ mark there. elim (more.new_is (name, mark) there) [
                 | inl own ↦ elim own [ inl is ↦ absurd (different (sym (ap (λ (s : StreamName × Mark). s.0) is))) | inr none ↦ absurd none ]
                 | inr before ↦ last.most mark before
               ];
-            })
+            }
   by_case false early =
       let low = ltb-false (mark_of seen.0 marks).since seen.1.since early in
       record {

@@ -155,11 +155,15 @@ told_mark call _ = None
 abbrev pub is_later : List (StreamName × Mark) → StreamName × Mark → Bool
 is_later marks seen = nat_lt (mark_of seen.0 marks).since seen.1.since
 
+-- a mark takes the place of the one of its stream, or stands behind the others
+abbrev pub put_mark : StreamName × Mark → List (StreamName × Mark) → List (StreamName × Mark)
+put_mark seen [] = seen ∷ []
+put_mark seen (other ∷ marks) = if same_name seen.0 other.0 then seen ∷ marks else other ∷ put_mark seen marks
+
 -- the marks once one is told
 abbrev pub marks_with : Option (StreamName × Mark) → List (StreamName × Mark) → List (StreamName × Mark)
 marks_with None marks = marks
-marks_with (Some seen) marks =
-    if is_later marks seen then seen ∷ without (λ other. same_name other.0 seen.0) marks else marks
+marks_with (Some seen) marks = if is_later marks seen then put_mark seen marks else marks
 
 -- the mask of a stream that becomes another by what is told
 abbrev pub changed_mask : Option (StreamName × Mark) → List (StreamName × Mark) → Option (StreamName × ℕ)

@@ -3,11 +3,10 @@ use Rattle.cluster_facts.specs.Types.{Callback, Mark, StreamName}
 use Rattle.cluster_facts.specs.Agents.{Living, kept_call}
 use Rattle.client_agent.specs.declared.answers.MissedWhy.TheVariants.{Left}
 use Rattle.client_agent.specs.declared.answers.Taken.TheVariants.{Answered, Missed}
-use Rattle.client_agent.specs.declared.marks.SeenMark.{SeenMark}
 use Rattle.client_agent.specs.Seen.{Seen}
 use Rattle.client_agent.specs.Steps.{IsReply}
 use Rattle.client_agent.specs.Waiting.{Waiting}
-use Rattle.client_agent.specs.Inside.{all_living, later_of, kept_of, marks_kept, with_seen, seen_inside, agent_of, AreBelow}
+use Rattle.client_agent.specs.Inside.{all_living, later_of, kept_of, with_seen, seen_inside, agent_of, AreBelow}
 use Rattle.client_agent.proofs.Subscribed.{AreBelow-reply}
 use Rattle.client_agent.proofs.Marking.{lacks-later, with_reply, reply_unknown, reply_left, reply_taken}
 use Rattle.client_agent.proofs.agent.Agent.take_reply.Goals as goal
@@ -22,7 +21,7 @@ returns-then-lacks_place-clause-ok g c =
     let inside = c.self.inside in
     let number = c.args.number in
     let reply = c.args.reply.now in
-    let lacks = lacks-later inside.callbacks.places inside.callbacks.queue c.in-Some.call.now reply (marks_kept inside.marks.items) (option_map later_of c.later_mark-later.result) c.gives_callback.result true c.later_mark-later.ensures c.gives_callback.ensures c.if-lacks_place.ensures in
+    let lacks = lacks-later inside.callbacks.places inside.callbacks.queue c.in-Some.call.now reply inside.marks.told (option_map later_of c.in_ok-later-in-Some.later) c.gives_callback.result true c.in_ok-later-in-Some.ensures c.gives_callback.ensures c.if-lacks_place.ensures in
     let P : Seen → Type 0 = λ s. (handed : List Callback) → s.given ≡ length handed → IsReply s.client s.places number reply (agent_of s handed) (kept_call number s.kept) (Missed Left) s in
     subst P c.self.view_is (reply_left (seen_inside inside) number reply c.in-Some.call.now c.in-Some.ensures lacks)
 
@@ -39,13 +38,13 @@ returns-in_ok-copy-in-Some-clause-ok g c =
     let number = c.args.number in
     let call = c.in-Some.call.now in
     let reply = c.args.reply.now in
-    let told = marks_kept inside.marks.items in
-    let later = option_map later_of c.later_mark-later.result in
-    let lacks = lacks-later before.places before.queue call reply told later c.gives_callback.result false c.later_mark-later.ensures c.gives_callback.ensures c.if-lacks_place.ensures in
+    let told = inside.marks.told in
+    let later = option_map later_of c.in_ok-later-in-Some.later in
+    let lacks = lacks-later before.places before.queue call reply told later c.gives_callback.result false c.in_ok-later-in-Some.ensures c.gives_callback.ensures c.if-lacks_place.ensures in
     let put : List Callback → Waiting = λ callbacks. record before { queue = callbacks ++ before.queue } in
     let callbacks = c.in_ok-copy-in-Some.ensures.ok ∙ ap put c.in_ok-callback-in-Some.ensures in
-    let marks : marks_kept c.put_mark.new.marks.items ≡ with_seen (kept_of later) told = c.put_mark.ensures ∙ ap (λ (seen : Option (StreamName × Mark)). with_seen seen (marks_kept c.prepare_mark.new.marks.items)) c.in_ok-seen-in-Some.ensures.mark ∙ ap (λ (items : List SeenMark). with_seen (kept_of later) (marks_kept items)) c.prepare_mark.ensures.items in
-    let after : seen_inside (record inside { kept = c.forget_call.new.kept; living = c.note_reply.new.living; callbacks = c.put_with_copy.new.self; marks = c.put_mark.new.marks }) ≡ with_reply number call reply later (seen_inside inside) = λ i. record {
+    let marks : c.put.new.self.told ≡ with_seen (kept_of later) told = c.put.ensures ∙ ap (λ (seen : Option (StreamName × Mark)). with_seen seen c.prepare.new.self.told) c.in_ok-ready-in-Some.ensures.mark ∙ ap (with_seen (kept_of later)) c.prepare.ensures.told in
+    let after : seen_inside (record inside { kept = c.forget_call.new.kept; living = c.note_reply.new.living; callbacks = c.put_with_copy.new.self; marks = c.put.new.self }) ≡ with_reply number call reply later (seen_inside inside) = λ i. record {
       client = inside.client;
       places = (callbacks i).places;
       next = inside.next;
@@ -57,5 +56,5 @@ returns-in_ok-copy-in-Some-clause-ok g c =
       given = (callbacks i).given;
       marks = marks i;
     } in
-    let P : Seen → Type 0 = λ s. (handed : List Callback) → s.given ≡ length handed → IsReply s.client s.places number reply (agent_of s handed) (kept_call number s.kept) (Answered number c.in_ok-copy-in-Some.copy) (seen_inside (record inside { kept = c.forget_call.new.kept; living = c.note_reply.new.living; callbacks = c.put_with_copy.new.self; marks = c.put_mark.new.marks })) in
-    subst P c.self.view_is (reply_taken (seen_inside inside) number reply call later c.in_ok-copy-in-Some.copy _ c.in-Some.ensures c.later_mark-later.ensures lacks c.in_ok-copy-in-Some.ensures.copy after)
+    let P : Seen → Type 0 = λ s. (handed : List Callback) → s.given ≡ length handed → IsReply s.client s.places number reply (agent_of s handed) (kept_call number s.kept) (Answered number c.in_ok-copy-in-Some.copy) (seen_inside (record inside { kept = c.forget_call.new.kept; living = c.note_reply.new.living; callbacks = c.put_with_copy.new.self; marks = c.put.new.self })) in
+    subst P c.self.view_is (reply_taken (seen_inside inside) number reply call later c.in_ok-copy-in-Some.copy _ c.in-Some.ensures c.in_ok-later-in-Some.ensures lacks c.in_ok-copy-in-Some.ensures.copy after)
