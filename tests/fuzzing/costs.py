@@ -46,7 +46,9 @@ class Script:
         self.lines = [f"cluster start={START} queue={upto(rng, 256)} callbacks={self.callbacks}"]
         self.writers = [Client() for _ in range(upto(rng, CLIENTS - 1))]
         self.subscriber = len(self.writers) + 1
-        for number in range(1, self.subscriber):
+        order = list(range(1, self.subscriber))
+        rng.choice((list, list.reverse, rng.shuffle))(order)
+        for number in order:
             self.ask(number, f"log {number} init A.2.1")
             if rng.random() < 0.5 or number == 1:
                 self.ask(number, f"log {number} open system")
