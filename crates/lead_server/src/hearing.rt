@@ -1,0 +1,117 @@
+//! What reaches the active server, and what it pushes.
+ghost use Rattle.std.specs.Prelude.{◌≡◌, None, ℤ, IfOk, OnOk, OnErr};
+ghost use Rattle.wire.specs.declared.message.Message.{Message as MessageOf};
+ghost use Rattle.mirror.specs.declared.heard.Role.TheVariants.{Active};
+ghost use Rattle.mirror.specs.Replicas.{HasRoom};
+ghost use Rattle.mirror.specs.Hearing.{CanHear};
+ghost use Rattle.mirror.specs.Pairing.{IsHeard, CanReceive};
+ghost use Rattle.cluster_clients.specs.Posted.{PostsAll, PostsSome};
+ghost use Rattle.lead_server.specs.Heard.{AnswersInRange, HoldsInRange, Hears, HearsPartly, IsConfirmed, IsHeldBy, PushesPartly};
+
+use crate::telling::tell_heard;
+use ais_values::Seq;
+use calls::History;
+use cluster_clients::post_all;
+use message_net::Net;
+use mirror::{Heard, Node};
+use std::alloc::{AllocError, Global};
+use std::mem;
+use wire::Message;
+
+/// The active server hears a message of the net. On an error nothing changes.
+fn receive(
+    active: &mut Node,
+    alloc: Global,
+    message: &Message,
+    now: i64,
+) -> Result<Heard, AllocError>
+    requires hear { CanHear message.now now }
+    requires few { HasRoom active.old.replica.service }
+    requires role { active.old.replica.role ≡ Active }
+    ensures ok { IfOk result (λ heard. IsHeard message.now now active.old heard active.new) }
+    ensures err { OnErr result (active.new ≡ active.old) }
+{
+    match message {
+        Message::Request { .. } => active.receive(alloc, message, now),
+        Message::Receipt { .. } => active.receive(alloc, message, now),
+        _ => active.replica.receive(alloc, message, now),
+    }
+}
+
+/// The active server hears a message of this place in the net. The answer to it is posted, its line is put where it was ignored, and an entry
+/// that waits for nobody is committed. What goes to the servers beside it comes back. Where 4,000,000,000 entries were accepted it answers as
+/// if memory ran out; on an error the history stays, and nothing but an answer was posted.
+pub fn hear(
+    alloc: Global,
+    active: &mut Node,
+    net: &mut Net,
+    history: &mut History,
+    lines: &mut Vec<Seq<u8>>,
+    place: u64,
+    message: &Message,
+    now: i64,
+) -> Result<Seq<Message>, AllocError>
+    requires hear { CanHear message.now now }
+    requires role { active.old.replica.role ≡ Active }
+    requires range { AnswersInRange message.now now active.old }
+    ensures ok { IfOk result (λ mirrored. Hears place message.now now active.old active.new
+        net.old net.new history.old.entries history.new.entries lines.old.items lines.new.items
+        mirrored) }
+    ensures err { OnErr result (HearsPartly message.now now active.old active.new net.old net.new
+        history.old.entries history.new.entries) }
+{
+    if !active.has_room() {
+        return Err(AllocError);
+    }
+    history.reserve()?;
+    let heard = receive(active, alloc, message, now)?;
+    tell_heard(alloc, net, history, lines, place, heard)
+}
+
+/// The active server hears a message of a server beside it. Where 4,000,000,000 entries were accepted it answers as if memory ran out.
+pub fn confirm(
+    alloc: Global,
+    active: &mut Node,
+    message: &Message,
+    now: i64,
+) -> Result<(), AllocError>
+    requires { (moment : ℤ) → CanReceive message.now moment active.old }
+    ensures { OnOk result (IsConfirmed message.now active.old active.new) }
+{
+    if !active.has_room() {
+        return Err(AllocError);
+    }
+    match active.receive(alloc, message, now) {
+        Ok(heard) => {
+            mem::drop(heard);
+            Ok(())
+        }
+        Err(error) => Err(error),
+    }
+}
+
+/// Posts all items without receipt, by client, key and number, and answers with them. Nothing may be in hand. Where memory runs out some were
+/// posted, from the first on.
+pub fn push(
+    alloc: Global,
+    active: &Node,
+    net: &mut Net,
+    lines: &mut Vec<Seq<u8>>,
+) -> Result<Seq<Message>, AllocError>
+    requires role { active.now.replica.role ≡ Active }
+    requires idle { active.now.replica.owed ≡ None }
+    requires range { HoldsInRange active.now.replica }
+    ensures held { IfOk result (λ items. IsHeldBy active.now.replica items) }
+    ensures ok { IfOk result (λ items. PostsAll items net.old net.new lines.old.items
+        lines.new.items) }
+    ensures err { OnErr result (PushesPartly active.now.replica net.old net.new) }
+{
+    let items = active.push(alloc)?;
+    match post_all(alloc, net, lines, items.as_slice()) {
+        Ok(()) => Ok(items),
+        Err(error) => {
+            mem::drop(items);
+            Err(error)
+        }
+    }
+}

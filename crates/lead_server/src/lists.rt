@@ -1,0 +1,45 @@
+//! Messages on the way between servers.
+ghost use Rattle.std.specs.Prelude.{◌≡◌, ◌++◌, [], OnOk};
+ghost use Rattle.lead_server.specs.Told.{TakesFirst};
+
+use ais_values::Seq;
+use std::alloc::{AllocError, Global};
+use std::mem;
+use wire::Message;
+
+/// Adds messages behind those on the way. Where memory runs out nothing is said of these.
+pub fn send_all(
+    alloc: Global,
+    list: &mut Seq<Message>,
+    messages: Seq<Message>,
+) -> Result<(), AllocError>
+    ensures { OnOk result (list.new ≡ list.old ++ messages) }
+{
+    let mut items = mem::replace(list, Seq::new(alloc)).into_vec();
+    let mut more = messages.into_vec();
+    let added = items.append(&mut more);
+    mem::drop(more);
+    mem::drop(mem::replace(list, Seq::from_vec(items)));
+    added
+}
+
+/// Takes the first message, if there is one.
+pub fn take_first(alloc: Global, list: &mut Seq<Message>) -> Option<Message>
+    ensures { TakesFirst result list.old list.new }
+{
+    let mut items = mem::replace(list, Seq::new(alloc)).into_vec();
+    if items.is_empty() {
+        mem::drop(items);
+        return None;
+    }
+    let first = items.remove(0);
+    mem::drop(mem::replace(list, Seq::from_vec(items)));
+    Some(first)
+}
+
+/// Nothing is on the way any more.
+pub fn clear(alloc: Global, list: &mut Seq<Message>)
+    ensures { list.new ≡ [] }
+{
+    mem::drop(mem::replace(list, Seq::new(alloc)));
+}
