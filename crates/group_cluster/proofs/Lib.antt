@@ -12,4 +12,6 @@ pub mod Also
 pub mod Staying
 pub mod Crashing
 pub mod Over
+pub mod Walking
 pub mod Rows
+pub mod ClientRows
