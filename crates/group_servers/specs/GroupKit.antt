@@ -1,0 +1,63 @@
+-- Words of public clauses: an active server and others beside it, as the servers of a cluster.
+use Rattle.std.specs.Prelude.{◌≡◌, ℕ, ◌≤◌, false, Option, None}
+use Rattle.disk_model.specs.Seen.{DiskSeen}
+use Rattle.plain_service.specs.Setups.{Setup}
+use Rattle.cluster_events.specs.Servers.{State}
+use Rattle.mirror.specs.Replicas.{down}
+use Rattle.mirror.specs.Pairing.{alone}
+use Rattle.cluster_facts.specs.History.{Empty}
+use Rattle.group_cluster.specs.Seats.{Peers, IsGroup}
+use Rattle.group_cluster.specs.Group.{group}
+use Rattle.group_cluster.specs.Running.{GroupHappens}
+use Rattle.group_cluster.specs.Ended.{EndsGroup, GroupEnds}
+use Rattle.cluster_rounds.specs.Kits.{Kit}
+use Rattle.cluster_rounds.specs.Seen.{TellsFiles}
+use Rattle.cluster_rounds.specs.Worlds.{LeavesFiles}
+use Rattle.cluster_rounds.specs.Broken.{LeavesBetween}
+use Rattle.cluster_rounds.specs.Scripts.{Script}
+use Rattle.group_servers.specs.declared.group.Group.{Group}
+use Rattle.group_servers.specs.GroupCounts.{FaultsGroup, RisesGroup, UsesGroup, UsesLine}
+use Rattle.group_servers.specs.GroupNodes.{bare, servers_by}
+
+-- After a fault that no server survives the active one is down, the others are as they are left, and nothing is on the way; no server is
+-- armed, and no count is left on the disk.
+pub record FellGroup {n : ℕ} (setup : Setup) (state : State Peers) (servers : Group n) (left : Option ℕ) : Type 0 where
+  pub active : servers.active ≡ alone down
+  pub seats : servers.seats ≡ bare setup state.world.core.answered Empty state.peers.seats
+  pub acting : servers.acting ≡ state.peers.acting
+  pub armed : servers.armed ≡ false
+  pub count : left ≡ None
+
+-- A drain is thirteen steps. The disk's count to the call at which it stops is that of the active server. Standbys outlive faults.
+abbrev pub group_kit : (n : ℕ) → Kit Peers (Group n)
+group_kit n = record {
+  servers = group;
+  steps = 13;
+  Good = IsGroup;
+  Own = λ setup past hand peers servers. servers ≡ servers_by n setup past hand peers;
+  Seen = DiskSeen;
+  see = λ disk beside. disk;
+  files = λ seen. seen.files;
+  Armed = λ peers seen. seen.tally.armed ≡ peers.armed;
+  Tells = λ setup state seen. TellsFiles setup state seen.files;
+  Leaves = λ setup state held left. LeavesFiles setup state held.files left.files;
+  Between = λ setup past held left. LeavesBetween setup past held.files left.files;
+  EndsAtWork = EndsGroup;
+  Fell = λ setup state servers left. FellGroup setup state servers left.tally.armed;
+  Uses = λ setup happened state outcome held left. UsesGroup happened outcome.told held left;
+  Faults = λ setup happened state end held left. FaultsGroup happened held left;
+  Lacks = λ setup state held left. held.faults ≤ left.faults;
+  Outlives = λ held left. held.faults ≤ left.faults;
+  Rises = RisesGroup;
+  Wild = λ servers net entries seen. ⊥;
+}
+
+-- what a line of a script leads to, and where it ends by a fault: the lines on failing servers are played too
+abbrev pub group_script : Script Peers DiskSeen
+group_script = record {
+  Leads = GroupHappens;
+  Ends = GroupEnds;
+  Allows = λ line. Unit {0};
+  Uses = λ next setup happened state outcome held left. UsesLine next happened outcome.told held left;
+  Faults = λ next setup happened state end held left. FaultsGroup happened held left;
+}

@@ -1,0 +1,80 @@
+-- Words of public clauses: what steps of the servers and lines on them come to.
+use Rattle.std.specs.Prelude.{◌≡◌, ℕ, Bool, true, false, nat_lt, Option, Some, None, List, length}
+use Rattle.script_lines.specs.declared.line.Line.{Line}
+use Rattle.script_lines.specs.declared.line.Server.{Server}
+use Rattle.plain_service.specs.Setups.{Setup}
+use Rattle.cluster_events.specs.Outcomes.{Outcome}
+use Rattle.cluster_events.specs.Servers.{State}
+use Rattle.cluster_events.specs.Events.{mirror_next, ack_next, work_next, refuse}
+use Rattle.group_cluster.specs.Seats.{Peers}
+use Rattle.group_cluster.specs.Falling.{crash, other_down, arm, disarm, restart}
+use Rattle.group_cluster.specs.Ended.{EndsGroup, EndsCrash}
+use Rattle.cluster_rounds.specs.declared.cluster.Cluster.{Cluster}
+use Rattle.cluster_rounds.specs.Kits.{calm_servers, device_by, servers_at}
+use Rattle.cluster_rounds.specs.Rounds.{EventOver, EndOver}
+use Rattle.cluster_rounds.specs.Worlds.{Event, Happened, IsGood, Shows}
+use Rattle.group_servers.specs.declared.group.Group.{Group}
+use Rattle.group_servers.specs.GroupKit.{group_kit}
+
+-- the history grew
+abbrev pub grew : {S : Type 0} → Cluster S → Cluster S → Bool
+grew old new = nat_lt (length old.history.entries) (length new.history.entries)
+
+-- net, agents, history and time are as they were, whatever the servers are
+pub record IsUntold {S : Type 0} (old new : Cluster S) : Type 0 where
+  pub net : new.net ≡ old.net
+  pub agents : new.agents ≡ old.agents
+  pub history : new.history.entries ≡ old.history.entries
+  pub now : new.now ≡ old.now
+
+module _ (n : ℕ) where
+  -- the servers make a step, or they have none to make and nothing changes
+  abbrev pub StepsBy :
+      (State Peers → Option (Outcome (State Peers))) → Bool → Cluster (Group n) → Cluster (Group n) → List (List ℕ) → List (List ℕ) → Type 0
+  StepsBy step true old new before after =
+      (setup : Setup) (state : State Peers) → IsGood (group_kit n) setup state → Shows (group_kit n) setup state old
+      → (outcome : Outcome (State Peers)) × (step state ≡ Some outcome) × Happened (group_kit n) setup outcome new before after
+  StepsBy step false old new before after =
+      (new ≡ old) × (after ≡ before)
+      × ((setup : Setup) (state : State Peers) → IsGood (group_kit n) setup state → Shows (group_kit n) setup state old → step state ≡ None)
+
+  -- Lines that leave the disk alone.
+
+  abbrev pub refused_by : Line → Event (group_kit n)
+  refused_by line setup state = refuse (calm_servers (group_kit n) setup) line state
+
+  abbrev pub mirrored_next : Event (group_kit n)
+  mirrored_next setup state = mirror_next (calm_servers (group_kit n) setup) state
+
+  abbrev pub acked_next : Event (group_kit n)
+  acked_next setup state = ack_next (calm_servers (group_kit n) setup) state
+
+  abbrev pub restarted_by : Server → Event (group_kit n)
+  restarted_by server setup state = restart server state
+
+  -- a server goes down that is not active
+  abbrev pub parted_by : Server → Event (group_kit n)
+  parted_by server setup state = other_down server state
+
+  -- Lines over a disk.
+
+  -- where no work fails: of two servers a takeover that is done had no fault
+  abbrev pub crashed_by : Server → Event (group_kit n)
+  crashed_by server setup state = crash (device_by setup (λ number. 0)) server state
+
+  abbrev pub armed_by : Server → ℕ → Event (group_kit n)
+  armed_by server count setup state = arm server count state
+
+  abbrev pub disarmed_by : Event (group_kit n)
+  disarmed_by setup state = disarm state
+
+  -- the entry in hand is worked: what comes out rests on the works that fail
+  abbrev pub worked_by : EventOver (group_kit n)
+  worked_by setup fails state = work_next (servers_at (group_kit n) setup fails) state
+
+  -- where they end by a fault of the disk
+  abbrev pub EndsWork : EndOver (group_kit n)
+  EndsWork setup fails state end = EndsGroup (device_by setup fails) state end
+
+  abbrev pub EndsCrashed : Server → EndOver (group_kit n)
+  EndsCrashed server setup fails state end = EndsCrash (device_by setup fails) server state end

@@ -1,0 +1,61 @@
+//! Servers that join, to which the value of the service is owed.
+ghost use Rattle.std.specs.Prelude.{◌≡◌, None, OnOk, length};
+ghost use Rattle.group_servers.specs.Owing.{is_owed, LinksOne, LinksAll};
+
+use crate::Seat;
+use lead_server::send_all;
+use mirror::{Heard, Node, Role};
+use std::alloc::{AllocError, Global};
+use std::mem;
+
+/// Whether the value of the service is owed to a server: it joins, and nothing is on the way to it.
+fn is_owed(seat: &Seat) -> bool
+    ensures { result ≡ is_owed seat.now }
+{
+    match seat.node.role() {
+        Role::Joining => seat.link.as_slice().is_empty(),
+        _ => false,
+    }
+}
+
+/// A server gets what is owed to it, if something is: the active one has nothing in hand.
+fn link_one(alloc: Global, active: &mut Node, seat: &mut Seat) -> Result<(), AllocError>
+    requires { active.old.replica.owed ≡ None }
+    ensures { OnOk result (LinksOne seat.old seat.new active.old active.new) }
+{
+    if !is_owed(seat) {
+        return Ok(());
+    }
+    match active.begin_join(alloc) {
+        Ok(heard) => {
+            let Heard {
+                to_net,
+                to_peer,
+                committed,
+                ..
+            } = heard;
+            mem::drop(to_net);
+            mem::drop(committed);
+            send_all(alloc, &mut seat.link, to_peer)
+        }
+        Err(error) => Err(error),
+    }
+}
+
+/// Each server gets what is owed to it.
+pub(crate) fn link_all(
+    alloc: Global,
+    active: &mut Node,
+    seats: &mut [Seat],
+) -> Result<(), AllocError>
+    requires { active.old.replica.owed ≡ None }
+    ensures { OnOk result (LinksAll seats.old seats.new active.old active.new) }
+{
+    match seats.split_first_mut() {
+        None => Ok(()),
+        Some((first, rest)) => match link_one(alloc, active, first) {
+            Ok(()) => link_all(alloc, active, rest),
+            Err(error) => Err(error),
+        },
+    }
+}
