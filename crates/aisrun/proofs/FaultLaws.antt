@@ -27,9 +27,9 @@ use Rattle.cluster_events.proofs.Dealing.{answers-dealt}
 use Rattle.cluster_events.proofs.Telling.{Says-both}
 use Rattle.cluster_events.proofs.Quiet.{answers-called}
 use Rattle.cluster_events.proofs.Promised.{at-end}
-use Rattle.pair_cluster.specs.Ended.{LacksLast}
-use Rattle.pair_cluster.specs.Standing.{is_crash}
-use Rattle.pair_cluster.proofs.Ended.{line-tells, line-lacks}
+use Rattle.group_cluster.specs.Ended.{LacksLast}
+use Rattle.group_cluster.specs.Running.{is_crash}
+use Rattle.group_cluster.proofs.Ended.{line-tells, line-lacks}
 use Rattle.service_laws.specs.Disks.{service_disk}
 use Rattle.service_laws.specs.PlainOf.{plain_of}
 use Rattle.service_laws.specs.StorageOf.{storage_of}

@@ -20,7 +20,6 @@ use Rattle.cluster_facts.specs.Messages.{Posting, Spelled, Raw, messages_in}
 use Rattle.cluster_facts.specs.History.{committed}
 use Rattle.cluster_facts.specs.World.{World as WorldOf, posting_at}
 use Rattle.cluster_events.specs.declared.lines.ServerRole.{ServerRole}
-use Rattle.cluster_events.specs.declared.lines.Standing.{Standing}
 use Rattle.cluster_events.specs.Servers.{State}
 use Rattle.client_agent.specs.Seen.{Seen, seen_of}
 use Rattle.cluster_clients.specs.Clients.{ShowsAgents, seen_all}
@@ -30,9 +29,11 @@ use Rattle.cluster_clients.specs.Files.{sizes_of}
 use Rattle.cluster_clients.specs.Spelled.{AreSpelled, IsFetched}
 use Rattle.cluster_clients.proofs.PostingSteps.{spelled-length}
 use Rattle.event_text.specs.Texts.{role_text}
-use Rattle.pair_cluster.specs.Peers.{Peers, role_of}
-use Rattle.pair_servers.specs.Standing.{role_shown, standing_as}
-use Rattle.pair_servers.proofs.StandingSteps.{standing-is}
+use Rattle.lead_server.specs.Roles.{role_shown}
+use Rattle.group_cluster.specs.Seats.{Peers, role_of}
+use Rattle.group_servers.specs.declared.group.Group.{Group}
+use Rattle.group_servers.specs.Standing.{role_in}
+use Rattle.group_servers.proofs.StandingSteps.{role-is}
 use Rattle.cluster_core.specs.declared.world.World.{World}
 use Rattle.cluster_core.specs.Worlds.{Shows, parts_of}
 use Rattle.aisrun.proofs.LoadPassing.{take-all}
@@ -175,11 +176,11 @@ counts-all (Some told) counted all = (all.files, all.bytes)
 
 -- Roles, and the line.
 
-shown-a : (acting : Server) (world : World) → role_shown world.armed world.a.replica.role ≡ (standing_as (parts_of acting world)).role_of_a
+shown-a : (acting : Server) (world : World) → role_shown world.armed world.a.replica.role ≡ role_in A (parts_of acting world).servers
 shown-a A world = refl
 shown-a B world = refl
 
-shown-b : (acting : Server) (world : World) → role_shown world.armed world.b.replica.role ≡ (standing_as (parts_of acting world)).role_of_b
+shown-b : (acting : Server) (world : World) → role_shown world.armed world.b.replica.role ≡ role_in B (parts_of acting world).servers
 shown-b A world = refl
 shown-b B world = refl
 
@@ -206,9 +207,8 @@ line-by entries replies net files bytes a b = refl
 pub line-told : (setup : Setup) (state : State Peers) (world : World) (files bytes requests sent entries replies net : ℕ) (a b : List ℕ) → Shows setup state world → requests ≡ requests_in (messages_in state.world.net) → sent ≡ requests_again state.world.agents state.world.clients → entries ≡ length world.history.entries → replies ≡ requests - sent → net ≡ length world.net → a ≡ role_text (role_shown world.armed world.a.replica.role) → b ≡ role_text (role_shown world.armed world.b.replica.role) → line_of entries replies net files bytes a b ≡ state_line state files bytes
 line-told setup state world files bytes requests sent entries replies net a b shows asked again entries-is replies-is net-is a-is b-is =
     let acting = state.peers.acting in
-    let standing = standing-is setup state (parts_of acting world) shows in
-    let role-a : a ≡ role_text (role_of A state.peers) = a-is ∙ ap role_text (shown-a acting world ∙ ap (λ (s : Standing). s.role_of_a) standing) in
-    let role-b : b ≡ role_text (role_of B state.peers) = b-is ∙ ap role_text (shown-b acting world ∙ ap (λ (s : Standing). s.role_of_b) standing) in
+    let role-a : a ≡ role_text (role_of A state.peers) = a-is ∙ ap role_text (shown-a acting world ∙ ap (λ (s : Group 2). role_in A s) shows.own ∙ role-is 2 setup state A) in
+    let role-b : b ≡ role_text (role_of B state.peers) = b-is ∙ ap role_text (shown-b acting world ∙ ap (λ (s : Group 2). role_in B s) shows.own ∙ role-is 2 setup state B) in
     let count : net ≡ length state.world.net = net-is ∙ sym (spelled-length state.world.net world.net shows.net) in
     let past : entries ≡ length (committed state.world.core) = entries-is ∙ ap length shows.history in
     let taken : replies ≡ replies_taken state.world = replies-is ∙ ap₂ (λ (n m : ℕ). n - m) asked again in

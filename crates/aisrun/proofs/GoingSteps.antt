@@ -14,8 +14,7 @@ use Rattle.cluster_events.specs.Lines.{Told}
 use Rattle.cluster_facts.specs.Storage.{all_applied}
 use Rattle.cluster_events.specs.OnDisk.{performed}
 use Rattle.cluster_events.specs.Servers.{State}
-use Rattle.pair_cluster.specs.Peers.{Peers}
-use Rattle.pair_cluster.specs.Pair.{pair_start}
+use Rattle.group_cluster.specs.Seats.{Peers}
 use Rattle.event_text.specs.Texts.{printed}
 use Rattle.service_laws.specs.Disks.{service_disk}
 use Rattle.service_laws.specs.StorageOf.{storage_of}
@@ -23,7 +22,7 @@ use Rattle.cluster_core.specs.declared.world.World.{World}
 use Rattle.cluster_core.specs.Beginning.{Begun}
 use Rattle.cluster_core.specs.Broken.{Broken}
 use Rattle.cluster_core.specs.Playing.{EventDone, FaultLeaves, LineDone}
-use Rattle.cluster_core.specs.Worlds.{DiskView, HasState, IsArmedBy, IsGood, Shows, TellsFiles}
+use Rattle.cluster_core.specs.Worlds.{DiskView, HasState, IsArmedBy, IsGood, Shows, TellsFiles, pair_start}
 use Rattle.cluster_clients.proofs.ToldLines.{printed-append}
 use Rattle.cluster_events.specs.Runs.RunBy.{Started, Went}
 use Rattle.aisrun.specs.Playing.{files_told, Goes, Played, seen_behind, text_of}

@@ -11,9 +11,9 @@ use Rattle.cluster_events.specs.Lines.{Told}
 use Rattle.cluster_events.specs.Servers.{State}
 use Rattle.cluster_events.proofs.Ending.{settle-settles}
 use Rattle.cluster_events.proofs.Filed.{answered-legal}
-use Rattle.pair_cluster.specs.Peers.{Peers, IsPair}
-use Rattle.pair_cluster.specs.Pair.{pair, pair_start}
-use Rattle.pair_cluster.proofs.Saying.{pair-serves, pair-spends}
+use Rattle.group_cluster.specs.Seats.{Peers, IsGroup}
+use Rattle.group_cluster.specs.Group.{group}
+use Rattle.group_cluster.proofs.Saying.{group-serves, group-spends}
 use Rattle.service_laws.specs.PlainOf.{plain_of}
 use Rattle.service_laws.proofs.ServiceLaws.{is_plain}
 use Rattle.service_laws.proofs.HistoryLaws.{history-of}
@@ -24,6 +24,7 @@ use Rattle.cluster_events.proofs.Runs.{each-end}
 use Rattle.service_laws.specs.Disks.{service_disk}
 use Rattle.service_laws.specs.StorageOf.{storage_of}
 use Rattle.cluster_core.specs.Playing.{LineDone}
+use Rattle.cluster_core.specs.Worlds.{pair_start}
 use Rattle.aisrun.specs.Playing.{Ran}
 use Rattle.aisrun.specs.Promises.{Sentence, Throughout, KeepsOneHistory, RepliesRightly, ReadsRightly, CallsBack, PrintsPosts, KeepsFiles, KeepsRecords, StandsOnce, SettlesAll}
 use Rattle.aisrun.proofs.PlayLaws.{device_in, opening_files, played-says, played-keeps, played-files, played-stays, answered-range}
@@ -74,7 +75,7 @@ settled setup places held first (Went {state = state} line.Settle outcome after 
     let plain = plain_of setup in
     let device = device_in step.step in
     let happens = step.step.step.happens in
-    settle-settles plain (is_plain setup) (pair plain device) IsPair (pair-serves plain device (is_plain setup)) (pair-spends plain device (is_plain setup)) state outcome.state happens.lines (played-says setup places held first run).0 happens.rounds
+    settle-settles plain (is_plain setup) (group plain device) IsGroup (group-serves plain device (is_plain setup)) (group-spends plain device (is_plain setup)) state outcome.state happens.lines (played-says setup places held first run).0 happens.rounds
 settled setup places held first (Went _ outcome after run step) = tt
 
 pub settles-all : (held : Option Files) → Throughout held SettlesAll

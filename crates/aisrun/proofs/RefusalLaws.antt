@@ -24,9 +24,9 @@ use Rattle.cluster_events.proofs.Promised.{gathered-without, gathered-handed}
 use Rattle.cluster_events.proofs.Telling.{gathered-append}
 use Rattle.cluster_events.proofs.Walking.{Kind, Asks, Dispatches, Others, kind_of, IsShow, IsByKind}
 use Rattle.cluster_events.proofs.Carrying.{IsTold}
-use Rattle.pair_cluster.specs.Peers.{Peers, IsPair}
-use Rattle.pair_cluster.specs.Running.{PairHappens}
-use Rattle.pair_cluster.proofs.Walking.{IsCored, cored-alone, pair-walks}
+use Rattle.group_cluster.specs.Seats.{Peers, IsGroup}
+use Rattle.group_cluster.specs.Running.{GroupHappens}
+use Rattle.group_cluster.proofs.Walking.{IsCored, cored-alone, group-walks}
 use Rattle.service_laws.specs.PlainOf.{plain_of}
 use Rattle.service_laws.proofs.ServiceLaws.{is_plain}
 use Rattle.aisrun.specs.Promises.{OfAllLines, call_refused, holds_service, rows_of_refusal, rows_of_dispatch, refused_as, refused_by, refusal_in, refusals_told, refusals_due, DeclinesRightly}
@@ -121,10 +121,10 @@ refused-due setup (line.DispatchOne client) told world sound waits = dispatched-
 refused-due setup (line.DispatchAll client workers) told world sound waits = dispatched-due setup client world sound
 refused-due setup _ told world sound waits = refl
 
-line-declines : (setup : Setup) (shelf : Shelf) (device : Device) (before after : ℕ) (next : Line) (told : List Told) (state : State Peers) (outcome : Outcome (State Peers)) → IsSteady (plain_of setup) IsPair state → KeepsWaiting state.world told → PairHappens (plain_of setup) shelf device next state outcome → DeclinesRightly before next told state outcome after
+line-declines : (setup : Setup) (shelf : Shelf) (device : Device) (before after : ℕ) (next : Line) (told : List Told) (state : State Peers) (outcome : Outcome (State Peers)) → IsSteady (plain_of setup) IsGroup state → KeepsWaiting state.world told → GroupHappens (plain_of setup) shelf device next state outcome → DeclinesRightly before next told state outcome after
 line-declines setup shelf device before after next told state outcome steady waits happens =
     let plain = plain_of setup in
-    (pair-walks plain (is_plain setup) shelf device Refuses (refuses-told plain) refuses-cored (refuses-by-kind plain) next state outcome steady happens).1
+    (group-walks plain (is_plain setup) shelf device Refuses (refuses-told plain) refuses-cored (refuses-by-kind plain) next state outcome steady happens).1
     ∙ refused-due setup next told state.world steady.sound waits
 
 pub declines-rightly : (held : Option Files) → OfAllLines held DeclinesRightly

@@ -18,9 +18,9 @@ use Rattle.cluster_events.specs.Serving.{IsSteady}
 use Rattle.cluster_events.proofs.Promised.{gathered-without, gathered-handed}
 use Rattle.cluster_events.proofs.Walking.{Kind, Times, Others, kind_of, IsShow, IsByKind}
 use Rattle.cluster_events.proofs.Carrying.{IsTold}
-use Rattle.pair_cluster.specs.Peers.{Peers, IsPair}
-use Rattle.pair_cluster.specs.Running.{PairHappens}
-use Rattle.pair_cluster.proofs.Walking.{IsCored, pair-walks}
+use Rattle.group_cluster.specs.Seats.{Peers, IsGroup}
+use Rattle.group_cluster.specs.Running.{GroupHappens}
+use Rattle.group_cluster.proofs.Walking.{IsCored, group-walks}
 use Rattle.service_laws.specs.PlainOf.{plain_of}
 use Rattle.service_laws.proofs.ServiceLaws.{is_plain}
 use Rattle.cluster_rounds.specs.Timely.{AreTimely, IsTimely, IsTimelyIn}
@@ -103,13 +103,13 @@ in_time-by-kind plain = record {
   };
 }
 
-line-in-time : (setup : Setup) (shelf : Shelf) (device : Device) (next : Line) (state : State Peers) (outcome : Outcome (State Peers)) → IsSteady (plain_of setup) IsPair state → PairHappens (plain_of setup) shelf device next state outcome → InTime (kind_of next) state.world outcome.state.world outcome.told
+line-in-time : (setup : Setup) (shelf : Shelf) (device : Device) (next : Line) (state : State Peers) (outcome : Outcome (State Peers)) → IsSteady (plain_of setup) IsGroup state → GroupHappens (plain_of setup) shelf device next state outcome → InTime (kind_of next) state.world outcome.state.world outcome.told
 line-in-time setup shelf device next state outcome steady happens =
     let plain = plain_of setup in
-    (pair-walks plain (is_plain setup) shelf device InTime (in_time-told plain) in_time-cored (in_time-by-kind plain) next state outcome steady happens).1
+    (group-walks plain (is_plain setup) shelf device InTime (in_time-told plain) in_time-cored (in_time-by-kind plain) next state outcome steady happens).1
 
 -- the time in force behind a line
-pub line-now : (setup : Setup) (shelf : Shelf) (device : Device) (next : Line) (state : State Peers) (outcome : Outcome (State Peers)) → IsSteady (plain_of setup) IsPair state → PairHappens (plain_of setup) shelf device next state outcome → outcome.state.world.now ≡ time_behind state.world.now next
+pub line-now : (setup : Setup) (shelf : Shelf) (device : Device) (next : Line) (state : State Peers) (outcome : Outcome (State Peers)) → IsSteady (plain_of setup) IsGroup state → GroupHappens (plain_of setup) shelf device next state outcome → outcome.state.world.now ≡ time_behind state.world.now next
 line-now setup shelf device next state outcome steady happens =
     (line-in-time setup shelf device next state outcome steady happens).now ∙ time-by state.world.now next
 

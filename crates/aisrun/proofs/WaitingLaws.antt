@@ -19,9 +19,9 @@ use Rattle.cluster_events.proofs.Promised.{gathered-without, gathered-handed}
 use Rattle.cluster_events.proofs.Walking.{Kind, Asks, kind_of, IsShow, IsByKind}
 use Rattle.cluster_events.proofs.Carrying.{IsTold}
 use Rattle.cluster_events.proofs.Telling.{gathered-append}
-use Rattle.pair_cluster.specs.Falling.{with_core}
-use Rattle.pair_cluster.specs.Peers.{Peers}
-use Rattle.pair_cluster.proofs.Walking.{IsCored, cored-alone, pair-walks}
+use Rattle.group_cluster.specs.Falling.{with_core}
+use Rattle.group_cluster.specs.Seats.{Peers}
+use Rattle.group_cluster.proofs.Walking.{IsCored, cored-alone, group-walks}
 use Rattle.service_laws.specs.PlainOf.{plain_of}
 use Rattle.service_laws.proofs.ServiceLaws.{is_plain}
 use Rattle.cluster_events.specs.Runs.RunBy.{Started, Went}
@@ -222,5 +222,5 @@ played-waits setup places held first (Went {state = state} {told = told} next ou
     let done = step.step in
     let says = played-says setup places held first run in
     let below : AreBelow state.world told = λ client. All-map (λ (reply : ℕ × Reply). IsDone (state.world.agents client) reply.0) (λ (reply : ℕ × Reply). reply.0 < (state.world.agents client).next) (replies_told client told) (λ reply done. done.sent) (says.1.replies client).done in
-    let walks = (pair-walks plain (is_plain setup) done.shelf (device_in done) Waits (passes-told plain) passes-cored (waits-by-kind plain) next state outcome says.0 done.step.happens).1 in
+    let walks = (group-walks plain (is_plain setup) done.shelf (device_in done) Waits (passes-told plain) passes-cored (waits-by-kind plain) next state outcome says.0 done.step.happens).1 in
     waits-behind (kind_of next) state.world outcome.state.world told outcome.told walks below (played-waits setup places held first run)

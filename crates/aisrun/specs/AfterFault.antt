@@ -15,7 +15,7 @@ use Rattle.cluster_events.specs.Saying.{replies_told}
 use Rattle.cluster_events.specs.Filing.{FilesStand, IsKept, RecordsStay}
 use Rattle.cluster_events.specs.Promises.{AtEnd}
 use Rattle.cluster_events.specs.Servers.{State}
-use Rattle.pair_cluster.specs.Peers.{Peers}
+use Rattle.group_cluster.specs.Seats.{Peers}
 use Rattle.service_laws.specs.Disks.{service_disk}
 use Rattle.service_laws.specs.PlainOf.{plain_of}
 use Rattle.service_laws.specs.StorageOf.{storage_of}

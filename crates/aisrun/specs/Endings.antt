@@ -28,7 +28,7 @@ use Rattle.cluster_core.specs.Broken.{Broken, EventEnded}
 use Rattle.cluster_core.specs.Worlds.{DiskView, Shows}
 use Rattle.cluster_events.specs.Lines.{Told}
 use Rattle.cluster_events.specs.Servers.{State}
-use Rattle.pair_cluster.specs.Peers.{Peers}
+use Rattle.group_cluster.specs.Seats.{Peers}
 use Rattle.aisrun.specs.declared.ending.Status8.{Status8}
 use Rattle.aisrun.specs.declared.ending.Status8.TheVariants.{Done, ScriptRefused, Usage, Memory, ReadFault, WriteFault, DiskFault}
 use Rattle.aisrun.specs.declared.ending.Status8.TheVariants.{RootNotEmpty, TooLong, Inseparable}

@@ -14,7 +14,7 @@ use Rattle.cluster_events.specs.Servers.{State}
 use Rattle.cluster_clients.specs.declared.fetching.Fetched.{Fetched}
 use Rattle.cluster_clients.specs.declared.fetching.Fetched.TheVariants.{Whole, Bad}
 use Rattle.cluster_clients.specs.Files.{sizes_of}
-use Rattle.pair_cluster.specs.Peers.{Peers}
+use Rattle.group_cluster.specs.Seats.{Peers}
 use Rattle.cluster_core.specs.declared.world.World.{World}
 use Rattle.cluster_core.specs.Playing.{IsEventLine}
 use Rattle.cluster_core.specs.Worlds.{DiskView}

@@ -13,7 +13,7 @@ use Rattle.cluster_facts.specs.World.{World}
 use Rattle.cluster_events.specs.declared.lines.ServerRole.{ServerRole}
 use Rattle.cluster_events.specs.Servers.{State}
 use Rattle.cluster_clients.specs.Files.{sizes_of}
-use Rattle.pair_cluster.specs.Peers.{Peers, role_of}
+use Rattle.group_cluster.specs.Seats.{Peers, role_of}
 use Rattle.event_text.specs.Texts.{line_end, role_text}
 
 -- how many of these messages are requests

@@ -7,15 +7,14 @@ use Rattle.plain_service.specs.Setups.{Setup}
 use Rattle.cluster_events.specs.Lines.{Told}
 use Rattle.cluster_events.specs.Servers.{State}
 use Rattle.cluster_events.specs.OnDisk.{RunOnBy}
-use Rattle.pair_cluster.specs.Peers.{Peers}
-use Rattle.pair_cluster.specs.Pair.{pair_start}
+use Rattle.group_cluster.specs.Seats.{Peers}
 use Rattle.event_text.specs.Texts.{printed}
 use Rattle.service_laws.specs.Disks.{service_disk}
 use Rattle.service_laws.specs.StorageOf.{storage_of}
 use Rattle.cluster_core.specs.declared.world.World.{World}
 use Rattle.cluster_core.specs.Beginning.{Begins, HoldsNone}
 use Rattle.cluster_core.specs.Playing.{LineDone}
-use Rattle.cluster_core.specs.Worlds.{DiskView, IsArmedBy, IsGood, Shows}
+use Rattle.cluster_core.specs.Worlds.{DiskView, IsArmedBy, IsGood, Shows, pair_start}
 
 -- what the lines of a script lead to from the start of a cluster, the last line first: all that their events tell, the last in
 -- front, and the files by the deeds of the start and of each entry whose work is done, with the disk's count of faults, which goes along

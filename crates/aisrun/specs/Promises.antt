@@ -5,6 +5,8 @@ use Rattle.ais_values.specs.FirstRow.{first_row}
 use Rattle.disk_model.specs.Disk.{Files}
 use Rattle.script_lines.specs.declared.line.Line.{Line}
 use Rattle.script_lines.specs.declared.line.Line.TheVariants as line
+use Rattle.script_lines.specs.declared.line.Server.{Server}
+use Rattle.script_lines.specs.declared.line.Server.TheVariants.{A, B}
 use Rattle.plain_service.specs.Setups.{Setup}
 use Rattle.plain_service.specs.Records.{StoredRecord, record_of, place_of}
 use Rattle.cluster_facts.specs.Types.{Which, Log, Ntf, Status, VersionRefused, TryAgain, BadHandle, Ask, Start, Other, Call, Reply, Message}
@@ -23,13 +25,14 @@ use Rattle.cluster_events.specs.Runs.{AtEachEnd, RunBy}
 use Rattle.cluster_events.specs.Runs.RunBy.{Started, Went}
 use Rattle.cluster_events.specs.Promises.{OneHistory, InOrder, PostsPrinted, RepliesRight, ReadersRight, CallbacksPrinted, ItemsInOrder, RepliesCalledBack}
 use Rattle.cluster_events.specs.Settled.{IsSettled}
-use Rattle.pair_cluster.specs.Peers.{Peers, other_server, role_of}
-use Rattle.pair_cluster.specs.Standing.{StayUp, is_crash, IsShort}
+use Rattle.group_cluster.specs.Seats.{Peers, role_of}
+use Rattle.group_cluster.specs.Running.{is_crash}
+use Rattle.group_cluster.specs.Standing.{StayUp, IsShort}
 use Rattle.service_laws.specs.Disks.{service_disk}
 use Rattle.service_laws.specs.PlainOf.{plain_of}
 use Rattle.service_laws.specs.StorageOf.{storage_of}
 use Rattle.cluster_rounds.specs.Timely.{AreTimely, IsTimelyIn}
-use Rattle.pair_servers.specs.PairCounts.{FellIn}
+use Rattle.group_servers.specs.GroupCounts.{FellIn}
 use Rattle.cluster_core.specs.Playing.{LineDone}
 use Rattle.aisrun.specs.Playing.{PlaysFront}
 
@@ -109,13 +112,17 @@ IsSettledAfter setup _ state = Unit {0}
 abbrev pub SettlesAll : Setup → Sentence
 SettlesAll setup lines state told files = IsSettledAfter setup lines state
 
--- an entry is of the time that is in force as it is accepted: so is each one that a line commits, and one that waits for the partner
--- behind the line
+-- an entry is of the time that is in force as it is accepted: so is each one that a line commits, and one that waits for the other
+-- server behind the line
 abbrev pub CommitsInTime : LineSentence
 CommitsInTime before next told state outcome after =
     AreTimely state.world outcome.told × IsTimelyIn state.world outcome.state.world.core.hand
 
 -- Which servers go down.
+
+abbrev pub other_server : Server → Server
+other_server A = B
+other_server B = A
 
 -- `crash` leaves both servers as they are, where it is refused, or it takes its own server down and no other one: that is active then
 abbrev pub CrashesOne : Line → (old new : Peers) → Type 0

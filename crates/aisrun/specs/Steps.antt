@@ -13,7 +13,7 @@ use Rattle.script_language.specs.Lines.{Spells}
 use Rattle.plain_service.specs.Setups.{Setup}
 use Rattle.cluster_events.specs.Lines.{Told}
 use Rattle.cluster_events.specs.Servers.{State}
-use Rattle.pair_cluster.specs.Peers.{Peers}
+use Rattle.group_cluster.specs.Seats.{Peers}
 use Rattle.cluster_core.specs.declared.world.World.{World}
 use Rattle.cluster_core.specs.Beginning.{Begun, HoldsNone}
 use Rattle.cluster_core.specs.Broken.{Broken}

@@ -8,7 +8,7 @@ use Rattle.cluster_facts.specs.Messages.{receipts_of, messages_in}
 use Rattle.cluster_facts.specs.Agents.{fed_of}
 use Rattle.cluster_facts.specs.World.{World as WorldOf}
 use Rattle.cluster_events.specs.Servers.{State}
-use Rattle.pair_cluster.specs.Peers.{Peers}
+use Rattle.group_cluster.specs.Seats.{Peers}
 use Rattle.service_laws.specs.Telling.{TellSends, callbacks_of}
 use Rattle.cluster_core.specs.declared.world.World.{World}
 use Rattle.cluster_core.specs.Broken.{Broken}

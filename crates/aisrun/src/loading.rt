@@ -9,7 +9,7 @@ ghost use Rattle.script_language.specs.Lines.{Spells};
 ghost use Rattle.script_language.specs.Scripts.{IsScriptOf};
 ghost use Rattle.load_script.specs.Texts.{load_text};
 ghost use Rattle.load_lines.specs.Lines.{closing_lines, first_lines, load_lines, opening_line, turn_lines, turns_lines};
-ghost use Rattle.pair_cluster.specs.Peers.{Peers};
+ghost use Rattle.group_cluster.specs.Seats.{Peers};
 ghost use Rattle.cluster_core.specs.Beginning.{Begins, Begun, HoldsNone, LeavesBroken};
 ghost use Rattle.cluster_core.specs.Playing.{IsEventLine};
 ghost use Rattle.cluster_core.specs.Worlds.{empty_world, HasState, Shows, view_of};

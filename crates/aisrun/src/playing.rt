@@ -4,7 +4,7 @@ ghost use Rattle.ais_values.specs.Causes.{RoseExactlyOn};
 ghost use Rattle.disk_model.specs.Disk.{Files};
 ghost use Rattle.plain_service.specs.Setups.{Setup};
 ghost use Rattle.cluster_events.specs.Servers.{State};
-ghost use Rattle.pair_cluster.specs.Peers.{Peers};
+ghost use Rattle.group_cluster.specs.Seats.{Peers};
 ghost use Rattle.script_language.specs.Lines.{Spells};
 ghost use Rattle.cluster_core.specs.Beginning.{Begun, HoldsNone};
 ghost use Rattle.cluster_core.specs.Playing.{IsEventLine};

@@ -14,6 +14,7 @@ use Rattle.stream_layout.specs.declared.deed.Deed.{Deed}
 use Rattle.script_lines.specs.declared.line.WellOptions.{WellOptions}
 use Rattle.script_lines.specs.declared.line.Line.{Line}
 use Rattle.script_lines.specs.declared.line.Line.TheVariants.{Cluster}
+use Rattle.script_lines.specs.declared.line.Server.TheVariants.{B}
 use Rattle.script_language.specs.Lines.{Spells}
 use Rattle.stream_config.specs.declared.attrs.StreamAttrs.{StreamAttrs}
 use Rattle.plain_service.specs.Setups.{Setup, CanBegin}
@@ -21,13 +22,12 @@ use Rattle.plain_service.specs.Storing.{opening_of}
 use Rattle.plain_service.proofs.FilesLaws.{files-open}
 use Rattle.service_laws.specs.PlainOf.{plain_of}
 use Rattle.service_core.specs.Beginning.{BeginsAs}
-use Rattle.cluster_facts.proofs.Keeping.{IsSound-start}
-use Rattle.pair_cluster.specs.Pair.{pair_start}
-use Rattle.pair_servers.specs.PairNodes.{standby_by}
+use Rattle.group_cluster.proofs.Running.{start-steady}
+use Rattle.group_servers.specs.GroupNodes.{standby_by}
 use Rattle.mirror.specs.declared.node.Node.{Node}
 use Rattle.cluster_clients.specs.declared.answer.EventAnswer.{EventAnswer}
 use Rattle.cluster_core.specs.declared.world.World.{World}
-use Rattle.cluster_core.specs.Worlds.{Shows, IsGood, LeavesFiles, view_of}
+use Rattle.cluster_core.specs.Worlds.{Shows, IsGood, LeavesFiles, pair_start, view_of}
 use Rattle.cluster_core.specs.Beginning.{Begins, HoldsNone, Begun, LeavesBroken}
 use Rattle.cluster_core.specs.Starting.{active_at, wells_of, world_of, broken_by, StartsBoth, StartsWorld}
 use Rattle.cluster_core.proofs.BeginSpelled.{spelled-begins}
@@ -35,7 +35,7 @@ use Rattle.cluster_core.proofs.BeginSpelled.{spelled-begins}
 good-start : (setup : Setup) (places : ℕ) → CanBegin setup → IsGood setup (pair_start setup.start places)
 good-start setup places begins = record {
   begins = begins;
-  steady = record { sound = IsSound-start (plain_of setup) setup.start places; good = record { agree = tt; armed = tt } };
+  steady = start-steady (plain_of setup) (B ∷ []) refl setup.start places;
   range = tt;
   moment = begins.start;
 }
@@ -105,15 +105,15 @@ begins-as one start queue callbacks alarm ntf sys wells is attributes raw spelle
     }
 
 -- and the world at the start
-pub starts-world : (one : Line) (start : ℤ) (queue callbacks : ℕ) (alarm ntf sys : WellOptions) (active partner : Node) (deeds : List Deed) (world : World) → one ≡ Cluster start queue callbacks alarm ntf sys → world ≡ world_of active partner start callbacks
-    → (setup : Setup) (places : ℕ) → Begins one setup places → StartsBoth setup active partner deeds → StartsWorld setup places world deeds
-starts-world one start queue callbacks alarm ntf sys active partner deeds world is made setup places begins starts =
+pub starts-world : (one : Line) (start : ℤ) (queue callbacks : ℕ) (alarm ntf sys : WellOptions) (active standby : Node) (deeds : List Deed) (world : World) → one ≡ Cluster start queue callbacks alarm ntf sys → world ≡ world_of active standby start callbacks
+    → (setup : Setup) (places : ℕ) → Begins one setup places → StartsBoth setup active standby deeds → StartsWorld setup places world deeds
+starts-world one start queue callbacks alarm ntf sys active standby deeds world is made setup places begins starts =
     let tells : Begins (Cluster start queue callbacks alarm ntf sys) setup places = subst (λ l. Begins l setup places) is begins in
-    let standby = standby_by setup [] false in (
+    let first = standby_by setup [] false in (
       made
-          ∙ ap (λ a. world_of a partner start callbacks) starts.0
+          ∙ ap (λ a. world_of a standby start callbacks) starts.0
           ∙ ap (λ b. world_of (active_at setup) b start callbacks) starts.1
-          ∙ ap (λ now. world_of (active_at setup) standby now callbacks) (sym (ap (λ (s : Setup). s.start) tells.0))
-          ∙ ap (λ n. world_of (active_at setup) standby setup.start n) (sym tells.1),
+          ∙ ap (λ now. world_of (active_at setup) first now callbacks) (sym (ap (λ (s : Setup). s.start) tells.0))
+          ∙ ap (λ n. world_of (active_at setup) first setup.start n) (sym tells.1),
       starts.2,
     )

@@ -1,5 +1,5 @@
 -- An event of a world is one of its parts.
-use Rattle.std.proofs.Common.{◌≡◌, ℕ, Bool, List, [], ◌++◌, refl, ap, sym, ◌∙◌, subst}
+use Rattle.std.proofs.Common.{◌≡◌, ℕ, List, [], ◌++◌, refl, ap, sym, ◌∙◌, subst}
 use Rattle.std.specs.Prelude.{ℤ}
 use Rattle.disk_model.specs.Seen.{DiskSeen}
 use Rattle.disk_model.specs.declared.answers.DiskAnswer.TheVariants.{Memory, Failed, Stopped}
@@ -7,75 +7,86 @@ use Rattle.script_lines.specs.declared.line.Line.{Line}
 use Rattle.script_lines.specs.declared.line.Line.TheVariants as line
 use Rattle.script_lines.specs.declared.line.Server.{Server}
 use Rattle.script_lines.specs.declared.line.Server.TheVariants.{A, B}
+use Rattle.wire.specs.declared.message.Message.{Message}
 use Rattle.plain_service.specs.Setups.{Setup}
 use Rattle.cluster_facts.specs.Types.{Entry}
-use Rattle.cluster_facts.specs.History.{Hand, Empty, Waiting, Applied, Ready, committed_by}
+use Rattle.cluster_facts.specs.History.{Hand, Empty, Waiting, Applied, Ready}
 use Rattle.cluster_events.specs.Servers.{State}
 use Rattle.event_text.specs.Texts.{printed}
 use Rattle.mirror.specs.declared.node.Node.{Node}
-use Rattle.pair_cluster.specs.Peers.{Partner, Down, Owed, Linking, Standby, Peers}
+use Rattle.group_cluster.specs.Seats as defined
+use Rattle.group_cluster.specs.Seats.{Stance, Out, Owed, Linking, Standby, Peers}
 use Rattle.cluster_rounds.specs.declared.cluster.Cluster.{Cluster}
 use Rattle.cluster_rounds.specs.Broken as cluster
 use Rattle.cluster_rounds.specs.Worlds as clusters
 use Rattle.cluster_lines.specs.Lines.{CanPlay}
 use Rattle.cluster_lines.specs.Playing.{FaultLeaves as FaultLeavesParts, LineEnded, ShowFails}
-use Rattle.pair_servers.specs.declared.pair.Pair.{Pair}
-use Rattle.pair_servers.specs.PairKit.{pair_kit, pair_script}
-use Rattle.pair_servers.specs.PairNodes.{active_by, partner_by}
+use Rattle.group_servers.specs.declared.group.Seat.{Seat}
+use Rattle.group_servers.specs.declared.group.Group.{Group}
+use Rattle.group_servers.specs.GroupKit.{group_kit, group_script}
+use Rattle.group_servers.specs.GroupNodes.{active_by, node_by, seats_by}
 use Rattle.cluster_core.specs.declared.world.World.{World}
-use Rattle.cluster_core.specs.Worlds.{HasState, Shows, named, parts_of, unnamed, view_of}
+use Rattle.cluster_core.specs.Worlds.{HasState, IsGood, Shows, named, parts_of, seats_beside, unnamed, view_of}
 use Rattle.cluster_core.specs.Broken.{Broken, BreaksOn, files_alone}
 use Rattle.cluster_core.specs.Playing.{DoesEvent, EndsEvent, FaultLeaves, IsEventLine}
-use Rattle.cluster_core.specs.Parts.{BreaksWhole, PlaysWhole, acting_as, acting_in, whole_of}
+use Rattle.cluster_core.specs.Parts.{BreaksWhole, PlaysWhole, acting_as, acting_in, other_seat, whole_of}
+use Rattle.cluster_core.proofs.TwoSeats.{AreBeside, fallen-beside, shown-beside, two-good, two_beside}
 
 -- Who is active.
 
-partner-acts : (setup : Setup) (history : List Entry) (keeps : Bool) (partner : Partner) → acting_as (partner_by setup history keeps partner).replica.role ≡ A
-partner-acts setup history keeps Down = refl
-partner-acts setup history keeps Owed = refl
-partner-acts setup history keeps Linking = refl
-partner-acts setup history keeps (Standby on_way) = refl
+other-acts : (setup : Setup) (past : List Entry) (hand : Hand) (stance : Stance) → acting_as (node_by setup past hand stance).replica.role ≡ A
+other-acts setup past hand Out = refl
+other-acts setup past hand Owed = refl
+other-acts setup past hand (Linking sent) = refl
+other-acts setup past hand (Standby on_way mark keeps) = refl
 
-active-acts : (setup : Setup) (past : List Entry) (hand : Hand) (partner : Partner) → acting_as (active_by setup past hand partner).replica.role ≡ B
-active-acts setup past Empty partner = refl
-active-acts setup past (Waiting entry) partner = refl
-active-acts setup past (Applied entry) partner = refl
-active-acts setup past (Ready entry) partner = refl
+active-acts : (setup : Setup) (past : List Entry) (hand : Hand) (seats : List defined.Seat) → acting_as (active_by setup past hand seats).replica.role ≡ B
+active-acts setup past Empty seats = refl
+active-acts setup past (Waiting entry) seats = refl
+active-acts setup past (Applied entry) seats = refl
+active-acts setup past (Ready entry) seats = refl
 
-acts-by : (acting : Server) (setup : Setup) (past : List Entry) (hand : Hand) (partner : Partner) (keeps : Bool) (a b : Node) → named acting a b ≡ active_by setup past hand partner → unnamed acting a b ≡ partner_by setup (committed_by past hand) keeps partner → acting_as b.replica.role ≡ acting
-acts-by A setup past hand partner keeps a b active other = ap (λ (node : Node). acting_as node.replica.role) other ∙ partner-acts setup (committed_by past hand) keeps partner
-acts-by B setup past hand partner keeps a b active other = ap (λ (node : Node). acting_as node.replica.role) active ∙ active-acts setup past hand partner
+acts-by : (acting : Server) (setup : Setup) (past : List Entry) (hand : Hand) (seats : List defined.Seat) (stance : Stance) (a b : Node) (link back : List Message) → named acting a b ≡ active_by setup past hand seats → seats_beside acting (unnamed acting a b) link back ≡ seats_by setup past hand (two_beside acting stance) → acting_as b.replica.role ≡ acting
+acts-by A setup past hand seats stance a b link back active others = ap (λ (s : List Seat). acting_as (other_seat A s).node.replica.role) others ∙ other-acts setup past hand stance
+acts-by B setup past hand seats stance a b link back active others = ap (λ (node : Node). acting_as node.replica.role) active ∙ active-acts setup past hand seats
 
--- **the active server of a world is that of each state that it stands for**
-acts : (setup : Setup) (state : State Peers) (world : World) → Shows setup state world → acting_in world ≡ state.peers.acting
-acts setup state world shows =
-    acts-by state.peers.acting setup state.world.core.answered state.world.core.hand state.peers.partner state.peers.keeps world.a world.b
-    (ap (λ (servers : Pair). servers.active) shows.own) (ap (λ (servers : Pair). servers.partner) shows.own)
+-- **the active server of a world is that of each good state that it stands for**
+acts : (setup : Setup) (state : State Peers) (world : World) → IsGood setup state → Shows setup state world → acting_in world ≡ state.peers.acting
+acts setup state world good shows =
+    let core = state.world.core in
+    let two = two-good state good.steady.good in
+    acts-by state.peers.acting setup core.answered core.hand state.peers.seats two.stance world.a world.b world.link world.back
+    (ap (λ (servers : Group 2). servers.active) shows.own)
+    (ap (λ (servers : Group 2). servers.seats) shows.own ∙ ap (seats_by setup core.answered core.hand) two.is)
 
-parts-show : (setup : Setup) (state : State Peers) (world : World) → Shows setup state world → (clusters.Shows pair_kit) setup state (parts_of (acting_in world) world)
-parts-show setup state world shows =
-    subst (λ (acting : Server). (clusters.Shows pair_kit) setup state (parts_of acting world)) (sym (acts setup state world shows)) shows
+parts-show : (setup : Setup) (state : State Peers) (world : World) → IsGood setup state → Shows setup state world → (clusters.Shows (group_kit 2)) setup state (parts_of (acting_in world) world)
+parts-show setup state world good shows =
+    subst (λ (acting : Server). (clusters.Shows (group_kit 2)) setup state (parts_of acting world)) (sym (acts setup state world good shows)) shows
 
--- a world of parts, taken apart by who is active in them, is these parts
-parts-by : (acting : Server) (parts : Cluster Pair) → parts_of acting (whole_of (record parts { servers = record parts.servers { acting = acting } })) ≡ record parts { servers = record parts.servers { acting = acting } }
-parts-by A parts = refl
-parts-by B parts = refl
+-- a world of parts, taken apart by who is active in them, is these parts, where the active server's own seat is empty
+parts-by : (acting : Server) (other : Node) (link back : List Message) (parts : Cluster (Group 2)) → parts_of acting (whole_of (record parts { servers = record parts.servers { acting = acting; seats = seats_beside acting other link back } })) ≡ record parts { servers = record parts.servers { acting = acting; seats = seats_beside acting other link back } }
+parts-by A other link back parts = refl
+parts-by B other link back parts = refl
 
-parts-back : (parts : Cluster Pair) → parts_of parts.servers.acting (whole_of parts) ≡ parts
-parts-back parts = parts-by parts.servers.acting parts
+parts-back : (parts : Cluster (Group 2)) → AreBeside parts.servers.acting parts.servers.seats → parts_of parts.servers.acting (whole_of parts) ≡ parts
+parts-back parts beside =
+    let with_seats : List Seat → Cluster (Group 2) = λ seats. record parts { servers = record parts.servers { seats = seats } } in
+    subst (λ (seats : List Seat). parts_of parts.servers.acting (whole_of (with_seats seats)) ≡ with_seats seats) (sym beside.is)
+    (parts-by parts.servers.acting beside.other beside.link beside.back parts)
 
-whole-shows : (setup : Setup) (state : State Peers) (parts : Cluster Pair) (world : World) → world ≡ whole_of parts → (clusters.Shows pair_kit) setup state parts → Shows setup state world
-whole-shows setup state parts world is shows =
-    let same : parts.servers.acting ≡ state.peers.acting = ap (λ (servers : Pair). servers.acting) shows.own in
-    let back : parts_of state.peers.acting (whole_of parts) ≡ parts = ap (λ acting. parts_of acting (whole_of parts)) (sym same) ∙ parts-back parts in
-    subst (λ (w : World). Shows setup state w) (sym is) (subst (λ (p : Cluster Pair). (clusters.Shows pair_kit) setup state p) (sym back) shows)
+whole-shows : (setup : Setup) (state : State Peers) (parts : Cluster (Group 2)) (world : World) → world ≡ whole_of parts → IsGood setup state → (clusters.Shows (group_kit 2)) setup state parts → Shows setup state world
+whole-shows setup state parts world is good shows =
+    let same : parts.servers.acting ≡ state.peers.acting = ap (λ (servers : Group 2). servers.acting) shows.own in
+    let beside = shown-beside setup state parts.servers good.steady.good shows.own in
+    let back : parts_of state.peers.acting (whole_of parts) ≡ parts = ap (λ acting. parts_of acting (whole_of parts)) (sym same) ∙ parts-back parts beside in
+    subst (λ (w : World). Shows setup state w) (sym is) (subst (λ (p : Cluster (Group 2)). (clusters.Shows (group_kit 2)) setup state p) (sym back) shows)
 
 -- What a call of the parts asks for.
 
-pub parts-stand : (old : World) (held : DiskSeen) → HasState old held.tally.armed → (clusters.HasStateOn pair_kit) clusters.any_state (parts_of (acting_in old) old) held
-parts-stand old held has = record { setup = has.setup; state = has.state; good = has.good; shows = parts-show has.setup has.state old has.shows; count = has.count; so = tt }
+pub parts-stand : (old : World) (held : DiskSeen) → HasState old held.tally.armed → (clusters.HasStateOn (group_kit 2)) clusters.any_state (parts_of (acting_in old) old) held
+parts-stand old held has = record { setup = has.setup; state = has.state; good = has.good; shows = parts-show has.setup has.state old has.good has.shows; count = has.count; so = tt }
 
-pub can-play : (now : ℤ) (next : Line) → IsEventLine now next → CanPlay pair_script now next
+pub can-play : (now : ℤ) (next : Line) → IsEventLine now next → CanPlay group_script now next
 can-play now (line.Cluster start queue callbacks alarm ntf sys) can = can
 can-play now (line.Time later) can = can
 can-play now _ can = tt
@@ -84,7 +95,7 @@ can-play now _ can = tt
 pub does-event : (next : Line) (old new : World) (before after lines : List (List ℕ)) (held left : DiskSeen) → before ≡ [] → lines ≡ after → PlaysWhole next old new before after held left → DoesEvent next lines old new (view_of held) (view_of left)
 does-event next old new before after lines held left none same whole setup state good shows armed tells =
     let parts = whole.0 in
-    let done = whole.2 setup state good (parts-show setup state old shows) armed tells in
+    let done = whole.2 setup state good (parts-show setup state old good shows) armed tells in
     record {
       outcome = done.outcome;
       done = record {
@@ -95,7 +106,7 @@ does-event next old new before after lines held left none same whole setup state
         felled = done.uses.felled;
       };
       good = done.is.1;
-      shows = whole-shows setup done.outcome.state parts new whole.1 done.is.0;
+      shows = whole-shows setup done.outcome.state parts new whole.1 done.is.1 done.is.0;
       armed = done.count;
       text = same ∙ done.is.2 ∙ ap (λ (front : List (List ℕ)). front ++ printed done.outcome.told) none;
       files = done.files;
@@ -103,7 +114,7 @@ does-event next old new before after lines held left none same whole setup state
 
 -- **what a line left the parts as it left the world as**
 
-parts-broken : (acting : Server) (setup : Setup) (state : State Peers) (held left : DiskSeen) (parts : Cluster Pair) → (cluster.Broken pair_kit) setup state held left parts → (cluster.Broken pair_kit) setup state (files_alone held.files) (files_alone left.files) (parts_of acting (whole_of parts))
+parts-broken : (acting : Server) (setup : Setup) (state : State Peers) (held left : DiskSeen) (parts : Cluster (Group 2)) → (cluster.Broken (group_kit 2)) setup state held left parts → (cluster.Broken (group_kit 2)) setup state (files_alone held.files) (files_alone left.files) (parts_of acting (whole_of parts))
 parts-broken acting setup state held left parts broken = record {
   rest = broken.rest;
   unseen = broken.unseen;
@@ -124,20 +135,20 @@ parts-broken acting setup state held left parts broken = record {
 pub lacks-event : (next : Line) (old new : World) (before after : List (List ℕ)) (held left : DiskSeen) → BreaksWhole Memory next old new before after held left → BreaksOn old new (view_of held) (view_of left)
 lacks-event next old new before after held left whole setup state good shows armed =
     let parts = whole.0 in
-    let broken = whole.2 setup state good (parts-show setup state old shows) armed in
+    let broken = whole.2 setup state good (parts-show setup state old good shows) armed in
     subst (λ (w : World). Broken setup state held.files left.files w) (sym whole.1) (parts-broken state.peers.acting setup state held left parts broken.0)
 
 -- no event of a state ends as the disk stops
 pub stops-event : (next : Line) (old new : World) (before after : List (List ℕ)) (held left : DiskSeen) → BreaksWhole Stopped next old new before after held left → BreaksOn old new (view_of held) (view_of left)
 stops-event next old new before after held left whole setup state good shows armed =
-    absurd (whole.2 setup state good (parts-show setup state old shows) armed)
+    absurd (whole.2 setup state good (parts-show setup state old good shows) armed)
 
 -- a line that ended
-ends-event : (next : Line) (old new : World) (parts : Cluster Pair) (before after : List (List ℕ)) (held left : DiskSeen) → new ≡ whole_of parts → ((setup : Setup) (state : State Peers) → (clusters.IsGood pair_kit) setup state → (clusters.Shows pair_kit) setup state (parts_of (acting_in old) old) → pair_kit.Armed state.peers held → (LineEnded pair_kit pair_script) setup state next parts before after held left) → EndsEvent next old new before after (view_of held) (view_of left)
+ends-event : (next : Line) (old new : World) (parts : Cluster (Group 2)) (before after : List (List ℕ)) (held left : DiskSeen) → new ≡ whole_of parts → ((setup : Setup) (state : State Peers) → (clusters.IsGood (group_kit 2)) setup state → (clusters.Shows (group_kit 2)) setup state (parts_of (acting_in old) old) → (group_kit 2).Armed state.peers held → (LineEnded (group_kit 2) group_script) setup state next parts before after held left) → EndsEvent next old new before after (view_of held) (view_of left)
 ends-event next old new parts before after held left is ends setup state good shows armed =
-    let ended = ends setup state good (parts-show setup state old shows) armed in
+    let ended = ends setup state good (parts-show setup state old good shows) armed in
     let acting = ended.end.state.peers.acting in
-    let back : parts_of acting (whole_of parts) ≡ parts = ap (λ one. parts_of one (whole_of parts)) (sym ended.fell.acting) ∙ parts-back parts in
+    let back : parts_of acting (whole_of parts) ≡ parts = ap (λ one. parts_of one (whole_of parts)) (sym ended.fell.acting) ∙ parts-back parts (fallen-beside setup ended.end.state parts.servers ended.good.steady.good ended.fell.acting ended.fell.seats) in
     let E : World → Type 0 = λ world. Rattle.cluster_core.specs.Broken.EventEnded setup state next ended.end.told (view_of held) (view_of left) world in (
       ended.end.told,
       subst E (sym is) (record {
@@ -152,7 +163,7 @@ ends-event next old new parts before after held left is ends setup state good sh
         rose = ended.faults.rose;
         good = ended.good;
         shows = record {
-          fell = subst (λ (p : Cluster Pair). pair_kit.Fell setup ended.end.state p.servers left) (sym back) ended.fell;
+          fell = subst (λ (p : Cluster (Group 2)). (group_kit 2).Fell setup ended.end.state p.servers left) (sym back) ended.fell;
           net = ended.net;
           agents = ended.agents;
           history = ended.history;
@@ -173,7 +184,7 @@ same-whole old = by (acting_in old)
     by B = refl
 
 -- files that were to be shown were only read
-shown-same : (held left : DiskSeen) → (ShowFails pair_kit pair_script) held left → (left.files ≡ held.files) × (left.tally.armed ≡ held.tally.armed)
+shown-same : (held left : DiskSeen) → (ShowFails (group_kit 2) group_script) held left → (left.files ≡ held.files) × (left.tally.armed ≡ held.tally.armed)
 shown-same held left shows =
     let is = shows.held_is in
     let now = shows.left_is in (
@@ -181,7 +192,7 @@ shown-same held left shows =
       (λ i. (now i).tally.armed) ∙ shows.read.armed ∙ sym (λ i. (is i).tally.armed),
     )
 
-fault-leaves : (next : Line) (old new : World) (parts : Cluster Pair) (before after : List (List ℕ)) (held left : DiskSeen) → new ≡ whole_of parts → (FaultLeavesParts pair_kit pair_script) next (parts_of (acting_in old) old) parts before after held left → FaultLeaves next old new before after (view_of held) (view_of left)
+fault-leaves : (next : Line) (old new : World) (parts : Cluster (Group 2)) (before after : List (List ℕ)) (held left : DiskSeen) → new ≡ whole_of parts → (FaultLeavesParts (group_kit 2) group_script) next (parts_of (acting_in old) old) parts before after held left → FaultLeaves next old new before after (view_of held) (view_of left)
 fault-leaves line.Files old new parts before after held left is same =
     let shown = shown-same held left same.2 in
     (is ∙ ap whole_of same.0 ∙ same-whole old, same.1, shown.0, shown.1)

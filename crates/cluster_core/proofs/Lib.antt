@@ -1,3 +1,4 @@
+pub mod TwoSeats
 mod EventSteps
 mod BeginSteps
 mod BeginSpelled

@@ -9,11 +9,10 @@ use Rattle.script_lines.specs.declared.line.Line.TheVariants.{Cluster}
 use Rattle.script_language.specs.Streams.{well_attrs}
 use Rattle.plain_service.specs.Setups.{Setup}
 use Rattle.plain_service.specs.Storing.{opening_of}
-use Rattle.pair_cluster.specs.Pair.{pair_start}
 use Rattle.cluster_core.specs.declared.world.World.{World}
 use Rattle.cluster_clients.specs.declared.answer.EventAnswer.{EventAnswer}
 use Rattle.cluster_clients.specs.declared.answer.EventAnswer.TheVariants.{Memory, DiskFault}
-use Rattle.cluster_core.specs.Worlds.{DiskView, Shows, IsGood, LeavesFiles}
+use Rattle.cluster_core.specs.Worlds.{DiskView, Shows, IsGood, LeavesFiles, pair_start}
 
 -- a cluster line tells this setup, and how many callbacks each agent's queue holds; no other line tells one
 abbrev pub Begins : Line → Setup → ℕ → Type 0

@@ -11,14 +11,14 @@ use Rattle.cluster_events.specs.Lines.{Told}
 use Rattle.cluster_events.specs.Outcomes.{Outcome}
 use Rattle.cluster_events.specs.Servers.{State}
 use Rattle.cluster_events.specs.Devices.{IsCaused}
-use Rattle.pair_cluster.specs.Peers.{Peers}
-use Rattle.pair_cluster.specs.Ended.{PairEnds}
+use Rattle.group_cluster.specs.Seats.{Peers}
+use Rattle.group_cluster.specs.Ended.{GroupEnds}
 use Rattle.cluster_clients.specs.Spelled.{AreSpelled}
 use Rattle.cluster_clients.specs.Clients.{ShowsAgents}
 use Rattle.cluster_rounds.specs.Kits.{device_by}
 use Rattle.cluster_rounds.specs.Broken as cluster
 pub use Rattle.cluster_rounds.specs.Broken.{LeavesBetween}
-use Rattle.pair_servers.specs.PairKit.{FellPair, pair_kit}
+use Rattle.group_servers.specs.GroupKit.{FellGroup, group_kit}
 use Rattle.cluster_core.specs.declared.world.World.{World}
 use Rattle.cluster_core.specs.Worlds.{DiskView, parts_of, IsArmedBy, IsGood, Shows, TellsFiles}
 
@@ -29,7 +29,7 @@ files_alone files = record none_seen { files = files }
 -- an event broke off for want of memory, and left the parts of the world so
 abbrev pub Broken : Setup → State Peers → Option Files → Option Files → World → Type 0
 Broken setup state held left world =
-    cluster.Broken pair_kit setup state (files_alone held) (files_alone left) (parts_of state.peers.acting world)
+    cluster.Broken (group_kit 2) setup state (files_alone held) (files_alone left) (parts_of state.peers.acting world)
 
 -- so it is over each good state that the world and the disk stood for
 abbrev pub BreaksOn : World → World → DiskView → DiskView → Type 0
@@ -39,7 +39,7 @@ BreaksOn old new held left =
 
 -- what the world is once no server is active: the servers fell, and all else is that of the state
 pub record ShowsEnd (setup : Setup) (state : State Peers) (armed : Option ℕ) (world : World) : Type 0 where
-  pub fell : FellPair setup state (parts_of state.peers.acting world).servers armed
+  pub fell : FellGroup setup state (parts_of state.peers.acting world).servers armed
   pub net : AreSpelled state.world.net world.net
   pub agents : ShowsAgents state.world world.agents
   pub history : world.history.entries ≡ committed state.world.core
@@ -52,7 +52,7 @@ pub record ShowsEnd (setup : Setup) (state : State Peers) (armed : Option ℕ) (
 pub record EventEnded (setup : Setup) (state : State Peers) (next : Line) (told : List Told) (held left : DiskView) (world : World) : Type 0 where
   pub happened : ℕ → ℕ
   pub end : Outcome (State Peers)
-  pub ends : PairEnds (plain_of setup) (device_by setup happened) next state end
+  pub ends : GroupEnds (plain_of setup) (device_by setup happened) next state end
   pub printed : told ≡ end.told
   pub between : ℕ
   pub before_it : held.faults ≤ between

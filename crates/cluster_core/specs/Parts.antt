@@ -1,5 +1,5 @@
 -- Words of bodies alone: a world that is taken apart by who is active, and put together again.
-use Rattle.std.specs.Prelude.{◌≡◌, ℕ, List}
+use Rattle.std.specs.Prelude.{◌≡◌, ℕ, List, ◌∷◌}
 use Rattle.disk_model.specs.Seen.{DiskSeen}
 use Rattle.disk_model.specs.declared.answers.DiskAnswer.{DiskAnswer}
 use Rattle.script_lines.specs.declared.line.Line.{Line}
@@ -9,10 +9,11 @@ use Rattle.mirror.specs.declared.heard.Role.{Role}
 use Rattle.mirror.specs.declared.heard.Role.TheVariants.{Active}
 use Rattle.cluster_rounds.specs.declared.cluster.Cluster.{Cluster}
 use Rattle.cluster_lines.specs.Playing.{BreaksOff, Plays}
-use Rattle.pair_servers.specs.declared.pair.Pair.{Pair}
-use Rattle.pair_servers.specs.PairKit.{pair_kit, pair_script}
+use Rattle.group_servers.specs.declared.group.Seat.{Seat}
+use Rattle.group_servers.specs.declared.group.Group.{Group}
+use Rattle.group_servers.specs.GroupKit.{group_kit, group_script}
 use Rattle.cluster_core.specs.declared.world.World.{World}
-use Rattle.cluster_core.specs.Worlds.{named, parts_of, unnamed}
+use Rattle.cluster_core.specs.Worlds.{named, own_seat, parts_of, unnamed}
 
 -- `b` is active where it has that role, and `a` otherwise
 abbrev pub acting_as : Role → Server
@@ -22,27 +23,36 @@ acting_as _ = A
 abbrev pub acting_in : World → Server
 acting_in world = acting_as world.b.replica.role
 
+-- of two seats that of the server that is not the active one
+abbrev pub other_seat : Server → List Seat → Seat
+other_seat A (one ∷ other ∷ seats) = other
+other_seat B (one ∷ other ∷ seats) = one
+other_seat acting _ = own_seat acting
+
 -- the world of these parts
-abbrev pub whole_of : Cluster Pair → World
-whole_of parts = record {
-  a = named parts.servers.acting parts.servers.active parts.servers.partner;
-  b = unnamed parts.servers.acting parts.servers.active parts.servers.partner;
-  link = parts.servers.link;
-  back = parts.servers.back;
-  net = parts.net;
-  agents = parts.agents;
-  history = parts.history;
-  now = parts.now;
-  armed = parts.servers.armed;
-  callbacks = parts.callbacks;
-}
+abbrev pub whole_of : Cluster (Group 2) → World
+whole_of parts =
+    let servers = parts.servers in
+    let other = other_seat servers.acting servers.seats in
+    record {
+      a = named servers.acting servers.active other.node;
+      b = unnamed servers.acting servers.active other.node;
+      link = other.link;
+      back = other.back;
+      net = parts.net;
+      agents = parts.agents;
+      history = parts.history;
+      now = parts.now;
+      armed = servers.armed;
+      callbacks = parts.callbacks;
+    }
 
 -- what a line led to, or left that was not done, by the parts that the world was and is made of
 abbrev pub PlaysWhole : Line → World → World → List (List ℕ) → List (List ℕ) → DiskSeen → DiskSeen → Type 0
 PlaysWhole next old new before after held left =
-    (parts : Cluster Pair) × (new ≡ whole_of parts) × Plays pair_kit pair_script next (parts_of (acting_in old) old) parts before after held left
+    (parts : Cluster (Group 2)) × (new ≡ whole_of parts) × Plays (group_kit 2) group_script next (parts_of (acting_in old) old) parts before after held left
 
 abbrev pub BreaksWhole : DiskAnswer → Line → World → World → List (List ℕ) → List (List ℕ) → DiskSeen → DiskSeen → Type 0
 BreaksWhole answer next old new before after held left =
-    (parts : Cluster Pair) × (new ≡ whole_of parts)
-    × BreaksOff pair_kit pair_script answer next (parts_of (acting_in old) old) parts before after held left
+    (parts : Cluster (Group 2)) × (new ≡ whole_of parts)
+    × BreaksOff (group_kit 2) group_script answer next (parts_of (acting_in old) old) parts before after held left

@@ -12,14 +12,14 @@ use Rattle.cluster_events.specs.Outcomes.{Outcome}
 use Rattle.cluster_events.specs.Servers.{State}
 use Rattle.cluster_events.specs.Running.{Shelf}
 use Rattle.event_text.specs.Texts.{printed}
-use Rattle.pair_cluster.specs.Peers.{Peers}
-use Rattle.pair_cluster.specs.Running.{PairStep}
+use Rattle.group_cluster.specs.Seats.{Peers}
+use Rattle.group_cluster.specs.Running.{GroupStep}
 use Rattle.cluster_clients.specs.declared.answer.EventAnswer.{EventAnswer}
 use Rattle.cluster_clients.specs.declared.answer.EventAnswer.TheVariants.{Memory, DiskFault}
 use Rattle.cluster_rounds.specs.Kits.{device_by}
 use Rattle.cluster_core.specs.declared.world.World.{World}
 use Rattle.cluster_core.specs.Broken.{BreaksOn, EventEnded}
-use Rattle.pair_servers.specs.PairCounts.{FellIn}
+use Rattle.group_servers.specs.GroupCounts.{FellIn}
 use Rattle.cluster_lines.specs.Shelves.{shelf_of}
 use Rattle.cluster_core.specs.Worlds.{DiskView, IsArmedBy, IsGood, Shows, TellsFiles, LeavesFiles}
 
@@ -40,7 +40,7 @@ pub record LineDone (setup : Setup) (held : Option Files) (before : ℕ) (next :
     (after : ℕ) : Type 0 where
   pub shelf : Shelf
   pub shown : IfSome held (λ _. shelf ≡ shelf_of setup)
-  pub step : PairStep (plain_of setup) shelf (calls_by setup) before next state outcome after
+  pub step : GroupStep (plain_of setup) shelf (calls_by setup) before next state outcome after
   pub later : before ≤ after
   pub felled : FellIn next before after outcome.told
 

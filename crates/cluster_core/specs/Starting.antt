@@ -1,5 +1,5 @@
 -- Words of bodies alone: the steps of a start.
-use Rattle.std.specs.Prelude.{◌≡◌, ℕ, ℤ, false, None, List, [], ◌∷◌}
+use Rattle.std.specs.Prelude.{◌≡◌, ℕ, ℤ, false, List, [], ◌∷◌}
 use Rattle.ais_values.specs.declared.kind.StreamKind.TheVariants.{Alarm, Notification, System}
 use Rattle.calls.specs.History.{empty_history}
 use Rattle.stream_config.specs.declared.attrs.StreamAttrs.{StreamAttrs}
@@ -10,11 +10,11 @@ use Rattle.plain_service.specs.Setups.{Setup}
 use Rattle.plain_service.specs.Storing.{opening_of}
 use Rattle.mirror.specs.declared.node.Node.{Node}
 use Rattle.cluster_facts.specs.History.{Empty}
-use Rattle.pair_cluster.specs.Peers.{Standby}
-use Rattle.pair_servers.specs.PairNodes.{active_by, standby_by}
+use Rattle.group_servers.specs.GroupNodes.{active_by, standby_by}
 use Rattle.disk_model.specs.declared.answers.DiskAnswer.{DiskAnswer}
 use Rattle.disk_model.specs.declared.answers.DiskAnswer.TheVariants as answers
 use Rattle.cluster_core.specs.declared.world.World.{World}
+use Rattle.cluster_core.specs.Worlds.{pair_start}
 use Rattle.cluster_clients.specs.declared.answer.EventAnswer.{EventAnswer}
 use Rattle.cluster_clients.specs.declared.answer.EventAnswer.TheVariants.{Memory, DiskFault}
 
@@ -24,9 +24,9 @@ wells_of alarm ntf sys = well_attrs Alarm alarm ∷ well_attrs Notification ntf 
 
 -- a world in which nothing was posted, with these servers
 abbrev pub world_of : Node → Node → ℤ → ℕ → World
-world_of active partner start callbacks = record {
+world_of active standby start callbacks = record {
   a = active;
-  b = partner;
+  b = standby;
   link = [];
   back = [];
   net = [];
@@ -37,9 +37,9 @@ world_of active partner start callbacks = record {
   callbacks = callbacks;
 }
 
--- the active server at the start of a setup, tied to its partner
+-- the active server at the start of a setup, tied to the standby
 abbrev pub active_at : Setup → Node
-active_at setup = active_by setup [] Empty (Standby None)
+active_at setup = active_by setup [] Empty (pair_start setup.start 0).peers.seats
 
 -- it, and the deeds of the start
 abbrev pub Starts : Setup → Node → List Deed → Type 0
@@ -47,7 +47,7 @@ Starts setup active deeds = (active ≡ active_at setup) × (deeds ≡ opening_o
 
 -- both servers, and the deeds of the start
 abbrev pub StartsBoth : Setup → Node → Node → List Deed → Type 0
-StartsBoth setup active partner deeds = (active ≡ active_at setup) × (partner ≡ standby_by setup [] false) × (deeds ≡ opening_of setup)
+StartsBoth setup active standby deeds = (active ≡ active_at setup) × (standby ≡ standby_by setup [] false) × (deeds ≡ opening_of setup)
 
 -- the world at the start of a setup, and the deeds of the start
 abbrev pub StartsWorld : Setup → ℕ → World → List Deed → Type 0

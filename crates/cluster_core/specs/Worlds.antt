@@ -1,20 +1,24 @@
--- Words of public clauses: how a world of the code is a state of the definitions: its parts are a cluster of two servers.
-use Rattle.std.specs.Prelude.{◌≡◌, ℕ, pos, false, [], Option}
+-- Words of public clauses: how a world of the code is a state of the definitions: its parts are a cluster of a group of two.
+use Rattle.std.specs.Prelude.{◌≡◌, ℕ, ℤ, pos, false, List, [], ◌∷◌, Option}
 use Rattle.disk_model.specs.Disk.{Files}
 use Rattle.disk_model.specs.Seen.{DiskSeen}
 use Rattle.calls.specs.History.{empty_history}
 use Rattle.script_lines.specs.declared.line.Server.{Server}
 use Rattle.script_lines.specs.declared.line.Server.TheVariants.{A, B}
+use Rattle.wire.specs.declared.message.Message.{Message}
 use Rattle.plain_service.specs.Setups.{Setup}
 use Rattle.cluster_events.specs.Servers.{State}
-use Rattle.pair_cluster.specs.Peers.{Peers}
+use Rattle.group_cluster.specs.Seats.{Peers}
+use Rattle.group_cluster.specs.Group.{group_start}
+use Rattle.mirror.specs.declared.node.Node.{Node}
 use Rattle.mirror.specs.Replicas.{down}
 use Rattle.mirror.specs.Pairing.{alone}
 use Rattle.cluster_rounds.specs.declared.cluster.Cluster.{Cluster}
 use Rattle.cluster_rounds.specs.Worlds as cluster
 pub use Rattle.cluster_rounds.specs.Worlds.{TellsFiles, LeavesFiles}
-use Rattle.pair_servers.specs.declared.pair.Pair.{Pair}
-use Rattle.pair_servers.specs.PairKit.{pair_kit}
+use Rattle.group_servers.specs.declared.group.Seat.{Seat}
+use Rattle.group_servers.specs.declared.group.Group.{Group}
+use Rattle.group_servers.specs.GroupKit.{group_kit}
 use Rattle.cluster_core.specs.declared.world.World.{World}
 
 -- of `a` and `b` the one with this name, and the other one
@@ -26,15 +30,22 @@ abbrev pub unnamed : {T : Type 0} → Server → T → T → T
 unnamed A a b = b
 unnamed B a b = a
 
+-- the active server's own seat, in which one stands that is down
+abbrev pub own_seat : Server → Seat
+own_seat acting = record { server = acting; node = alone down; link = []; back = [] }
+
+-- the seats of two servers beside this active one: the other one's, with what is on the way to it and back, and its own
+abbrev pub seats_beside : Server → Node → List Message → List Message → List Seat
+seats_beside A other link back = own_seat A ∷ record { server = B; node = other; link = link; back = back } ∷ []
+seats_beside B other link back = record { server = A; node = other; link = link; back = back } ∷ own_seat B ∷ []
+
 -- a world taken apart, with this server as the active one
-abbrev pub parts_of : Server → World → Cluster Pair
+abbrev pub parts_of : Server → World → Cluster (Group 2)
 parts_of acting world = record {
   servers = record {
     acting = acting;
     active = named acting world.a world.b;
-    partner = unnamed acting world.a world.b;
-    link = world.link;
-    back = world.back;
+    seats = seats_beside acting (unnamed acting world.a world.b) world.link world.back;
     armed = world.armed;
   };
   net = world.net;
@@ -44,15 +55,15 @@ parts_of acting world = record {
   callbacks = world.callbacks;
 }
 
--- the world of the code stands for a state of the definitions: which server is active, what its partner is, what is on the way between
+-- the world of the code stands for a state of the definitions: which server is active, what the other one is, what is on the way between
 -- them, and that the active one is armed are those of the state
 abbrev pub Shows : Setup → State Peers → World → Type 0
-Shows setup state world = cluster.Shows pair_kit setup state (parts_of state.peers.acting world)
+Shows setup state world = cluster.Shows (group_kit 2) setup state (parts_of state.peers.acting world)
 
--- what holds of the state at all times: the facts of agents, net and history, those of two servers, and that clients, times and numbers
+-- what holds of the state at all times: the facts of agents, net and history, those of a group, and that clients, times and numbers
 -- are in range
 abbrev pub IsGood : Setup → State Peers → Type 0
-IsGood setup state = cluster.IsGood pair_kit setup state
+IsGood setup state = cluster.IsGood (group_kit 2) setup state
 
 -- what a run follows of a disk: its files, where it tells them; the changing calls that are left until it stops, where it is armed; and its
 -- count of faults
@@ -75,6 +86,10 @@ pub record HasState (world : World) (armed : Option ℕ) : Type 0 where
   pub good : IsGood setup state
   pub shows : Shows setup state world
   pub count : IsArmedBy state armed
+
+-- the start of a run: `a` is active, `b` standby
+abbrev pub pair_start : ℤ → ℕ → State Peers
+pair_start now places = group_start (B ∷ []) now places
 
 -- A world before its first line.
 abbrev pub empty_world : World

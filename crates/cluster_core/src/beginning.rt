@@ -7,7 +7,7 @@ ghost use Rattle.service_core.specs.Beginning.{BeginsAs, CanBeginAs};
 ghost use Rattle.cluster_core.specs.Worlds.{empty_world, view_of};
 ghost use Rattle.cluster_clients.specs.Answers.{RisesAtFault};
 ghost use Rattle.cluster_core.specs.Beginning.{Begins, HoldsNone, Begun, LeavesBroken};
-ghost use Rattle.pair_servers.specs.PairNodes.{standby_by};
+ghost use Rattle.group_servers.specs.GroupNodes.{standby_by};
 ghost use Rattle.cluster_core.specs.Starting.{wells_of, world_of, Starts, StartsBoth, StartsWorld, broken_by};
 
 use crate::World;
@@ -42,8 +42,8 @@ fn wells_of(
     Ok(wells)
 }
 
-/// The active server at the start, tied to its partner, and the deeds of the start. What it would send the partner is left out, since
-/// that one begins with the same.
+/// The active server at the start, tied to the standby, and the deeds of the start. What it would send that one is left out, since
+/// it begins with the same.
 fn start_active(
     alloc: Global,
     start: i64,
@@ -108,7 +108,7 @@ fn start_both(
 {
     match start_active(alloc, start, queue, wells) {
         Ok((active, deeds)) => match start_standby(alloc, start, queue, same) {
-            Ok(partner) => Ok((active, partner, deeds)),
+            Ok(standby) => Ok((active, standby, deeds)),
             Err(error) => {
                 mem::drop(active);
                 mem::drop(deeds);
@@ -123,12 +123,12 @@ fn start_both(
 }
 
 /// A world in which nothing was posted, with these servers.
-fn world_of(alloc: Global, active: Node, partner: Node, start: i64, callbacks: u32) -> World
-    ensures { result ≡ world_of active partner start callbacks }
+fn world_of(alloc: Global, active: Node, standby: Node, start: i64, callbacks: u32) -> World
+    ensures { result ≡ world_of active standby start callbacks }
 {
     World {
         a: active,
-        b: partner,
+        b: standby,
         link: Seq::new(alloc),
         back: Seq::new(alloc),
         net: Net::new(alloc),
@@ -158,8 +158,8 @@ fn started(alloc: Global, line: &Line) -> Result<(World, Seq<Deed>), AllocError>
         } => {
             let wells = wells_of(alloc, alarm, ntf, sys)?;
             let same = wells_of(alloc, alarm, ntf, sys)?;
-            let (active, partner, deeds) = start_both(alloc, *time, *queue, wells, same)?;
-            Ok((world_of(alloc, active, partner, *time, *callbacks), deeds))
+            let (active, standby, deeds) = start_both(alloc, *time, *queue, wells, same)?;
+            Ok((world_of(alloc, active, standby, *time, *callbacks), deeds))
         }
         _ => Err(AllocError),
     }

@@ -4,10 +4,10 @@ ghost use Rattle.std.specs.Result.{is_ok};
 ghost use Rattle.cluster_lines.specs.Lines.{IsInRange};
 ghost use Rattle.cluster_rounds.specs.Counted.{Counted};
 ghost use Rattle.cluster_lines.specs.Playing.{LooksBy};
-ghost use Rattle.pair_servers.specs.PairKit.{pair_kit};
-ghost use Rattle.cluster_core.specs.Worlds.{named, unnamed, parts_of, HasState};
+ghost use Rattle.group_servers.specs.GroupKit.{group_kit};
+ghost use Rattle.cluster_core.specs.Worlds.{named, unnamed, own_seat, seats_beside, parts_of, HasState};
 ghost use Rattle.cluster_core.specs.Playing.{IsEventLine};
-ghost use Rattle.cluster_core.specs.Parts.{acting_in, whole_of, PlaysWhole, BreaksWhole};
+ghost use Rattle.cluster_core.specs.Parts.{acting_in, other_seat, whole_of, PlaysWhole, BreaksWhole};
 
 use crate::World;
 use ais_values::Seq;
@@ -16,14 +16,15 @@ use calls::History;
 use cluster_lines::play;
 use cluster_rounds::Cluster;
 use disk_model::{DiskAnswer, NoDisk, SharedDisk};
+use group_servers::{Group, Seat};
 use message_net::Net;
 use mirror::{Node, Role};
-use pair_servers::Pair;
 use script_lines::{Line, Server};
 use std::alloc::Global;
 use std::mem;
 use std::sync::Wait;
 use std::thread::Threads;
+use wire::Message;
 
 /// Which server is active: `b` where it has that role, and `a` otherwise.
 fn acting_in(world: &World) -> Server
@@ -45,20 +46,81 @@ fn in_order(acting: Server, a: Node, b: Node) -> (Node, Node)
     }
 }
 
+/// The active server's own seat, in which one stands that is down.
+fn own_seat(alloc: Global, acting: Server) -> Seat
+    ensures { result ≡ own_seat acting }
+{
+    Seat {
+        server: acting,
+        node: Node::down(alloc),
+        link: Seq::new(alloc),
+        back: Seq::new(alloc),
+    }
+}
+
+/// The seats of two servers beside the active one: the other one's, with what is on the way to it and back, and its own.
+fn seats_beside(
+    alloc: Global,
+    acting: Server,
+    other: Node,
+    link: Seq<Message>,
+    back: Seq<Message>,
+) -> [Seat; 2]
+    ensures { result ≡ seats_beside acting other link back }
+{
+    match acting {
+        Server::A => {
+            let seat = Seat {
+                server: Server::B,
+                node: other,
+                link,
+                back,
+            };
+            [own_seat(alloc, Server::A), seat]
+        }
+        Server::B => {
+            let seat = Seat {
+                server: Server::A,
+                node: other,
+                link,
+                back,
+            };
+            [seat, own_seat(alloc, Server::B)]
+        }
+    }
+}
+
+/// Of two seats that of the server that is not the active one.
+fn other_seat(acting: Server, seats: [Seat; 2]) -> Seat
+    ensures { result ≡ other_seat acting seats }
+{
+    let [one, other] = seats;
+    match acting {
+        Server::A => {
+            mem::drop(one);
+            other
+        }
+        Server::B => {
+            mem::drop(other);
+            one
+        }
+    }
+}
+
 /// Takes the parts out of a world.
-fn take_parts(alloc: Global, world: &mut World) -> Cluster<Pair>
+fn take_parts(alloc: Global, world: &mut World) -> Cluster<Group<2>>
     ensures { result ≡ parts_of (acting_in world.old) world.old }
 {
     let acting = acting_in(world);
     let a = mem::replace(&mut world.a, Node::down(alloc));
     let b = mem::replace(&mut world.b, Node::down(alloc));
-    let (active, partner) = in_order(acting, a, b);
-    let servers = Pair {
+    let (active, other) = in_order(acting, a, b);
+    let link = mem::replace(&mut world.link, Seq::new(alloc));
+    let back = mem::replace(&mut world.back, Seq::new(alloc));
+    let servers = Group {
         acting,
         active,
-        partner,
-        link: mem::replace(&mut world.link, Seq::new(alloc)),
-        back: mem::replace(&mut world.back, Seq::new(alloc)),
+        seats: seats_beside(alloc, acting, other, link, back),
         armed: world.armed,
     };
     Cluster {
@@ -72,7 +134,7 @@ fn take_parts(alloc: Global, world: &mut World) -> Cluster<Pair>
 }
 
 /// The world of these parts.
-fn put_parts(parts: Cluster<Pair>) -> World
+fn put_parts(parts: Cluster<Group<2>>) -> World
     ensures { result ≡ whole_of parts }
 {
     let Cluster {
@@ -83,15 +145,19 @@ fn put_parts(parts: Cluster<Pair>) -> World
         now,
         callbacks,
     } = parts;
-    let Pair {
+    let Group {
         acting,
         active,
-        partner,
-        link,
-        back,
+        seats,
         armed,
     } = servers;
-    let (a, b) = in_order(acting, active, partner);
+    let Seat {
+        server: _,
+        node,
+        link,
+        back,
+    } = other_seat(acting, seats);
+    let (a, b) = in_order(acting, active, node);
     World {
         a,
         b,
@@ -126,7 +192,7 @@ pub(crate) fn play_whole<R: Threads + Wait + Sync, D: SharedDisk, G: Gate>(
         lines.old.items lines.new.items
         (D.seen disk.old)
         (D.seen disk.new)) }
-    ensures counts { Counted pair_kit (D.seen disk.old) (D.seen disk.new) result }
+    ensures counts { Counted (group_kit 2) (D.seen disk.old) (D.seen disk.new) result }
     ensures looks { LooksBy line.now (D.seen disk.old).files (is_ok result) (D.seen disk.old).tally
         (D.seen disk.new).tally }
 {

@@ -1,20 +1,27 @@
 -- The start of a cluster of two servers of which one is down.
-use Rattle.std.specs.Prelude.{ℕ, ℤ, false, None, []}
+use Rattle.std.specs.Prelude.{ℕ, ℤ, false, None, List, [], ◌∷◌}
 use Rattle.calls.specs.History.{empty_history}
-use Rattle.script_lines.specs.declared.line.Server.TheVariants.{A}
+use Rattle.script_lines.specs.declared.line.Server.{Server}
+use Rattle.script_lines.specs.declared.line.Server.TheVariants.{A, B}
 use Rattle.cluster_facts.specs.World.{empty_world}
 use Rattle.cluster_events.specs.Servers.{State}
-use Rattle.pair_cluster.specs.Peers.{Down, Peers}
+use Rattle.group_cluster.specs.Seats as defined
+use Rattle.group_cluster.specs.Seats.{Out, Peers}
 use Rattle.mirror.specs.declared.node.Node.{Node}
 use Rattle.mirror.specs.Replicas.{down}
 use Rattle.mirror.specs.Pairing.{alone}
 use Rattle.cluster_rounds.specs.declared.cluster.Cluster.{Cluster}
-use Rattle.pair_servers.specs.declared.pair.Pair.{Pair}
+use Rattle.group_servers.specs.declared.group.Seat.{Seat}
+use Rattle.group_servers.specs.declared.group.Group.{Group}
+
+-- a server that is down
+abbrev pub seat_of : Server → Seat
+seat_of server = record { server = server; node = alone down; link = []; back = [] }
 
 -- a cluster in which nothing was posted: `a` is this server, and `b` is down
-abbrev pub cluster_of : Node → ℤ → ℕ → Cluster Pair
+abbrev pub cluster_of : Node → ℤ → ℕ → Cluster (Group 2)
 cluster_of active start callbacks = record {
-  servers = record { acting = A; active = active; partner = alone down; link = []; back = []; armed = false };
+  servers = record { acting = A; active = active; seats = seat_of A ∷ seat_of B ∷ []; armed = false };
   net = [];
   agents = [];
   history = empty_history;
@@ -23,6 +30,9 @@ cluster_of active start callbacks = record {
 }
 
 -- its state, where `a` is active
+abbrev pub seats_out : List defined.Seat
+seats_out = record { server = A; stance = Out } ∷ record { server = B; stance = Out } ∷ []
+
 abbrev pub state_of : ℤ → ℕ → State Peers
 state_of start callbacks =
-    record { world = empty_world start callbacks; peers = record { acting = A; partner = Down; keeps = false; armed = None } }
+    record { world = empty_world start callbacks; peers = record { acting = A; seats = seats_out; armed = None } }

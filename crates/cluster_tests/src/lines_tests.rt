@@ -4,8 +4,8 @@ ghost use Rattle.std.specs.Prelude.{◌≡◌, None, IfOk};
 ghost use Rattle.service_core.specs.Beginning.{CanBeginAs};
 ghost use Rattle.cluster_rounds.specs.Worlds.{HasStateOn, any_state};
 ghost use Rattle.cluster_lines.specs.Lines.{CanPlay, IsInRange};
-ghost use Rattle.pair_servers.specs.PairKit.{pair_kit, pair_script};
-ghost use Rattle.cluster_tests.specs.Starting.{cluster_of};
+ghost use Rattle.group_servers.specs.GroupKit.{group_kit, group_script};
+ghost use Rattle.cluster_tests.specs.Starting.{cluster_of, seat_of};
 
 use crate::mirror_tests::{START, default_wells, new_disk};
 use ais_values::Seq;
@@ -14,9 +14,9 @@ use calls::History;
 use cluster_lines::play;
 use cluster_rounds::Cluster;
 use disk_model::{NoDisk, SharedDisk};
+use group_servers::{Group, Seat};
 use message_net::Net;
 use mirror::{Node, Role};
-use pair_servers::Pair;
 use script_lines::{Line, Server};
 use service_core::Service;
 use std::alloc::{AllocError, Global};
@@ -26,16 +26,26 @@ use std::thread::Threads;
 use stream_config::StreamAttrs;
 use stream_layout::Deed;
 
-/// A cluster in which nothing was posted: `a` is this server, and `b` is down.
-fn cluster_of(alloc: Global, active: Node, start: i64, callbacks: u32) -> Cluster<Pair>
-    ensures { result ≡ cluster_of active start callbacks }
+/// A server that is down.
+fn seat_of(alloc: Global, server: Server) -> Seat
+    ensures { result ≡ seat_of server }
 {
-    let servers = Pair {
-        acting: Server::A,
-        active,
-        partner: Node::down(alloc),
+    Seat {
+        server,
+        node: Node::down(alloc),
         link: Seq::new(alloc),
         back: Seq::new(alloc),
+    }
+}
+
+/// A cluster in which nothing was posted: `a` is this server, and `b` is down.
+fn cluster_of(alloc: Global, active: Node, start: i64, callbacks: u32) -> Cluster<Group<2>>
+    ensures { result ≡ cluster_of active start callbacks }
+{
+    let servers = Group {
+        acting: Server::A,
+        active,
+        seats: [seat_of(alloc, Server::A), seat_of(alloc, Server::B)],
         armed: false,
     };
     Cluster {
@@ -57,10 +67,10 @@ fn begin<D: SharedDisk>(
     callbacks: u32,
     wells: Seq<StreamAttrs>,
     _disk: &D,
-) -> Result<(Cluster<Pair>, Seq<Deed>), AllocError>
+) -> Result<(Cluster<Group<2>>, Seq<Deed>), AllocError>
     requires begins { CanBeginAs start queue wells }
     requires unarmed { (D.seen _disk.now).tally.armed ≡ None }
-    ensures { IfOk result (λ made. HasStateOn pair_kit any_state made.0 (D.seen _disk.now)) }
+    ensures { IfOk result (λ made. HasStateOn (group_kit 2) any_state made.0 (D.seen _disk.now)) }
 {
     match Service::new(alloc, start, queue, wells) {
         Ok((service, deeds)) => {
@@ -75,15 +85,15 @@ fn begin<D: SharedDisk>(
 fn plays<R: Abort + Threads + Wait + Sync, D: SharedDisk>(
     rt: &R,
     alloc: Global,
-    cluster: &mut Cluster<Pair>,
+    cluster: &mut Cluster<Group<2>>,
     disk: &mut D,
     line: Line,
     count: usize,
 )
-    requires state { HasStateOn pair_kit any_state cluster.old (D.seen disk.old) }
+    requires state { HasStateOn (group_kit 2) any_state cluster.old (D.seen disk.old) }
     requires range { IsInRange line }
-    requires can { CanPlay pair_script cluster.old.now line }
-    ensures { HasStateOn pair_kit any_state cluster.new (D.seen disk.new) }
+    requires can { CanPlay group_script cluster.old.now line }
+    ensures { HasStateOn (group_kit 2) any_state cluster.new (D.seen disk.new) }
 {
     let mut lines = Vec::new(alloc);
     let mut beside = NoDisk::new();
@@ -107,10 +117,10 @@ fn plays<R: Abort + Threads + Wait + Sync, D: SharedDisk>(
 fn joins<R: Abort + Threads + Wait + Sync, D: SharedDisk>(
     rt: &R,
     alloc: Global,
-    cluster: &mut Cluster<Pair>,
+    cluster: &mut Cluster<Group<2>>,
     disk: &mut D,
 )
-    requires { HasStateOn pair_kit any_state cluster.old (D.seen disk.old) }
+    requires { HasStateOn (group_kit 2) any_state cluster.old (D.seen disk.old) }
 {
     plays(
         rt,

@@ -2,7 +2,7 @@ use Rattle.std.proofs.Common.{◌++◌, ◌∙◌, ap, sym, subst}
 use Rattle.mirror.specs.declared.heard.Role.{Role}
 use Rattle.cluster_clients.specs.Clients.{ShowsAgents}
 use Rattle.event_text.specs.Texts.{role_text}
-use Rattle.pair_servers.specs.Standing.{role_shown}
+use Rattle.lead_server.specs.Roles.{role_shown}
 use Rattle.aisrun.proofs.FigureLaws.{line-joined, line-told}
 use Rattle.aisrun.proofs.figures.load_line.Goals as goal
 

@@ -18,6 +18,6 @@ pub returns-in_ok-active-in-Cluster : goal.returns-in_ok-active-in-Cluster
 returns-in_ok-active-in-Cluster c setup places begins =
     let is : to_z w64 (of_z w64 c.in-Cluster.time) ≡ c.in-Cluster.time = search rules in
     let own = begins-as _ _ _ _ _ _ _ _ c.in-Cluster.is c.in_ok-wells-in-Cluster.ensures c.requires.spelled.0 c.requires.spelled.1 setup places begins in
-    let made = subst (λ time. c.world_of.result ≡ world_of c.in_ok-active-in-Cluster.active c.in_ok-active-in-Cluster.partner time c.in-Cluster.callbacks) is c.world_of.ensures in
+    let made = subst (λ time. c.world_of.result ≡ world_of c.in_ok-active-in-Cluster.active c.in_ok-active-in-Cluster.standby time c.in-Cluster.callbacks) is c.world_of.ensures in
     starts-world _ _ _ _ _ _ _ _ _ _ _ c.in-Cluster.is made setup places begins
     (c.in_ok-active-in-Cluster.ensures setup (subst (λ time. BeginsAs setup time c.in-Cluster.queue c.in_ok-wells-in-Cluster.wells) (sym is) own))

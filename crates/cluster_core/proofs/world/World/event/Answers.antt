@@ -3,7 +3,7 @@ use Rattle.std.specs.Prelude.{Err}
 use Rattle.disk_model.specs.declared.answers.DiskAnswer.{DiskAnswer}
 use Rattle.cluster_rounds.specs.Counted.{Counted}
 use Rattle.cluster_lines.proofs.LineSpelled.{spelled-fits}
-use Rattle.pair_servers.specs.PairKit.{pair_kit}
+use Rattle.group_servers.specs.GroupKit.{group_kit}
 use Rattle.cluster_core.specs.Parts.{BreaksWhole}
 use Rattle.cluster_core.proofs.EventSteps.{does-event, faults-event, lacks-event, stops-event}
 use Rattle.cluster_core.proofs.world.World.event.Goals as goal
@@ -41,16 +41,16 @@ returns-in-Err-Failed-clause-broken g c =
 
 pub returns-in-Err-Memory-clause-cause : goal.returns-in-Err-Memory-clause-cause
 returns-in-Err-Memory-clause-cause g c =
-    let G : DiskAnswer → Type 0 = λ answer. Counted {T = Unit {0}} pair_kit (g.D.SharedDisk.seen c.args.disk.now) (g.D.SharedDisk.seen c.play_whole.new.disk) (Err answer) in
+    let G : DiskAnswer → Type 0 = λ answer. Counted {T = Unit {0}} (group_kit 2) (g.D.SharedDisk.seen c.args.disk.now) (g.D.SharedDisk.seen c.play_whole.new.disk) (Err answer) in
     subst G c.in-Err-Memory.field-0-is c.in-Err-Memory.ensures.counts
 
 pub returns-in-Err-Stopped-clause-cause : goal.returns-in-Err-Stopped-clause-cause
 returns-in-Err-Stopped-clause-cause g c =
-    let G : DiskAnswer → Type 0 = λ answer. Counted {T = Unit {0}} pair_kit (g.D.SharedDisk.seen c.args.disk.now) (g.D.SharedDisk.seen c.play_whole.new.disk) (Err answer) in
+    let G : DiskAnswer → Type 0 = λ answer. Counted {T = Unit {0}} (group_kit 2) (g.D.SharedDisk.seen c.args.disk.now) (g.D.SharedDisk.seen c.play_whole.new.disk) (Err answer) in
     subst G c.in-Err-Stopped.field-0-is c.in-Err-Stopped.ensures.counts
 
 pub returns-in-Err-Failed-clause-cause : goal.returns-in-Err-Failed-clause-cause
 returns-in-Err-Failed-clause-cause g c =
-    let G : DiskAnswer → Type 0 = λ answer. Counted {T = Unit {0}} pair_kit (g.D.SharedDisk.seen c.args.disk.now) (g.D.SharedDisk.seen c.play_whole.new.disk) (Err answer) in
+    let G : DiskAnswer → Type 0 = λ answer. Counted {T = Unit {0}} (group_kit 2) (g.D.SharedDisk.seen c.args.disk.now) (g.D.SharedDisk.seen c.play_whole.new.disk) (Err answer) in
     let rises = subst G c.in-Err-Failed.field-0-is c.in-Err-Failed.ensures.counts in
     (rises.later, rises.rose)
