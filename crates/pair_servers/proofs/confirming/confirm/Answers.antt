@@ -1,4 +1,0 @@
-use Rattle.pair_servers.proofs.confirming.confirm.Goals as goal
-
-pub returns-in-Ok : goal.returns-in-Ok
-returns-in-Ok c = record { moment = _; heard = c.in-Ok.heard; received = c.in-Ok.ensures.ok }
