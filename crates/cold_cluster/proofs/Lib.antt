@@ -1,0 +1,4 @@
+pub mod Under
+pub mod Beside
+pub mod Doing
+pub mod Coming

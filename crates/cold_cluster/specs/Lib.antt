@@ -1,0 +1,3 @@
+pub mod Cold
+pub mod Falling
+pub mod Laws
