@@ -15,19 +15,20 @@ use Rattle.format_expr.proofs.ReadingLaws.{parse_is_read}
 use Rattle.record_scan.specs.Separable.{StandsInWay}
 use Rattle.script_lines.specs.declared.line.Line.{Line}
 use Rattle.script_language.specs.Scripts.{IsScriptOf}
-use Rattle.aisrun.specs.declared.ending.Status8.{Status8}
-use Rattle.aisrun.specs.declared.ending.Status8.TheVariants.{Done, ScriptRefused, Usage, Memory, ReadFault, WriteFault, DiskFault, RootNotEmpty, TooLong, Inseparable}
+use Rattle.played_runs.specs.declared.ending.Status8.{Status8}
+use Rattle.played_runs.specs.declared.ending.Status8.TheVariants.{Done, ScriptRefused, Usage, Memory, ReadFault, WriteFault, DiskFault, RootNotEmpty, TooLong, Inseparable}
+use Rattle.played_runs.specs.Counts.{HasRisen, RisesBefore}
+use Rattle.played_runs.specs.Edges.{Edge, before, after, fault_count}
+use Rattle.played_runs.specs.Writing.{Ended, Whole, SinkFailed, SinkLacked, Lacked}
+use Rattle.aisrun.specs.Edges.{Around}
 use Rattle.aisrun.specs.declared.command.Command.{Command}
 use Rattle.aisrun.specs.declared.command.Command.TheVariants.{Run, Check, Expr, Load, Scan}
 use Rattle.aisrun.specs.declared.command.RecordQuery.{RecordQuery}
 use Rattle.aisrun.specs.Commands.{command_of, text_of}
 use Rattle.aisrun.specs.Completing.{CanCheck, CanParse, CanRun, HoldsRecords, IsDoneOrMemory}
-use Rattle.aisrun.specs.Counts.{HasRisen, RisesBefore}
-use Rattle.aisrun.specs.Edges.{Edge, before, after, fault_count, Around}
 use Rattle.aisrun.specs.Endings.{input_limit, ReadsWhole, InputTooLong, Ends, Fails, HasLines, InLoad, InScript, Reads, ReadsSource, NoScript, NoExpression}
 use Rattle.aisrun.specs.RunSteps.{WordsLack}
 use Rattle.aisrun.specs.Scanning.{CanScan, CannotPart, TakesText}
-use Rattle.aisrun.specs.Steps.{Ended, Whole, SinkFailed, SinkLacked, Lacked}
 
 -- a source that tells its bytes and was read to its end gave just these
 all-taken : (bytes taken : List ℕ) (new : Option (List ℕ)) (limit : ℕ) → TakesAll (Some bytes) new limit taken → taken ≡ bytes

@@ -22,8 +22,11 @@ use Rattle.group_cluster.specs.Falling.{capped, catches, caught_hand, caught_sea
 use Rattle.group_cluster.specs.Running.{GroupHappens}
 use Rattle.group_cluster.proofs.Staying.{servers-stay-up}
 use Rattle.cluster_core.proofs.TwoSeats.{two-good, two_beside}
-use Rattle.aisrun.specs.Promises.{OfAllLines, CrashesOne, FallsByCause, FaultsFell, other_server}
-use Rattle.aisrun.proofs.PlayLaws.{device_in, played-says, each-played}
+use Rattle.cluster_core.specs.Game.{world_game}
+use Rattle.cluster_core.specs.GameLaws.{device_in, world_plays}
+use Rattle.played_runs.proofs.PlayLaws.{played-says, each-played}
+use Rattle.aisrun.specs.Falling.{CrashesOne, FallsByCause, FaultsFell, other_server}
+use Rattle.aisrun.specs.Runs.{OfAllLines}
 
 -- Of two servers the other one takes over, whatever the disk fails in.
 
@@ -113,11 +116,11 @@ crashes-one plain shelf device _ state outcome good happens = tt
 
 pub falls-by-cause : (held : Option Files) → OfAllLines held FallsByCause
 falls-by-cause held =
-    each-played held FallsByCause (λ setup places first lines state told before next outcome after run done. (
-      λ calm short stood. servers-stay-up (plain_of setup) (is_plain setup) done.shelf (device_in done) (done.step.caused stood) next state outcome (played-says setup places held first run).0 calm done.step.happens short,
-      crashes-one (plain_of setup) done.shelf (device_in done) next state outcome (played-says setup places held first run).0.good done.step.happens,
+    each-played world_game world_plays held FallsByCause (λ setup places first lines state told before next outcome after run done. (
+      λ calm short stood. servers-stay-up (plain_of setup) (is_plain setup) done.shelf (device_in done) (done.step.caused stood) next state outcome (played-says world_game world_plays setup places held first run).0 calm done.step.happens short,
+      crashes-one (plain_of setup) done.shelf (device_in done) next state outcome (played-says world_game world_plays setup places held first run).0.good done.step.happens,
     ))
 
 pub faults-fell : (held : Option Files) → OfAllLines held FaultsFell
 faults-fell held =
-    each-played held FaultsFell (λ setup places first lines state told before next outcome after run done. (done.later, done.felled))
+    each-played world_game world_plays held FaultsFell (λ setup places first lines state told before next outcome after run done. (done.later, done.felled))

@@ -36,7 +36,7 @@ use Rattle.group_servers.specs.Standing.{role_in}
 use Rattle.group_servers.proofs.StandingSteps.{role-is}
 use Rattle.cluster_core.specs.declared.world.World.{World}
 use Rattle.cluster_core.specs.Worlds.{Shows, parts_of}
-use Rattle.aisrun.proofs.LoadPassing.{take-all}
+use Rattle.played_runs.proofs.PassingSteps.{take-all}
 use Rattle.aisrun.specs.declared.figures.Held.{Held}
 use Rattle.aisrun.specs.Loading.{all_files, bytes_in, is_request, load_line, replies_taken, requests_again, requests_in, state_line}
 use Rattle.aisrun.specs.LoadSteps.{CountsFile, CountsFront, files_text, is_fetched_request, is_posted_request, is_request_at, requests_up_to, roles_text, world_text}

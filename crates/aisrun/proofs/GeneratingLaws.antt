@@ -2,21 +2,22 @@
 use Rattle.std.proofs.Common.{◌≡◌, ℕ, inl, inr, List, Some, None, refl, sym, ◌∙◌}
 use Rattle.ais_values.specs.declared.kind.StreamKind.{StreamKind}
 use Rattle.load_script.specs.Texts.{load_text}
+use Rattle.played_runs.specs.Counts.{HasRisen}
+use Rattle.played_runs.specs.Edges.{fault_count, IsUntouched, LeavesAll}
+use Rattle.played_runs.specs.Writing.{Counting, Ended, IsNever, IsText, Standing, Written}
+use Rattle.played_runs.proofs.CountSteps.{untouched-on, untouched-stood}
+use Rattle.played_runs.proofs.EndingSteps.{text-written}
+use Rattle.aisrun.specs.Edges.{Around}
 use Rattle.aisrun.specs.declared.command.Command.{Command}
 use Rattle.aisrun.specs.declared.command.Command.TheVariants.{Run, Check, Expr, Gen, Scan}
-use Rattle.aisrun.specs.declared.ending.Status8.{Status8}
-use Rattle.aisrun.specs.declared.ending.Status8.TheVariants.{Done, ScriptRefused, Usage, Memory, ReadFault, WriteFault, DiskFault, RootNotEmpty, TooLong, Inseparable}
+use Rattle.played_runs.specs.declared.ending.Status8.{Status8}
+use Rattle.played_runs.specs.declared.ending.Status8.TheVariants.{Done, ScriptRefused, Usage, Memory, ReadFault, WriteFault, DiskFault, RootNotEmpty, TooLong, Inseparable}
 use Rattle.aisrun.specs.Commands.{command_of}
 use Rattle.aisrun.specs.Completing.{CanGenerate, IsDoneOrMemory}
-use Rattle.aisrun.specs.Counts.{HasRisen}
-use Rattle.aisrun.specs.Edges.{fault_count, IsUntouched, Around, LeavesAll}
 use Rattle.aisrun.specs.Endings.{Ends, Generated, NoExpression, NoScript, Reads, ReadsSource}
 use Rattle.aisrun.specs.RunSteps.{WordsLack}
 use Rattle.aisrun.specs.Scanning.{TakesText}
-use Rattle.aisrun.specs.Steps.{Counting, Ended, IsNever, IsText, Standing, Written}
 use Rattle.aisrun.proofs.CompletenessLaws.{asked, not-failed, not-played, well}
-use Rattle.aisrun.proofs.CountSteps.{untouched-on, untouched-stood}
-use Rattle.aisrun.proofs.EndingSteps.{text-written}
 
 module _ {S K D : Type 0} (run : Around S K D) (count seed : ℕ) (words : command_of run.words ≡ Some (Gen count seed)) where
   pub gen-run : LeavesAll run.stage → IsUntouched run.source → (status : Status8) → Written (IsText Done (load_text count seed)) IsNever run.stage.sink status → Ended (fault_count run.source) (fault_count run.stage.disk) (Ends run) (WordsLack run) run.stage.sink status

@@ -4,18 +4,19 @@ use Rattle.std.specs.Prelude.{IfSome}
 use Rattle.std.specs.FinMap.{keys}
 use Rattle.ais_values.specs.declared.kind.StreamKind.{StreamKind}
 use Rattle.disk_model.specs.Disk.{no_files}
+use Rattle.played_runs.specs.Counts.{HasRisen, RisesBefore}
+use Rattle.played_runs.specs.Edges.{before, fault_count}
+use Rattle.played_runs.specs.Writing.{Ended}
+use Rattle.aisrun.specs.Edges.{Around}
 use Rattle.aisrun.specs.declared.command.Command.{Command}
 use Rattle.aisrun.specs.declared.command.Command.TheVariants.{Run, Check, Expr, Load, Scan}
-use Rattle.aisrun.specs.declared.ending.Status8.{Status8}
-use Rattle.aisrun.specs.declared.ending.Status8.TheVariants.{Done, ScriptRefused, Usage, Memory, ReadFault, WriteFault, DiskFault, RootNotEmpty, TooLong, Inseparable}
+use Rattle.played_runs.specs.declared.ending.Status8.{Status8}
+use Rattle.played_runs.specs.declared.ending.Status8.TheVariants.{Done, ScriptRefused, Usage, Memory, ReadFault, WriteFault, DiskFault, RootNotEmpty, TooLong, Inseparable}
 use Rattle.aisrun.specs.Commands.{command_of}
 use Rattle.aisrun.specs.Completing.{CanLoad, IsDoneOrMemory}
-use Rattle.aisrun.specs.Counts.{HasRisen, RisesBefore}
-use Rattle.aisrun.specs.Edges.{Around, before, fault_count}
 use Rattle.aisrun.specs.Endings.{Ends, NoExpression, NoScript, Reads, ReadsSource}
 use Rattle.aisrun.specs.RunSteps.{WordsLack}
 use Rattle.aisrun.specs.Scanning.{TakesText}
-use Rattle.aisrun.specs.Steps.{Ended}
 use Rattle.aisrun.proofs.CompletenessLaws.{asked, no-name, well}
 
 module _ {S K D : Type 0} (run : Around S K D) (count seed : ℕ) (words : command_of run.words ≡ Some (Load count seed)) where

@@ -13,7 +13,7 @@ use Rattle.cluster_core.specs.Beginning.{Begins}
 use Rattle.load_lines.specs.Lines.{alarm_sent, closing_lines, failing, failure_of, first_lines, no_options, opening_line, record_written, sent, settling, turn_lines}
 use Rattle.load_lines.proofs.Fixed.{crash-spelled, log_init-spelled, log_open-spelled, ntf_init-spelled, restart-spelled, servers-spelled, settle-spelled}
 use Rattle.load_lines.proofs.Turns.{alarm-spelled, alarm_raw, record-spelled, record_raw}
-use Rattle.aisrun.specs.LoadSteps.{CanPass}
+use Rattle.aisrun.specs.Runs.{CanPass}
 
 can-both : (one two : List Line) → CanPass one → CanPass two → CanPass (one ++ two)
 can-both [] two first second = second

@@ -8,18 +8,18 @@ use Rattle.record_scan.proofs.NumberLaws.{IsPassed}
 use Rattle.scan_lines.specs.Lines.{rest_line}
 use Rattle.scan_lines.specs.Telling.{IsTold, AreTold, TellsFront}
 use Rattle.scan_lines.proofs.TellingLaws.{all_told, front_told, none_told, one_told}
+use Rattle.played_runs.specs.Counts.{HasStood}
+use Rattle.played_runs.specs.Edges.{Edge, edge, before, after, fault_count, IsUntouched}
+use Rattle.played_runs.specs.Writing.{Counting, IsNone, IsText, Reaching, Written, unasked}
+use Rattle.played_runs.proofs.CountSteps.{on-same, untouched-stood}
+use Rattle.played_runs.proofs.EndingSteps.{text-ends}
+use Rattle.played_runs.proofs.WritingSteps.{written-behind}
 use Rattle.aisrun.specs.declared.command.RecordQuery.{RecordQuery}
-use Rattle.aisrun.specs.declared.ending.Status8.{Status8}
-use Rattle.aisrun.specs.declared.ending.Status8.TheVariants.{Done, ScriptRefused, Usage, Memory, ReadFault, WriteFault, DiskFault, RootNotEmpty, TooLong, Inseparable}
-use Rattle.aisrun.specs.Counts.{HasStood}
-use Rattle.aisrun.specs.Edges.{Edge, edge, before, after, fault_count, IsUntouched}
+use Rattle.played_runs.specs.declared.ending.Status8.{Status8}
+use Rattle.played_runs.specs.declared.ending.Status8.TheVariants.{Done, ScriptRefused, Usage, Memory, ReadFault, WriteFault, DiskFault, RootNotEmpty, TooLong, Inseparable}
 use Rattle.aisrun.specs.Endings.{ReadsWhole}
 use Rattle.aisrun.specs.Scanning.{IsParted}
 use Rattle.aisrun.specs.ScanSteps.{TextRefused, NotSpelled, NotParted, RecordEnds, RecordsEnd, SourceEnds, SourceLacks, ScanEnds, ScanLacks}
-use Rattle.aisrun.specs.Steps.{Counting, IsNone, IsText, Reaching, Written, unasked}
-use Rattle.aisrun.proofs.CountSteps.{on-same, untouched-stood}
-use Rattle.aisrun.proofs.EndingSteps.{text-ends}
-use Rattle.aisrun.proofs.WritingSteps.{written-behind}
 
 -- some records were told, and their text is written
 pub record ToldSoFar {K : Type 0} (query : RecordQuery) (pieces : List Piece) (wanted bytes rest : List ℕ) (number : ℕ) (sink : Edge K (List ℕ)) : Type 0 where

@@ -1,10 +1,7 @@
 -- The lines of a script can be played one after another.
-use Rattle.std.proofs.Common.{◌≡◌, ℕ, ℤ, ◌<◌, ◌≤ℤ◌, Bool, true, false, if◌then◌else◌, List, [], ◌∷◌, length, Option, Some, None, refl, ap, sym, ◌∙◌, subst, arith}
-use Rattle.std.specs.Prelude.{int_lt, IfSome}
+use Rattle.std.proofs.Common.{◌≡◌, ℕ, ℤ, ◌<◌, ◌≤ℤ◌, Bool, true, false, if◌then◌else◌, List, [], ◌∷◌, Option, Some, None, refl, ap, sym, subst, arith}
+use Rattle.std.specs.Prelude.{int_lt}
 use Rattle.std.proofs.lemmas.Int.{ints}
-use Rattle.std.specs.FinMap.{keys, entries, empty_of_len, len-entries}
-use Rattle.std.proofs.lemmas.List.{length-map}
-use Rattle.disk_model.specs.Disk.{Files}
 use Rattle.script_lines.specs.declared.line.Line.{Line}
 use Rattle.script_lines.specs.declared.line.Line.TheVariants as line
 use Rattle.script_lines.specs.declared.answer.ScriptWhy.TheVariants as why
@@ -12,10 +9,9 @@ use Rattle.script_language.specs.Lines.{Spells}
 use Rattle.script_language.specs.Scripts.{SpellAll, AreInOrder, IsScriptOf, misplaced, time_after}
 use Rattle.script_language.specs.Scripts.SpellAll.{done, skipped, spelled}
 use Rattle.plain_service.specs.Setups.{Setup}
-use Rattle.cluster_core.specs.Beginning.{HoldsNone}
 use Rattle.cluster_core.specs.Playing.{IsEventLine}
-use Rattle.aisrun.specs.Scripting.{CanPlay, IsPlayable}
-use Rattle.aisrun.specs.Steps.{CanFollow, time_behind}
+use Rattle.played_runs.specs.Steps.{time_behind}
+use Rattle.aisrun.specs.Runs.{CanPlay, IsPlayable, CanFollow}
 
 -- a time that is not below the one in force
 not-below : (now later : ℤ) → (below : Bool) → int_lt later now ≡ below → (if below then Some why.Time else None) ≡ None → now ≤ℤ later
@@ -70,9 +66,3 @@ pub can-play : (lines : List Line) (bytes : List ℕ) → IsScriptOf lines bytes
 can-play [] bytes script = let some : 0 < 0 = script.begun in absurd (omega arith)
 can-play (opening ∷ events) bytes script =
     can-open opening events (spelled-first script.spelled opening events refl) script.ordered.0 script.ordered.1
-
--- a disk that lists no name holds no file
-pub held-none : (old : Option Files) (names : List (List ℕ)) → IfSome old (λ f. names ≡ keys f) → length names ≡ 0 → HoldsNone old
-held-none None names listed none = tt
-held-none (Some f) names listed none =
-    empty_of_len f (len-entries f ∙ sym (length-map (entries f) (λ e. e.0)) ∙ ap length (sym listed) ∙ none)

@@ -1,12 +1,13 @@
 -- What each status of a run says.
 use Rattle.std.proofs.Common.{◌≡◌, Some, None}
-use Rattle.aisrun.specs.declared.ending.Status8.{Status8}
-use Rattle.aisrun.specs.declared.ending.Status8.TheVariants.{Done, ScriptRefused, Usage, Memory, ReadFault, WriteFault, DiskFault, RootNotEmpty, TooLong, Inseparable}
-use Rattle.aisrun.specs.Counts.{HasStood, RisesBefore, RisesBy}
-use Rattle.aisrun.specs.Edges.{Around, fault_count}
+use Rattle.played_runs.specs.declared.ending.Status8.{Status8}
+use Rattle.played_runs.specs.declared.ending.Status8.TheVariants.{Done, ScriptRefused, Usage, Memory, ReadFault, WriteFault, DiskFault, RootNotEmpty, TooLong, Inseparable}
+use Rattle.played_runs.specs.Counts.{HasStood, RisesBefore, RisesBy}
+use Rattle.played_runs.specs.Edges.{fault_count}
+use Rattle.played_runs.specs.Writing.{Ended, Whole, SinkFailed, SinkLacked, Lacked}
+use Rattle.aisrun.specs.Edges.{Around}
 use Rattle.aisrun.specs.Endings.{Ends, EndsBy, Prints, Unwritten, Lacking}
 use Rattle.aisrun.specs.RunSteps.{WordsLack}
-use Rattle.aisrun.specs.Steps.{Ended, Whole, SinkFailed, SinkLacked, Lacked}
 
 module _ {S K D : Type 0} (run : Around S K D) where
   abbrev EndedBy : Status8 → Type 0

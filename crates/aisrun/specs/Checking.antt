@@ -1,11 +1,11 @@
 -- Words of bodies alone: how the checking of a script and of an expression ends, but for the writing of the text.
 use Rattle.std.specs.Prelude.{◌≡◌, ℕ, List, Some}
 use Rattle.ais_values.specs.declared.kind.StreamKind.{StreamKind}
-use Rattle.aisrun.specs.declared.ending.Status8.{Status8}
-use Rattle.aisrun.specs.declared.ending.Status8.TheVariants.{Done, ScriptRefused, ReadFault, TooLong}
-use Rattle.aisrun.specs.Edges.{Edge}
+use Rattle.played_runs.specs.declared.ending.Status8.{Status8}
+use Rattle.played_runs.specs.declared.ending.Status8.TheVariants.{Done, ScriptRefused, ReadFault, TooLong}
+use Rattle.played_runs.specs.Edges.{Edge}
+use Rattle.played_runs.specs.Writing.{Reaching}
 use Rattle.aisrun.specs.Endings.{InputTooLong, ReadsWhole, ScriptPasses, ScriptFails, SourceFailed, TextPasses, TextFails}
-use Rattle.aisrun.specs.Steps.{Reaching}
 
 -- how the bytes of an input are judged
 pub data Judged (bytes : List ℕ) (status : Status8) (text : List ℕ) : Type 0 where

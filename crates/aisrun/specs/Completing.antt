@@ -7,8 +7,8 @@ use Rattle.format_expr.specs.Faults.{IsFault}
 use Rattle.script_lines.specs.declared.line.Line.{Line}
 use Rattle.script_language.specs.Scripts.{IsScriptOf}
 use Rattle.aisrun.specs.declared.command.Command.TheVariants.{Expr, Gen, Load}
-use Rattle.aisrun.specs.declared.ending.Status8.{Status8}
-use Rattle.aisrun.specs.declared.ending.Status8.TheVariants.{Done, Memory}
+use Rattle.played_runs.specs.declared.ending.Status8.{Status8}
+use Rattle.played_runs.specs.declared.ending.Status8.TheVariants.{Done, Memory}
 use Rattle.aisrun.specs.Commands.{command_of, text_of}
 use Rattle.aisrun.specs.Scanning.{CanScan}
 

@@ -1,59 +1,9 @@
--- Words of public clauses: what a run was given of each thing outside, and what it leaves of it.
-use Rattle.std.specs.Prelude.{◌≡◌, ℕ, List, Option}
+-- Words of public clauses: what a whole run was given, and what it leaves of it.
+use Rattle.std.specs.Prelude.{ℕ, List, Option}
 use Rattle.disk_model.specs.Disk.{Files}
-use Rattle.disk_model.specs.Seen.{DiskSeen}
 use Rattle.cluster_core.specs.declared.world.World.{World}
-use Rattle.cluster_core.specs.Worlds.{DiskView}
-
--- a source, a sink or a disk before and after: what it tells of its content, and how often it has failed
-pub record Edge (S T : Type 0) : Type 0 where
-  pub told : S → Option T
-  pub faults : S → ℕ
-  pub old : S
-  pub new : S
-
-abbrev pub edge : {S T : Type 0} → (S → Option T) → (S → ℕ) → S → S → Edge S T
-edge told faults old new = record { told = told; faults = faults; old = old; new = new }
-
--- the edge of a disk, by what is seen of it
-abbrev pub disk_edge : {D : Type 0} → (D → DiskSeen) → D → D → Edge D Files
-disk_edge shows old new = edge (λ disk. (shows disk).files) (λ disk. (shows disk).faults) old new
-
--- what it told before, and what it tells after
-abbrev pub before : {S T : Type 0} → Edge S T → Option T
-before one = one.told one.old
-
-abbrev pub after : {S T : Type 0} → Edge S T → Option T
-after one = one.told one.new
-
--- its count of faults, before and after
-abbrev pub fault_count : {S T : Type 0} → Edge S T → ℕ × ℕ
-fault_count one = (one.faults one.old, one.faults one.new)
-
--- it was not asked for anything
-abbrev pub IsUntouched : {S T : Type 0} → Edge S T → Type 0
-IsUntouched one = one.new ≡ one.old
-
--- where a script is played: the sink, the disk, with the changing calls that are left until it stops, where it is armed after, and the
--- world of servers and clients before and after
-pub record Stage (K D : Type 0) : Type 0 where
-  pub sink : Edge K (List ℕ)
-  pub disk : Edge D Files
-  pub armed : Option ℕ
-  pub world : World
-  pub world_after : World
-
-abbrev pub stage : {K D : Type 0} → Edge K (List ℕ) → Edge D Files → Option ℕ → World → World → Stage K D
-stage sink disk armed world world_after =
-    record { sink = sink; disk = disk; armed = armed; world = world; world_after = world_after }
-
--- what the disk tells after
-abbrev pub disk_left : {K D : Type 0} → Stage K D → DiskView
-disk_left scene = record { files = after scene.disk; armed = scene.armed; faults = scene.disk.faults scene.disk.new }
-
--- the disk's count of faults before
-abbrev pub first_count : {K D : Type 0} → Stage K D → ℕ
-first_count scene = scene.disk.faults scene.disk.old
+use Rattle.played_runs.specs.Edges.{Edge, stage}
+use Rattle.aisrun.specs.Runs.{Stage}
 
 -- a whole run: its words, its source and its stage
 pub record Around (S K D : Type 0) : Type 0 where
@@ -65,8 +15,3 @@ abbrev pub around :
     {S K D : Type 0} → List (List ℕ) → Edge S (List ℕ) → Edge K (List ℕ) → Edge D Files → Option ℕ → World → World → Around S K D
 around words source sink disk armed world world_after =
     record { words = words; source = source; stage = stage sink disk armed world world_after }
-
--- disk and world are as they were
-pub record LeavesAll {K D : Type 0} (scene : Stage K D) : Type 0 where
-  pub disk : IsUntouched scene.disk
-  pub world : scene.world_after ≡ scene.world

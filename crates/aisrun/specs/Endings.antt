@@ -1,11 +1,10 @@
 -- Words of public clauses: how a run ends, which is its status with what was read, what is printed, and what it leaves.
-use Rattle.std.specs.Prelude.{◌≡◌, ℕ, ◌+◌, ◌≤◌, List, [], ◌∷◌, ◌++◌, length, codes}
-use Rattle.std.specs.Prelude.{Bool, true, false, Option, Some, None, IfSome, ◌⊎◌}
+use Rattle.std.specs.Prelude.{◌≡◌, ℕ, ◌+◌, ◌≤◌, List, [], ◌++◌, length, codes}
+use Rattle.std.specs.Prelude.{Option, Some, None, ◌⊎◌}
 use Rattle.std.specs.FinMap as files
 use Rattle.std.specs.Io.KnownBytes.{Appends}
 use Rattle.std.specs.Fmt.{decimal}
 use Rattle.ais_values.specs.declared.kind.StreamKind.{StreamKind}
-use Rattle.disk_model.specs.Disk.{Files}
 use Rattle.io_edge.specs.Reads.{TakesAll, TakesSome}
 use Rattle.io_edge.specs.Writes.{AppendsFront}
 use Rattle.format_expr.specs.declared.piece.Piece.{Piece}
@@ -18,26 +17,17 @@ use Rattle.script_lines.specs.declared.answer.ScriptWhy.{ScriptWhy}
 use Rattle.script_lines.specs.Refusals.{why_word}
 use Rattle.script_language.specs.Scripts.{IsScriptOf, IsBadAt}
 use Rattle.load_script.specs.Texts.{load_text}
-use Rattle.plain_service.specs.Setups.{Setup}
-use Rattle.plain_service.specs.Storing.{opening_of}
-use Rattle.stream_layout.specs.Deeds.{calls_of_all}
-use Rattle.disk_model.specs.DeviceCalls.{DoesFront, FailsAfter}
-use Rattle.cluster_core.specs.declared.world.World.{World}
-use Rattle.cluster_core.specs.Beginning.{Begins, HoldsNone}
-use Rattle.cluster_core.specs.Broken.{Broken, EventEnded}
-use Rattle.cluster_core.specs.Worlds.{DiskView, Shows}
-use Rattle.cluster_events.specs.Lines.{Told}
-use Rattle.cluster_events.specs.Servers.{State}
-use Rattle.group_cluster.specs.Seats.{Peers}
-use Rattle.aisrun.specs.declared.ending.Status8.{Status8}
-use Rattle.aisrun.specs.declared.ending.Status8.TheVariants.{Done, ScriptRefused, Usage, Memory, ReadFault, WriteFault, DiskFault}
-use Rattle.aisrun.specs.declared.ending.Status8.TheVariants.{RootNotEmpty, TooLong, Inseparable}
+use Rattle.played_runs.specs.declared.ending.Status8.{Status8}
+use Rattle.played_runs.specs.declared.ending.Status8.TheVariants.{Done, ScriptRefused, Usage, Memory, ReadFault, WriteFault, DiskFault}
+use Rattle.played_runs.specs.declared.ending.Status8.TheVariants.{RootNotEmpty, TooLong, Inseparable}
+use Rattle.played_runs.specs.Counts.{HasGoneOn, HasRisen, HasStood, RisesBefore}
+use Rattle.played_runs.specs.Edges.{Edge, before, after, fault_count, first_count, IsUntouched, LeavesAll}
+use Rattle.played_runs.specs.Ends.{RootHolds, fault_line}
+use Rattle.aisrun.specs.Edges.{Around}
+use Rattle.aisrun.specs.Runs.{Stage, PlaysFront, StandsAt, DiskFails, PlayEnds, PlayLacks, PlayedTo}
 use Rattle.aisrun.specs.declared.command.Command.{Command}
 use Rattle.aisrun.specs.declared.command.Command.TheVariants.{Run, Check, Expr, Gen, Load, Scan}
 use Rattle.aisrun.specs.Commands.{command_of, text_of as word_text}
-use Rattle.aisrun.specs.Counts.{HasGoneOn, HasRisen, HasStood, RisesBefore}
-use Rattle.aisrun.specs.Edges.{Edge, before, after, fault_count, first_count, disk_left, IsUntouched, Stage, Around, LeavesAll}
-use Rattle.aisrun.specs.Playing.{files_told, PlaysFront, seen_behind, StandsAt, text_of}
 use Rattle.aisrun.specs.Loading.{TellsLoad}
 use Rattle.aisrun.specs.Scanning.{CanScan, CannotScan, ScansAll, ScansFront, TakesText}
 use Rattle.aisrun.specs.Usage.{usage_line}
@@ -92,93 +82,6 @@ pub record TextFails (kind : StreamKind) (text printed : List ℕ) : Type 0 wher
   pub fault : ExprFault
   pub found : IsFault kind text fault
   pub shown : printed ≡ codes "bad " ++ (decimal fault.place ++ (codes " " ++ (word_of fault.why ++ codes "\n")))
-
--- the disk held a file at the start: the least name is printed, and the files and the world stay
-pub record RootHolds {K D : Type 0} (scene : Stage K D) (text : List ℕ) : Type 0 where
-  pub name : List ℕ
-  pub least : IfSome (before scene.disk) (λ f. (others : List (List ℕ)) × (files.keys f ≡ name ∷ others))
-  pub same : after scene.disk ≡ before scene.disk
-  pub world : scene.world_after ≡ scene.world
-  pub printed : text ≡ codes "root not empty: " ++ (name ++ codes "\n")
-
-unfoldable pub fault_line : List ℕ
-fault_line = codes "disk fault\n"
-
--- the first line of a script begins a cluster, on a disk that holds no file
-pub record Opens (script : List Line) (held : Option Files) : Type 0 where
-  pub opening : Line
-  pub events : List Line
-  pub parts : script ≡ opening ∷ events
-  pub empty : HoldsNone held
-  pub setup : Setup
-  pub places : ℕ
-  pub begins : Begins opening setup places
-
--- lines that show files
-abbrev pub shows_files : Line → Bool
-shows_files line.Files = true
-shows_files (line.Cat name) = true
-shows_files _ = false
-
--- what a fault in the event of a line left: a line that shows files left all as it was; any other, which is `work`, `settle` or a `crash`
--- of the active server, ended where no server was left that is active
-pub data FaultLeft (setup : Setup) (state : State Peers) (next : Line) (held left : DiskView) (world : World) (lines : List ℕ) : Type 0 where
-  Showing :
-      shows_files next ≡ true → Shows setup state world → left.files ≡ held.files → left.armed ≡ held.armed → HasRisen (held.faults, left.faults)
-      → lines ≡ [] → FaultLeft setup state next held left world lines
-  Ending :
-      (told : List Told) → EventEnded setup state next told held left world → lines ≡ text_of told
-      → FaultLeft setup state next held left world lines
-
--- there is a value of the disk that tells these files and has this count of faults. That the run passed through it is not said:
--- of a disk a contract knows the values before a call and after it, and no steps between
-pub record StoodUpTo {D : Type 0} (disk : Edge D Files) (held : Option Files) (faults : ℕ) : Type 0 where
-  pub mid : D
-  pub told : disk.told mid ≡ held
-  pub count : disk.faults mid ≡ faults
-
--- the disk failed: as its names were asked for, in the deeds of the start, or in an event behind those that were done, of which
--- some lines were printed; its count of faults goes along with these from the first on, so that the one in the event came where no other
--- server was in service
-pub data DiskFails {K D : Type 0} (script : List Line) (scene : Stage K D) (text : List ℕ) : Type 0 where
-  AtNames : after scene.disk ≡ before scene.disk → scene.world_after ≡ scene.world → text ≡ fault_line → DiskFails script scene text
-  AtOpening :
-      (opens : Opens script (before scene.disk)) (count : ℕ)
-      → FailsAfter (calls_of_all (opening_of opens.setup)) count (before scene.disk) (after scene.disk)
-      → scene.world_after ≡ scene.world → text ≡ fault_line → DiskFails script scene text
-  AtEvent :
-      (done : List Line) (next : Line) (rest : List Line) (text_before : List ℕ)
-      (front : PlaysFront (before scene.disk) (first_count scene) script done (next ∷ rest) text_before)
-      (lines : List ℕ)
-      → FaultLeft front.setup front.goes.state next (seen_behind front.goes) (disk_left scene) scene.world_after lines
-      → StoodUpTo scene.disk (files_told front.goes.files (before scene.disk)) front.goes.faults → text ≡ text_before ++ (lines ++ fault_line)
-      → DiskFails script scene text
-
--- these events of a script were done, and world and disk stand where they led
-pub record PlayedTo {K D : Type 0} (scene : Stage K D) (script done rest : List Line) (text : List ℕ) : Type 0 where
-  pub front : PlaysFront (before scene.disk) (first_count scene) script done rest text
-  pub now : StandsAt front.setup front.goes.state front.goes.files front.goes.faults (before scene.disk) (disk_left scene) scene.world_after
-
--- how a script that was read ends on its stage, and its text; or how far it came
-abbrev pub PlayEnds : {K D : Type 0} → List Line → Stage K D → Option Status8 → List ℕ → Type 0
-PlayEnds lines scene None text = (done rest : List Line) × PlayedTo scene lines done rest text
-PlayEnds lines scene (Some Done) text = (done : List Line) × PlayedTo scene lines done [] text
-PlayEnds lines scene (Some RootNotEmpty) text = RootHolds scene text
-PlayEnds lines scene (Some DiskFault) text = DiskFails lines scene text
-PlayEnds lines scene _ text = ⊥
-
--- memory was wanting: before the disk had told that it holds no file, in the deeds of the start, or in an event; what is written
--- is the text of the events that were done
-pub data PlayLacks {K D : Type 0} (script : List Line) (scene : Stage K D) (text : List ℕ) : Type 0 where
-  Unopened : text ≡ [] → after scene.disk ≡ before scene.disk → scene.world_after ≡ scene.world → PlayLacks script scene text
-  Opening :
-      text ≡ [] → (opens : Opens script (before scene.disk)) → DoesFront (calls_of_all (opening_of opens.setup)) (before scene.disk) (after scene.disk)
-      → scene.world_after ≡ scene.world → PlayLacks script scene text
-  InEvent :
-      (done : List Line) (next : Line) (rest : List Line)
-      (front : PlaysFront (before scene.disk) (first_count scene) script done (next ∷ rest) text)
-      → Broken front.setup front.goes.state (files_told front.goes.files (before scene.disk)) (after scene.disk) scene.world_after
-      → PlayLacks script scene text
 
 -- a script was read to be played
 pub record HasScript {S K D : Type 0} (run : Around S K D) (lines : List Line) : Type 0 where

@@ -2,8 +2,8 @@
 use Rattle.std.specs.Prelude.{◌≡◌, ℕ, List, [], codes}
 use Rattle.io_edge.specs.declared.answers.ReadAnswer.{ReadAnswer}
 use Rattle.io_edge.specs.declared.answers.ReadAnswer.TheVariants as read
-use Rattle.aisrun.specs.declared.ending.Status8.TheVariants.{ReadFault, TooLong}
-use Rattle.aisrun.specs.Steps.{IsText, Reaching}
+use Rattle.played_runs.specs.declared.ending.Status8.TheVariants.{ReadFault, TooLong}
+use Rattle.played_runs.specs.Writing.{IsText, Reaching}
 
 -- the text, by why it was not
 abbrev pub UnreadEnds : ReadAnswer → Reaching

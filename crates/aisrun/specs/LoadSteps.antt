@@ -1,12 +1,11 @@
 -- Words of bodies alone: what the parts of a large run give.
-use Rattle.std.specs.Prelude.{◌≡◌, ℕ, zero, suc, ◌+◌, Bool, false, cond, ℤ, List, [], ◌∷◌, ◌++◌, ◌⊎◌, length, codes, Option, Some, None, Result, Ok, Err}
+use Rattle.std.specs.Prelude.{◌≡◌, ℕ, zero, suc, ◌+◌, Bool, false, cond, List, [], ◌∷◌, ◌++◌, ◌⊎◌, length, codes, Option, Some, None}
 use Rattle.std.specs.Fmt.{decimal}
 use Rattle.std.specs.Option.{option_map_or}
 use Rattle.disk_model.specs.Disk.{Files}
 use Rattle.disk_model.specs.declared.answers.DiskAnswer.{DiskAnswer}
 use Rattle.disk_model.specs.declared.answers.DiskAnswer.TheVariants as answer
 use Rattle.script_lines.specs.declared.line.Line.{Line}
-use Rattle.script_language.specs.Lines.{Spells}
 use Rattle.plain_service.specs.Setups.{Setup}
 use Rattle.cluster_facts.specs.Messages.{Posting, Spelled, Raw}
 use Rattle.cluster_facts.specs.World.{posting_at}
@@ -16,56 +15,19 @@ use Rattle.cluster_clients.specs.declared.fetching.Fetched.TheVariants.{Whole, B
 use Rattle.cluster_clients.specs.Files.{sizes_of}
 use Rattle.group_cluster.specs.Seats.{Peers}
 use Rattle.cluster_core.specs.declared.world.World.{World}
-use Rattle.cluster_core.specs.Playing.{IsEventLine}
 use Rattle.cluster_core.specs.Worlds.{DiskView}
-use Rattle.aisrun.specs.declared.ending.Status8.{Status8}
-use Rattle.aisrun.specs.declared.ending.Status8.TheVariants.{Done, DiskFault as Faulted, RootNotEmpty}
+use Rattle.played_runs.specs.declared.ending.Status8.{Status8}
+use Rattle.played_runs.specs.declared.ending.Status8.TheVariants.{Done, DiskFault as Faulted, RootNotEmpty}
+use Rattle.played_runs.specs.Counts.{HasStood, HasRisen}
+use Rattle.played_runs.specs.Edges.{after, fault_count}
+use Rattle.played_runs.specs.Ends.{RootHolds, fault_line}
+use Rattle.played_runs.specs.Writing.{Ended, Reaching, unasked}
+use Rattle.aisrun.specs.Runs.{Stage, PlayedTo, PlayLacks, Goes, StandsAt, EventsEnd, LacksBehind, Plays}
 use Rattle.aisrun.specs.declared.figures.Held.{Held}
-use Rattle.aisrun.specs.declared.loading.Halt.{Halt}
-use Rattle.aisrun.specs.declared.loading.Halt.TheVariants.{Memory, DiskFault}
-use Rattle.aisrun.specs.Counts.{HasGoneOn, HasStood, HasRisen}
-use Rattle.aisrun.specs.Edges.{Stage, after, fault_count}
-use Rattle.aisrun.specs.Endings.{LoadFails, PlayedTo, PlayLacks, RootHolds, fault_line}
+use Rattle.played_runs.specs.declared.passing.Halt.{Halt}
+use Rattle.played_runs.specs.declared.passing.Halt.TheVariants.{Memory, DiskFault}
+use Rattle.aisrun.specs.Endings.{LoadFails}
 use Rattle.aisrun.specs.Loading.{TellsLoad, bytes_in, is_request}
-use Rattle.aisrun.specs.Playing.{Goes, StandsAt}
-use Rattle.aisrun.specs.Steps.{Ended, EventsEnd, Going, LacksBehind, Plays, Reaching, unasked}
-
--- Lines that are played, of which nothing is written.
-
--- each of these lines can be played behind the first one, whatever time is in force
-abbrev pub CanPass : List Line → Type 0
-CanPass [] = Unit {0}
-CanPass (next ∷ lines) = ((raw : List ℕ) × Spells next raw) × ((now : ℤ) → IsEventLine now next) × CanPass lines
-
--- what stands behind lines that were played from the start of a cluster on; or where the run ended: for want of memory, in one of them or
--- as one was made, or by a fault of the disk
-abbrev pub PassEnds :
-    (Since : Option Files → ℕ → Type 0) → Setup → ℕ → Option Files → ℕ → List Line → DiskView → World → Result Unit Halt → Type 0
-PassEnds Since setup places held first lines left world (Ok done) =
-    (text : List ℕ) × Going setup places held first left world lines text
-PassEnds Since setup places held first lines left world (Err Memory) =
-    (text : List ℕ)
-    × (LacksBehind setup places held first left.files world lines text ⊎ EventsEnd setup places held first left Since world lines None text)
-PassEnds Since setup places held first lines left world (Err DiskFault) =
-    (text : List ℕ) × EventsEnd setup places held first left Since world lines (Some Faulted) text
-
--- so it is behind all lines that led to a world and a disk
-abbrev pub Passes : (Since : Option Files → ℕ → Type 0) → List Line → (mid left : DiskView) (old new : World) → Result Unit Halt → Type 0
-Passes Since lines mid left old new result =
-    (setup : Setup) (places : ℕ) (held : Option Files) (first : ℕ) (done : List Line) (text : List ℕ)
-    → Going setup places held first mid old done text → PassEnds Since setup places held first (done ++ lines) left new result
-
--- some lines led there
-abbrev pub HasGone : DiskView → World → Type 0
-HasGone left world =
-    (setup : Setup) × (places : ℕ) × (held : Option Files) × (first : ℕ) × (done : List Line) × (text : List ℕ)
-    × Going setup places held first left world done text
-
--- the disk's count of faults as lines are played
-abbrev pub RisesPassing : ℕ × ℕ → Result Unit Halt → Type 0
-RisesPassing disk (Ok done) = HasGoneOn disk
-RisesPassing disk (Err Memory) = HasGoneOn disk
-RisesPassing disk (Err DiskFault) = HasRisen disk
 
 -- The line that is printed.
 

@@ -1,18 +1,13 @@
 -- Words of bodies alone: what the parts of a run give.
-use Rattle.std.specs.Prelude.{◌≡◌, ◌⊎◌, ℕ, List, [], Some, Result, Ok, Err}
-use Rattle.aisrun.specs.declared.ending.End.{End}
-use Rattle.aisrun.specs.declared.ending.Status8.{Status8}
-use Rattle.aisrun.specs.declared.ending.Status8.TheVariants.{Memory, ReadFault, TooLong}
+use Rattle.std.specs.Prelude.{◌≡◌, ◌⊎◌, ℕ, List, [], Some}
+use Rattle.played_runs.specs.declared.ending.Status8.TheVariants.{ReadFault, TooLong}
+use Rattle.played_runs.specs.Edges.{Edge, LeavesAll}
+use Rattle.played_runs.specs.Writing.{Reaching}
+use Rattle.aisrun.specs.Edges.{Around}
+use Rattle.aisrun.specs.Runs.{Stage}
 use Rattle.aisrun.specs.Commands.{command_of}
-use Rattle.aisrun.specs.Edges.{Edge, Stage, Around, LeavesAll}
 use Rattle.aisrun.specs.Endings.{LacksBy, ReadsWhole, SourceFailed, InputTooLong}
 use Rattle.aisrun.specs.Scripting.{BytesEnd, BytesLack}
-use Rattle.aisrun.specs.Steps.{IsNever, IsText, Reaching, Written}
-
--- what the writing of an end gives
-abbrev pub EndWritten : {K E : Type 0} → Result End E → Edge K (List ℕ) → Status8 → Type 0
-EndWritten (Ok end) sink status = Written (IsText end.status end.text.items) IsNever sink status
-EndWritten (Err e) sink status = (status ≡ Memory) × (sink.new ≡ sink.old)
 
 -- how the reading and playing of a script ends
 abbrev pub InputEnds : {S K D : Type 0} → Edge S (List ℕ) → Stage K D → Reaching

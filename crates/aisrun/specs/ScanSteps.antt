@@ -3,16 +3,16 @@ use Rattle.std.specs.Prelude.{◌≡◌, ℕ, List, [], ◌⊎◌, Some, None, R
 use Rattle.std.specs.Io.KnownBytes.{Appends}
 use Rattle.format_expr.specs.declared.piece.Piece.{Piece}
 use Rattle.scan_lines.specs.Telling.{IsTold, TellsAll, TellsFront}
+use Rattle.played_runs.specs.Counts.{HasStood}
+use Rattle.played_runs.specs.Edges.{Edge, before, after, fault_count, IsUntouched}
+use Rattle.played_runs.specs.Writing.{Ended, IsNone, Reaching, Written, unasked}
 use Rattle.aisrun.specs.declared.command.RecordQuery.{RecordQuery}
-use Rattle.aisrun.specs.declared.ending.Status8.{Status8}
-use Rattle.aisrun.specs.declared.ending.Status8.TheVariants.{Done, ScriptRefused, ReadFault, TooLong, Inseparable}
+use Rattle.played_runs.specs.declared.ending.Status8.{Status8}
+use Rattle.played_runs.specs.declared.ending.Status8.TheVariants.{Done, ScriptRefused, ReadFault, TooLong, Inseparable}
 use Rattle.aisrun.specs.declared.scanning.Expression.{Expression}
 use Rattle.aisrun.specs.declared.scanning.Expression.TheVariants as expression
-use Rattle.aisrun.specs.Counts.{HasStood}
-use Rattle.aisrun.specs.Edges.{Edge, before, after, fault_count, IsUntouched}
 use Rattle.aisrun.specs.Endings.{ReadsWhole, SourceFailed, InputTooLong, TextFails}
 use Rattle.aisrun.specs.Scanning.{IsParted, CannotPart}
-use Rattle.aisrun.specs.Steps.{Ended, IsNone, Reaching, Written, unasked}
 
 -- the text does not serve
 pub data TextRefused (query : RecordQuery) (text : List ℕ) (status : Status8) (printed : List ℕ) : Type 0 where

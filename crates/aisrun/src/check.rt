@@ -1,13 +1,13 @@
 //! The command `check`: whether the source gives a script.
 ghost use Rattle.std.specs.Prelude.{◌≤◌, length, IfOk};
+ghost use Rattle.played_runs.specs.Edges.{edge, fault_count};
+ghost use Rattle.played_runs.specs.Writing.{Ended, IsNone, unasked};
 ghost use Rattle.aisrun.specs.Checking.{CheckEnds, Judged};
-ghost use Rattle.aisrun.specs.Edges.{edge, fault_count};
-ghost use Rattle.aisrun.specs.Steps.{Ended, IsNone, unasked};
 
-use crate::ending::{End, Status8, bad_line, passed};
+use crate::ending::{bad_line, passed};
 use crate::input::{INPUT_LIMIT, write_unread};
-use crate::writing::write_end;
 use io_edge::{Sink, Source, read_all};
+use played_runs::{End, Status8, write_end};
 use script::{ScriptAnswer, count_lines};
 use std::alloc::{AllocError, Global};
 

@@ -2,9 +2,10 @@
 ghost use Rattle.std.specs.Prelude.{IfOk};
 ghost use Rattle.aisrun.specs.Checking.{ExprEnds};
 
-use crate::ending::{End, bad_text, passed};
+use crate::ending::{bad_text, passed};
 use ais_values::StreamKind;
 use format_expr::{ExprAnswer, parse_expr};
+use played_runs::End;
 use std::alloc::{AllocError, Global};
 
 /// Tells whether the text is an expression for streams of the kind, with its number of pieces or its fault.

@@ -1,12 +1,11 @@
 //! The command `gen`: the script of a large run.
 ghost use Rattle.load_script.specs.Texts.{load_text};
-ghost use Rattle.aisrun.specs.Edges.{edge};
-ghost use Rattle.aisrun.specs.Steps.{IsNever, IsText, Written};
+ghost use Rattle.played_runs.specs.Edges.{edge};
+ghost use Rattle.played_runs.specs.Writing.{IsNever, IsText, Written};
 
-use crate::ending::Status8;
-use crate::writing::unwritten;
 use io_edge::Sink;
 use load_script::write_script;
+use played_runs::{Status8, unwritten};
 use std::alloc::Global;
 
 /// Writes the script of so many turns from a seed on, and takes memory for one turn at a time.

@@ -1,11 +1,10 @@
 //! Where the input of a command was not read to its end.
-ghost use Rattle.aisrun.specs.Edges.{edge};
+ghost use Rattle.played_runs.specs.Edges.{edge};
+ghost use Rattle.played_runs.specs.Writing.{Written};
 ghost use Rattle.aisrun.specs.Inputs.{UnreadEnds, UnreadLacks};
-ghost use Rattle.aisrun.specs.Steps.{Written};
 
-use crate::ending::Status8;
-use crate::writing::write_text;
 use io_edge::{ReadAnswer, Sink};
+use played_runs::{Status8, write_text};
 
 /// The most bytes of an input: 16 MiB.
 pub const INPUT_LIMIT: usize = 16_777_216;

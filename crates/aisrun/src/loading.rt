@@ -1,6 +1,5 @@
 //! The command `load`: the script of a large run is made turn by turn and played, and one line tells where it led.
 ghost use Rattle.std.specs.Prelude.{◌≡◌, ◌<◌, ◌∷◌, ◌++◌, ℕ, [], List, Option, None, OnOk, OnErr};
-ghost use Rattle.ais_values.specs.Causes.{RoseExactlyOn};
 ghost use Rattle.disk_model.specs.Disk.{Files};
 ghost use Rattle.plain_service.specs.Setups.{Setup};
 ghost use Rattle.cluster_events.specs.Servers.{State};
@@ -10,18 +9,21 @@ ghost use Rattle.script_language.specs.Scripts.{IsScriptOf};
 ghost use Rattle.load_script.specs.Texts.{load_text};
 ghost use Rattle.load_lines.specs.Lines.{closing_lines, first_lines, load_lines, opening_line, turn_lines, turns_lines};
 ghost use Rattle.group_cluster.specs.Seats.{Peers};
-ghost use Rattle.cluster_core.specs.Beginning.{Begins, Begun, HoldsNone, LeavesBroken};
+ghost use Rattle.cluster_core.specs.Beginning.{Begins};
+ghost use Rattle.cluster_core.specs.Game.{world_game};
 ghost use Rattle.cluster_core.specs.Playing.{IsEventLine};
-ghost use Rattle.cluster_core.specs.Worlds.{empty_world, HasState, Shows, view_of};
-ghost use Rattle.aisrun.specs.Edges.{disk_edge, edge, stage};
-ghost use Rattle.aisrun.specs.Endings.{StoodUpTo};
-ghost use Rattle.aisrun.specs.LoadSteps.{CanPass, HasGone, LoadedOn, Passes, RisesPassing, RunEnds, RunWants, TellEnds, TellLacks};
-ghost use Rattle.aisrun.specs.Steps.{Ended, HasBegun, Written, unasked};
+ghost use Rattle.cluster_core.specs.Worlds.{empty_world, Shows, view_of};
+ghost use Rattle.played_runs.specs.Edges.{disk_edge, edge, stage};
+ghost use Rattle.played_runs.specs.Ends.{StoodUpTo};
+ghost use Rattle.played_runs.specs.Passing.{RisesPassing};
+ghost use Rattle.played_runs.specs.Writing.{Ended, Written, unasked};
+ghost use Rattle.played_runs.specs.Views.{HoldsNone};
+ghost use Rattle.played_runs.specs.Games.{HasState, LeavesBroken};
+ghost use Rattle.aisrun.specs.Runs.{Begun, HasGone, Passes, HasBegun, CanPass};
+ghost use Rattle.aisrun.specs.LoadSteps.{LoadedOn, RunEnds, RunWants, TellEnds, TellLacks};
 
-use crate::ending::Status8;
 use crate::figures::tell_load;
 use crate::playing::{first_name, write_held};
-use crate::writing::{write_broken, write_text};
 use callback_dispatch::Gate;
 use cluster_clients::EventAnswer;
 use cluster_core::World;
@@ -29,20 +31,12 @@ use disk_model::{DiskAnswer, SharedDisk};
 use io_edge::Sink;
 use load_lines::{closing_lines, first_lines, law_of_loads, opening_line, turn_lines};
 use load_script::{first_state, next_state, number_in};
+use played_runs::{Halt, Status8, write_broken, write_text};
 use script_lines::Line;
 use std::alloc::Global;
 use std::mem;
 use std::sync::Wait;
 use std::thread::Threads;
-
-/// Why a large run was not brought to its end.
-#[derive(Clone, Copy, Debug, PartialEq, Eq)]
-pub enum Halt {
-    /// Memory ran out.
-    Memory,
-    /// The disk failed.
-    DiskFault,
-}
 
 // Plays a line, and lets go what it prints.
 fn pass_line<R: Threads + Wait + Sync, D: SharedDisk, G: Gate>(
@@ -55,7 +49,7 @@ fn pass_line<R: Threads + Wait + Sync, D: SharedDisk, G: Gate>(
 ) -> Result<(), Halt>
     requires spelled { (raw : List ℕ) × Spells line.now raw }
     requires event { IsEventLine world.old.now line.now }
-    requires state { HasState world.old (D.seen disk.old).tally.armed }
+    requires state { HasState world_game world.old (D.seen disk.old).tally.armed }
     ensures passes { Passes (StoodUpTo (disk_edge D.seen disk.old disk.new)) (line.now ∷ [])
         (view_of (D.seen disk.old)) (view_of (D.seen disk.new))
         world.old world.new result }

@@ -15,14 +15,13 @@ mod playing;
 mod reading;
 mod run;
 mod scanning;
-mod writing;
 
 use callback_dispatch::OpenGate;
 use cluster_core::World;
 pub use command::{Command, RecordQuery, command_of};
 use disk_model::DirDisk;
-pub use ending::Status8;
 use io_edge::{StdSink, StdSource};
+pub use played_runs::Status8;
 pub use run::run;
 use std::alloc::AllocError;
 use std::env;
@@ -66,7 +65,7 @@ fn main(rt: HostRuntime) -> ExitCode {
         &OpenGate,
         &mut world,
     );
-    drop(world);
+    world.end();
     ExitCode::from(status.code())
 }
 

@@ -3,25 +3,24 @@ ghost use Rattle.std.specs.Prelude.{◌≡◌, ◌∷◌, ◌++◌, ℕ, codes, 
 ghost use Rattle.ais_values.specs.Causes.{RoseExactlyOn};
 ghost use Rattle.disk_model.specs.Disk.{Files};
 ghost use Rattle.plain_service.specs.Setups.{Setup};
-ghost use Rattle.cluster_events.specs.Servers.{State};
-ghost use Rattle.group_cluster.specs.Seats.{Peers};
 ghost use Rattle.script_language.specs.Lines.{Spells};
-ghost use Rattle.cluster_core.specs.Beginning.{Begun, HoldsNone};
+ghost use Rattle.cluster_core.specs.Game.{world_game};
 ghost use Rattle.cluster_core.specs.Playing.{IsEventLine};
-ghost use Rattle.cluster_core.specs.Worlds.{empty_world, HasState, IsArmedBy, IsGood, Shows, TellsFiles, view_of};
-ghost use Rattle.aisrun.specs.Edges.{disk_edge, edge, stage};
-ghost use Rattle.aisrun.specs.Endings.{StoodUpTo};
-ghost use Rattle.aisrun.specs.Scripting.{CanPlay, IsPlayable};
-ghost use Rattle.aisrun.specs.Steps.{CanFollow, Ended, EventsEnd, FindsNames, HasBegun, IsNone, IsText, LacksBehind, LineEnds, LineGives, LineLacks, PlayedOn, Written, unasked};
+ghost use Rattle.cluster_core.specs.Worlds.{empty_world};
+ghost use Rattle.played_runs.specs.Edges.{disk_edge, edge, stage};
+ghost use Rattle.played_runs.specs.Ends.{StoodUpTo};
+ghost use Rattle.played_runs.specs.Games.{Begun, HasState};
+ghost use Rattle.played_runs.specs.Steps.{CanFollow, CanPlay, EventsEnd, FindsNames, HasBegun, IsPlayable, LacksBehind, PlayedOn, PlaysLine};
+ghost use Rattle.played_runs.specs.Views.{HoldsNone, view_of};
+ghost use Rattle.played_runs.specs.Writing.{Ended, IsNone, IsText, Written, unasked};
 
-use crate::ending::{Status8, root_holds};
-use crate::writing::{unwritten, write_broken, write_lines, write_text};
 use ais_values::{Duplicate, Text};
 use callback_dispatch::Gate;
 use cluster_clients::EventAnswer;
 use cluster_core::World;
 use disk_model::{DiskAnswer, SharedDisk};
 use io_edge::Sink;
+use played_runs::{Status8, root_holds, unwritten, write_broken, write_lines, write_text};
 use script_lines::Line;
 use std::alloc::Global;
 use std::sync::Wait;
@@ -39,15 +38,9 @@ fn play_line<R: Threads + Wait + Sync, K: Sink, D: SharedDisk, G: Gate>(
 ) -> Result<(), Status8>
     requires spelled { (raw : List ℕ) × Spells line.now raw }
     requires event { IsEventLine world.old.now line.now }
-    requires state { HasState world.old (D.seen disk.old).tally.armed }
-    ensures { (setup : Setup) (state : State Peers) → IsGood setup state
-        → Shows setup state world.old → IsArmedBy state (D.seen disk.old).tally.armed
-        → TellsFiles setup state (D.seen disk.old).files
-        → LineGives ((D.seen disk.old).faults, (D.seen disk.new).faults) (LineEnds setup state
-        line.now (view_of (D.seen disk.old))
-        (view_of (D.seen disk.new)) world.new)
-        (LineLacks setup state (D.seen disk.old).files (D.seen disk.new).files world.new)
-        (edge K.written K.faults out.old out.new) result }
+    requires state { HasState world_game world.old (D.seen disk.old).tally.armed }
+    ensures { PlaysLine world_game line.now (view_of (D.seen disk.old)) (view_of (D.seen disk.new))
+        world.old world.new (edge K.written K.faults out.old out.new) result }
 {
     match world.event(rt, alloc, line, disk, gate) {
         Ok(lines) => match write_lines(out, lines.as_slice()) {
@@ -69,18 +62,16 @@ fn play_events<R: Threads + Wait + Sync, K: Sink, D: SharedDisk, G: Gate>(
     gate: &G,
     world: &mut World,
 ) -> Status8
-    requires begun { HasBegun (view_of (D.seen disk.old))
-        world.old }
-    requires follows { CanFollow world.old.now events.now }
+    requires begun { HasBegun world_game (view_of (D.seen disk.old)) world.old }
+    requires follows { CanFollow world_game world.old.now events.now }
     ensures { (setup : Setup) (places : ℕ) (held : Option Files)
-        → Begun setup places held
-        (view_of (D.seen disk.old)) world.old
+        → Begun world_game setup places held (view_of (D.seen disk.old)) world.old
         → Ended unasked ((D.seen disk.old).faults, (D.seen disk.new).faults)
-        (EventsEnd setup places held (D.seen disk.old).faults
+        (EventsEnd world_game setup places held (D.seen disk.old).faults
         (view_of (D.seen disk.new))
         (StoodUpTo (disk_edge D.seen disk.old disk.new)) world.new events.now)
-        (LacksBehind setup places held (D.seen disk.old).faults (D.seen disk.new).files world.new
-        events.now) (edge K.written K.faults out.old out.new) result }
+        (LacksBehind world_game setup places held (D.seen disk.old).faults (D.seen disk.new).files
+        world.new events.now) (edge K.written K.faults out.old out.new) result }
 {
     for line in events {
         match play_line(rt, alloc, line, out, disk, gate, world) {
@@ -102,13 +93,13 @@ fn open<R: Threads + Wait + Sync, K: Sink, D: SharedDisk, G: Gate>(
     gate: &G,
     world: &mut World,
 ) -> Status8
-    requires script { CanPlay opening.now events.now }
+    requires script { CanPlay world_game opening.now events.now }
     requires empty { world.old ≡ empty_world }
     requires bare { HoldsNone (D.seen disk.old).files }
     requires unarmed { (D.seen disk.old).tally.armed ≡ None }
-    ensures { PlayedOn (opening.now ∷ events.now) (stage (edge K.written K.faults out.old out.new)
-        (disk_edge D.seen disk.old disk.new) (D.seen disk.new).tally.armed world.old world.new)
-        result }
+    ensures { PlayedOn world_game (opening.now ∷ events.now)
+        (stage (edge K.written K.faults out.old out.new) (disk_edge D.seen disk.old disk.new)
+        (D.seen disk.new).tally.armed world.old world.new) result }
 {
     match world.begin(rt, alloc, opening, disk) {
         Ok(()) => play_events(rt, alloc, events, out, disk, gate, world),
@@ -166,10 +157,10 @@ pub fn play<R: Threads + Wait + Sync, K: Sink, D: SharedDisk, G: Gate>(
     gate: &G,
     world: &mut World,
 ) -> Status8
-    requires script { IsPlayable lines.now }
+    requires script { IsPlayable world_game lines.now }
     requires empty { world.old ≡ empty_world }
     requires unarmed { (D.seen disk.old).tally.armed ≡ None }
-    ensures { PlayedOn lines.now (stage (edge K.written K.faults out.old out.new)
+    ensures { PlayedOn world_game lines.now (stage (edge K.written K.faults out.old out.new)
         (disk_edge D.seen disk.old disk.new) (D.seen disk.new).tally.armed world.old world.new)
         result }
 {

@@ -2,8 +2,9 @@
 ghost use Rattle.std.specs.Prelude.{◌≤◌, length, IfOk};
 ghost use Rattle.aisrun.specs.Scripting.{ScriptRead};
 
-use crate::ending::{End, bad_line};
+use crate::ending::bad_line;
 use ais_values::Seq;
+use played_runs::End;
 use script::{Line, ScriptAnswer, parse_script};
 use std::alloc::{AllocError, Global};
 

@@ -234,7 +234,7 @@ fn play<R: Abort + Threads + Wait + Sync, D: SharedDisk>(
         &OpenGate,
         &mut world,
     );
-    drop(world);
+    world.end();
     drop(list);
     status.code()
 }

@@ -26,9 +26,12 @@ use Rattle.group_cluster.proofs.Running.{start-steady}
 use Rattle.group_servers.specs.GroupNodes.{standby_by}
 use Rattle.mirror.specs.declared.node.Node.{Node}
 use Rattle.cluster_clients.specs.declared.answer.EventAnswer.{EventAnswer}
+use Rattle.cluster_core.specs.Game.{world_game}
 use Rattle.cluster_core.specs.declared.world.World.{World}
 use Rattle.cluster_core.specs.Worlds.{Shows, IsGood, LeavesFiles, pair_start, view_of}
-use Rattle.cluster_core.specs.Beginning.{Begins, HoldsNone, Begun, LeavesBroken}
+use Rattle.cluster_core.specs.Beginning.{Begins}
+use Rattle.played_runs.specs.Views.{HoldsNone}
+use Rattle.played_runs.specs.Games.{Begun, LeavesBroken}
 use Rattle.cluster_core.specs.Starting.{active_at, wells_of, world_of, broken_by, StartsBoth, StartsWorld}
 use Rattle.cluster_core.proofs.BeginSpelled.{spelled-begins}
 
@@ -60,7 +63,7 @@ passed-unarmed : (count : ℕ) (before after : Tally) → after ≡ passed count
 passed-unarmed count before after is unarmed = ap (λ (t : Tally). t.armed) is ∙ ap (lowered count) unarmed
 
 -- **the start was done**
-pub begun : (setup : Setup) (places count : ℕ) (held : Option Files) (before left : DiskSeen) (world : World) → CanBegin setup → world ≡ world_of (active_at setup) (standby_by setup [] false) setup.start places → HoldsNone held → left.files ≡ option_map (all_applied (calls_of_all (opening_of setup))) held → left.tally ≡ passed count before.tally → before.tally.armed ≡ None → Begun setup places held (view_of left) world
+pub begun : (setup : Setup) (places count : ℕ) (held : Option Files) (before left : DiskSeen) (world : World) → CanBegin setup → world ≡ world_of (active_at setup) (standby_by setup [] false) setup.start places → HoldsNone held → left.files ≡ option_map (all_applied (calls_of_all (opening_of setup))) held → left.tally ≡ passed count before.tally → before.tally.armed ≡ None → (Begun world_game) setup places held (view_of left) world
 begun setup places count held before left world begins is none done counted unarmed = record {
   good = good-start setup places begins;
   shows = subst (λ w. Shows setup (pair_start setup.start places) w) (sym is) (shows-start setup places);

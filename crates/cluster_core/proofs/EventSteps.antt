@@ -25,10 +25,14 @@ use Rattle.group_servers.specs.declared.group.Seat.{Seat}
 use Rattle.group_servers.specs.declared.group.Group.{Group}
 use Rattle.group_servers.specs.GroupKit.{group_kit, group_script}
 use Rattle.group_servers.specs.GroupNodes.{active_by, node_by, seats_by}
+use Rattle.cluster_core.specs.Game.{world_game}
 use Rattle.cluster_core.specs.declared.world.World.{World}
-use Rattle.cluster_core.specs.Worlds.{HasState, IsGood, Shows, named, parts_of, seats_beside, unnamed, view_of}
-use Rattle.cluster_core.specs.Broken.{Broken, BreaksOn, files_alone}
-use Rattle.cluster_core.specs.Playing.{DoesEvent, EndsEvent, FaultLeaves, IsEventLine}
+use Rattle.cluster_core.specs.Worlds.{IsGood, Shows, named, parts_of, seats_beside, unnamed, view_of}
+use Rattle.played_runs.specs.Games.{HasState}
+use Rattle.played_runs.specs.Games.{Broken, BreaksOn}
+use Rattle.played_runs.specs.Views.{files_alone}
+use Rattle.cluster_core.specs.Playing.{IsEventLine}
+use Rattle.played_runs.specs.Games.{DoesEvent, EndsEvent, FaultLeaves}
 use Rattle.cluster_core.specs.Parts.{BreaksWhole, PlaysWhole, acting_as, acting_in, other_seat, whole_of}
 use Rattle.cluster_core.proofs.TwoSeats.{AreBeside, fallen-beside, shown-beside, two-good, two_beside}
 
@@ -83,7 +87,7 @@ whole-shows setup state parts world is good shows =
 
 -- What a call of the parts asks for.
 
-pub parts-stand : (old : World) (held : DiskSeen) → HasState old held.tally.armed → (clusters.HasStateOn (group_kit 2)) clusters.any_state (parts_of (acting_in old) old) held
+pub parts-stand : (old : World) (held : DiskSeen) → (HasState world_game) old held.tally.armed → (clusters.HasStateOn (group_kit 2)) clusters.any_state (parts_of (acting_in old) old) held
 parts-stand old held has = record { setup = has.setup; state = has.state; good = has.good; shows = parts-show has.setup has.state old has.good has.shows; count = has.count; so = tt }
 
 pub can-play : (now : ℤ) (next : Line) → IsEventLine now next → CanPlay group_script now next
@@ -92,7 +96,7 @@ can-play now (line.Time later) can = can
 can-play now _ can = tt
 
 -- **what a line led the parts to it led the world to**
-pub does-event : (next : Line) (old new : World) (before after lines : List (List ℕ)) (held left : DiskSeen) → before ≡ [] → lines ≡ after → PlaysWhole next old new before after held left → DoesEvent next lines old new (view_of held) (view_of left)
+pub does-event : (next : Line) (old new : World) (before after lines : List (List ℕ)) (held left : DiskSeen) → before ≡ [] → lines ≡ after → PlaysWhole next old new before after held left → (DoesEvent world_game) next lines old new (view_of held) (view_of left)
 does-event next old new before after lines held left none same whole setup state good shows armed tells =
     let parts = whole.0 in
     let done = whole.2 setup state good (parts-show setup state old good shows) armed tells in
@@ -132,19 +136,19 @@ parts-broken acting setup state held left parts broken = record {
   files = broken.files;
 }
 
-pub lacks-event : (next : Line) (old new : World) (before after : List (List ℕ)) (held left : DiskSeen) → BreaksWhole Memory next old new before after held left → BreaksOn old new (view_of held) (view_of left)
+pub lacks-event : (next : Line) (old new : World) (before after : List (List ℕ)) (held left : DiskSeen) → BreaksWhole Memory next old new before after held left → (BreaksOn world_game) old new (view_of held) (view_of left)
 lacks-event next old new before after held left whole setup state good shows armed =
     let parts = whole.0 in
     let broken = whole.2 setup state good (parts-show setup state old good shows) armed in
-    subst (λ (w : World). Broken setup state held.files left.files w) (sym whole.1) (parts-broken state.peers.acting setup state held left parts broken.0)
+    subst (λ (w : World). (Broken world_game) setup state held.files left.files w) (sym whole.1) (parts-broken state.peers.acting setup state held left parts broken.0)
 
 -- no event of a state ends as the disk stops
-pub stops-event : (next : Line) (old new : World) (before after : List (List ℕ)) (held left : DiskSeen) → BreaksWhole Stopped next old new before after held left → BreaksOn old new (view_of held) (view_of left)
+pub stops-event : (next : Line) (old new : World) (before after : List (List ℕ)) (held left : DiskSeen) → BreaksWhole Stopped next old new before after held left → (BreaksOn world_game) old new (view_of held) (view_of left)
 stops-event next old new before after held left whole setup state good shows armed =
     absurd (whole.2 setup state good (parts-show setup state old good shows) armed)
 
 -- a line that ended
-ends-event : (next : Line) (old new : World) (parts : Cluster (Group 2)) (before after : List (List ℕ)) (held left : DiskSeen) → new ≡ whole_of parts → ((setup : Setup) (state : State Peers) → (clusters.IsGood (group_kit 2)) setup state → (clusters.Shows (group_kit 2)) setup state (parts_of (acting_in old) old) → (group_kit 2).Armed state.peers held → (LineEnded (group_kit 2) group_script) setup state next parts before after held left) → EndsEvent next old new before after (view_of held) (view_of left)
+ends-event : (next : Line) (old new : World) (parts : Cluster (Group 2)) (before after : List (List ℕ)) (held left : DiskSeen) → new ≡ whole_of parts → ((setup : Setup) (state : State Peers) → (clusters.IsGood (group_kit 2)) setup state → (clusters.Shows (group_kit 2)) setup state (parts_of (acting_in old) old) → (group_kit 2).Armed state.peers held → (LineEnded (group_kit 2) group_script) setup state next parts before after held left) → (EndsEvent world_game) next old new before after (view_of held) (view_of left)
 ends-event next old new parts before after held left is ends setup state good shows armed =
     let ended = ends setup state good (parts-show setup state old good shows) armed in
     let acting = ended.end.state.peers.acting in
@@ -192,7 +196,7 @@ shown-same held left shows =
       (λ i. (now i).tally.armed) ∙ shows.read.armed ∙ sym (λ i. (is i).tally.armed),
     )
 
-fault-leaves : (next : Line) (old new : World) (parts : Cluster (Group 2)) (before after : List (List ℕ)) (held left : DiskSeen) → new ≡ whole_of parts → (FaultLeavesParts (group_kit 2) group_script) next (parts_of (acting_in old) old) parts before after held left → FaultLeaves next old new before after (view_of held) (view_of left)
+fault-leaves : (next : Line) (old new : World) (parts : Cluster (Group 2)) (before after : List (List ℕ)) (held left : DiskSeen) → new ≡ whole_of parts → (FaultLeavesParts (group_kit 2) group_script) next (parts_of (acting_in old) old) parts before after held left → (FaultLeaves world_game) next old new before after (view_of held) (view_of left)
 fault-leaves line.Files old new parts before after held left is same =
     let shown = shown-same held left same.2 in
     (is ∙ ap whole_of same.0 ∙ same-whole old, same.1, shown.0, shown.1)
@@ -201,8 +205,8 @@ fault-leaves (line.Cat name) old new parts before after held left is same =
     (is ∙ ap whole_of same.0 ∙ same-whole old, same.1, shown.0, shown.1)
 fault-leaves next old new parts before after held left is ends = ends-event next old new parts before after held left is ends
 
-pub faults-event : (next : Line) (old new : World) (before after lines : List (List ℕ)) (held left : DiskSeen) → before ≡ [] → lines ≡ after → BreaksWhole Failed next old new before after held left → FaultLeaves next old new [] lines (view_of held) (view_of left)
+pub faults-event : (next : Line) (old new : World) (before after lines : List (List ℕ)) (held left : DiskSeen) → before ≡ [] → lines ≡ after → BreaksWhole Failed next old new before after held left → (FaultLeaves world_game) next old new [] lines (view_of held) (view_of left)
 faults-event next old new before after lines held left none same whole =
     let own = fault-leaves next old new whole.0 before after held left whole.1 whole.2 in
-    subst (λ (l : List (List ℕ)). FaultLeaves next old new [] l (view_of held) (view_of left)) (sym same)
-    (subst (λ (front : List (List ℕ)). FaultLeaves next old new front after (view_of held) (view_of left)) none own)
+    subst (λ (l : List (List ℕ)). (FaultLeaves world_game) next old new [] l (view_of held) (view_of left)) (sym same)
+    (subst (λ (front : List (List ℕ)). (FaultLeaves world_game) next old new front after (view_of held) (view_of left)) none own)

@@ -2,4 +2,3 @@ pub mod TwoSeats
 mod EventSteps
 mod BeginSteps
 mod BeginSpelled
-pub mod CauseSteps

@@ -1,8 +1,6 @@
--- Words of public clauses: what stands where an event breaks off, for want of memory or by a fault of the disk.
+-- Words of public clauses: what stands where a fault of the disk ended an event.
 use Rattle.std.specs.Prelude.{◌≡◌, ℕ, ◌≤◌, Option, List}
 use Rattle.ais_values.specs.Causes.{Rose}
-use Rattle.disk_model.specs.Disk.{Files}
-use Rattle.disk_model.specs.Seen.{DiskSeen, none_seen}
 use Rattle.plain_service.specs.Setups.{Setup}
 use Rattle.service_laws.specs.PlainOf.{plain_of}
 use Rattle.script_lines.specs.declared.line.Line.{Line}
@@ -16,26 +14,10 @@ use Rattle.group_cluster.specs.Ended.{GroupEnds}
 use Rattle.cluster_clients.specs.Spelled.{AreSpelled}
 use Rattle.cluster_clients.specs.Clients.{ShowsAgents}
 use Rattle.cluster_rounds.specs.Kits.{device_by}
-use Rattle.cluster_rounds.specs.Broken as cluster
 pub use Rattle.cluster_rounds.specs.Broken.{LeavesBetween}
-use Rattle.group_servers.specs.GroupKit.{FellGroup, group_kit}
+use Rattle.group_servers.specs.GroupKit.{FellGroup}
 use Rattle.cluster_core.specs.declared.world.World.{World}
-use Rattle.cluster_core.specs.Worlds.{DiskView, parts_of, IsArmedBy, IsGood, Shows, TellsFiles}
-
--- a disk of which its files alone are told
-abbrev pub files_alone : Option Files → DiskSeen
-files_alone files = record none_seen { files = files }
-
--- an event broke off for want of memory, and left the parts of the world so
-abbrev pub Broken : Setup → State Peers → Option Files → Option Files → World → Type 0
-Broken setup state held left world =
-    cluster.Broken (group_kit 2) setup state (files_alone held) (files_alone left) (parts_of state.peers.acting world)
-
--- so it is over each good state that the world and the disk stood for
-abbrev pub BreaksOn : World → World → DiskView → DiskView → Type 0
-BreaksOn old new held left =
-    (setup : Setup) (state : State Peers) → IsGood setup state → Shows setup state old → IsArmedBy state held.armed
-    → Broken setup state held.files left.files new
+use Rattle.cluster_core.specs.Worlds.{DiskView, parts_of, IsGood, TellsFiles}
 
 -- what the world is once no server is active: the servers fell, and all else is that of the state
 pub record ShowsEnd (setup : Setup) (state : State Peers) (armed : Option ℕ) (world : World) : Type 0 where

@@ -4,3 +4,5 @@ pub mod Playing
 pub mod Parts
 pub mod Beginning
 pub mod Starting
+pub mod Game
+pub mod GameLaws

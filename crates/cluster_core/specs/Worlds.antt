@@ -1,7 +1,5 @@
 -- Words of public clauses: how a world of the code is a state of the definitions: its parts are a cluster of a group of two.
-use Rattle.std.specs.Prelude.{◌≡◌, ℕ, ℤ, pos, false, List, [], ◌∷◌, Option}
-use Rattle.disk_model.specs.Disk.{Files}
-use Rattle.disk_model.specs.Seen.{DiskSeen}
+use Rattle.std.specs.Prelude.{ℕ, ℤ, pos, false, List, [], ◌∷◌}
 use Rattle.calls.specs.History.{empty_history}
 use Rattle.script_lines.specs.declared.line.Server.{Server}
 use Rattle.script_lines.specs.declared.line.Server.TheVariants.{A, B}
@@ -16,6 +14,7 @@ use Rattle.mirror.specs.Pairing.{alone}
 use Rattle.cluster_rounds.specs.declared.cluster.Cluster.{Cluster}
 use Rattle.cluster_rounds.specs.Worlds as cluster
 pub use Rattle.cluster_rounds.specs.Worlds.{TellsFiles, LeavesFiles}
+pub use Rattle.played_runs.specs.Views.{DiskView, view_of}
 use Rattle.group_servers.specs.declared.group.Seat.{Seat}
 use Rattle.group_servers.specs.declared.group.Group.{Group}
 use Rattle.group_servers.specs.GroupKit.{group_kit}
@@ -64,28 +63,6 @@ Shows setup state world = cluster.Shows (group_kit 2) setup state (parts_of stat
 -- are in range
 abbrev pub IsGood : Setup → State Peers → Type 0
 IsGood setup state = cluster.IsGood (group_kit 2) setup state
-
--- what a run follows of a disk: its files, where it tells them; the changing calls that are left until it stops, where it is armed; and its
--- count of faults
-pub record DiskView : Type 0 where
-  pub files : Option Files
-  pub armed : Option ℕ
-  pub faults : ℕ
-
-abbrev pub view_of : DiskSeen → DiskView
-view_of disk = record { files = disk.files; armed = disk.tally.armed; faults = disk.faults }
-
--- the disk's armed count is the active server's
-abbrev pub IsArmedBy : State Peers → Option ℕ → Type 0
-IsArmedBy state armed = armed ≡ state.peers.armed
-
--- the world stands for a good state, of which a disk of this armed count tells
-pub record HasState (world : World) (armed : Option ℕ) : Type 0 where
-  pub setup : Setup
-  pub state : State Peers
-  pub good : IsGood setup state
-  pub shows : Shows setup state world
-  pub count : IsArmedBy state armed
 
 -- the start of a run: `a` is active, `b` standby
 abbrev pub pair_start : ℤ → ℕ → State Peers

@@ -4,9 +4,12 @@ ghost use Rattle.ais_values.specs.declared.kind.StreamKind.TheVariants.{Alarm, N
 ghost use Rattle.plain_service.specs.Setups.{Setup};
 ghost use Rattle.script_language.specs.Lines.{Spells};
 ghost use Rattle.service_core.specs.Beginning.{BeginsAs, CanBeginAs};
+ghost use Rattle.cluster_core.specs.Game.{world_game};
 ghost use Rattle.cluster_core.specs.Worlds.{empty_world, view_of};
 ghost use Rattle.cluster_clients.specs.Answers.{RisesAtFault};
-ghost use Rattle.cluster_core.specs.Beginning.{Begins, HoldsNone, Begun, LeavesBroken};
+ghost use Rattle.cluster_core.specs.Beginning.{Begins};
+ghost use Rattle.played_runs.specs.Views.{HoldsNone};
+ghost use Rattle.played_runs.specs.Games.{Begun, LeavesBroken};
 ghost use Rattle.group_servers.specs.GroupNodes.{standby_by};
 ghost use Rattle.cluster_core.specs.Starting.{wells_of, world_of, Starts, StartsBoth, StartsWorld, broken_by};
 
@@ -200,7 +203,7 @@ impl World {
         requires empty { self.old ≡ empty_world }
         requires unarmed { (D.seen disk.old).tally.armed ≡ None }
         ensures ok { (setup : Setup) (places : ℕ) → Begins line.now setup places →
-            HoldsNone (D.seen disk.old).files → OnOk result (Begun setup places
+            HoldsNone (D.seen disk.old).files → OnOk result (Begun world_game setup places
             (D.seen disk.old).files (view_of (D.seen disk.new)) self.new) }
         ensures same { OnErr result (self.new ≡ self.old) }
         ensures broken { (setup : Setup) (places : ℕ) → Begins line.now setup places →

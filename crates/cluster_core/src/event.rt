@@ -17,8 +17,11 @@ use std::sync::Wait;
 use std::thread::Threads;
 
 impl World {
-    ghost use Rattle.cluster_core.specs.Worlds.{HasState, view_of};
-    ghost use Rattle.cluster_core.specs.Playing.{IsEventLine, DoesEvent, EventBroken, RisesInEvent};
+    ghost use Rattle.cluster_core.specs.Game.{world_game};
+    ghost use Rattle.cluster_core.specs.Worlds.{view_of};
+    ghost use Rattle.played_runs.specs.Games.{HasState};
+    ghost use Rattle.cluster_core.specs.Playing.{IsEventLine};
+    ghost use Rattle.played_runs.specs.Games.{DoesEvent, EventBroken, RisesInEvent};
 
     /// Does what a line of a script asks for, and answers with the lines that it prints, each with its line feed. A cluster line and a
     /// time below that in force are no part of it. A dispatch of all is by as many workers as the line says, each of which passes the
@@ -49,13 +52,12 @@ impl World {
     ) -> Result<Seq<Seq<u8>>, EventAnswer>
         requires spelled { (raw : List ℕ) × Spells line.now raw }
         requires line { IsEventLine self.old.now line.now }
-        requires state { HasState self.old (D.seen disk.old).tally.armed }
-        ensures ok { IfOk result (λ lines. DoesEvent line.now lines self.old self.new
+        requires state { HasState world_game self.old (D.seen disk.old).tally.armed }
+        ensures ok { IfOk result (λ lines. DoesEvent world_game line.now lines self.old self.new
             (view_of (D.seen disk.old))
             (view_of (D.seen disk.new))) }
-        ensures broken { IfErr result (λ answer. EventBroken answer line.now self.old self.new
-            (view_of (D.seen disk.old))
-            (view_of (D.seen disk.new))) }
+        ensures broken { IfErr result (λ answer. EventBroken world_game answer line.now self.old
+            self.new (view_of (D.seen disk.old)) (view_of (D.seen disk.new))) }
         ensures cause { RisesInEvent (D.seen disk.old).faults (D.seen disk.new).faults result }
         ensures looks { LooksBy line.now (D.seen disk.old).files (is_ok result)
             (D.seen disk.old).tally (D.seen disk.new).tally }

@@ -5,7 +5,9 @@ ghost use Rattle.cluster_lines.specs.Lines.{IsInRange};
 ghost use Rattle.cluster_rounds.specs.Counted.{Counted};
 ghost use Rattle.cluster_lines.specs.Playing.{LooksBy};
 ghost use Rattle.group_servers.specs.GroupKit.{group_kit};
-ghost use Rattle.cluster_core.specs.Worlds.{named, unnamed, own_seat, seats_beside, parts_of, HasState};
+ghost use Rattle.cluster_core.specs.Game.{world_game};
+ghost use Rattle.cluster_core.specs.Worlds.{named, unnamed, own_seat, seats_beside, parts_of};
+ghost use Rattle.played_runs.specs.Games.{HasState};
 ghost use Rattle.cluster_core.specs.Playing.{IsEventLine};
 ghost use Rattle.cluster_core.specs.Parts.{acting_in, other_seat, whole_of, PlaysWhole, BreaksWhole};
 
@@ -182,7 +184,7 @@ pub(crate) fn play_whole<R: Threads + Wait + Sync, D: SharedDisk, G: Gate>(
     disk: &mut D,
     gate: &G,
 ) -> Result<(), DiskAnswer>
-    requires state { HasState world.old (D.seen disk.old).tally.armed }
+    requires state { HasState world_game world.old (D.seen disk.old).tally.armed }
     requires range { IsInRange line.now }
     requires line { IsEventLine world.old.now line.now }
     ensures ok { OnOk result (PlaysWhole line.now world.old world.new lines.old.items

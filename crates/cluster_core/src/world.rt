@@ -8,6 +8,7 @@ use client_agent::Agent;
 use message_net::Net;
 use mirror::Node;
 use std::alloc::Global;
+use std::mem;
 use wire::Message;
 
 /// Two servers with the lists of messages between them, the net, the clients' agents by rising client, and what was committed.
@@ -45,5 +46,10 @@ impl World {
             armed: false,
             callbacks: 0,
         }
+    }
+
+    /// Lets the world go, with all that it holds, at one place for all who have one.
+    pub fn end(self) {
+        mem::drop(self);
     }
 }

@@ -1,10 +1,11 @@
 use Rattle.std.proofs.Common.{ℕ, List, length, refl, ap, sym, subst, arith}
+use Rattle.played_runs.specs.Edges.{edge, fault_count}
+use Rattle.played_runs.specs.Writing.{Counting, IsNone, Standing, unasked}
+use Rattle.played_runs.proofs.CountSteps.{on-same}
+use Rattle.played_runs.proofs.EndingSteps.{end-written}
 use Rattle.aisrun.specs.Checking.{CheckEnds, Judged}
-use Rattle.aisrun.specs.Edges.{edge, fault_count}
 use Rattle.aisrun.specs.Endings.{input_limit, ReadsWhole}
-use Rattle.aisrun.specs.Steps.{Counting, IsNone, Standing, unasked}
-use Rattle.aisrun.proofs.CountSteps.{on-same}
-use Rattle.aisrun.proofs.EndingSteps.{end-written, judged-check, ok-ends, unread-written}
+use Rattle.aisrun.proofs.EndingSteps.{judged-check, ok-ends, unread-written}
 use Rattle.aisrun.proofs.check.run_check.Goals as goal
 
 pub judge-requires : goal.judge-requires

@@ -1,7 +1,7 @@
 use Rattle.std.proofs.Common.{ℕ, ◌+◌, refl, ap, ◌∙◌, arith}
+use Rattle.played_runs.proofs.PassingSteps.{take-all}
 use Rattle.aisrun.specs.Loading.{requests_in}
 use Rattle.aisrun.proofs.FigureLaws.{byte-low, requests-next}
-use Rattle.aisrun.proofs.LoadPassing.{take-all}
 use Rattle.aisrun.proofs.figures.count_requests.Goals as goal
 
 pub loop-message-init : goal.loop-message-init

@@ -1,10 +1,10 @@
 use Rattle.std.proofs.Common.{Some, refl, sym, subst}
 use Rattle.load_script.specs.Texts.{load_text}
-use Rattle.aisrun.specs.declared.ending.Status8.{Status8}
-use Rattle.aisrun.specs.declared.ending.Status8.TheVariants.{Done}
-use Rattle.aisrun.specs.Edges.{edge}
-use Rattle.aisrun.specs.Steps.{IsNever, IsText, Written, Whole}
-use Rattle.aisrun.proofs.WritingSteps.{unwritten}
+use Rattle.played_runs.specs.declared.ending.Status8.{Status8}
+use Rattle.played_runs.specs.declared.ending.Status8.TheVariants.{Done}
+use Rattle.played_runs.specs.Edges.{edge}
+use Rattle.played_runs.specs.Writing.{IsNever, IsText, Written, Whole}
+use Rattle.played_runs.proofs.WritingSteps.{unwritten}
 use Rattle.aisrun.proofs.generating.generate.Goals as goal
 
 pub returns-in-Ok : goal.returns-in-Ok

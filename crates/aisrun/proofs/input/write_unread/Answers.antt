@@ -2,12 +2,12 @@ use Rattle.std.proofs.Common.{refl, sym, subst}
 use Rattle.std.specs.Prelude.{codes}
 use Rattle.io_edge.specs.declared.answers.ReadAnswer.{ReadAnswer}
 use Rattle.io_edge.specs.declared.answers.ReadAnswer.TheVariants as read
-use Rattle.aisrun.specs.declared.ending.Status8.TheVariants.{Memory, ReadFault, TooLong}
-use Rattle.aisrun.specs.Edges.{edge}
+use Rattle.played_runs.specs.declared.ending.Status8.TheVariants.{Memory, ReadFault, TooLong}
+use Rattle.played_runs.specs.Edges.{edge}
+use Rattle.played_runs.specs.Writing.{IsNever, IsText, Written}
+use Rattle.played_runs.proofs.EndingSteps.{lacked}
+use Rattle.played_runs.proofs.WritingSteps.{written-as}
 use Rattle.aisrun.specs.Inputs.{UnreadEnds, UnreadLacks}
-use Rattle.aisrun.specs.Steps.{IsNever, IsText, Written}
-use Rattle.aisrun.proofs.EndingSteps.{lacked}
-use Rattle.aisrun.proofs.WritingSteps.{written-as}
 use Rattle.aisrun.proofs.input.write_unread.Goals as goal
 
 pub returns-in-Memory : goal.returns-in-Memory

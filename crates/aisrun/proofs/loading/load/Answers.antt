@@ -3,16 +3,17 @@ use Rattle.std.specs.Prelude.{codes, IfSome}
 use Rattle.std.specs.FinMap.{keys}
 use Rattle.disk_model.specs.declared.answers.DiskAnswer.TheVariants as answer
 use Rattle.load_lines.specs.Lines.{load_lines}
-use Rattle.aisrun.specs.declared.ending.Status8.TheVariants.{DiskFault, RootNotEmpty}
-use Rattle.aisrun.specs.Counts.{HasRisen}
-use Rattle.aisrun.specs.Edges.{disk_edge, edge, fault_count, stage}
-use Rattle.aisrun.specs.Endings.{AtNames, InPlay, Unopened, fault_line}
+use Rattle.played_runs.specs.declared.ending.Status8.TheVariants.{DiskFault, RootNotEmpty}
+use Rattle.played_runs.specs.Counts.{HasRisen}
+use Rattle.played_runs.specs.Edges.{disk_edge, edge, fault_count, stage}
+use Rattle.played_runs.specs.Ends.{AtNames, Unopened, fault_line}
+use Rattle.played_runs.specs.Writing.{Counting, IsNone, IsText, Standing, unasked}
+use Rattle.played_runs.proofs.CountSteps.{other-stood, stood-on}
+use Rattle.played_runs.proofs.EndingSteps.{lacked, text-ends, text-written}
+use Rattle.played_runs.proofs.WritingSteps.{ended-later, written-as}
+use Rattle.aisrun.specs.Endings.{InPlay}
 use Rattle.aisrun.specs.LoadSteps.{LoadEnds, LoadWants}
-use Rattle.aisrun.specs.Steps.{Counting, IsNone, IsText, Standing, unasked}
-use Rattle.aisrun.proofs.CountSteps.{other-stood, stood-on}
-use Rattle.aisrun.proofs.EndingSteps.{lacked, text-ends, text-written}
 use Rattle.aisrun.proofs.LoadEndings.{load-before, wants-before}
-use Rattle.aisrun.proofs.WritingSteps.{ended-later, written-as}
 use Rattle.aisrun.proofs.loading.load.Goals as goal
 
 pub returns-in-Ok-None-clause-ends : goal.returns-in-Ok-None-clause-ends

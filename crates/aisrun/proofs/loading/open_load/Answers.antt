@@ -1,16 +1,18 @@
 use Rattle.std.proofs.Common.{[], ◌++◌, inl, refl}
 use Rattle.load_lines.specs.Lines.{closing_lines, first_lines, load_lines, opening_line, turns_lines}
 use Rattle.cluster_core.specs.Worlds.{view_of}
-use Rattle.aisrun.specs.declared.ending.Status8.TheVariants.{DiskFault}
-use Rattle.aisrun.specs.Edges.{disk_edge, edge, fault_count, stage}
-use Rattle.aisrun.specs.Endings.{AtOpening, InPlay, Opening, Opens, StoodUpTo, fault_line}
+use Rattle.played_runs.specs.declared.ending.Status8.TheVariants.{DiskFault}
+use Rattle.played_runs.specs.Edges.{disk_edge, edge, fault_count, stage}
+use Rattle.played_runs.specs.Ends.{AtOpening, Opening, StoodUpTo, fault_line}
+use Rattle.played_runs.specs.Writing.{Counting, Standing, unasked}
+use Rattle.played_runs.proofs.CountSteps.{stood-on}
+use Rattle.played_runs.proofs.EndingSteps.{lacked, text-written}
+use Rattle.played_runs.proofs.WritingSteps.{ended-later}
+use Rattle.aisrun.specs.Runs.{Opens}
+use Rattle.aisrun.specs.Endings.{InPlay}
 use Rattle.aisrun.specs.LoadSteps.{LoadEnds, LoadWants, RunEnds, RunWants}
-use Rattle.aisrun.specs.Steps.{Counting, Standing, unasked}
-use Rattle.aisrun.proofs.CountSteps.{stood-on}
-use Rattle.aisrun.proofs.EndingSteps.{lacked, text-written}
 use Rattle.aisrun.proofs.LoadEndings.{run-load, run-wants}
 use Rattle.aisrun.proofs.LoadLines.{load-begins, load_setup}
-use Rattle.aisrun.proofs.WritingSteps.{ended-later}
 use Rattle.aisrun.proofs.loading.open_load.Goals as goal
 
 pub run_events-requires-clause-begun : goal.run_events-requires-clause-begun

@@ -1,12 +1,14 @@
 use Rattle.std.proofs.Common.{List, sym, ◌∙◌, subst}
 use Rattle.script_lines.specs.declared.line.Line.{Line}
 use Rattle.cluster_core.specs.Worlds.{view_of}
-use Rattle.aisrun.specs.Edges.{disk_edge}
-use Rattle.aisrun.specs.Endings.{StoodUpTo}
 use Rattle.load_lines.specs.Lines.{closing_lines}
-use Rattle.aisrun.specs.LoadSteps.{CanPass, Passes}
+use Rattle.cluster_core.specs.Game.{world_game}
+use Rattle.cluster_core.specs.GameLaws.{world_plays}
+use Rattle.played_runs.specs.Edges.{disk_edge}
+use Rattle.played_runs.specs.Ends.{StoodUpTo}
+use Rattle.played_runs.proofs.PassingSteps.{passes-unmade}
+use Rattle.aisrun.specs.Runs.{CanPass, Passes}
 use Rattle.aisrun.proofs.LoadLines.{can-closing}
-use Rattle.aisrun.proofs.LoadPassing.{passes-unmade}
 use Rattle.aisrun.proofs.loading.pass_closing.Goals as goal
 
 pub pass_lines-requires-clause-can : goal.pass_lines-requires-clause-can
@@ -21,4 +23,4 @@ returns-in-Ok-clause-passes g c =
 
 pub returns-in-Err-clause-passes : goal.returns-in-Err-clause-passes
 returns-in-Err-clause-passes g c =
-    passes-unmade (StoodUpTo (disk_edge g.D.SharedDisk.seen c.args.disk.now c.args.disk.now)) closing_lines (view_of (g.D.SharedDisk.seen c.args.disk.now)) c.args.world.now
+    passes-unmade world_game world_plays (StoodUpTo (disk_edge g.D.SharedDisk.seen c.args.disk.now c.args.disk.now)) closing_lines (view_of (g.D.SharedDisk.seen c.args.disk.now)) c.args.world.now

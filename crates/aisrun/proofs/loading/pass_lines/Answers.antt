@@ -1,11 +1,13 @@
 use Rattle.std.proofs.Common.{◌+◌, Ok, Err, List, [], ◌∷◌, ◌++◌, take, drop, sym, subst, arith}
 use Rattle.script_lines.specs.declared.line.Line.{Line}
-use Rattle.cluster_core.specs.Worlds.{view_of}
-use Rattle.aisrun.specs.Edges.{disk_edge}
-use Rattle.aisrun.specs.Endings.{StoodUpTo}
-use Rattle.aisrun.specs.LoadSteps.{Passes}
-use Rattle.aisrun.proofs.CountSteps.{on-same, on-behind}
-use Rattle.aisrun.proofs.LoadPassing.{gone-on, gone-state, line-can, line-parts, line-taken, passes-halted, passes-nothing, passes-then, rises-later, take-all}
+use Rattle.cluster_core.specs.Game.{world_game}
+use Rattle.cluster_core.specs.GameLaws.{world_plays}
+use Rattle.played_runs.specs.Edges.{disk_edge}
+use Rattle.played_runs.specs.Ends.{StoodUpTo}
+use Rattle.played_runs.specs.Passing.{Passes}
+use Rattle.played_runs.specs.Views.{view_of}
+use Rattle.played_runs.proofs.CountSteps.{on-same, on-behind}
+use Rattle.played_runs.proofs.PassingSteps.{gone-on, gone-state, line-can, line-parts, line-taken, passes-halted, passes-nothing, passes-then, rises-later, take-all}
 use Rattle.aisrun.proofs.loading.pass_lines.Goals as goal
 
 pub loop-line-init : goal.loop-line-init
@@ -13,7 +15,7 @@ loop-line-init g c =
     let disk = c.args.disk.now in
     record {
       can = c.requires.can;
-      passes = passes-nothing (StoodUpTo (disk_edge g.D.SharedDisk.seen disk disk)) (view_of (g.D.SharedDisk.seen disk)) c.args.world.now tt;
+      passes = passes-nothing world_game world_plays (StoodUpTo (disk_edge g.D.SharedDisk.seen disk disk)) (view_of (g.D.SharedDisk.seen disk)) c.args.world.now tt;
       disk = on-same (g.D.SharedDisk.seen disk).faults;
     }
 
@@ -27,8 +29,8 @@ returns-in-Err-clause-passes g c =
     let left = view_of (g.D.SharedDisk.seen c.pass_line.new.disk) in
     let Since = StoodUpTo (disk_edge g.D.SharedDisk.seen c.args.disk.now c.pass_line.new.disk) in
     let halt = c.in-Err.halt in
-    let both = passes-then g.D.SharedDisk.seen (take place lines) (line ∷ []) start mid left c.args.world.now c.loop-line.world c.pass_line.new.world c.args.disk.now c.loop-line.disk c.pass_line.new.disk tt (Err halt) c.loop-line.invariant.passes c.in-Err.ensures.passes in
-    subst (λ (all : List Line). Passes Since all start left c.args.world.now c.pass_line.new.world (Err halt)) (line-parts lines place line c.loop-line-test.true c.line-item.is) (passes-halted Since (take place lines ++ line ∷ []) (drop (place + 1) lines) start left c.args.world.now c.pass_line.new.world halt both)
+    let both = passes-then world_game world_plays g.D.SharedDisk.seen (take place lines) (line ∷ []) start mid left c.args.world.now c.loop-line.world c.pass_line.new.world c.args.disk.now c.loop-line.disk c.pass_line.new.disk tt (Err halt) c.loop-line.invariant.passes c.in-Err.ensures.passes in
+    subst (λ (all : List Line). (Passes world_game) Since all start left c.args.world.now c.pass_line.new.world (Err halt)) (line-parts lines place line c.loop-line-test.true c.line-item.is) (passes-halted world_game world_plays Since (take place lines ++ line ∷ []) (drop (place + 1) lines) start left c.args.world.now c.pass_line.new.world halt both)
 
 pub loop-line-preserved : goal.loop-line-preserved
 loop-line-preserved g c =
@@ -39,10 +41,10 @@ loop-line-preserved g c =
     let mid = view_of (g.D.SharedDisk.seen c.loop-line.disk) in
     let left = view_of (g.D.SharedDisk.seen c.pass_line.new.disk) in
     let Since = StoodUpTo (disk_edge g.D.SharedDisk.seen c.args.disk.now c.pass_line.new.disk) in
-    let both = passes-then g.D.SharedDisk.seen (take place lines) (line ∷ []) start mid left c.args.world.now c.loop-line.world c.pass_line.new.world c.args.disk.now c.loop-line.disk c.pass_line.new.disk tt (Ok tt) c.loop-line.invariant.passes c.in-Ok.ensures.passes in
+    let both = passes-then world_game world_plays g.D.SharedDisk.seen (take place lines) (line ∷ []) start mid left c.args.world.now c.loop-line.world c.pass_line.new.world c.args.disk.now c.loop-line.disk c.pass_line.new.disk tt (Ok tt) c.loop-line.invariant.passes c.in-Ok.ensures.passes in
     record {
-      can = (line-can lines place line c.loop-line-test.true c.line-item.is c.loop-line.invariant.can).2;
-      passes = subst (λ (all : List Line). Passes Since all start left c.args.world.now c.pass_line.new.world (Ok tt)) (sym (line-taken lines place line c.loop-line-test.true c.line-item.is)) both;
+      can = (line-can world_game world_plays lines place line c.loop-line-test.true c.line-item.is c.loop-line.invariant.can).2;
+      passes = subst (λ (all : List Line). (Passes world_game) Since all start left c.args.world.now c.pass_line.new.world (Ok tt)) (sym (line-taken lines place line c.loop-line-test.true c.line-item.is)) both;
       disk = on-behind (g.D.SharedDisk.seen c.args.disk.now).faults (g.D.SharedDisk.seen c.loop-line.disk).faults (g.D.SharedDisk.seen c.pass_line.new.disk).faults c.loop-line.invariant.disk c.in-Ok.ensures.counts;
     }
 
@@ -52,21 +54,21 @@ returns-clause-passes g c =
     let start = view_of (g.D.SharedDisk.seen c.args.disk.now) in
     let left = view_of (g.D.SharedDisk.seen c.loop-line.disk) in
     let Since = StoodUpTo (disk_edge g.D.SharedDisk.seen c.args.disk.now c.loop-line.disk) in
-    subst (λ (all : List Line). Passes Since all start left c.args.world.now c.loop-line.world (Ok tt)) (take-all lines c.loop-line.line-index (omega arith)) c.loop-line.invariant.passes
+    subst (λ (all : List Line). (Passes world_game) Since all start left c.args.world.now c.loop-line.world (Ok tt)) (take-all lines c.loop-line.line-index (omega arith)) c.loop-line.invariant.passes
 
 pub pass_line-requires-clause-state : goal.pass_line-requires-clause-state
 pass_line-requires-clause-state g c κs within =
     let start = view_of (g.D.SharedDisk.seen c.args.disk.now) in
     let mid = view_of (g.D.SharedDisk.seen c.loop-line.disk) in
-    gone-state mid c.loop-line.world (gone-on (StoodUpTo (disk_edge g.D.SharedDisk.seen c.args.disk.now c.loop-line.disk)) (take c.loop-line.line-index c.args.lines.now) start mid c.args.world.now c.loop-line.world tt c.requires.gone c.loop-line.invariant.passes)
+    gone-state world_game world_plays mid c.loop-line.world (gone-on world_game world_plays (StoodUpTo (disk_edge g.D.SharedDisk.seen c.args.disk.now c.loop-line.disk)) (take c.loop-line.line-index c.args.lines.now) start mid c.args.world.now c.loop-line.world tt c.requires.gone c.loop-line.invariant.passes)
 
 pub pass_line-requires-clause-spelled : goal.pass_line-requires-clause-spelled
 pass_line-requires-clause-spelled g c κs within =
-    (line-can c.args.lines.now c.loop-line.line-index c.line-item.result c.loop-line-test.true c.line-item.is c.loop-line.invariant.can).0
+    (line-can world_game world_plays c.args.lines.now c.loop-line.line-index c.line-item.result c.loop-line-test.true c.line-item.is c.loop-line.invariant.can).0
 
 pub pass_line-requires-clause-event : goal.pass_line-requires-clause-event
 pass_line-requires-clause-event g c κs within =
-    (line-can c.args.lines.now c.loop-line.line-index c.line-item.result c.loop-line-test.true c.line-item.is c.loop-line.invariant.can).1 c.loop-line.world.now
+    (line-can world_game world_plays c.args.lines.now c.loop-line.line-index c.line-item.result c.loop-line-test.true c.line-item.is c.loop-line.invariant.can).1 (world_game.now c.loop-line.world)
 
 pub returns-in-Err-clause-counts : goal.returns-in-Err-clause-counts
 returns-in-Err-clause-counts g c =

@@ -1,13 +1,14 @@
 use Rattle.std.proofs.Common.{◌≤◌, Ok, take, drop}
-use Rattle.cluster_core.specs.Worlds.{view_of}
-use Rattle.aisrun.specs.Edges.{disk_edge}
-use Rattle.aisrun.specs.Endings.{StoodUpTo}
-use Rattle.aisrun.specs.LoadSteps.{CanPass, Passes}
+use Rattle.cluster_core.specs.Game.{world_game}
+use Rattle.played_runs.specs.Edges.{disk_edge}
+use Rattle.played_runs.specs.Ends.{StoodUpTo}
+use Rattle.played_runs.specs.Passing.{CanPass, Passes}
+use Rattle.played_runs.specs.Views.{view_of}
 use Rattle.aisrun.proofs.loading.pass_lines.Given as goal
 
 abbrev pub invariant-loop-line : goal.invariant-loop-line
 invariant-loop-line g l = record {
-  can : CanPass (drop l.line-index l.lines);
-  passes : Passes (StoodUpTo (disk_edge g.D.SharedDisk.seen l.fn.disk l.disk)) (take l.line-index l.lines) (view_of (g.D.SharedDisk.seen l.fn.disk)) (view_of (g.D.SharedDisk.seen l.disk)) l.fn.world l.world (Ok tt);
+  can : (CanPass world_game) (drop l.line-index l.lines);
+  passes : (Passes world_game) (StoodUpTo (disk_edge g.D.SharedDisk.seen l.fn.disk l.disk)) (take l.line-index l.lines) (view_of (g.D.SharedDisk.seen l.fn.disk)) (view_of (g.D.SharedDisk.seen l.disk)) l.fn.world l.world (Ok tt);
   disk : (g.D.SharedDisk.seen l.fn.disk).faults ≤ (g.D.SharedDisk.seen l.disk).faults;
 }

@@ -2,9 +2,9 @@ use Rattle.std.proofs.Common.{◌≡◌, ◌≤◌, Ok}
 use Rattle.load_script.specs.Numbers.{state_at}
 use Rattle.load_lines.specs.Lines.{turns_lines}
 use Rattle.cluster_core.specs.Worlds.{view_of}
-use Rattle.aisrun.specs.Edges.{disk_edge}
-use Rattle.aisrun.specs.Endings.{StoodUpTo}
-use Rattle.aisrun.specs.LoadSteps.{Passes}
+use Rattle.played_runs.specs.Edges.{disk_edge}
+use Rattle.played_runs.specs.Ends.{StoodUpTo}
+use Rattle.aisrun.specs.Runs.{Passes}
 use Rattle.aisrun.proofs.loading.pass_turns.Given as goal
 
 abbrev pub invariant-loop-done : goal.invariant-loop-done

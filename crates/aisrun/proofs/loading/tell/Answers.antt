@@ -1,13 +1,13 @@
 use Rattle.std.proofs.Common.{ℕ, List, Err, refl, ap, sym, subst}
-use Rattle.aisrun.specs.declared.ending.Status8.TheVariants.{Done, DiskFault}
-use Rattle.aisrun.specs.declared.loading.Halt.TheVariants as halt
-use Rattle.aisrun.specs.Counts.{HasRisen}
-use Rattle.aisrun.specs.Edges.{edge}
-use Rattle.aisrun.specs.Endings.{fault_line}
+use Rattle.played_runs.specs.declared.ending.Status8.TheVariants.{Done, DiskFault}
+use Rattle.played_runs.specs.declared.passing.Halt.TheVariants as halt
+use Rattle.played_runs.specs.Counts.{HasRisen}
+use Rattle.played_runs.specs.Edges.{edge}
+use Rattle.played_runs.specs.Ends.{fault_line}
+use Rattle.played_runs.proofs.CountSteps.{other-stood}
+use Rattle.played_runs.proofs.EndingSteps.{lacked, text-written}
 use Rattle.aisrun.specs.Loading.{TellsLoad}
 use Rattle.aisrun.specs.LoadSteps.{TellEnds, TellLacks}
-use Rattle.aisrun.proofs.CountSteps.{other-stood}
-use Rattle.aisrun.proofs.EndingSteps.{lacked, text-written}
 use Rattle.aisrun.proofs.loading.tell.Goals as goal
 
 pub returns-in-Ok-clause-told : goal.returns-in-Ok-clause-told

@@ -1,5 +1,5 @@
 use Rattle.std.proofs.Common.{ap, length, arith}
-use Rattle.aisrun.proofs.ScriptSteps.{held-none}
+use Rattle.played_runs.proofs.EndingSteps.{held-none}
 use Rattle.aisrun.proofs.playing.first_name.Goals as goal
 
 pub returns-in-empty-clause-found : goal.returns-in-empty-clause-found

@@ -1,12 +1,16 @@
 use Rattle.std.proofs.Common.{ℕ, List, ◌∷◌, ◌++◌, ◌∙◌, ap, refl}
-use Rattle.cluster_core.specs.Worlds.{view_of}
-use Rattle.aisrun.specs.declared.ending.Status8.TheVariants.{DiskFault}
-use Rattle.aisrun.specs.Edges.{disk_edge, edge, fault_count, stage}
-use Rattle.aisrun.specs.Endings.{PlayEnds, PlayLacks, Opens, Opening, StoodUpTo, AtOpening, fault_line}
-use Rattle.aisrun.specs.Steps.{Counting, EventsEnd, LacksBehind, Standing, joined_lines, unasked}
-use Rattle.aisrun.proofs.CountSteps.{stood-on}
-use Rattle.aisrun.proofs.EndingSteps.{events-lack, events-play, lacked, text-written}
-use Rattle.aisrun.proofs.WritingSteps.{ended-later}
+use Rattle.cluster_core.specs.Game.{world_game}
+use Rattle.cluster_core.specs.GameLaws.{world_plays}
+use Rattle.played_runs.specs.declared.ending.Status8.TheVariants.{DiskFault}
+use Rattle.played_runs.specs.Edges.{disk_edge, edge, fault_count, stage}
+use Rattle.played_runs.specs.Ends.{PlayEnds, PlayLacks, Opens, Opening, StoodUpTo, AtOpening, fault_line}
+use Rattle.played_runs.specs.Steps.{EventsEnd, LacksBehind}
+use Rattle.played_runs.specs.Views.{view_of}
+use Rattle.played_runs.specs.Writing.{Counting, Standing, joined_lines, unasked}
+use Rattle.played_runs.proofs.CountSteps.{stood-on}
+use Rattle.played_runs.proofs.GoingSteps.{begun-follows}
+use Rattle.played_runs.proofs.EndingSteps.{events-lack, events-play, lacked, text-written}
+use Rattle.played_runs.proofs.WritingSteps.{ended-later}
 use Rattle.aisrun.proofs.playing.open.Goals as goal
 
 pub returns-in-Ok : goal.returns-in-Ok
@@ -19,10 +23,10 @@ returns-in-Ok g c =
     let scene = stage sink (disk_edge g.D.SharedDisk.seen c.args.disk.now c.play_events.new.disk) (g.D.SharedDisk.seen c.play_events.new.disk).tally.armed c.args.world.now c.play_events.new.world in
     let left = view_of (g.D.SharedDisk.seen c.play_events.new.disk) in
     let armed = left.armed in
-    let E = EventsEnd begins.0 begins.1 (g.D.SharedDisk.seen c.args.disk.now).files (g.D.SharedDisk.seen c.begin.new.disk).faults left (StoodUpTo (disk_edge g.D.SharedDisk.seen c.begin.new.disk c.play_events.new.disk)) c.play_events.new.world c.args.events.now in
-    ended-later unasked (g.D.SharedDisk.seen c.args.disk.now).faults (g.D.SharedDisk.seen c.begin.new.disk).faults (g.D.SharedDisk.seen c.play_events.new.disk).faults E (PlayEnds (c.args.opening.now ∷ c.args.events.now) scene) (LacksBehind begins.0 begins.1 (g.D.SharedDisk.seen c.args.disk.now).files (g.D.SharedDisk.seen c.begin.new.disk).faults (g.D.SharedDisk.seen c.play_events.new.disk).files c.play_events.new.world c.args.events.now) (PlayLacks (c.args.opening.now ∷ c.args.events.now) scene) sink c.play_events.result c.in-Ok.ensures.cause
-    (events-play written sink_faults c.args.out.now c.play_events.new.out g.D.SharedDisk.seen armed c.args.world.now c.play_events.new.world c.args.disk.now c.begin.new.disk c.play_events.new.disk c.args.opening.now c.args.events.now begins.0 begins.1 begins.2 c.requires.bare c.in-Ok.ensures.cause)
-    (events-lack written sink_faults c.args.out.now c.play_events.new.out g.D.SharedDisk.seen armed c.args.world.now c.play_events.new.world c.args.disk.now c.begin.new.disk c.play_events.new.disk c.args.opening.now c.args.events.now begins.0 begins.1 begins.2 c.requires.bare c.in-Ok.ensures.cause)
+    let E = (EventsEnd world_game) begins.0 begins.1 (g.D.SharedDisk.seen c.args.disk.now).files (g.D.SharedDisk.seen c.begin.new.disk).faults left (StoodUpTo (disk_edge g.D.SharedDisk.seen c.begin.new.disk c.play_events.new.disk)) c.play_events.new.world c.args.events.now in
+    ended-later unasked (g.D.SharedDisk.seen c.args.disk.now).faults (g.D.SharedDisk.seen c.begin.new.disk).faults (g.D.SharedDisk.seen c.play_events.new.disk).faults E (PlayEnds world_game (c.args.opening.now ∷ c.args.events.now) scene) ((LacksBehind world_game) begins.0 begins.1 (g.D.SharedDisk.seen c.args.disk.now).files (g.D.SharedDisk.seen c.begin.new.disk).faults (g.D.SharedDisk.seen c.play_events.new.disk).files c.play_events.new.world c.args.events.now) (PlayLacks world_game (c.args.opening.now ∷ c.args.events.now) scene) sink c.play_events.result c.in-Ok.ensures.cause
+    (events-play world_game written sink_faults c.args.out.now c.play_events.new.out g.D.SharedDisk.seen armed c.args.world.now c.play_events.new.world c.args.disk.now c.begin.new.disk c.play_events.new.disk c.args.opening.now c.args.events.now begins.0 begins.1 begins.2 c.requires.bare c.in-Ok.ensures.cause)
+    (events-lack world_game written sink_faults c.args.out.now c.play_events.new.out g.D.SharedDisk.seen armed c.args.world.now c.play_events.new.world c.args.disk.now c.begin.new.disk c.play_events.new.disk c.args.opening.now c.args.events.now begins.0 begins.1 begins.2 c.requires.bare c.in-Ok.ensures.cause)
     (c.play_events.ensures begins.0 begins.1 (g.D.SharedDisk.seen c.args.disk.now).files begun)
 
 pub returns-in-Err-Memory : goal.returns-in-Err-Memory
@@ -30,7 +34,7 @@ returns-in-Err-Memory g c =
     let begins = c.requires.script.begins in
     let broke = rw c.in-Err-Memory.field-0-is at (c.in-Err-Memory.ensures.broken begins.0 begins.1 begins.2) in
     let stood = rw c.in-Err-Memory.field-0-is at c.in-Err-Memory.ensures.cause in
-    let opens : Opens (c.args.opening.now ∷ c.args.events.now) (g.D.SharedDisk.seen c.args.disk.now).files =
+    let opens : Opens world_game (c.args.opening.now ∷ c.args.events.now) (g.D.SharedDisk.seen c.args.disk.now).files =
     record { opening = c.args.opening.now; events = c.args.events.now; parts = refl; empty = c.requires.bare; setup = begins.0; places = begins.1; begins = begins.2 } in
     lacked _ _ _ (Opening refl opens broke c.in-Err-Memory.ensures.same, refl, stood-on ((g.D.SharedDisk.seen c.args.disk.now).faults, (g.D.SharedDisk.seen c.begin.new.disk).faults) stood) refl
 
@@ -43,7 +47,13 @@ returns-in-Err-DiskFault g c =
     let begins = c.requires.script.begins in
     let risen = rw c.in-Err-DiskFault.field-0-is at c.in-Err-DiskFault.ensures.cause in
     let broke = rw c.in-Err-DiskFault.field-0-is at (c.in-Err-DiskFault.ensures.broken begins.0 begins.1 begins.2) in
-    let opens : Opens script (g.D.SharedDisk.seen c.args.disk.now).files =
+    let opens : Opens world_game script (g.D.SharedDisk.seen c.args.disk.now).files =
     record { opening = c.args.opening.now; events = c.args.events.now; parts = refl; empty = c.requires.bare; setup = begins.0; places = begins.1; begins = begins.2 } in
     let none = ap (λ (lines : List (List ℕ)). joined_lines lines ++ fault_line) (c.as_slice.ensures ∙ c.in-Err-DiskFault.printed-is ∙ broke.0) in
-    text-written (Counting unasked disk (PlayEnds script scene)) (Standing unasked disk (PlayLacks script scene)) DiskFault (joined_lines c.as_slice.result.now ++ fault_line) sink c.write_broken.result (AtOpening opens broke.1 broke.2 c.in-Err-DiskFault.ensures.same none, (refl, risen)) c.write_broken.ensures
+    text-written (Counting unasked disk (PlayEnds world_game script scene)) (Standing unasked disk (PlayLacks world_game script scene)) DiskFault (joined_lines c.as_slice.result.now ++ fault_line) sink c.write_broken.result (AtOpening opens broke.1 broke.2 c.in-Err-DiskFault.ensures.same none, (refl, risen)) c.write_broken.ensures
+
+pub play_events-requires-clause-follows : goal.play_events-requires-clause-follows
+play_events-requires-clause-follows g c κs within =
+    let begins = c.requires.script.begins in
+    let begun = c.in-Ok.ensures.ok begins.0 begins.1 begins.2 c.requires.bare in
+    begun-follows world_game world_plays begins.0 begins.1 _ _ c.begin.new.self c.args.events.now begun (c.requires.script.follows begins.0 begins.1 begins.2)

@@ -3,14 +3,15 @@ use Rattle.std.specs.Prelude.{codes, IfSome}
 use Rattle.std.specs.FinMap.{keys}
 use Rattle.disk_model.specs.declared.answers.DiskAnswer.TheVariants as answer
 use Rattle.script_lines.specs.declared.line.Line.{Line}
-use Rattle.aisrun.specs.declared.ending.Status8.TheVariants.{DiskFault, RootNotEmpty}
-use Rattle.aisrun.specs.Counts.{HasRisen}
-use Rattle.aisrun.specs.Edges.{disk_edge, edge, fault_count, stage}
-use Rattle.aisrun.specs.Endings.{PlayEnds, PlayLacks, Unopened, AtNames, fault_line}
-use Rattle.aisrun.specs.Steps.{Counting, Ended, IsNone, IsText, Standing, unasked}
-use Rattle.aisrun.proofs.CountSteps.{other-stood, stood-on}
-use Rattle.aisrun.proofs.EndingSteps.{lacks-earlier, play-earlier, lacked, text-ends, text-written}
-use Rattle.aisrun.proofs.WritingSteps.{ended-later, written-as}
+use Rattle.cluster_core.specs.Game.{world_game}
+use Rattle.played_runs.specs.declared.ending.Status8.TheVariants.{DiskFault, RootNotEmpty}
+use Rattle.played_runs.specs.Counts.{HasRisen}
+use Rattle.played_runs.specs.Edges.{disk_edge, edge, fault_count, stage}
+use Rattle.played_runs.specs.Ends.{PlayEnds, PlayLacks, Unopened, AtNames, fault_line}
+use Rattle.played_runs.specs.Writing.{Counting, Ended, IsNone, IsText, Standing, unasked}
+use Rattle.played_runs.proofs.CountSteps.{other-stood, stood-on}
+use Rattle.played_runs.proofs.EndingSteps.{lacks-earlier, play-earlier, lacked, text-ends, text-written}
+use Rattle.played_runs.proofs.WritingSteps.{ended-later, written-as}
 use Rattle.aisrun.proofs.playing.play.Goals as goal
 
 pub returns-in-Ok-Some : goal.returns-in-Ok-Some
@@ -25,8 +26,8 @@ returns-in-Ok-Some g c =
     let L : List ℕ → Type 0 = λ one. IfSome (g.D.SharedDisk.seen c.args.disk.now).files (λ f. (others : List (List ℕ)) × (keys f ≡ one ∷ others)) in
     let least = subst L (sym c.as_slice.ensures.bytes) names in
     let text = codes "root not empty: " ++ (name ++ codes "\n") in
-    let E = Counting unasked disk (PlayEnds c.args.lines.now scene) in
-    written-as (IsText RootNotEmpty text) E IsNone (Standing unasked disk (PlayLacks c.args.lines.now scene)) sink c.write_held.result (text-ends E RootNotEmpty text (record { name = name; least = least; same = found.same; world = refl; printed = refl }, (refl, stood))) (λ one none. (Unopened none found.same refl, refl, stood-on disk stood)) c.write_held.ensures
+    let E = Counting unasked disk (PlayEnds world_game c.args.lines.now scene) in
+    written-as (IsText RootNotEmpty text) E IsNone (Standing unasked disk (PlayLacks world_game c.args.lines.now scene)) sink c.write_held.result (text-ends E RootNotEmpty text (record { name = name; least = least; same = found.same; world = refl; printed = refl }, (refl, stood))) (λ one none. (Unopened none found.same refl, refl, stood-on disk stood)) c.write_held.ensures
 
 pub returns-in-Some : goal.returns-in-Some
 returns-in-Some g c =
@@ -38,10 +39,10 @@ returns-in-Some g c =
     let scene = stage sink (disk_edge g.D.SharedDisk.seen c.args.disk.now c.open.new.disk) armed c.args.world.now c.open.new.world in
     let later = stage sink (disk_edge g.D.SharedDisk.seen c.first_name.new.disk c.open.new.disk) armed c.args.world.now c.open.new.world in
     let found = c.in-Ok-None.ensures in
-    subst (λ (lines : List Line). Ended unasked (fault_count scene.disk) (PlayEnds lines scene) (PlayLacks lines scene) sink c.open.result) (sym c.in-Some.ensures.cases.0)
-    (ended-later unasked (g.D.SharedDisk.seen c.args.disk.now).faults (g.D.SharedDisk.seen c.first_name.new.disk).faults (g.D.SharedDisk.seen c.open.new.disk).faults (PlayEnds script later) (PlayEnds script scene) (PlayLacks script later) (PlayLacks script scene) sink c.open.result found.cause.stands
-    (play-earlier written sink_faults c.args.out.now c.open.new.out g.D.SharedDisk.seen armed c.args.world.now c.open.new.world c.args.disk.now c.first_name.new.disk c.open.new.disk script found.same found.cause.stands)
-    (lacks-earlier written sink_faults c.args.out.now c.open.new.out g.D.SharedDisk.seen armed c.args.world.now c.open.new.world c.args.disk.now c.first_name.new.disk c.open.new.disk script found.same found.cause.stands)
+    subst (λ (lines : List Line). Ended unasked (fault_count scene.disk) (PlayEnds world_game lines scene) (PlayLacks world_game lines scene) sink c.open.result) (sym c.in-Some.ensures.cases.0)
+    (ended-later unasked (g.D.SharedDisk.seen c.args.disk.now).faults (g.D.SharedDisk.seen c.first_name.new.disk).faults (g.D.SharedDisk.seen c.open.new.disk).faults (PlayEnds world_game script later) (PlayEnds world_game script scene) (PlayLacks world_game script later) (PlayLacks world_game script scene) sink c.open.result found.cause.stands
+    (play-earlier world_game written sink_faults c.args.out.now c.open.new.out g.D.SharedDisk.seen armed c.args.world.now c.open.new.world c.args.disk.now c.first_name.new.disk c.open.new.disk script found.same found.cause.stands)
+    (lacks-earlier world_game written sink_faults c.args.out.now c.open.new.out g.D.SharedDisk.seen armed c.args.world.now c.open.new.world c.args.disk.now c.first_name.new.disk c.open.new.disk script found.same found.cause.stands)
     c.open.ensures)
 
 pub returns-in-Err-Memory : goal.returns-in-Err-Memory
@@ -61,7 +62,7 @@ returns-in-Err-Failed g c =
     let disk = fault_count scene.disk in
     let failed = c.in-Err-Failed.ensures in
     let risen : HasRisen disk = (failed.cause.later, failed.cause.rose (ap Err c.in-Err-Failed.field-0-is)) in
-    text-written (Counting unasked disk (PlayEnds c.args.lines.now scene)) (Standing unasked disk (PlayLacks c.args.lines.now scene)) DiskFault fault_line sink c.write_broken.result (AtNames failed.same refl refl, (refl, risen)) c.write_broken.ensures
+    text-written (Counting unasked disk (PlayEnds world_game c.args.lines.now scene)) (Standing unasked disk (PlayLacks world_game c.args.lines.now scene)) DiskFault fault_line sink c.write_broken.result (AtNames failed.same refl refl, (refl, risen)) c.write_broken.ensures
 
 pub open-requires-clause-unarmed : goal.open-requires-clause-unarmed
 open-requires-clause-unarmed g c κs within = c.in-Ok-None.ensures.armed ∙ c.requires.unarmed

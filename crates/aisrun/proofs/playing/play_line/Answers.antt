@@ -1,14 +1,17 @@
 use Rattle.std.proofs.Common.{ℕ, List, ◌++◌, ◌∙◌, None, refl, sym, subst}
-use Rattle.cluster_core.specs.Playing.{EventDone}
-use Rattle.cluster_core.specs.Worlds.{view_of}
-use Rattle.aisrun.specs.declared.ending.Status8.{Status8}
-use Rattle.aisrun.specs.declared.ending.Status8.TheVariants.{DiskFault}
-use Rattle.aisrun.specs.Edges.{edge}
-use Rattle.aisrun.specs.Endings.{FaultLeft, fault_line}
-use Rattle.aisrun.specs.Steps.{Counting, Ended, LineEnds, LineLacks, Standing, joined_lines, unasked}
-use Rattle.aisrun.proofs.WritingSteps.{unwritten}
-use Rattle.aisrun.proofs.EndingSteps.{lacked, text-written}
-use Rattle.aisrun.proofs.GoingSteps.{fault-left}
+use Rattle.cluster_core.specs.Game.{world_game}
+use Rattle.cluster_core.specs.GameLaws.{world_plays}
+use Rattle.played_runs.specs.declared.ending.Status8.{Status8}
+use Rattle.played_runs.specs.declared.ending.Status8.TheVariants.{DiskFault}
+use Rattle.played_runs.specs.Edges.{edge}
+use Rattle.played_runs.specs.Ends.{FaultLeft, fault_line}
+use Rattle.played_runs.specs.Games.{EventDone}
+use Rattle.played_runs.specs.Steps.{LineEnds, LineLacks}
+use Rattle.played_runs.specs.Views.{view_of}
+use Rattle.played_runs.specs.Writing.{Counting, Ended, Standing, joined_lines, unasked}
+use Rattle.played_runs.proofs.EndingSteps.{lacked, text-written}
+use Rattle.played_runs.proofs.GoingSteps.{fault-left}
+use Rattle.played_runs.proofs.WritingSteps.{unwritten}
 use Rattle.aisrun.proofs.playing.play_line.Goals as goal
 
 pub returns-in-Ok : goal.returns-in-Ok
@@ -18,11 +21,11 @@ returns-in-Ok g c setup state good shows armed tells =
     let disk : ℕ × ℕ = (held.faults, left.faults) in
     let world = c.event.new.self in
     let next = c.args.line.now in
-    let E = LineEnds setup state next held left world in
-    let L = LineLacks setup state held.files left.files world in
+    let E = (LineEnds world_game) setup state next held left world in
+    let L = (LineLacks world_game) setup state held.files left.files world in
     let sink = edge g.K.Sink.written g.K.Sink.faults c.args.out.now c.write_lines.new.out in
     let lines = c.as_slice.result.now in
-    let done = subst (λ (one : List (List ℕ)). EventDone setup state next one held left world) (sym c.as_slice.ensures) (c.in-Ok.ensures.ok setup state good shows armed tells) in
+    let done = subst (λ (one : List (List ℕ)). (EventDone world_game) setup state next one held left world) (sym c.as_slice.ensures) (c.in-Ok.ensures.ok setup state good shows armed tells) in
     subst (λ (status : Status8). Ended unasked disk E L sink status) (sym c.unwritten.ensures) (unwritten (Counting unasked disk E) (Standing unasked disk L) sink c.in-Err.answer None (joined_lines lines) ((lines, refl, done), (refl, c.in-Ok.ensures.cause)) c.in-Err.ensures.cause c.in-Err.ensures.bytes)
 
 pub returns-in-Err-Memory : goal.returns-in-Err-Memory
@@ -30,7 +33,7 @@ returns-in-Err-Memory g c setup state good shows armed tells =
     let broken = rw c.in-Err-Memory.field-0-is at c.in-Err-Memory.ensures.broken in
     let on = rw c.in-Err-Memory.field-0-is at c.in-Err-Memory.ensures.cause in
     let disk : ℕ × ℕ = ((g.D.SharedDisk.seen c.args.disk.now).faults, (g.D.SharedDisk.seen c.event.new.disk).faults) in
-    let L = LineLacks setup state (g.D.SharedDisk.seen c.args.disk.now).files (g.D.SharedDisk.seen c.event.new.disk).files c.event.new.self in
+    let L = (LineLacks world_game) setup state (g.D.SharedDisk.seen c.args.disk.now).files (g.D.SharedDisk.seen c.event.new.disk).files c.event.new.self in
     lacked _ (Standing unasked disk L) _ ((refl, broken setup state good shows armed), refl, on) refl
 
 pub returns : goal.returns
@@ -38,13 +41,13 @@ returns g c setup state good shows armed tells =
     let held = view_of (g.D.SharedDisk.seen c.args.disk.now) in
     let left = view_of (g.D.SharedDisk.seen c.event.new.disk) in
     let disk : ℕ × ℕ = (held.faults, left.faults) in
-    let E = LineEnds setup state c.args.line.now held left c.event.new.self in
-    let L = LineLacks setup state held.files left.files c.event.new.self in
+    let E = (LineEnds world_game) setup state c.args.line.now held left c.event.new.self in
+    let L = (LineLacks world_game) setup state held.files left.files c.event.new.self in
     let sink = edge g.K.Sink.written g.K.Sink.faults c.args.out.now c.write_broken.new.out in
     let risen = rw c.in-Err-DiskFault.field-0-is at c.in-Err-DiskFault.ensures.cause in
     let broken = rw c.in-Err-DiskFault.field-0-is at c.in-Err-DiskFault.ensures.broken in
     let lines = c.as_slice-in-Err-DiskFault.result.now in
-    let fault = fault-left setup state c.args.line.now held left c.args.world.now c.event.new.self c.in-Err-DiskFault.printed good shows armed risen broken in
+    let fault = fault-left world_game world_plays setup state c.args.line.now held left c.args.world.now c.event.new.self c.in-Err-DiskFault.printed good shows armed risen broken in
     let same = c.as_slice-in-Err-DiskFault.ensures ∙ c.in-Err-DiskFault.printed-is in
-    let printed = subst (λ (one : List (List ℕ)). FaultLeft setup state c.args.line.now held left c.event.new.self (joined_lines one)) (sym same) fault in
+    let printed = subst (λ (one : List (List ℕ)). FaultLeft world_game setup state c.args.line.now held left c.event.new.self (joined_lines one)) (sym same) fault in
     text-written (Counting unasked disk E) (Standing unasked disk L) DiskFault (joined_lines lines ++ fault_line) sink c.write_broken.result ((joined_lines lines, printed, refl), (refl, risen)) c.write_broken.ensures

@@ -1,6 +1,6 @@
 use Rattle.std.proofs.Common.{◌∙◌, Some, refl, ap}
-use Rattle.aisrun.specs.Steps.{IsNone}
-use Rattle.aisrun.proofs.EndingSteps.{lacked, text-written}
+use Rattle.played_runs.specs.Writing.{IsNone}
+use Rattle.played_runs.proofs.EndingSteps.{lacked, text-written}
 use Rattle.aisrun.proofs.playing.write_held.Goals as goal
 
 pub returns-in-Ok : goal.returns-in-Ok

@@ -1,15 +1,16 @@
 use Rattle.std.proofs.Common.{ℕ, List, Some, inl, inr, refl, sym, subst}
 use Rattle.script_lines.specs.declared.line.Line.{Line}
 use Rattle.script_language.specs.Scripts.{IsScriptOf}
-use Rattle.aisrun.specs.declared.ending.Status8.{Status8}
-use Rattle.aisrun.specs.Edges.{disk_edge, edge, fault_count, stage}
-use Rattle.aisrun.specs.Endings.{PlayEnds, PlayLacks}
-use Rattle.aisrun.specs.Scripting.{BytesEnd, BytesLack, IsPlayable}
-use Rattle.aisrun.specs.Steps.{Counting, IsNever, IsText, Standing, Written, unasked}
-use Rattle.aisrun.proofs.CountSteps.{on-same}
-use Rattle.aisrun.proofs.EndingSteps.{lacked, play-bytes, text-written}
+use Rattle.played_runs.specs.declared.ending.Status8.{Status8}
+use Rattle.played_runs.specs.Edges.{disk_edge, edge, fault_count, stage}
+use Rattle.played_runs.specs.Writing.{Counting, IsNever, IsText, Standing, Written, unasked}
+use Rattle.played_runs.proofs.CountSteps.{on-same}
+use Rattle.played_runs.proofs.EndingSteps.{lacked, text-written}
+use Rattle.played_runs.proofs.WritingSteps.{ended-as}
+use Rattle.aisrun.specs.Runs.{PlayEnds, PlayLacks, IsPlayable}
+use Rattle.aisrun.specs.Scripting.{BytesEnd, BytesLack}
+use Rattle.aisrun.proofs.EndingSteps.{play-bytes}
 use Rattle.aisrun.proofs.ScriptSteps.{can-play}
-use Rattle.aisrun.proofs.WritingSteps.{ended-as}
 use Rattle.aisrun.proofs.run.run_bytes.Goals as goal
 
 pub play-requires-clause-script : goal.play-requires-clause-script

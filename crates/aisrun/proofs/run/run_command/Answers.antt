@@ -1,22 +1,24 @@
 use Rattle.std.proofs.Common.{ℕ, List, [], ◌≡◌, map, Option, Some, refl, ap, sym, ◌∙◌, subst}
 use Rattle.std.specs.Prelude.{IfOk, string_bytes}
 use Rattle.load_lines.specs.Lines.{load_lines}
+use Rattle.played_runs.specs.Edges.{disk_edge, edge, fault_count, stage}
+use Rattle.played_runs.specs.Writing.{Counting, Ended, IsNone, Standing, unasked}
+use Rattle.played_runs.proofs.CountSteps.{on-same}
+use Rattle.played_runs.proofs.EndingSteps.{end-written}
+use Rattle.played_runs.proofs.WritingSteps.{ended-alone, ended-as, ended-read}
+use Rattle.aisrun.specs.Edges.{around}
 use Rattle.aisrun.specs.declared.command.Command.{Command}
 use Rattle.aisrun.specs.declared.command.Command.TheVariants.{Run, Check, Expr, Gen, Load, Scan}
 use Rattle.aisrun.specs.Checking.{CheckEnds, ExprEnds}
 use Rattle.aisrun.specs.Commands.{command_of, text_of, wanted_of}
-use Rattle.aisrun.specs.Edges.{around, disk_edge, edge, fault_count, stage}
 use Rattle.aisrun.specs.Endings.{Ends, LacksBy}
 use Rattle.aisrun.specs.LoadSteps.{LoadEnds, LoadWants}
 use Rattle.aisrun.specs.RunSteps.{InputEnds, InputLacks, WordsLack}
 use Rattle.aisrun.specs.ScanSteps.{ScanEnds, ScanLacks}
-use Rattle.aisrun.specs.Steps.{Counting, Ended, IsNone, Standing, unasked}
-use Rattle.aisrun.proofs.CountSteps.{on-same}
-use Rattle.aisrun.proofs.EndingSteps.{check-run, end-written, expr-run, input-lack, input-run, ok-ends}
+use Rattle.aisrun.proofs.EndingSteps.{check-run, expr-run, input-lack, input-run, ok-ends}
 use Rattle.aisrun.proofs.GeneratingLaws.{gen-run}
 use Rattle.aisrun.proofs.ScanEndings.{scan-lack, scan-run}
 use Rattle.aisrun.proofs.LoadEndings.{load-lack, load-run}
-use Rattle.aisrun.proofs.WritingSteps.{ended-alone, ended-as, ended-read}
 use Rattle.aisrun.proofs.run.run_command.Goals as goal
 
 pub returns-in-Run : goal.returns-in-Run

@@ -1,10 +1,10 @@
 use Rattle.std.proofs.Common.{ℕ, List, length, inl, inr, refl, ap, sym, subst, arith}
-use Rattle.aisrun.specs.Edges.{disk_edge, edge, fault_count, stage}
+use Rattle.played_runs.specs.Edges.{disk_edge, edge, fault_count, stage}
+use Rattle.played_runs.proofs.WritingSteps.{ended-read}
 use Rattle.aisrun.specs.Endings.{input_limit, ReadsWhole}
 use Rattle.aisrun.specs.RunSteps.{InputEnds, InputLacks}
 use Rattle.aisrun.specs.Scripting.{BytesEnd, BytesLack}
 use Rattle.aisrun.proofs.EndingSteps.{bytes-input, unread-written}
-use Rattle.aisrun.proofs.WritingSteps.{ended-read}
 use Rattle.aisrun.proofs.run.run_script.Goals as goal
 
 pub run_bytes-requires-clause-short : goal.run_bytes-requires-clause-short

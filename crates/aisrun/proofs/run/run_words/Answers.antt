@@ -1,12 +1,14 @@
 use Rattle.std.proofs.Common.{◌≡◌, ℕ, List, None, map, refl, sym}
 use Rattle.std.specs.Prelude.{string_bytes}
+use Rattle.played_runs.specs.Edges.{disk_edge, edge, fault_count}
+use Rattle.played_runs.specs.Writing.{Counting, Standing}
+use Rattle.played_runs.proofs.CountSteps.{on-same}
+use Rattle.played_runs.proofs.EndingSteps.{end-written, lacked}
+use Rattle.aisrun.specs.Edges.{around}
 use Rattle.aisrun.specs.Commands.{command_of}
-use Rattle.aisrun.specs.Edges.{around, disk_edge, edge, fault_count}
 use Rattle.aisrun.specs.Endings.{Ends}
 use Rattle.aisrun.specs.RunSteps.{WordsLack}
-use Rattle.aisrun.specs.Steps.{Counting, Standing}
-use Rattle.aisrun.proofs.CountSteps.{on-same}
-use Rattle.aisrun.proofs.EndingSteps.{end-written, lacked, lacks-early, usage-run}
+use Rattle.aisrun.proofs.EndingSteps.{lacks-early, usage-run}
 use Rattle.aisrun.proofs.run.run_words.Goals as goal
 
 pub run_command-requires-clause-asked : goal.run_command-requires-clause-asked

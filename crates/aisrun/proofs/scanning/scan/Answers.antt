@@ -1,11 +1,11 @@
 use Rattle.std.proofs.Common.{ℕ, List, inl, refl, subst}
-use Rattle.aisrun.specs.Edges.{edge, fault_count}
+use Rattle.played_runs.specs.Edges.{edge, fault_count}
+use Rattle.played_runs.specs.Writing.{Counting, IsNever, IsText, Standing, Written, unasked}
+use Rattle.played_runs.proofs.CountSteps.{on-same}
+use Rattle.played_runs.proofs.EndingSteps.{lacked, text-written}
+use Rattle.played_runs.proofs.WritingSteps.{ended-as}
 use Rattle.aisrun.specs.ScanSteps.{ScanEnds, ScanLacks, SourceEnds, SourceLacks}
-use Rattle.aisrun.specs.Steps.{Counting, IsNever, IsText, Standing, Written, unasked}
-use Rattle.aisrun.proofs.CountSteps.{on-same}
-use Rattle.aisrun.proofs.EndingSteps.{lacked, text-written}
 use Rattle.aisrun.proofs.ScanLaws.{refused-scan, source-lacks, source-scan}
-use Rattle.aisrun.proofs.WritingSteps.{ended-as}
 use Rattle.aisrun.proofs.scanning.scan.Goals as goal
 
 pub scan_source-status-requires : goal.scan_source-status-requires

@@ -1,13 +1,13 @@
 use Rattle.std.proofs.Common.{ℕ, List, length, inl, inr, refl, ap, sym, subst, arith}
 use Rattle.scan_lines.specs.Telling.{TellsFront}
-use Rattle.aisrun.specs.Edges.{edge, fault_count}
+use Rattle.played_runs.specs.Edges.{edge, fault_count}
+use Rattle.played_runs.specs.Writing.{Counting, Standing, unasked}
+use Rattle.played_runs.proofs.CountSteps.{on-same}
+use Rattle.played_runs.proofs.WritingSteps.{written-as}
 use Rattle.aisrun.specs.Endings.{input_limit, ReadsWhole}
 use Rattle.aisrun.specs.ScanSteps.{RecordsEnd, SourceEnds, SourceLacks}
-use Rattle.aisrun.specs.Steps.{Counting, Standing, unasked}
-use Rattle.aisrun.proofs.CountSteps.{on-same}
 use Rattle.aisrun.proofs.EndingSteps.{unread-written}
 use Rattle.aisrun.proofs.ScanLaws.{records-source}
-use Rattle.aisrun.proofs.WritingSteps.{written-as}
 use Rattle.aisrun.proofs.scanning.scan_source.Goals as goal
 
 pub write_records-requires-clause-short : goal.write_records-requires-clause-short

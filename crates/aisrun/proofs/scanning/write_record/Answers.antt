@@ -1,11 +1,11 @@
 use Rattle.std.proofs.Common.{ℕ, List, None, refl, sym, subst}
 use Rattle.scan_lines.specs.Telling.{IsTold}
-use Rattle.aisrun.specs.declared.ending.Status8.{Status8}
-use Rattle.aisrun.specs.Edges.{edge}
+use Rattle.played_runs.specs.declared.ending.Status8.{Status8}
+use Rattle.played_runs.specs.Edges.{edge}
+use Rattle.played_runs.specs.Writing.{IsNone, Written}
+use Rattle.played_runs.proofs.EndingSteps.{lacked}
+use Rattle.played_runs.proofs.WritingSteps.{unwritten}
 use Rattle.aisrun.specs.ScanSteps.{RecordEnds}
-use Rattle.aisrun.specs.Steps.{IsNone, Written}
-use Rattle.aisrun.proofs.EndingSteps.{lacked}
-use Rattle.aisrun.proofs.WritingSteps.{unwritten}
 use Rattle.aisrun.proofs.scanning.write_record.Goals as goal
 
 pub returns-in-Ok : goal.returns-in-Ok

@@ -1,6 +1,6 @@
 use Rattle.std.proofs.Common.{ℕ, ◌+◌, List, length, refl, ap, ◌∙◌, sym, subst, arith, length-drop}
 use Rattle.std.proofs.lemmas.List.{take_rest}
-use Rattle.aisrun.specs.Edges.{edge}
+use Rattle.played_runs.specs.Edges.{edge}
 use Rattle.aisrun.proofs.ScanLaws.{ToldSoFar, so-far-breaks, so-far-ends, so-far-next, so-far-start}
 use Rattle.aisrun.proofs.scanning.write_records.Goals as goal
 

@@ -1,5 +1,5 @@
 use Rattle.std.proofs.Common.{◌≡◌, ◌+◌, ◌≤◌, length}
-use Rattle.aisrun.specs.Edges.{edge}
+use Rattle.played_runs.specs.Edges.{edge}
 use Rattle.aisrun.proofs.ScanLaws.{ToldSoFar}
 use Rattle.aisrun.proofs.scanning.write_records.Given as goal
 

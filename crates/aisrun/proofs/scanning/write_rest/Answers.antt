@@ -1,6 +1,6 @@
 use Rattle.std.proofs.Common.{◌∙◌, refl}
-use Rattle.aisrun.specs.Steps.{IsNone}
-use Rattle.aisrun.proofs.EndingSteps.{lacked, text-written}
+use Rattle.played_runs.specs.Writing.{IsNone}
+use Rattle.played_runs.proofs.EndingSteps.{lacked, text-written}
 use Rattle.aisrun.proofs.scanning.write_rest.Goals as goal
 
 pub returns-in-Ok : goal.returns-in-Ok

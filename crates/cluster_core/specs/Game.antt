@@ -1,0 +1,25 @@
+-- Words of public clauses: the world of two servers as one that plays the lines of scripts.
+use Rattle.group_cluster.specs.Seats.{Peers}
+use Rattle.group_servers.specs.declared.group.Group.{Group}
+use Rattle.group_servers.specs.GroupKit.{group_kit}
+use Rattle.played_runs.specs.Games.{Game}
+use Rattle.cluster_core.specs.declared.world.World.{World}
+use Rattle.cluster_core.specs.Beginning.{Begins}
+use Rattle.cluster_core.specs.Broken.{EventEnded}
+use Rattle.cluster_core.specs.Playing.{IsEventLine, LineDone}
+use Rattle.cluster_core.specs.Worlds.{empty_world, pair_start, parts_of}
+
+abbrev pub world_game : Game Peers (Group 2) World
+world_game = record {
+  kit = group_kit 2;
+  start = λ setup places. pair_start setup.start places;
+  Begins = Begins;
+  Follows = IsEventLine;
+  Step = LineDone;
+  empty = empty_world;
+  now = λ world. world.now;
+  parts = λ peers world. parts_of peers.acting world;
+  armed = λ peers. peers.armed;
+  Ended = EventEnded;
+  end = λ setup state next told held left world ended. ended.end;
+}

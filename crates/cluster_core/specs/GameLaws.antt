@@ -1,0 +1,139 @@
+-- What is asked of a world that plays the lines of scripts holds of that of two servers.
+use Rattle.std.specs.Prelude.{◌≡◌, ℕ, false, Option, Some, None, IfSome, List, [], ◌∷◌}
+use Rattle.std.proofs.Common.{refl}
+use Rattle.disk_model.specs.Disk.{Files}
+use Rattle.script_lines.specs.declared.line.Line.{Line}
+use Rattle.script_lines.specs.declared.line.Line.TheVariants as line
+use Rattle.script_lines.specs.declared.line.Server.TheVariants.{B}
+use Rattle.plain_service.specs.Setups.{Setup}
+use Rattle.cluster_facts.specs.Types.{Entry, Called, Message}
+use Rattle.cluster_facts.specs.World.{World as WorldOf}
+use Rattle.cluster_events.specs.Lines.{Told}
+use Rattle.cluster_events.specs.Outcomes.{Outcome}
+use Rattle.cluster_events.specs.Servers.{State}
+use Rattle.cluster_events.specs.Devices.{Device}
+use Rattle.cluster_events.specs.Serving.{IsSteady}
+use Rattle.cluster_events.specs.Settled.{IsSettled}
+use Rattle.cluster_events.proofs.Ending.{settle-settles}
+use Rattle.cluster_events.proofs.Walking.{Others}
+use Rattle.service_laws.specs.PlainOf.{plain_of}
+use Rattle.service_laws.proofs.ServiceLaws.{is_plain}
+use Rattle.cluster_rounds.specs.Kits.{device_by}
+use Rattle.cluster_lines.specs.Shelves.{shelf_of}
+use Rattle.group_cluster.specs.Ended as group_ended
+use Rattle.group_cluster.specs.Running as running
+use Rattle.group_cluster.specs.Seats.{Peers, IsGroup}
+use Rattle.group_cluster.specs.Group.{group}
+use Rattle.group_cluster.proofs.Ended.{line-tells, line-lacks}
+use Rattle.group_cluster.proofs.Running.{start-steady, group-kept}
+use Rattle.group_cluster.proofs.Saying.{group-serves, group-spends}
+use Rattle.group_cluster.proofs.Walking as walking
+use Rattle.played_runs.specs.Kinds.{InTime, IsCored, Passes, Refuses, Waits}
+use Rattle.played_runs.specs.Laws.{DoneFacts, EndFacts, IsGame, LacksLast, is_crash}
+use Rattle.played_runs.specs.Views.{DiskView, files_told}
+use Rattle.played_runs.proofs.RefusalLaws.{refuses-told, refuses-cored, refuses-by-kind}
+use Rattle.played_runs.proofs.TimeLaws.{in_time-told, in_time-cored, in_time-by-kind}
+use Rattle.played_runs.proofs.WaitingLaws.{passes-told, passes-cored, waits-by-kind}
+use Rattle.cluster_core.specs.declared.world.World.{World}
+use Rattle.cluster_core.specs.Broken.{EventEnded}
+use Rattle.cluster_core.specs.Game.{world_game}
+use Rattle.cluster_core.specs.Playing.{calls_by, LineDone}
+
+-- the device of a line that was done
+abbrev pub device_in :
+    {setup : Setup} {held : Option Files} {before after : ℕ} {next : Line} {state : State Peers} {outcome : Outcome (State Peers)}
+    → LineDone setup held before next state outcome after → Device
+device_in {setup = setup} done = record { calls = calls_by setup; fails = done.step.fails }
+
+-- what is asked by what history and hand become, in the words of a group
+group-cored : (R : WorldOf → WorldOf → List Told → Type 0) → IsCored R → walking.IsCored R
+group-cored R cored = record {
+  taken = cored.taken;
+  applied = cored.applied;
+  confirmed = cored.confirmed;
+  answered = cored.answered;
+  over = cored.over;
+}
+
+-- what is shown of a disk that told files is shown where it told them before
+still-shown : (X : Type 0) (held : Option Files) (files : Files) → IfSome (files_told files held) (λ _. X) → IfSome held (λ _. X)
+still-shown X None files shown = tt
+still-shown X (Some one) files shown = shown
+
+done-facts :
+    (setup : Setup) (held : Option Files) (before : ℕ) (next : Line) (state : State Peers) (outcome : Outcome (State Peers)) (after : ℕ)
+    → IsSteady (plain_of setup) IsGroup state → LineDone setup held before next state outcome after → DoneFacts world_game setup next state outcome
+done-facts setup held before next state outcome after steady done =
+    let plain = plain_of setup in
+    let device = device_in done in
+    let happens = done.step.happens in
+    record {
+      keeps = group-kept plain (is_plain setup) done.shelf device next state outcome steady happens;
+      in_time =
+          (walking.group-walks plain (is_plain setup) done.shelf device InTime (in_time-told plain) (group-cored (InTime Others) in_time-cored)
+          (in_time-by-kind plain) next state outcome steady happens).1;
+      refuses =
+          (walking.group-walks plain (is_plain setup) done.shelf device Refuses (refuses-told plain) (group-cored (Refuses Others) refuses-cored)
+          (refuses-by-kind plain) next state outcome steady happens).1;
+      waits =
+          (walking.group-walks plain (is_plain setup) done.shelf device Waits (passes-told plain) (group-cored Passes passes-cored)
+          (waits-by-kind plain) next state outcome steady happens).1;
+    }
+
+no-crash : (next : Line) → is_crash next ≡ false → running.is_crash next ≡ false
+no-crash (line.Crash server) calm = calm
+no-crash _ calm = refl
+
+lacks-last : (past : List Entry) (messages : List Message) → group_ended.LacksLast past messages → LacksLast past messages
+lacks-last [] messages lacks = tt
+lacks-last (Called client number time call ∷ past) messages lacks = lacks
+lacks-last (_ ∷ past) messages lacks = tt
+
+end-facts :
+    (setup : Setup) (state : State Peers) (next : Line) (told : List Told) (held left : DiskView) (world : World)
+    → (ended : EventEnded setup state next told held left world) → IsSteady (plain_of setup) IsGroup state
+    → EndFacts world_game setup next state ended.end
+end-facts setup state next told held left world ended steady =
+    let plain = plain_of setup in
+    let device = device_by setup ended.happened in
+    let last = line-tells plain (is_plain setup) device next state ended.end steady ended.ends in
+    record {
+      keeps = last.0;
+      idle = last.1;
+      lacks = λ calm.
+          lacks-last _ _ (line-lacks plain (is_plain setup) device next state ended.end steady (no-crash next calm) ended.ends);
+    }
+
+settled :
+    (setup : Setup) (held : Option Files) (before : ℕ) (state : State Peers) (outcome : Outcome (State Peers)) (after : ℕ)
+    → IsSteady (plain_of setup) IsGroup state → LineDone setup held before line.Settle state outcome after
+    → IsSettled (plain_of setup) outcome.state.world
+settled setup held before state outcome after steady done =
+    let plain = plain_of setup in
+    let device = device_in done in
+    let happens = done.step.happens in
+    settle-settles plain (is_plain setup) (group plain device) IsGroup (group-serves plain device (is_plain setup)) (group-spends plain device (is_plain setup))
+    state outcome.state happens.lines steady happens.rounds
+
+pub world_plays : IsGame world_game
+world_plays = record {
+  steady = λ setup places. start-steady (plain_of setup) (B ∷ []) refl setup.start places;
+  empty = λ setup places. refl;
+  unarmed = λ setup places. refl;
+  clock = λ peers world. refl;
+  retold = λ setup held files before next state outcome after done. record {
+    shelf = done.shelf;
+    shown = still-shown (done.shelf ≡ shelf_of setup) held files done.shown;
+    step = done.step;
+    later = done.later;
+    felled = done.felled;
+  };
+  done = done-facts;
+  settles = settled;
+  stands = λ setup state next told held left world ended. record {
+    printed = ended.printed;
+    range = ended.good.range;
+    files = ended.files;
+  };
+  ends = end-facts;
+}

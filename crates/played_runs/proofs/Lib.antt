@@ -1,0 +1,13 @@
+pub mod CountSteps
+pub mod WritingSteps
+pub mod Cores
+pub mod PlayLaws
+pub mod PromiseLaws
+pub mod TimeLaws
+pub mod WaitingLaws
+pub mod RefusalLaws
+pub mod TellingLaws
+pub mod GoingSteps
+pub mod FaultLaws
+pub mod EndingSteps
+pub mod PassingSteps

@@ -1,0 +1,15 @@
+use Rattle.std.proofs.Common.{Some, refl, sym, subst}
+use Rattle.played_runs.specs.declared.ending.Status8.{Status8}
+use Rattle.played_runs.specs.Edges.{edge}
+use Rattle.played_runs.specs.Writing.{IsNever, IsText, Written, Whole}
+use Rattle.played_runs.proofs.WritingSteps.{unwritten}
+use Rattle.played_runs.proofs.writing.write_text.Goals as goal
+
+pub returns-in-Ok : goal.returns-in-Ok
+returns-in-Ok g c = Whole c.args.text.now (refl, refl) c.in-Ok.ensures.cause.stands c.in-Ok.ensures.bytes
+
+pub returns-in-Err : goal.returns-in-Err
+returns-in-Err g c =
+    let sink = edge g.K.Sink.written g.K.Sink.faults c.args.out.now c.write_all.new.sink in
+    let E = IsText c.args.status c.args.text.now in
+    subst (λ (status : Status8). Written E IsNever sink status) (sym c.unwritten.ensures) (unwritten E IsNever sink c.in-Err.answer (Some c.args.status) c.args.text.now (refl, refl) c.in-Err.ensures.cause c.in-Err.ensures.bytes)

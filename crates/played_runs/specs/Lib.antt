@@ -1,0 +1,16 @@
+pub mod Views
+pub mod Games
+pub mod Playing
+pub mod Promises
+pub mod Refusing
+pub mod Telling
+pub mod Kinds
+pub mod Laws
+pub mod Counts
+pub mod ExitStatus
+pub mod Edges
+pub mod Writing
+pub mod Ends
+pub mod AfterFault
+pub mod Steps
+pub mod Passing
