@@ -16,24 +16,27 @@ ghost use Rattle.cold_cluster.specs.Laws.{Keeps};
 
 /// They serve, pay for each step by what is left to do, and say what happened; each step of theirs does.
 pub fn law_of_cold()
-    ensures serves { (shown : State Alone → Standing) (plain : Plain) (device : Device) → IsPlain plain
-        → IsServing plain (cold shown plain device) IsCold }
-    ensures spends { (shown : State Alone → Standing) (plain : Plain) (device : Device) → IsPlain plain
-        → IsCarried plain (cold shown plain device) IsCold Spends }
-    ensures says { (shown : State Alone → Standing) (plain : Plain) (device : Device) → IsPlain plain
-        → IsCarried plain (cold shown plain device) IsCold (Says plain) }
-    ensures stepped { (shown : State Alone → Standing) (plain : Plain) (device : Device) → IsPlain plain
-        → AreStepped plain (cold shown plain device) IsCold (Says plain) }
+    ensures serves { (shown : State Alone → Standing) (plain : Plain) (device : Device)
+        → IsPlain plain → IsServing plain (cold shown plain device) IsCold }
+    ensures spends { (shown : State Alone → Standing) (plain : Plain) (device : Device)
+        → IsPlain plain → IsCarried plain (cold shown plain device) IsCold Spends }
+    ensures says { (shown : State Alone → Standing) (plain : Plain) (device : Device)
+        → IsPlain plain → IsCarried plain (cold shown plain device) IsCold (Says plain) }
+    ensures stepped { (shown : State Alone → Standing) (plain : Plain) (device : Device)
+        → IsPlain plain → AreStepped plain (cold shown plain device) IsCold (Says plain) }
 {}
 
 /// At the start of a run the facts of history, net and agents hold. A fall, a cold start and the arming of a disk keep them, and their
 /// lines say what happened.
 pub fn law_of_restarts()
-    ensures starts { (plain : Plain) (now : ℤ) (places : ℕ) → IsSteady plain IsCold (cold_begun now places) }
-    ensures falls { (plain : Plain) → IsPlain plain → (state : State Alone) → IsSteady plain IsCold state
-        → Keeps plain state (fallen state) }
-    ensures restarts { (plain : Plain) → IsPlain plain → (state : State Alone) (outcome : Outcome (State Alone))
-        → IsSteady plain IsCold state → Restarts state outcome → Keeps plain state outcome }
-    ensures arms { (plain : Plain) → IsPlain plain → (armed beside : Option ℕ) (state : State Alone)
-        → IsSteady plain IsCold state → Keeps plain state (armed_alone armed beside state) }
+    ensures starts { (plain : Plain) (now : ℤ) (places : ℕ)
+        → IsSteady plain IsCold (cold_begun now places) }
+    ensures falls { (plain : Plain) → IsPlain plain → (state : State Alone)
+        → IsSteady plain IsCold state → Keeps plain state (fallen state) }
+    ensures restarts { (plain : Plain) → IsPlain plain
+        → (state : State Alone) (outcome : Outcome (State Alone)) → IsSteady plain IsCold state
+        → Restarts state outcome → Keeps plain state outcome }
+    ensures arms { (plain : Plain) → IsPlain plain
+        → (armed beside : Option ℕ) (state : State Alone) → IsSteady plain IsCold state
+        → Keeps plain state (armed_alone armed beside state) }
 {}
