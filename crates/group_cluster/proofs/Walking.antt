@@ -1,5 +1,5 @@
 -- A relation of worlds and lines that is kept by each kind of line, and by what servers make of history and hand, is kept by every line.
-use Rattle.std.proofs.Common.{◌≡◌, ℕ, suc, ◌&&◌, List, [], ◌∷◌, length, refl, sym, subst}
+use Rattle.std.proofs.Common.{◌≡◌, suc, ◌&&◌, List, [], ◌∷◌, length, refl, sym, subst}
 use Rattle.script_lines.specs.declared.line.Line.{Line}
 use Rattle.script_lines.specs.declared.line.Line.TheVariants as line
 use Rattle.cluster_facts.specs.Types.{Entry}
@@ -32,16 +32,6 @@ pub record IsCored (R : World → World → List Told → Type 0) : Type 0 where
   pub confirmed : (world : World) (past : List Entry) (entry : Entry) → R (with_core past (Applied entry) world) (with_core past (Ready entry) world) []
   pub answered : (world : World) (past : List Entry) (entry : Entry) → R (with_core past (Ready entry) world) (with_core (entry ∷ past) Empty world) []
   pub over : (world : World) (past : List Entry) (hand : Hand) → R (with_core past hand world) (with_core (committed_by past hand) Empty world) []
-
--- a relation that reads neither
-pub cored-alone : (R : World → World → List Told → Type 0) → ((world : World) (one other : List Entry) (hand next : Hand) → R (with_core one hand world) (with_core other next world) []) → ((world : World) (past : List Entry) (hand next : Hand) (number : ℕ) (entry : Entry) → R (with_core past hand world) (with_core past next world) (Committed number entry ∷ [])) → IsCored R
-cored-alone R quiet commits = record {
-  taken = λ world past entry at. quiet world past past Empty (Waiting entry);
-  applied = λ world past entry. commits world past (Waiting entry) (Applied entry) (suc (length past)) entry;
-  confirmed = λ world past entry. quiet world past past (Applied entry) (Ready entry);
-  answered = λ world past entry. quiet world past (entry ∷ past) (Ready entry) Empty;
-  over = λ world past hand. quiet world past (committed_by past hand) hand Empty;
-}
 
 module _ (plain : Plain) (R : World → World → List Told → Type 0) (told : IsTold plain R) (shows : (world : World) (line : Told) → IsShow line → R world world (line ∷ [])) (cored : IsCored R) where
   pub told-bears : Bears plain R

@@ -100,8 +100,8 @@ IsSettledAfter setup _ world = Unit {0}
 abbrev pub SettlesAll : Setup → Sentence
 SettlesAll setup lines world told files = IsSettledAfter setup lines world
 
--- an entry is of the time that is in force as it is accepted: so is each one that a line commits, and one that waits for the partner
--- behind the line
+-- an entry is of the time that is in force as it is accepted: so is each one that a line commits, and one that waits for other
+-- servers behind the line
 abbrev pub CommitsInTime : {P : Type 0} → LineSentence P
 CommitsInTime before next told state outcome after =
     AreTimely state.world outcome.told × IsTimelyIn state.world outcome.state.world.core.hand
