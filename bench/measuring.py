@@ -153,8 +153,8 @@ def instructions(words, folder, script):
 
 
 def ratio(one, other):
-    """How many times the other one is, as a cell; none where one was not measured."""
-    return f"{one / other:.2f}" if one and other else ""
+    """How many times the other one is, as a cell; none where one was not measured, or is lost in what else the runs took."""
+    return f"{one / other:.2f}" if min(one or 0, other or 0) > 0 else ""
 
 
 BESIDE = ("time", "to plain", "instructions a line", "to plain", "memory", "to plain")
