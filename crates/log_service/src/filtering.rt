@@ -1,7 +1,5 @@
 //! The call that sets which severities of records a stream lets pass.
 ghost use Rattle.std.specs.Prelude.{◌≡◌, ◌≢◌, ◌≤◌, false, Some, IfOk, OnOk, OnErr};
-ghost use Rattle.format_expr.specs.Language.{is_notified};
-ghost use Rattle.stream_config.specs.Attributes.{kind_of};
 ghost use Rattle.log_history.specs.Changes.{Filtered};
 ghost use Rattle.log_history.specs.KeptAnswers.{filter_status};
 ghost use Rattle.log_service.specs.State.{Made, Left, Tells};
@@ -16,13 +14,6 @@ use ais_values::Status;
 use std::alloc::{AllocError, Global};
 use stream_config::{Mark, StreamName};
 
-/// Whether the stream has the records of notifications.
-fn is_notified(name: &StreamName) -> bool
-    ensures { result ≡ is_notified (kind_of name.now) }
-{
-    matches!(name, StreamName::Alarm | StreamName::Notification)
-}
-
 impl LogState {
     /// What decides the setting of a mask: `BadHandle` where the client does not use the service or does not have the
     /// stream open, `InvalidParam` where the stream is the alarm or the notification stream or the mask is above
@@ -33,7 +24,7 @@ impl LogState {
         if !self.users.contains(client) || !self.has_open(name, client) {
             return Status::BadHandle;
         }
-        if is_notified(name) || mask > 127 {
+        if name.is_notified() || mask > 127 {
             return Status::InvalidParam;
         }
         Status::Ok

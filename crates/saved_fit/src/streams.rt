@@ -4,7 +4,6 @@ ghost use Rattle.std.specs.List.{AllByRecursion, list_any};
 ghost use Rattle.ais_values.specs.Codes.{all_differ};
 ghost use Rattle.client_set.specs.Rising.{IsRising};
 ghost use Rattle.stream_config.specs.Attributes.{kind_of, PassesAttrs};
-ghost use Rattle.format_expr.specs.Language.{is_notified};
 ghost use Rattle.plain_service.specs.Fitness.{IsFitMark, IsFitStream, IsOfApplication, have_one_name, stand_at_one_place, HaveFitStreams, HasFitStamp};
 ghost use Rattle.saved_fit.specs.Streams.{IsCalled, BeginsWell, AreFitOthers, passes_mark};
 
@@ -132,19 +131,12 @@ fn passes(state: &StreamState) -> bool
     check_attrs(state.name.kind(), &state.attrs).is_ok()
 }
 
-/// Whether the stream has the records of notifications.
-fn is_notified(name: &StreamName) -> bool
-    ensures { result ≡ is_notified (kind_of name.now) }
-{
-    matches!(name, StreamName::Alarm | StreamName::Notification)
-}
-
 /// Whether a mark passes, of the stream of this name and once so many entries were accepted.
 fn passes_mark(number: u64, name: &StreamName, mark: Mark) -> bool
     ensures { result ≡ passes_mark number name.now mark }
 {
     mark.mask <= 127
-        && (mark.since <= number && (!is_notified(name) || (mark.since == 0 && mark.mask == 127)))
+        && (mark.since <= number && (!name.is_notified() || (mark.since == 0 && mark.mask == 127)))
 }
 
 /// Whether the mark of the stream of this name is fit, once so many entries were accepted.

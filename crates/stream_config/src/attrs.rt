@@ -1,5 +1,6 @@
 //! The names and the attributes of log streams.
 ghost use Rattle.std.specs.Prelude.{◌≡◌};
+ghost use Rattle.format_expr.specs.Language.{is_notified};
 ghost use Rattle.stream_config.specs.Attributes.{kind_of};
 
 use ais_values::{Duplicate, Name, StreamKind, Text};
@@ -57,6 +58,13 @@ impl StreamName {
             StreamName::System => StreamKind::System,
             StreamName::App { .. } => StreamKind::Application,
         }
+    }
+
+    /// Whether the stream has the records of notifications.
+    pub fn is_notified(&self) -> bool
+        ensures { result ≡ is_notified (kind_of self.now) }
+    {
+        matches!(self, StreamName::Alarm | StreamName::Notification)
     }
 }
 
