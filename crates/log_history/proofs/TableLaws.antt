@@ -12,6 +12,7 @@ use Rattle.record_print.specs.declared.record.LogRecord.{LogRecord}
 use Rattle.stream_config.specs.declared.state.StreamState.{StreamState}
 use Rattle.stream_config.specs.Fit.{changes_file}
 use Rattle.stream_config.specs.Equality.{same_name}
+use Rattle.stream_config.specs.Marks.{made_mark}
 use Rattle.stream_config.specs.Events.{state_after}
 use Rattle.stream_config.specs.Stamps.{stamp_after}
 use Rattle.stream_config.proofs.Equalities.{decides_name}
@@ -76,18 +77,17 @@ made-streams : (past : List LogChange) (client : ℕ) (name : StreamName) (attrs
 made-streams past client name attrs second number created streams new nobody some =
     let now = open_stream (Opened client name (Some attrs) second number ∷ past) in
     let stream = new_stream name attrs created in
-    let made_mark : Mark = record { since = number; mask = 127 } in
     let none : find (is_called name) (living streams) ≡ None = sym (find-filter lives (is_called name) streams) ∙ new in
     let others : map now (living streams) ≡ map (open_stream past) (living streams) =
     map-beside (open_stream past) (is_called name) (is_named name) (λ _. refl) now
-    (λ other is. ap (λ b. let opened : OpenStream = record { state = state_of other; openers = cond b (put nat_lt client (openers past other.name)) (openers past other.name); mark = cond b (record { since = number; mask = 127 }) (mark_after past other.name) } in opened) is)
+    (λ other is. ap (λ b. let opened : OpenStream = record { state = state_of other; openers = cond b (put nat_lt client (openers past other.name)) (openers past other.name); mark = cond b (made_mark number) (mark_after past other.name) } in opened) is)
     (living streams) none in
     let made_openers : cond (same_name name name) (put nat_lt client (openers past name)) (openers past name) ≡ client ∷ [] =
     ap (λ b. cond b (put nat_lt client (openers past name)) (openers past name)) ((decides_name name name).1 refl) ∙ ap (put nat_lt client) nobody in
     let made : now stream ≡ opened_stream client name attrs created number =
-    ap (λ (state : StreamState). let opened : OpenStream = record { state = state; openers = cond (same_name name name) (put nat_lt client (openers past name)) (openers past name); mark = cond (same_name name name) made_mark (mark_after past name) } in opened) (made-is name attrs created some)
-    ∙ ap (λ (clients : List ℕ). let opened : OpenStream = record { state = new_state name attrs created; openers = clients; mark = cond (same_name name name) made_mark (mark_after past name) } in opened) made_openers
-    ∙ ap (λ b. let opened : OpenStream = record { state = new_state name attrs created; openers = client ∷ []; mark = cond b made_mark (mark_after past name) } in opened) ((decides_name name name).1 refl) in
+    ap (λ (state : StreamState). let opened : OpenStream = record { state = state; openers = cond (same_name name name) (put nat_lt client (openers past name)) (openers past name); mark = cond (same_name name name) (made_mark number) (mark_after past name) } in opened) (made-is name attrs created some)
+    ∙ ap (λ (clients : List ℕ). let opened : OpenStream = record { state = new_state name attrs created; openers = clients; mark = cond (same_name name name) (made_mark number) (mark_after past name) } in opened) made_openers
+    ∙ ap (λ b. let opened : OpenStream = record { state = new_state name attrs created; openers = client ∷ []; mark = cond b (made_mark number) (mark_after past name) } in opened) ((decides_name name name).1 refl) in
     ap (map now) (filter-append lives streams (stream ∷ []))
     ∙ map-append now (living streams) (stream ∷ [])
     ∙ ap (λ front. front ++ now stream ∷ []) others

@@ -11,7 +11,7 @@ use Rattle.stream_config.specs.AttributeTests.{have_one_place}
 use Rattle.record_print.specs.declared.record.Header.{Header}
 use Rattle.record_print.specs.declared.record.LogRecord.{LogRecord}
 use Rattle.stream_config.specs.declared.mark.Mark.{Mark}
-use Rattle.stream_config.specs.Marks.{first_mark}
+use Rattle.stream_config.specs.Marks.{first_mark, made_mark}
 use Rattle.stream_config.specs.declared.state.StreamState.{StreamState}
 use Rattle.stream_config.specs.Events.{current_file}
 use Rattle.log_history.specs.Times.{record_at}
@@ -55,7 +55,7 @@ kept_mark streams name = option_map_or (λ (stream : OpenStream). stream.mark) (
 -- the mark of a stream once it is opened: where it is made, that of the entry of this number
 abbrev pub opened_mark : (making : Option StreamAttrs) (number : ℕ) → Mark → Mark
 opened_mark None number mark = mark
-opened_mark (Some attrs) number mark = record { since = number; mask = 127 }
+opened_mark (Some attrs) number mark = made_mark number
 
 abbrev pub begin_status : LogTable → (client : ℕ) → Status
 begin_status kept client = answer (begin_rows (has client kept.users))

@@ -3,7 +3,7 @@ use Rattle.std.specs.Prelude.{ℕ, Bool, false, not, if◌then◌else◌, List, 
 use Rattle.stream_config.specs.declared.attrs.StreamName.{StreamName}
 use Rattle.stream_config.specs.declared.mark.Mark.{Mark}
 use Rattle.stream_config.specs.Equality.{same_name}
-use Rattle.stream_config.specs.Marks.{first_mark, lets_pass}
+use Rattle.stream_config.specs.Marks.{first_mark, made_mark, lets_pass}
 use Rattle.record_print.specs.declared.record.Header.{Header}
 use Rattle.record_print.specs.declared.record.Header.TheVariants.{Ntf, Generic}
 use Rattle.log_history.specs.Changes.{LogChange, Opened, Filtered}
@@ -17,7 +17,7 @@ is_filtered mask (Generic class user severity) = not (lets_pass mask severity)
 abbrev pub mark_after : List LogChange → StreamName → Mark
 mark_after [] name = first_mark
 mark_after (Opened client opened (Some attrs) second number ∷ past) name =
-    if same_name name opened then record { since = number; mask = 127 } else mark_after past name
+    if same_name name opened then made_mark number else mark_after past name
 mark_after (Filtered client changed mask number ∷ past) name =
     if same_name name changed then record { since = number; mask = mask } else mark_after past name
 mark_after (_ ∷ past) name = mark_after past name

@@ -16,6 +16,7 @@ use Rattle.record_print.specs.Printing.{printed_record}
 use Rattle.stream_config.specs.Equality.{same_name}
 use Rattle.stream_config.specs.Events.{open_file, current_file, standing, state_after}
 use Rattle.stream_config.specs.Fit.{changes_file}
+use Rattle.stream_config.specs.Marks.{made_mark}
 use Rattle.stream_config.specs.Stamps.{stamp_after}
 use Rattle.log_history.specs.Names.{is_application}
 use Rattle.log_history.specs.Firsts.{change_first}
@@ -141,7 +142,7 @@ left_streams client streams = map (without_opener client) streams
 
 abbrev pub opened_stream : ℕ → StreamName → StreamAttrs → (created number : ℕ) → OpenStream
 opened_stream client name attrs created number =
-    record { state = new_state name attrs created; openers = client ∷ []; mark = record { since = number; mask = 127 } }
+    record { state = new_state name attrs created; openers = client ∷ []; mark = made_mark number }
 
 abbrev pub table_after : LogChange → LogTable → LogTable
 table_after (Began client) kept =

@@ -87,10 +87,7 @@ pub(crate) fn mark_opened(
     ensures { result ≡ mark_in streams.now name.now (option_copied create.entry) number }
 {
     match making(streams, name, create) {
-        Some(_) => Mark {
-            since: number,
-            mask: 127,
-        },
+        Some(_) => Mark::made(number),
         None => mark_of(streams, name),
     }
 }
@@ -113,11 +110,7 @@ fn new_stream(
     openers.insert(client)?;
     let name = name.copy(alloc)?;
     let attrs = attrs.copy(alloc)?;
-    let mark = Mark {
-        since: number,
-        mask: 127,
-    };
-    LiveStream::make(alloc, name, attrs, created, openers, mark)
+    LiveStream::make(alloc, name, attrs, created, openers, Mark::made(number))
 }
 
 /// One event.

@@ -1,6 +1,6 @@
 //! Which severities of records a stream lets pass.
 ghost use Rattle.std.specs.Prelude.{◌≡◌, ◌≤◌};
-ghost use Rattle.stream_config.specs.Marks.{first_mark, lets_pass};
+ghost use Rattle.stream_config.specs.Marks.{first_mark, made_mark, lets_pass};
 
 use ais_values::Duplicate;
 use std::alloc::{AllocError, Global};
@@ -20,8 +20,15 @@ impl Mark {
     pub fn first() -> Mark
         ensures { result ≡ first_mark }
     {
+        Mark::made(0)
+    }
+
+    /// The mark of a stream that the entry of this number made: all severities pass.
+    pub fn made(number: u64) -> Mark
+        ensures { result ≡ made_mark number }
+    {
         Mark {
-            since: 0,
+            since: number,
             mask: 127,
         }
     }
