@@ -44,7 +44,7 @@ Says-line plain world line silent = record {
   posts = subst (λ lines. Grows world.net world.net (lines ++ [])) (sym silent.post) (Grows-same world.net);
   entries = subst (λ lines. Grows (committed world.core) (committed world.core) (lines ++ [])) (sym silent.entry) (Grows-same (committed world.core));
   answers = EndsIn-same world.core.answered;
-  replies = λ client. subst (λ lines. TellsReplies (world.agents client) (world.agents client) (answers_in plain client world.core.answered) (lines ++ [])) (sym (silent.reply client)) (TellsReplies-none (world.agents client) (world.agents client) (answers_in plain client world.core.answered) (λ number done. done));
+  replies = λ client. subst (λ lines. TellsReplies (world.agents client) (world.agents client) (answers_in plain client world.core.answered) (lines ++ [])) (sym (silent.reply client)) (TellsReplies-none (world.agents client) (world.agents client) (answers_in plain client world.core.answered) (λ number done. done) (λ number done. done));
   callbacks = λ client. subst (λ lines. Grows (world.agents client).handed (world.agents client).handed (lines ++ [])) (sym (silent.callback client)) (Grows-same (world.agents client).handed);
   marks = λ client. sym (silent.mark client (world.agents client).marks);
   called = λ client. ap (λ lines. (lines ++ []) ++ of_replies (fed_of (world.agents client))) (sym (silent.called client (world.agents client).marks));
@@ -151,8 +151,8 @@ hand_out-says plain client callbacks after world hands =
       answers = EndsIn-same world.core.answered;
       replies = λ other. subst (λ told. TellsReplies (world.agents other) (with_agent client after world.agents other) (answers_in plain other world.core.answered) told) (sym (gathered-handed (reply_in other) client before callbacks (λ number callback. refl)))
           (each_client (λ c b. TellsReplies (world.agents c) (if b then after else world.agents c) (answers_in plain c world.core.answered) []) client
-          (TellsReplies-none agent after (answers_in plain client world.core.answered) (λ number done. record { sent = subst (λ n. number < n) (sym hands.next) done.sent; taken = ap (λ calls. Rattle.cluster_facts.specs.Agents.kept_call number calls) hands.kept ∙ done.taken }))
-          (λ c. TellsReplies-none (world.agents c) (world.agents c) (answers_in plain c world.core.answered) (λ number done. done)) other);
+          (TellsReplies-none agent after (answers_in plain client world.core.answered) (λ number done. record { sent = subst (λ n. number < n) (sym hands.next) done.sent; taken = ap (λ calls. Rattle.cluster_facts.specs.Agents.kept_call number calls) hands.kept ∙ done.taken }) (λ number done. record { sent = subst (λ n. number < n) hands.next done.sent; taken = sym (ap (λ calls. Rattle.cluster_facts.specs.Agents.kept_call number calls) hands.kept) ∙ done.taken }))
+          (λ c. TellsReplies-none (world.agents c) (world.agents c) (answers_in plain c world.core.answered) (λ number done. done) (λ number done. done)) other);
       callbacks = λ other. elim (eqb_tells client other) [
         | inl same ↦
             let A : Bool → Type 0 = λ b. Grows (world.agents other).handed (if b then after else world.agents other).handed (callbacks_told other lines) in
@@ -175,7 +175,7 @@ Says-later plain now world = record {
   posts = Grows-same world.net;
   entries = Grows-same (committed world.core);
   answers = EndsIn-same world.core.answered;
-  replies = λ client. TellsReplies-none (world.agents client) (world.agents client) (answers_in plain client world.core.answered) (λ number done. done);
+  replies = λ client. TellsReplies-none (world.agents client) (world.agents client) (answers_in plain client world.core.answered) (λ number done. done) (λ number done. done);
   callbacks = λ client. Grows-same (world.agents client).handed;
   marks = λ client. refl;
   called = λ client. refl;

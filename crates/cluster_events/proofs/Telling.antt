@@ -1,6 +1,8 @@
 -- What lines say goes on from one event to the next.
-use Rattle.std.proofs.Common.{◌≡◌, ℕ, suc, ◌+◌, ◌<◌, Bool, true, false, ◌==◌, if◌then◌else◌, Option, Some, None, List, [], ◌∷◌, ◌++◌, length, refl, ap, sym, ◌∙◌, subst, arith, append_assoc, append-nil, length-append}
+use Rattle.std.proofs.Common.{◌≡◌, ℕ, suc, ◌+◌, ◌<◌, ◌≤◌, inl, inr, Bool, true, false, ◌==◌, if◌then◌else◌, Option, Some, None, List, [], ◌∷◌, ◌++◌, length, refl, ap, sym, ◌∙◌, subst, arith, append_assoc, append-nil, length-append}
 use Rattle.std.specs.List.{AllByRecursion}
+use Rattle.std.proofs.lemmas.Bool.Decides.{eqb_tells}
+use Rattle.std.proofs.Math.Nat.{eq-or-lt_of_le}
 use Rattle.cluster_facts.specs.Types.{Call, Reply, Item, Content, Single, Losses, Entry, Called, Callback, Status, StreamName, Mark, Message, Request, Answer, Delivery, Receipt, WireWhy}
 use Rattle.cluster_facts.specs.Lists.{Stands, EndsIn, without}
 use Rattle.cluster_facts.specs.Messages.{Spelled, Raw, messages_in, sent_by}
@@ -13,7 +15,7 @@ use Rattle.cluster_facts.specs.Facts.{IsSound, IsOfRun}
 use Rattle.cluster_facts.proofs.Words.{by_test, each_client, All-at, All-map, All-append, EndsIn-same, EndsIn-stands, IsNumbered-bound}
 use Rattle.cluster_facts.proofs.Clients.{kept_call-stands}
 use Rattle.cluster_events.specs.Lines.{Told, Posted, Injected, Replied, Ignored, Why}
-use Rattle.cluster_events.specs.Saying.{gathered, post_in, entry_in, reply_in, deal_in, callback_in, mark_in, called_in, replies_told, deals_told, marks_seen, called_back, IsNumberedFrom, seconds, Grows, IsDone, IsOnce, TellsReplies, of_reply, of_replies, Says}
+use Rattle.cluster_events.specs.Saying.{gathered, post_in, entry_in, reply_in, deal_in, callback_in, mark_in, called_in, replies_told, deals_told, marks_seen, called_back, IsNumberedFrom, seconds, Grows, IsDone, IsOnce, HasNumber, TellsReplies, of_reply, of_replies, Says}
 use Rattle.cluster_events.proofs.Carrying.{IsTold, Keeps-sent, EndsIn-both}
 use Rattle.cluster_events.proofs.Dealing.{reply-dealt}
 
@@ -68,9 +70,25 @@ IsOnce-append {X = X} P (x ∷ second) first apart here two one = (
   IsOnce-append P second first apart.1 here two.1 one,
 )
 
+HasNumber-behind : {X : Type 0} (number : ℕ) (second first : List (ℕ × X)) → HasNumber number first → HasNumber number (second ++ first)
+HasNumber-behind number [] first has = has
+HasNumber-behind number (x ∷ second) first has = inr (HasNumber-behind number second first has)
+
+HasNumber-before : {X : Type 0} (number : ℕ) (second first : List (ℕ × X)) → HasNumber number second → HasNumber number (second ++ first)
+HasNumber-before number [] first has = absurd has
+HasNumber-before number (x ∷ second) first (inl same) = inl same
+HasNumber-before number (x ∷ second) first (inr has) = inr (HasNumber-before number second first has)
+
 pub TellsReplies-both : (one two three : Agent) (before after : List (ℕ × Reply)) (first second : List (ℕ × Reply)) → EndsIn after before → TellsReplies one two before first → TellsReplies two three after second → TellsReplies one three after (second ++ first)
 TellsReplies-both one two three before after first second grows tells more = record {
   later = λ number done. more.later number (tells.later number done);
+  only = λ number done. elim (more.only number done) [
+    | inl between ↦ elim (tells.only number between) [
+      | inl before ↦ inl before
+      | inr told ↦ inr (HasNumber-behind number second first told)
+    ]
+    | inr told ↦ inr (HasNumber-before number second first told)
+  ];
   fresh = All-append (λ (reply : ℕ × Reply). IsDone one reply.0 → ⊥) second first (All-map (λ (reply : ℕ × Reply). IsDone two reply.0 → ⊥) (λ (reply : ℕ × Reply). IsDone one reply.0 → ⊥) second (λ reply apart done. apart (tells.later reply.0 done)) more.fresh) tells.fresh;
   done = All-append (λ (reply : ℕ × Reply). IsDone three reply.0) second first more.done (All-map (λ (reply : ℕ × Reply). IsDone two reply.0) (λ (reply : ℕ × Reply). IsDone three reply.0) first (λ reply done. more.later reply.0 done) tells.done);
   once = IsOnce-append (λ number. IsDone two number) second first more.fresh tells.done more.once tells.once;
@@ -78,8 +96,8 @@ TellsReplies-both one two three before after first second grows tells more = rec
 }
 
 -- the same calls are done
-pub TellsReplies-none : (one two : Agent) (answers : List (ℕ × Reply)) → ((number : ℕ) → IsDone one number → IsDone two number) → TellsReplies one two answers []
-TellsReplies-none one two answers later = record { later = later; fresh = tt; done = tt; once = tt; right = tt }
+pub TellsReplies-none : (one two : Agent) (answers : List (ℕ × Reply)) → ((number : ℕ) → IsDone one number → IsDone two number) → ((number : ℕ) → IsDone two number → IsDone one number) → TellsReplies one two answers []
+TellsReplies-none one two answers later back = record { later = later; only = λ number done. inl (back number done); fresh = tt; done = tt; once = tt; right = tt }
 
 answers-step : (plain : Plain) (client : ℕ) (entry : Entry) (past : List Entry) → EndsIn (answers_in plain client (entry ∷ past)) (answers_in plain client past)
 answers-step plain client (Called caller number time call) past =
@@ -141,6 +159,19 @@ kept_call-taken number (first ∷ kept) =
     let S : Bool → Type 0 = λ b. (if b then Some first.1 else kept_call number (without (λ (call : ℕ × Call). call.0 == number) kept)) ≡ None in
     by_test Q first.0 number (λ same. deeper) (λ different. by_test S first.0 number (λ same. absurd (different same)) (λ other. deeper))
 
+kept_call-others : (other number : ℕ) (kept : List (ℕ × Call)) → ((number ≡ other) → ⊥) → kept_call other (without (λ (call : ℕ × Call). call.0 == number) kept) ≡ None → kept_call other kept ≡ None
+kept_call-others other number [] apart none = refl
+kept_call-others other number (first ∷ kept) apart none =
+    let rest = without (λ (call : ℕ × Call). call.0 == number) kept in
+    let K : Type 0 = (if first.0 == other then Some first.1 else kept_call other kept) ≡ None in
+    let T : Bool → Type 0 = λ b. kept_call other (if b then rest else first ∷ rest) ≡ None → K in
+    let S : Bool → Type 0 = λ b. (if b then Some first.1 else kept_call other kept) ≡ None in
+    let B : Bool → Type 0 = λ b. (if b then Some first.1 else kept_call other rest) ≡ None → (if b then Some first.1 else kept_call other kept) ≡ None in
+    by_test T first.0 number
+    (λ gone taken. by_test S first.0 other (λ same. absurd (apart (sym gone ∙ same))) (λ different. kept_call-others other number kept apart taken))
+    (λ stays taken. by_test B first.0 other (λ same never. cc) (λ different deeper. kept_call-others other number kept apart deeper) taken)
+    none
+
 -- a call that is kept was sent
 kept_call-sent : (plain : Plain) (client number : ℕ) (call : Call) (world : World) → IsSound plain world → kept_call number (world.agents client).kept ≡ Some call → number < (world.agents client).next
 kept_call-sent plain client number call world sound kept =
@@ -155,6 +186,10 @@ TellsReplies-reply plain client number call reply world sound kept stands =
     let agent = world.agents client in
     record {
       later = λ other done. record { sent = done.sent; taken = kept_call-without other (λ (call : ℕ × Call). call.0 == number) agent.kept done.taken };
+      only = λ other done. elim (eqb_tells number other) [
+        | inl same ↦ inr (inl same.1)
+        | inr different ↦ inl (record { sent = done.sent; taken = kept_call-others other number agent.kept different.1 done.taken })
+      ];
       fresh = (λ done. let none = done.taken in cc, tt);
       done = (record { sent = kept_call-sent plain client number call world sound kept; taken = kept_call-taken number agent.kept }, tt);
       once = (tt, tt);
@@ -166,6 +201,16 @@ IsDone-call agent call number done =
     let below = done.sent in
     let S : Bool → Type 0 = λ b. (if b then Some call else kept_call number agent.kept) ≡ None in
     record { sent = omega arith; taken = by_test S agent.next number (λ same. absurd (omega arith)) (λ different. done.taken) }
+
+IsDone-before : (agent : Agent) (call : Call) (number : ℕ) → IsDone (after_call call agent) number → IsDone agent number
+IsDone-before agent call number done =
+    let below = done.sent in
+    let most : number ≤ agent.next = omega arith in
+    let S : Bool → Type 0 = λ b. (if b then Some call else kept_call number agent.kept) ≡ None → IsDone agent number in
+    by_test S agent.next number (λ same never. absurd (cc)) (λ different none. record {
+      sent = elim (eq-or-lt_of_le most) [ inl same ↦ absurd (different (sym same)) | inr less ↦ less ];
+      taken = none;
+    }) done.taken
 
 -- Callbacks of replies.
 
@@ -217,7 +262,7 @@ says-net plain world message = record {
   posts = Grows-one (Spelled message) world.net;
   entries = Grows-same (committed world.core);
   answers = EndsIn-same world.core.answered;
-  replies = λ client. TellsReplies-none (world.agents client) (world.agents client) (answers_in plain client world.core.answered) (λ number done. done);
+  replies = λ client. TellsReplies-none (world.agents client) (world.agents client) (answers_in plain client world.core.answered) (λ number done. done) (λ number done. done);
   callbacks = λ client. Grows-same (world.agents client).handed;
   marks = λ client. refl;
   called = λ client. refl;
@@ -229,7 +274,7 @@ Says-injected plain world bytes front why = record {
   posts = Grows-one (Raw bytes front why) world.net;
   entries = Grows-same (committed world.core);
   answers = EndsIn-same world.core.answered;
-  replies = λ client. TellsReplies-none (world.agents client) (world.agents client) (answers_in plain client world.core.answered) (λ number done. done);
+  replies = λ client. TellsReplies-none (world.agents client) (world.agents client) (answers_in plain client world.core.answered) (λ number done. done) (λ number done. done);
   callbacks = λ client. Grows-same (world.agents client).handed;
   marks = λ client. refl;
   called = λ client. refl;
@@ -241,7 +286,7 @@ Says-same plain world = record {
   posts = Grows-same world.net;
   entries = Grows-same (committed world.core);
   answers = EndsIn-same world.core.answered;
-  replies = λ client. TellsReplies-none (world.agents client) (world.agents client) (answers_in plain client world.core.answered) (λ number done. done);
+  replies = λ client. TellsReplies-none (world.agents client) (world.agents client) (answers_in plain client world.core.answered) (λ number done. done) (λ number done. done);
   callbacks = λ client. Grows-same (world.agents client).handed;
   marks = λ client. refl;
   called = λ client. refl;
@@ -253,7 +298,7 @@ Says-ignored plain world place why = record {
   posts = Grows-same world.net;
   entries = Grows-same (committed world.core);
   answers = EndsIn-same world.core.answered;
-  replies = λ client. TellsReplies-none (world.agents client) (world.agents client) (answers_in plain client world.core.answered) (λ number done. done);
+  replies = λ client. TellsReplies-none (world.agents client) (world.agents client) (answers_in plain client world.core.answered) (λ number done. done) (λ number done. done);
   callbacks = λ client. Grows-same (world.agents client).handed;
   marks = λ client. refl;
   called = λ client. refl;
@@ -289,7 +334,7 @@ says-reply plain world client number call reply sound kept stands =
       answers = EndsIn-same world.core.answered;
       replies = each_client (λ other b. TellsReplies (world.agents other) (if b then after else world.agents other) (answers_in plain other world.core.answered) ((if b then (number, reply) ∷ [] else []) ++ [])) client
           (TellsReplies-reply plain client number call reply world sound kept stands)
-          (λ other. TellsReplies-none (world.agents other) (world.agents other) (answers_in plain other world.core.answered) (λ number done. done));
+          (λ other. TellsReplies-none (world.agents other) (world.agents other) (answers_in plain other world.core.answered) (λ number done. done) (λ number done. done));
       callbacks = each_client (λ other b. Grows (world.agents other).handed (if b then after else world.agents other).handed []) client (Grows-same agent.handed) (λ other. Grows-same (world.agents other).handed);
       deals = each_client (λ other b. AllByRecursion (λ (deal : ℕ × Call × Reply). Stands deal (dealt_in plain other world.core.answered)) ((if b then (number, call, reply) ∷ [] else []) ++ [])) client
           (reply-dealt plain world client number call reply sound kept stands, tt)
@@ -309,8 +354,8 @@ says-item plain world client key item found =
       entries = Grows-same (committed world.core);
       answers = EndsIn-same world.core.answered;
       replies = each_client (λ other b. TellsReplies (world.agents other) (if b then after else world.agents other) (answers_in plain other world.core.answered) []) client
-          (TellsReplies-none agent after (answers_in plain client world.core.answered) (λ number done. record { sent = done.sent; taken = done.taken }))
-          (λ other. TellsReplies-none (world.agents other) (world.agents other) (answers_in plain other world.core.answered) (λ number done. done));
+          (TellsReplies-none agent after (answers_in plain client world.core.answered) (λ number done. record { sent = done.sent; taken = done.taken }) (λ number done. record { sent = done.sent; taken = done.taken }))
+          (λ other. TellsReplies-none (world.agents other) (world.agents other) (answers_in plain other world.core.answered) (λ number done. done) (λ number done. done));
       callbacks = each_client (λ other b. Grows (world.agents other).handed (if b then after else world.agents other).handed []) client (Grows-same agent.handed) (λ other. Grows-same (world.agents other).handed);
       deals = λ other. tt;
       marks = each_client (λ other b. (if b then after else world.agents other).marks ≡ (world.agents other).marks) client refl (λ other. refl);
@@ -342,8 +387,8 @@ Says-send plain world client call clients =
       entries = Grows-same (committed world.core);
       answers = EndsIn-same world.core.answered;
       replies = each_client (λ other b. TellsReplies (world.agents other) (if b then after else world.agents other) (answers_in plain other world.core.answered) []) client
-          (TellsReplies-none agent after (answers_in plain client world.core.answered) (IsDone-call agent call))
-          (λ other. TellsReplies-none (world.agents other) (world.agents other) (answers_in plain other world.core.answered) (λ number done. done));
+          (TellsReplies-none agent after (answers_in plain client world.core.answered) (IsDone-call agent call) (IsDone-before agent call))
+          (λ other. TellsReplies-none (world.agents other) (world.agents other) (answers_in plain other world.core.answered) (λ number done. done) (λ number done. done));
       callbacks = each_client (λ other b. Grows (world.agents other).handed (if b then after else world.agents other).handed []) client (Grows-same agent.handed) (λ other. Grows-same (world.agents other).handed);
       marks = each_client (λ other b. (if b then after else world.agents other).marks ≡ (world.agents other).marks) client refl (λ other. refl);
       called = each_client (λ other b. of_replies (fed_of (if b then after else world.agents other)) ≡ of_replies (fed_of (world.agents other))) client refl (λ other. refl);

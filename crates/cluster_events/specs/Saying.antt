@@ -1,5 +1,5 @@
 -- Words of public clauses: what the lines of events say of history, replies, callbacks and net.
-use Rattle.std.specs.Prelude.{◌≡◌, ℕ, suc, ◌+◌, ◌<◌, ◌==◌, if◌then◌else◌, None, List, [], ◌∷◌, ◌++◌, length}
+use Rattle.std.specs.Prelude.{◌≡◌, ℕ, suc, ◌+◌, ◌<◌, ◌⊎◌, ◌==◌, if◌then◌else◌, None, List, [], ◌∷◌, ◌++◌, length}
 use Rattle.std.specs.List.{AllByRecursion}
 use Rattle.cluster_facts.specs.Types.{Call, Reply, Entry, Callback, Written, MaskSet, StreamName, Mark}
 use Rattle.cluster_facts.specs.Lists.{Stands, EndsIn}
@@ -96,10 +96,16 @@ abbrev pub IsOnce : {X : Type 0} → List (ℕ × X) → Type 0
 IsOnce [] = Unit {0}
 IsOnce {X} (x ∷ xs) = AllByRecursion (λ (y : ℕ × X). (y.0 ≡ x.0) → ⊥) xs × IsOnce xs
 
--- the reply lines of a client: each is of a call that was not done before and is done after, no two are of one call, and each
--- tells the service's reply
+-- one of these has this number
+abbrev pub HasNumber : {X : Type 0} → ℕ → List (ℕ × X) → Type 0
+HasNumber number [] = ⊥
+HasNumber number (x ∷ xs) = (x.0 ≡ number) ⊎ HasNumber number xs
+
+-- the reply lines of a client: each is of a call that was not done before and is done after, no others were done meanwhile, no two are of
+-- one call, and each tells the service's reply
 pub record TellsReplies (old new : Agent) (answers replies : List (ℕ × Reply)) : Type 0 where
   pub later : (number : ℕ) → IsDone old number → IsDone new number
+  pub only : (number : ℕ) → IsDone new number → IsDone old number ⊎ HasNumber number replies
   pub fresh : AllByRecursion (λ (reply : ℕ × Reply). IsDone old reply.0 → ⊥) replies
   pub done : AllByRecursion (λ (reply : ℕ × Reply). IsDone new reply.0) replies
   pub once : IsOnce replies
