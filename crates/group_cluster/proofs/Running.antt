@@ -23,10 +23,11 @@ use Rattle.cluster_events.proofs.Ending as ending
 use Rattle.group_cluster.specs.Seats.{Seat, Peers, Agree, IsApart, AreNames, names_of, IsGroup}
 use Rattle.group_cluster.specs.Group.{group, others_at, group_start, CanStart}
 use Rattle.group_cluster.specs.Running.{GroupHappens, GroupStepBy}
-use Rattle.group_cluster.specs.Laws.{GroupKeepsPromises, GroupSettleEnds, GroupSettleSettles}
+use Rattle.group_cluster.specs.Laws.{GroupDrainEnds, GroupKeepsPromises, GroupSettleEnds, GroupSettleSettles}
 use Rattle.group_cluster.proofs.Serving.{group-stepped}
 use Rattle.group_cluster.proofs.Saying.{says-borne, group-serves, group-says, group-spends}
 use Rattle.group_cluster.proofs.Lines.{failures-keep}
+use Rattle.group_cluster.proofs.Stepping.{group-ends}
 
 others-agree : (others : List Server) → AllByRecursion (λ (seat : Seat). Agree Empty seat.stance) (others_at others)
 others-agree [] = tt
@@ -77,3 +78,6 @@ pub settle-settles : GroupSettleSettles
 settle-settles plain is_plain shelf calls device others can now places first lines state new told printed mark run settles =
     let steady = run-steady plain is_plain shelf calls others can now places first run in
     ending.settle-settles plain is_plain (group plain device) IsGroup (group-serves plain device is_plain) (group-spends plain device is_plain) state new settles.lines steady settles.rounds
+
+pub drain-ends : GroupDrainEnds
+drain-ends plain is_plain device state steady = group-ends plain is_plain device (Says plain) (says-borne plain) state steady.good

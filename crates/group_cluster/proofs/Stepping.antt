@@ -432,6 +432,23 @@ module _ (plain : Plain) (is_plain : IsPlain plain) (device : Device) (R : World
   rests (suc count) state good most =
       rests-by count state (advance (group plain device) state) refl good most (advance-leaves state good) (λ now fine less. rests count now fine less)
 
+  -- and then none is left to make
+
+  none-goes : (state : State Peers) (next : Option (Outcome (State Peers))) → Leaves state next → steps_left state ≤ 0 → next ≡ None
+  none-goes state None leaves most = refl
+  none-goes state (Some outcome) leaves most = let less = leaves.fewer in absurd (omega arith)
+
+  ends-by : (count : ℕ) (state : State Peers) (next : Option (Outcome (State Peers))) → advance (group plain device) state ≡ next → steps_left state ≤ suc count → Leaves state next → ((now : State Peers) → IsGroup now → steps_left now ≤ count → advance (group plain device) (advances (group plain device) count now).state ≡ None) → advance (group plain device) (after_step (advances (group plain device) count) next state).state ≡ None
+  ends-by count state None is most leaves deeper = is
+  ends-by count state (Some outcome) is most leaves deeper =
+      let less = leaves.fewer in
+      deeper outcome.state leaves.steps.good (omega arith)
+
+  ends : (count : ℕ) (state : State Peers) → IsGroup state → steps_left state ≤ count → advance (group plain device) (advances (group plain device) count state).state ≡ None
+  ends zero state good most = none-goes state (advance (group plain device) state) (advance-leaves state good) most
+  ends (suc count) state good most =
+      ends-by count state (advance (group plain device) state) refl most (advance-leaves state good) (λ now fine less. ends count now fine less)
+
   one-most : (hand : Hand) → one_in hand ≤ 1
   one-most Empty = omega arith
   one-most (Waiting entry) = omega arith
@@ -445,3 +462,11 @@ module _ (plain : Plain) (is_plain : IsPlain plain) (device : Device) (R : World
       let most = weights-most state.peers.seats in
       let one = one-most state.world.core.hand in
       rests 13 state good (omega arith)
+
+  -- **and has no step left**
+  pub group-ends : (state : State Peers) → IsGroup state → advance (group plain device) (drain (group plain device) state).state ≡ None
+  group-ends state good =
+      let few = few-seats state.peers.seats good.names in
+      let most = weights-most state.peers.seats in
+      let one = one-most state.world.core.hand in
+      ends 13 state good (omega arith)

@@ -1,19 +1,20 @@
 -- Words of public clauses: what holds of every run of servers, over any service that does what the cluster asks, whatever is crashed,
 -- armed, restarted or fails.
-use Rattle.std.specs.Prelude.{ℕ, ℤ, List}
+use Rattle.std.specs.Prelude.{◌≡◌, ℕ, ℤ, None, List}
 use Rattle.script_lines.specs.declared.line.Line.{Line}
 use Rattle.script_lines.specs.declared.line.Server.{Server}
 use Rattle.cluster_facts.specs.Types.{Entry}
 use Rattle.cluster_facts.specs.Service.{Plain, IsPlain}
 use Rattle.cluster_events.specs.Lines.{Told}
-use Rattle.cluster_events.specs.Servers.{State}
+use Rattle.cluster_events.specs.Servers.{State, advance, drain}
+use Rattle.cluster_events.specs.Serving.{IsSteady}
 use Rattle.cluster_events.specs.Devices.{Device}
 use Rattle.cluster_events.specs.Settling.{Settles}
 use Rattle.cluster_events.specs.Running.{Shelf}
 use Rattle.cluster_events.specs.Runs.{RunBy}
 use Rattle.cluster_events.specs.Promises.{AtEnd}
 use Rattle.cluster_events.specs.Settled.{IsSettled}
-use Rattle.group_cluster.specs.Seats.{Peers}
+use Rattle.group_cluster.specs.Seats.{Peers, IsGroup}
 use Rattle.group_cluster.specs.Group.{group, group_start, CanStart}
 use Rattle.group_cluster.specs.Running.{GroupStepBy}
 
@@ -43,3 +44,9 @@ GroupSettleSettles =
     → CanStart others → (now : ℤ) (places first : ℕ) (lines : List Line) (state new : State Peers) (told printed : List Told) (mark : ℕ)
     → RunBy (GroupStepBy plain shelf calls) (group_start others now places) first lines state told mark
     → Settles plain (group plain device) state new printed → IsSettled plain new.world
+
+-- behind a drain no step of the servers is left: so many steps as they say are enough
+abbrev pub GroupDrainEnds : Type 0
+GroupDrainEnds =
+    (plain : Plain) → IsPlain plain → (device : Device) (state : State Peers) → IsSteady plain IsGroup state
+    → advance (group plain device) (drain (group plain device) state).state ≡ None
