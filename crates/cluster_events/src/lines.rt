@@ -10,6 +10,8 @@ pub enum ServerRole {
     Standby,
     Joining,
     Down,
+    /// No server: a journal.
+    Journal,
 }
 
 /// Why a delivered byte string had no effect.
@@ -23,6 +25,8 @@ pub enum Why {
     Busy { number: u64 },
     /// The receipt is not new.
     DoneReceipt,
+    /// The server is down.
+    ServerDown,
     /// The reply to the call was taken.
     AnsweredReply,
     /// The callback queue is full.

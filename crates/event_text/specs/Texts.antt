@@ -10,9 +10,9 @@ use Rattle.cluster_facts.specs.Types.{Status, WireWhy, Reply, Refused as Rejecte
 use Rattle.cluster_facts.specs.Types.{StreamName, Success, Callback, Written, Notified, Discarded, MaskSet, Message, Request, Answer, Delivery, Receipt}
 use Rattle.wire.specs.declared.message.WireWhy.TheVariants.{Trailing, Short, BadValue}
 use Rattle.cluster_events.specs.declared.lines.ServerRole.{ServerRole}
-use Rattle.cluster_events.specs.declared.lines.ServerRole.TheVariants.{Active, Armed, Standby, Joining, Down}
+use Rattle.cluster_events.specs.declared.lines.ServerRole.TheVariants.{Active, Armed, Standby, Joining, Down, Journal}
 use Rattle.cluster_events.specs.declared.lines.Why.{Why}
-use Rattle.cluster_events.specs.declared.lines.Why.TheVariants.{OldRequest, AheadRequest, Busy, DoneReceipt, AnsweredReply}
+use Rattle.cluster_events.specs.declared.lines.Why.TheVariants.{OldRequest, AheadRequest, Busy, DoneReceipt, ServerDown, AnsweredReply}
 use Rattle.cluster_events.specs.declared.lines.Why.TheVariants.{Left, TakenItem, AheadItem, GoneItem, Bad}
 use Rattle.cluster_events.specs.declared.lines.Standing.{Standing}
 use Rattle.cluster_events.specs.Lines.{Told, Posted, Injected, Committed, Replied, Declined, HandedOut, Dispatched, Ignored, Refused, Stood, Listed, Shown}
@@ -129,6 +129,7 @@ why_text OldRequest = codes "old"
 why_text AheadRequest = codes "ahead"
 why_text (Busy number) = codes "busy " ++ decimal number
 why_text DoneReceipt = codes "done"
+why_text ServerDown = codes "down"
 why_text AnsweredReply = codes "answered"
 why_text Left = codes "left"
 why_text TakenItem = codes "taken"
@@ -145,6 +146,7 @@ role_text Armed = codes "armed"
 role_text Standby = codes "standby"
 role_text Joining = codes "joining"
 role_text Down = codes "down"
+role_text Journal = codes "journal"
 
 -- the number of the entry in hand, or a dash
 abbrev pub hand_text : Option ℕ → List ℕ

@@ -101,6 +101,7 @@ fn put_why(alloc: Global, out: &mut Vec<u8>, why: Why) -> Result<(), AllocError>
             Ok(())
         }
         Why::DoneReceipt => put(out, b"done"),
+        Why::ServerDown => put(out, b"down"),
         Why::AnsweredReply => put(out, b"answered"),
         Why::Left => put(out, b"left"),
         Why::TakenItem => put(out, b"taken"),
@@ -126,6 +127,7 @@ pub fn role_word(role: ServerRole) -> &'static str
         ServerRole::Standby => "standby",
         ServerRole::Joining => "joining",
         ServerRole::Down => "down",
+        ServerRole::Journal => "journal",
     }
 }
 

@@ -186,7 +186,9 @@ fn tells_of_what_has_no_effect(rt: HostRuntime) {
     let mut lines = Vec::new(alloc);
     put_ignored(alloc, &mut lines, 7, Why::TakenItem).expect(&rt, "memory");
     put_ignored(alloc, &mut lines, 8, Why::Busy { number: 12 }).expect(&rt, "memory");
-    are(&rt, alloc, lines, b"ignored 7 taken\nignored 8 busy 12\n");
+    put_ignored(alloc, &mut lines, 9, Why::ServerDown).expect(&rt, "memory");
+    let told = b"ignored 7 taken\nignored 8 busy 12\nignored 9 down\n".as_slice();
+    are(&rt, alloc, lines, told);
     let crash = Line::Crash { server: Server::B };
     let told = b"refused crash b a=armed b=standby net=0 link=0 back=0 hand=-\n".as_slice();
     refuse(&rt, alloc, crash, told);
@@ -197,12 +199,13 @@ fn tells_of_servers_and_files(rt: HostRuntime) {
     let alloc = rt.alloc();
     let mut lines = Vec::new(alloc);
     put_server(alloc, &mut lines, Server::A, ServerRole::Armed).expect(&rt, "memory");
+    put_server(alloc, &mut lines, Server::B, ServerRole::Journal).expect(&rt, "memory");
     put_file(alloc, &mut lines, b"saLogSystem.cfg", 164).expect(&rt, "memory");
     are(
         &rt,
         alloc,
         lines,
-        b"server a armed\nfile saLogSystem.cfg 164\n",
+        b"server a armed\nserver b journal\nfile saLogSystem.cfg 164\n",
     );
 }
 
