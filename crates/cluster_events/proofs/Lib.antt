@@ -5,6 +5,7 @@ pub mod Telling
 pub mod Measuring
 pub mod Quiet
 pub mod Ending
+pub mod NeverEnds
 pub mod Items
 pub mod Walking
 pub mod Promised

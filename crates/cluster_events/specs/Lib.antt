@@ -1,6 +1,7 @@
 pub mod Lines
 pub mod Outcomes
 pub mod Servers
+pub mod Cores
 pub mod ClientEvents
 pub mod Events
 pub mod Settling

@@ -10,10 +10,10 @@ use Rattle.cluster_facts.proofs.Keeping.{IsSound-start}
 use Rattle.cluster_events.specs.Lines.{Told, Committed, Stood}
 use Rattle.cluster_events.specs.declared.lines.ServerRole.TheVariants as role
 use Rattle.cluster_events.specs.Outcomes.{Outcome}
+use Rattle.cluster_events.specs.Cores.{with_core}
 use Rattle.cluster_events.specs.Servers.{State}
 use Rattle.cluster_events.specs.Serving.{IsSteady}
 use Rattle.group_cluster.specs.Seats.{Clear, IsGroup}
-use Rattle.group_cluster.specs.Falling.{with_core}
 use Rattle.group_cluster.proofs.Sounding.{sound-over}
 use Rattle.group_cluster.proofs.Stepping.{Bears}
 use Rattle.cold_cluster.specs.Cold.{Alone, IsCold, IsBeside, at_rest, paired, cold_begun}

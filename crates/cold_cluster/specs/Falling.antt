@@ -6,8 +6,8 @@ use Rattle.cluster_facts.specs.History.{Empty, Waiting, committed}
 use Rattle.cluster_events.specs.Lines.{Told, Committed, Stood}
 use Rattle.cluster_events.specs.declared.lines.ServerRole.TheVariants as role
 use Rattle.cluster_events.specs.Outcomes.{Outcome, quietly, telling}
+use Rattle.cluster_events.specs.Cores.{with_core}
 use Rattle.cluster_events.specs.Servers.{State}
-use Rattle.group_cluster.specs.Falling.{with_core}
 use Rattle.cold_cluster.specs.Cold.{Alone, at_rest}
 
 -- The server goes down, and no disk is armed. Nothing else of the world changes: what is in hand may be found in the journal.

@@ -12,8 +12,8 @@ use Rattle.cluster_facts.proofs.Words.{by_test}
 use Rattle.cluster_facts.proofs.Posting.{posted-keeps}
 use Rattle.cluster_facts.proofs.Keeping.{Facts-answered, Facts-post_answer}
 use Rattle.cluster_events.specs.Lines.{Told, Posted}
+use Rattle.cluster_events.specs.Cores.{with_core}
 use Rattle.group_cluster.specs.Answering.{net_answering, lines_answering}
-use Rattle.group_cluster.specs.Falling.{with_core}
 
 -- the entry's reply is among those of the history with it
 reply-stands : (plain : Plain) (past : List Entry) (client number : ℕ) (time : ℤ) (call : Call) → Stands (number, plain.reply past client number time call) (answers_in plain client (Called client number time call ∷ past))

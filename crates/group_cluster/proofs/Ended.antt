@@ -13,8 +13,10 @@ use Rattle.cluster_facts.proofs.Words.{by_test, All-at, IsNumbered-bound}
 use Rattle.cluster_events.specs.Lines.{Stood}
 use Rattle.cluster_events.specs.declared.lines.ServerRole.TheVariants as role
 use Rattle.cluster_events.specs.Outcomes.{Outcome}
+use Rattle.cluster_events.specs.Cores.{with_core}
 use Rattle.cluster_events.specs.Servers.{State}
 use Rattle.cluster_events.specs.Devices.{Device}
+use Rattle.cluster_events.specs.Ending.{LacksLast, is_crash}
 use Rattle.cluster_events.specs.Saying.{Says}
 use Rattle.cluster_events.specs.Serving.{IsSteady}
 use Rattle.cluster_events.proofs.Telling.{Says-both}
@@ -22,10 +24,10 @@ use Rattle.cluster_events.proofs.Promised.{Says-printed, at-end}
 use Rattle.cluster_events.proofs.Quiet.{answers-called}
 use Rattle.cluster_events.proofs.Runs.{any-says}
 use Rattle.group_cluster.specs.Seats.{Stance, Out, Owed, Linking, Standby, Seat, Peers, Agree, AreNames, names_of, IsGroup, is_standby}
-use Rattle.group_cluster.specs.Falling.{with_core, catches, caught, caught_seats, caught_hand, caught_lines, named}
+use Rattle.group_cluster.specs.Falling.{catches, caught, caught_seats, caught_hand, caught_lines, named}
 use Rattle.group_cluster.specs.Group.{group, group_start}
-use Rattle.group_cluster.specs.Running.{GroupStepBy, is_crash}
-use Rattle.group_cluster.specs.Ended.{left_out, ended_by, ended, EndsGroup, EndsSettle, GroupEnds, LacksLast, EndKeepsPromises, EndLacksReply}
+use Rattle.group_cluster.specs.Running.{GroupStepBy}
+use Rattle.group_cluster.specs.Ended.{left_out, ended_by, ended, EndsGroup, EndsGroupStep, EndsSettle, GroupEnds, EndKeepsPromises, EndLacksReply}
 use Rattle.group_cluster.proofs.Seating.{all-made, apart-on, apart-caught, names-on}
 use Rattle.group_cluster.proofs.Stepping.{over-sound, over-down, all-stood-go}
 use Rattle.group_cluster.proofs.Serving.{group-stepped}
@@ -56,7 +58,7 @@ unposted plain world past client number time call reply sound stands =
     absurd (omega arith)
 
 -- nor has the last entry where it is in hand
-lacks-last : (plain : Plain) (world : World) (past : List Entry) (hand : Hand) (entry : Entry) → hand ≡ Ready entry → IsSound plain (with_core past hand world) → LacksLast (committed_by past hand) (messages_in world.net)
+pub lacks-last : (plain : Plain) (world : World) (past : List Entry) (hand : Hand) (entry : Entry) → hand ≡ Ready entry → IsSound plain (with_core past hand world) → LacksLast (committed_by past hand) (messages_in world.net)
 lacks-last plain world past (Ready (Called client number time call)) entry is sound =
     λ reply stands. unposted plain world past client number time call reply sound stands
 lacks-last plain world past (Ready (Receipted client key through time)) entry is sound = tt
@@ -115,7 +117,7 @@ module _ (plain : Plain) (is_plain : IsPlain plain) (device : Device) where
   settle-ends : (state : State Peers) (end : Outcome (State Peers)) → IsSteady plain IsGroup state → EndsSettle plain device state end → Tells state end × IsLeft end.state
   settle-ends state end steady ends =
       let whole = settle-tells plain is_plain (group plain device) IsGroup (group-serves plain device is_plain) (Says plain) (group-says plain device is_plain) (group-stepped plain is_plain device (Says plain) (says-borne plain))
-      IsLeft (λ now last. EndsGroup device now last) work-tells state ends.whole steady ends.ends in
+      IsLeft (EndsGroupStep plain device) (λ now last good step. work-tells now last good step.works) state ends.whole steady ends.ends in
       subst (λ (o : Outcome (State Peers)). Tells state o × IsLeft o.state) (sym ends.is) ((whole.0.0, Says-printed plain state.world ends.whole.state.world ends.whole.told whole.0.1), whole.1)
 
   -- the facts hold where the event of a line ends, its lines say what happened, and nothing is in hand

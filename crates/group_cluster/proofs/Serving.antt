@@ -10,6 +10,7 @@ use Rattle.cluster_facts.specs.World.{World}
 use Rattle.cluster_facts.specs.Facts.{IsSound}
 use Rattle.cluster_events.specs.Lines.{Told, Committed}
 use Rattle.cluster_events.specs.Outcomes.{Outcome}
+use Rattle.cluster_events.specs.Cores.{with_core}
 use Rattle.cluster_events.specs.Servers.{State, drain}
 use Rattle.cluster_events.specs.Devices.{Device}
 use Rattle.cluster_events.specs.Settling.{is_loud}
@@ -17,7 +18,7 @@ use Rattle.cluster_events.specs.Serving.{IsSteady, Accepts, Drains, IsServing, I
 use Rattle.cluster_events.proofs.Sound.{accept-sound}
 use Rattle.cluster_events.proofs.Carrying.{IsTold, told-carried}
 use Rattle.group_cluster.specs.Seats.{Seat, Peers, is_standby, is_sent, any_seat, on_seats, Agree, WaitsFor, IsArmed, AreNames, IsGroup}
-use Rattle.group_cluster.specs.Falling.{with_core, taken_by, looked_at, commitment}
+use Rattle.group_cluster.specs.Falling.{taken_by, looked_at, commitment}
 use Rattle.group_cluster.specs.Group.{sent_to, accept_group, mirror_group, ack_group, group}
 use Rattle.group_cluster.proofs.Sounding.{looked-accepts}
 use Rattle.group_cluster.proofs.Seating.{all-on, any-on, names-on, apart-on, looked-seated, sent-agrees, sent-standby}

@@ -15,6 +15,7 @@ use Rattle.cluster_events.specs.declared.lines.ServerRole.{ServerRole}
 use Rattle.cluster_events.specs.declared.lines.Standing.{Standing}
 use Rattle.cluster_events.specs.declared.lines.ServerRole.TheVariants as role
 use Rattle.cluster_events.specs.Outcomes.{Outcome, quietly}
+use Rattle.cluster_events.specs.Cores.{with_core}
 use Rattle.cluster_events.specs.Servers.{State, or_else, advance, after_step, advances, drain}
 use Rattle.cluster_events.specs.Devices.{Device}
 use Rattle.cluster_events.specs.Settling.{is_loud}
@@ -22,7 +23,7 @@ use Rattle.cluster_events.specs.Serving.{Stays}
 use Rattle.cluster_events.proofs.Carrying.{Stays-same, Stays-both}
 use Rattle.group_cluster.specs.Answering.{net_answering, lines_answering}
 use Rattle.group_cluster.specs.Seats.{Stance, Out, Seat, Peers, is_standby, is_sent, is_took, any_seat, on_seats, Agree, WaitsFor, IsArmed, IsApart, AreNames, names_of, IsGroup}
-use Rattle.group_cluster.specs.Falling.{with_core, taken_by, looked_at, commitment, looked, out_at, rejoined, felled, next_of, front_of, named, takes, count_fallen, all_stood, is_joining, is_fresh, caught as one_caught, caught_seats, caught_hand, caught_lines, taken_over_by}
+use Rattle.group_cluster.specs.Falling.{taken_by, looked_at, commitment, looked, out_at, rejoined, felled, next_of, front_of, named, takes, count_fallen, all_stood, is_joining, is_fresh, caught as one_caught, caught_seats, caught_hand, caught_lines, taken_over_by}
 use Rattle.group_cluster.specs.Group.{Turn, mirrored, confirmed, first_turn, step_by, mirror_group, ack_group, fails_in, falls, linked, work_done, work_as, work_by, group}
 use Rattle.group_cluster.proofs.Answering.{answer-facts, answer-net}
 use Rattle.group_cluster.proofs.Sounding.{sound-over, sound-hand, looked-accepts, caught-accepts}

@@ -1,13 +1,12 @@
 -- A relation of worlds and lines that is kept by each kind of line, and by what servers make of history and hand, is kept by every line.
-use Rattle.std.proofs.Common.{◌≡◌, suc, ◌&&◌, List, [], ◌∷◌, length, refl, sym, subst}
+use Rattle.std.proofs.Common.{◌&&◌, List, [], ◌∷◌, refl, sym, subst}
 use Rattle.script_lines.specs.declared.line.Line.{Line}
 use Rattle.script_lines.specs.declared.line.Line.TheVariants as line
-use Rattle.cluster_facts.specs.Types.{Entry}
 use Rattle.cluster_facts.specs.Service.{Plain, IsPlain}
-use Rattle.cluster_facts.specs.History.{Hand, Empty, Waiting, Applied, Ready, committed_by, time_of}
 use Rattle.cluster_facts.specs.World.{World}
-use Rattle.cluster_events.specs.Lines.{Told, Committed, Refused, Stood}
+use Rattle.cluster_events.specs.Lines.{Told, Refused, Stood}
 use Rattle.cluster_events.specs.Outcomes.{Outcome}
+use Rattle.cluster_events.specs.Cores.{IsCored}
 use Rattle.cluster_events.specs.Servers.{State}
 use Rattle.cluster_events.specs.Devices.{Device}
 use Rattle.cluster_events.specs.Running.{Shelf}
@@ -15,7 +14,6 @@ use Rattle.cluster_events.specs.Serving.{IsSteady, IsCarried}
 use Rattle.cluster_events.proofs.Carrying.{IsTold}
 use Rattle.cluster_events.proofs.Walking.{ByKind, Others, kind_of, IsShow, IsByKind, line-walks}
 use Rattle.group_cluster.specs.Seats.{Peers, IsGroup, is_standby, any_seat, same_server, stance_of}
-use Rattle.group_cluster.specs.Falling.{with_core}
 use Rattle.group_cluster.specs.Group.{group}
 use Rattle.group_cluster.specs.Running.{GroupHappens}
 use Rattle.group_cluster.proofs.Answering.{answer-goes}
@@ -23,15 +21,6 @@ use Rattle.group_cluster.proofs.Stepping.{Bears}
 use Rattle.group_cluster.proofs.Serving.{group-carries, group-stepped}
 use Rattle.group_cluster.proofs.Saying.{group-serves}
 use Rattle.group_cluster.proofs.Lines.{crash-keeps, arm-keeps, disarm-keeps, restart-keeps}
-
--- what is asked of it by what history and hand become: an entry of the time in force is accepted, applied by all and so committed,
--- confirmed and answered; or a standby takes over
-pub record IsCored (R : World → World → List Told → Type 0) : Type 0 where
-  pub taken : (world : World) (past : List Entry) (entry : Entry) → time_of entry ≡ world.now → R (with_core past Empty world) (with_core past (Waiting entry) world) []
-  pub applied : (world : World) (past : List Entry) (entry : Entry) → R (with_core past (Waiting entry) world) (with_core past (Applied entry) world) (Committed (suc (length past)) entry ∷ [])
-  pub confirmed : (world : World) (past : List Entry) (entry : Entry) → R (with_core past (Applied entry) world) (with_core past (Ready entry) world) []
-  pub answered : (world : World) (past : List Entry) (entry : Entry) → R (with_core past (Ready entry) world) (with_core (entry ∷ past) Empty world) []
-  pub over : (world : World) (past : List Entry) (hand : Hand) → R (with_core past hand world) (with_core (committed_by past hand) Empty world) []
 
 module _ (plain : Plain) (R : World → World → List Told → Type 0) (told : IsTold plain R) (shows : (world : World) (line : Told) → IsShow line → R world world (line ∷ [])) (cored : IsCored R) where
   pub told-bears : Bears plain R

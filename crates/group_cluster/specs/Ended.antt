@@ -3,25 +3,26 @@ use Rattle.std.specs.Prelude.{◌≡◌, ℕ, ℤ, suc, ◌≤◌, Bool, true, f
 use Rattle.script_lines.specs.declared.line.Line.{Line}
 use Rattle.script_lines.specs.declared.line.Line.TheVariants as line
 use Rattle.script_lines.specs.declared.line.Server.{Server}
-use Rattle.cluster_facts.specs.Types.{Reply, Entry, Called, Message, Answer}
-use Rattle.cluster_facts.specs.Lists.{Stands, without}
+use Rattle.cluster_facts.specs.Types.{Entry}
+use Rattle.cluster_facts.specs.Lists.{without}
 use Rattle.cluster_facts.specs.Messages.{messages_in}
 use Rattle.cluster_facts.specs.Service.{Plain, IsPlain}
 use Rattle.cluster_facts.specs.History.{Empty, Ready, committed_by}
 use Rattle.cluster_events.specs.Lines.{Told, Stood, is_ignored}
 use Rattle.cluster_events.specs.declared.lines.ServerRole.TheVariants as role
 use Rattle.cluster_events.specs.Outcomes.{Outcome}
+use Rattle.cluster_events.specs.Cores.{with_core}
 use Rattle.cluster_events.specs.Servers.{State}
 use Rattle.cluster_events.specs.Devices.{Device}
-use Rattle.cluster_events.specs.Ending.{SettleEnds}
+use Rattle.cluster_events.specs.Ending.{EndAt, LacksLast, StepEnds, SettleEnds, is_crash}
 use Rattle.cluster_events.specs.Serving.{IsSteady}
 use Rattle.cluster_events.specs.Running.{Shelf}
 use Rattle.cluster_events.specs.Runs.{RunBy}
 use Rattle.cluster_events.specs.Promises.{AtEnd}
 use Rattle.group_cluster.specs.Seats.{Stance, Out, Owed, Linking, Peers, IsGroup, is_standby, any_seat, count_seats, on_seats}
-use Rattle.group_cluster.specs.Falling.{with_core, catches, caught_seats, caught_hand, caught_lines, failing, is_fresh, named, all_stood}
+use Rattle.group_cluster.specs.Falling.{catches, caught_seats, caught_hand, caught_lines, failing, is_fresh, named, all_stood}
 use Rattle.group_cluster.specs.Group.{falls, group, group_start, CanStart}
-use Rattle.group_cluster.specs.Running.{GroupStepBy, is_crash}
+use Rattle.group_cluster.specs.Running.{GroupStepBy}
 
 -- what is left of a server: a standby failed, and one that joins goes on joining, though nothing comes to it any more
 abbrev pub left_out : Stance → Stance
@@ -72,10 +73,14 @@ pub record EndsCrash (device : Device) (server : Server) (state : State Peers) (
   pub row : count_seats is_standby state.peers.seats ≤ suc (failing device end.state.world.core.answered)
   pub is : end ≡ ended state
 
+-- a step of the servers ends as the entry in hand is worked
+abbrev pub EndsGroupStep : Plain → Device → EndAt Peers
+EndsGroupStep plain device = StepEnds (group plain device) (λ now last. EndsGroup device now last)
+
 -- `settle` ends in one of its rounds, and prints no line on a message without effect
 pub record EndsSettle (plain : Plain) (device : Device) (state : State Peers) (end : Outcome (State Peers)) : Type 0 where
   pub whole : Outcome (State Peers)
-  pub ends : SettleEnds plain (group plain device) (λ now last. EndsGroup device now last) state whole
+  pub ends : SettleEnds plain (group plain device) (EndsGroupStep plain device) state whole
   pub is : end ≡ record { state = whole.state; told = without is_ignored whole.told }
 
 -- where the event of a line ends the run
@@ -84,11 +89,6 @@ GroupEnds plain device line.Work state end = EndsGroup device state end
 GroupEnds plain device (line.Crash server) state end = EndsCrash device server state end
 GroupEnds plain device line.Settle state end = EndsSettle plain device state end
 GroupEnds plain device _ state end = ⊥
-
--- none of these messages is a reply to the last of these entries
-abbrev pub LacksLast : List Entry → List Message → Type 0
-LacksLast (Called client number time call ∷ past) messages = (reply : Reply) → Stands (Answer client number reply) messages → ⊥
-LacksLast _ messages = Unit {0}
 
 -- all promises hold there too
 abbrev pub EndKeepsPromises : Type 0

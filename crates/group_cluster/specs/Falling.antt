@@ -5,19 +5,15 @@ use Rattle.script_lines.specs.declared.line.Line.TheVariants as line
 use Rattle.script_lines.specs.declared.line.Server.{Server}
 use Rattle.cluster_facts.specs.Types.{Entry}
 use Rattle.cluster_facts.specs.History.{Hand, Empty, Waiting, Applied, Ready, committed_by}
-use Rattle.cluster_facts.specs.World.{World}
 use Rattle.cluster_events.specs.Lines.{Told, Committed, Refused, Stood}
 use Rattle.cluster_events.specs.declared.lines.ServerRole.{ServerRole}
 use Rattle.cluster_events.specs.declared.lines.ServerRole.TheVariants as role
 use Rattle.cluster_events.specs.Outcomes.{Outcome, quietly, telling}
+use Rattle.cluster_events.specs.Cores.{with_core}
 use Rattle.cluster_events.specs.Servers.{State}
 use Rattle.cluster_events.specs.Devices.{Device}
 use Rattle.group_cluster.specs.Seats.{Clear, Sent, Took, Stance, Out, Owed, Linking, Standby, Seat, Peers, is_standby, is_sent, is_took}
 use Rattle.group_cluster.specs.Seats.{any_seat, count_seats, on_seats, same_server, stance_of, standing_group}
-
--- a world with this history and this entry in hand
-abbrev pub with_core : List Entry → Hand → World → World
-with_core past hand world = record world { core = record { answered = past; hand = hand } }
 
 -- the event of a line is refused
 abbrev pub refused : Line → State Peers → Outcome (State Peers)

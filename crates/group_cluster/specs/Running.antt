@@ -1,5 +1,5 @@
 -- Words of public clauses: what the lines of a script do where servers may fail, and whole runs. The disk's count of faults goes along.
-use Rattle.std.specs.Prelude.{◌≡◌, ℕ, ◌≤◌, Bool, true, false, List}
+use Rattle.std.specs.Prelude.{◌≡◌, ℕ, ◌≤◌, List}
 use Rattle.script_lines.specs.declared.line.Line.{Line}
 use Rattle.script_lines.specs.declared.line.Line.TheVariants as line
 use Rattle.cluster_facts.specs.Types.{Entry}
@@ -20,10 +20,6 @@ GroupHappens plain shelf device (line.Arm server count) state outcome = (1 ≤ c
 GroupHappens plain shelf device line.Disarm state outcome = outcome ≡ disarm state
 GroupHappens plain shelf device (line.Restart server) state outcome = outcome ≡ restart server state
 GroupHappens plain shelf device next state outcome = Happens plain shelf (group plain device) next state outcome
-
-abbrev pub is_crash : Line → Bool
-is_crash (line.Crash server) = true
-is_crash _ = false
 
 -- a line with the disk's count of faults before and after it: works fail in it only where that rose. Calls are counted by the deeds
 -- of an entry behind a history

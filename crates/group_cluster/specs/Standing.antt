@@ -8,10 +8,11 @@ use Rattle.cluster_events.specs.Outcomes.{Outcome}
 use Rattle.cluster_events.specs.Servers.{State}
 use Rattle.cluster_events.specs.Serving.{IsSteady}
 use Rattle.cluster_events.specs.Devices.{Device}
+use Rattle.cluster_events.specs.Ending.{is_crash}
 use Rattle.cluster_events.specs.Running.{Shelf}
 use Rattle.group_cluster.specs.Seats.{Stance, Out, Seat, Peers, IsGroup, is_standby, any_seat, same_server, stance_of}
 use Rattle.group_cluster.specs.Falling.{crash, taken_over}
-use Rattle.group_cluster.specs.Running.{GroupHappens, is_crash}
+use Rattle.group_cluster.specs.Running.{GroupHappens}
 
 abbrev pub is_up : Stance → Bool
 is_up Out = false

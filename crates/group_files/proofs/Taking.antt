@@ -8,11 +8,12 @@ use Rattle.cluster_facts.specs.Storage.Attempts.{none as no_attempt, more as one
 use Rattle.cluster_facts.specs.History.{Hand, Empty, Waiting, Applied, Ready, IsLegal, accepted_by, committed_by}
 use Rattle.cluster_facts.specs.Ranges.{AreInRange}
 use Rattle.cluster_facts.specs.World.{World}
+use Rattle.cluster_events.specs.Cores.{with_core}
 use Rattle.cluster_facts.specs.Facts.{IsSound}
 use Rattle.cluster_events.specs.Filing.{IsStorage}
 use Rattle.cluster_events.proofs.Filed.{stand-between}
 use Rattle.group_cluster.specs.Seats.{Clear, Sent, Took, Stance, Out, Owed, Linking, Standby, Seat, Agree, any_seat, on_seats}
-use Rattle.group_cluster.specs.Falling.{with_core, catches, caught, caught_seats, caught_hand, is_fresh}
+use Rattle.group_cluster.specs.Falling.{catches, caught, caught_seats, caught_hand, is_fresh}
 use Rattle.group_cluster.proofs.Sounding.{sound-over, sound-hand, caught-accepts}
 use Rattle.service_laws.specs.Disks.{service_disk}
 use Rattle.service_laws.specs.PlainOf.{plain_of}

@@ -4,7 +4,7 @@ use Rattle.cluster_facts.specs.Types.{Entry}
 use Rattle.cluster_facts.specs.History.{Hand, Empty, Waiting, Applied, Ready, committed_by}
 use Rattle.cluster_facts.specs.World.{World}
 use Rattle.cluster_events.specs.Lines.{Told, Committed}
-use Rattle.played_runs.specs.Kinds.{IsCored, with_core}
+use Rattle.cluster_events.specs.Cores.{IsCored, with_core}
 
 -- a relation that reads neither
 pub cored-alone : (R : World → World → List Told → Type 0) → ((world : World) (one other : List Entry) (hand next : Hand) → R (with_core one hand world) (with_core other next world) []) → ((world : World) (past : List Entry) (hand next : Hand) (number : ℕ) (entry : Entry) → R (with_core past hand world) (with_core past next world) (Committed number entry ∷ [])) → IsCored R

@@ -21,6 +21,7 @@ use Rattle.cluster_facts.proofs.Words.{by_test, All-at, EndsIn-stands}
 use Rattle.cluster_facts.proofs.Growing.{IsLegal-before}
 use Rattle.cluster_facts.proofs.Posting.{answers_to-posted}
 use Rattle.cluster_events.specs.Lines.{Told}
+use Rattle.cluster_events.specs.Ending.{LacksLast, is_crash}
 use Rattle.cluster_events.specs.Saying.{Says, replies_told, IsDone}
 use Rattle.cluster_events.specs.Filing.{FilesStand, RecordsStay}
 use Rattle.cluster_events.proofs.Dealing.{answers-dealt}
@@ -36,7 +37,7 @@ use Rattle.cluster_rounds.specs.Worlds.{TellsFiles}
 use Rattle.played_runs.specs.AfterFault.{AnswersOnly, EndKeeps, FaultKeeps, IsUnanswered, KeepsAtFault, LeavesUnanswered, RecordsKept}
 use Rattle.played_runs.specs.Ends.{FaultLeft, Showing, Ending}
 use Rattle.played_runs.specs.Games.{Game}
-use Rattle.played_runs.specs.Laws.{IsGame, LacksLast, is_crash}
+use Rattle.played_runs.specs.Laws.{IsGame}
 use Rattle.played_runs.specs.Playing.{Goes, seen_behind}
 use Rattle.played_runs.specs.Views.{DiskView, files_told}
 use Rattle.played_runs.proofs.GoingSteps.{told-same}

@@ -13,6 +13,7 @@ use Rattle.cluster_facts.specs.Agents.{Agent, can_serve, service_of, has_handle,
 use Rattle.cluster_facts.specs.Facts.{Sends, IsSound}
 use Rattle.cluster_facts.specs.World.{World}
 use Rattle.cluster_events.specs.Lines.{Told, Refused, Stood, Listed, Shown}
+use Rattle.cluster_events.specs.Cores.{IsCored}
 use Rattle.cluster_events.specs.Saying.{replies_told}
 use Rattle.cluster_events.proofs.Promised.{gathered-without, gathered-handed}
 use Rattle.cluster_events.proofs.Telling.{gathered-append}
@@ -20,7 +21,7 @@ use Rattle.cluster_events.proofs.Walking.{Others, kind_of, IsShow, IsByKind}
 use Rattle.cluster_events.proofs.Carrying.{IsTold}
 use Rattle.service_laws.specs.PlainOf.{plain_of}
 use Rattle.played_runs.specs.Games.{Game}
-use Rattle.played_runs.specs.Kinds.{IsCored, KeepsWaiting, Refuses, refused_of}
+use Rattle.played_runs.specs.Kinds.{KeepsWaiting, Refuses, refused_of}
 use Rattle.played_runs.specs.Laws.{IsGame}
 use Rattle.played_runs.specs.Promises.{OfAllLines}
 use Rattle.played_runs.specs.Refusing.{call_refused, holds_service, rows_of_refusal, rows_of_dispatch, refused_as, refused_by, refusal_in, refusals_told, refusals_due, DeclinesRightly}

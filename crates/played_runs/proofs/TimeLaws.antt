@@ -11,6 +11,7 @@ use Rattle.cluster_facts.specs.World.{World}
 use Rattle.cluster_events.specs.Lines.{Told, Refused, Stood, Listed, Shown}
 use Rattle.cluster_events.specs.Outcomes.{Outcome}
 use Rattle.cluster_events.specs.Servers.{State}
+use Rattle.cluster_events.specs.Cores.{IsCored}
 use Rattle.cluster_events.specs.Saying.{entry_in, entries_told}
 use Rattle.cluster_events.specs.Serving.{IsSteady}
 use Rattle.cluster_events.proofs.Promised.{gathered-without, gathered-handed}
@@ -20,7 +21,7 @@ use Rattle.cluster_rounds.specs.Timely.{IsTimely}
 use Rattle.cluster_rounds.proofs.UnaskedSteps.{timely-both, waits-before, waits-same}
 use Rattle.service_laws.specs.PlainOf.{plain_of}
 use Rattle.played_runs.specs.Games.{Game}
-use Rattle.played_runs.specs.Kinds.{InTime, IsCored, time_by}
+use Rattle.played_runs.specs.Kinds.{InTime, time_by}
 use Rattle.played_runs.specs.Laws.{IsGame}
 use Rattle.played_runs.specs.Promises.{OfAllLines, CommitsInTime}
 use Rattle.played_runs.specs.Steps.{time_behind}

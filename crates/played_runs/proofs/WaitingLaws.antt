@@ -14,6 +14,7 @@ use Rattle.cluster_facts.proofs.Words.{by_test, each_client, All-map}
 use Rattle.cluster_events.specs.Lines.{Told, Posted, Injected, Committed, Replied, Declined, Ignored, Refused, Stood, Listed, Shown, is_ignored}
 use Rattle.cluster_events.specs.Servers.{State}
 use Rattle.cluster_events.specs.ClientEvents.{hand_out}
+use Rattle.cluster_events.specs.Cores.{IsCored, with_core}
 use Rattle.cluster_events.specs.Saying.{reply_in, replies_told, IsDone}
 use Rattle.cluster_events.specs.Runs.RunBy.{Started, Went}
 use Rattle.cluster_events.proofs.Promised.{gathered-without, gathered-handed}
@@ -21,7 +22,7 @@ use Rattle.cluster_events.proofs.Walking.{Kind, Asks, kind_of, IsShow, IsByKind}
 use Rattle.cluster_events.proofs.Carrying.{IsTold}
 use Rattle.cluster_events.proofs.Telling.{gathered-append}
 use Rattle.played_runs.specs.Games.{Game}
-use Rattle.played_runs.specs.Kinds.{AreBelow, IsCored, KeepsWaiting, Passes, Waits, with_core}
+use Rattle.played_runs.specs.Kinds.{AreBelow, KeepsWaiting, Passes, Waits}
 use Rattle.played_runs.specs.Laws.{IsGame}
 use Rattle.played_runs.specs.Playing.{Ran}
 use Rattle.played_runs.specs.Refusing.{is_replied, waiting_of}

@@ -1,12 +1,11 @@
 -- Words of laws: what a line of a kind makes of the time in force, of refusals, and of the calls that agents keep.
-use Rattle.std.specs.Prelude.{◌≡◌, ℕ, suc, ◌<◌, ℤ, List, [], ◌∷◌, ◌++◌, length}
+use Rattle.std.specs.Prelude.{◌≡◌, ℕ, ◌<◌, ℤ, List, [], ◌++◌}
 use Rattle.std.specs.List.{AllByRecursion}
-use Rattle.cluster_facts.specs.Types.{Status, Entry}
+use Rattle.cluster_facts.specs.Types.{Status}
 use Rattle.cluster_facts.specs.Messages.{messages_in, sent_by}
 use Rattle.cluster_facts.specs.Agents.{refusal, dispatch_refusal}
-use Rattle.cluster_facts.specs.History.{Hand, Empty, Waiting, Applied, Ready, committed_by, time_of}
 use Rattle.cluster_facts.specs.World.{World}
-use Rattle.cluster_events.specs.Lines.{Told, Committed}
+use Rattle.cluster_events.specs.Lines.{Told}
 use Rattle.cluster_events.specs.Saying.{replies_told}
 use Rattle.cluster_events.proofs.Walking.{Kind, Times, Asks, Dispatches}
 use Rattle.cluster_rounds.specs.Timely.{AreTimely, IsTimelyIn}
@@ -55,20 +54,3 @@ abbrev pub Waits : Kind → World → World → List Told → Type 0
 Waits (Asks client asked) old new told =
     (before : List Told) → AreBelow old before → KeepsWaiting old before → KeepsWaiting new (told ++ before)
 Waits _ old new told = Passes old new told
-
--- What servers make of history and hand.
-
--- a world with this history and this entry in hand
-abbrev pub with_core : List Entry → Hand → World → World
-with_core past hand world = record world { core = record { answered = past; hand = hand } }
-
--- what is asked of a relation by what history and hand become: an entry of the time in force is accepted, applied by other servers and so
--- committed, confirmed and answered; or another server takes over
-pub record IsCored (R : World → World → List Told → Type 0) : Type 0 where
-  pub taken : (world : World) (past : List Entry) (entry : Entry) → time_of entry ≡ world.now
-      → R (with_core past Empty world) (with_core past (Waiting entry) world) []
-  pub applied : (world : World) (past : List Entry) (entry : Entry)
-      → R (with_core past (Waiting entry) world) (with_core past (Applied entry) world) (Committed (suc (length past)) entry ∷ [])
-  pub confirmed : (world : World) (past : List Entry) (entry : Entry) → R (with_core past (Applied entry) world) (with_core past (Ready entry) world) []
-  pub answered : (world : World) (past : List Entry) (entry : Entry) → R (with_core past (Ready entry) world) (with_core (entry ∷ past) Empty world) []
-  pub over : (world : World) (past : List Entry) (hand : Hand) → R (with_core past hand world) (with_core (committed_by past hand) Empty world) []

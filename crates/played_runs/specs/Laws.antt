@@ -1,11 +1,9 @@
 -- Words of laws: what is asked of a world that plays the lines of scripts.
-use Rattle.std.specs.Prelude.{◌≡◌, ℕ, Bool, true, false, Option, None, List, ◌∷◌}
+use Rattle.std.specs.Prelude.{◌≡◌, ℕ, false, Option, None, List}
 use Rattle.disk_model.specs.Disk.{Files}
 use Rattle.script_lines.specs.declared.line.Line.{Line}
 use Rattle.script_lines.specs.declared.line.Line.TheVariants as line
 use Rattle.plain_service.specs.Setups.{Setup}
-use Rattle.cluster_facts.specs.Types.{Reply, Entry, Called, Message, Answer}
-use Rattle.cluster_facts.specs.Lists.{Stands}
 use Rattle.cluster_facts.specs.Messages.{messages_in}
 use Rattle.cluster_facts.specs.History.{Empty, accepted, committed}
 use Rattle.cluster_facts.specs.Ranges.{AreInRange}
@@ -13,6 +11,7 @@ use Rattle.cluster_facts.specs.World.{empty_world}
 use Rattle.cluster_events.specs.Lines.{Told}
 use Rattle.cluster_events.specs.Outcomes.{Outcome}
 use Rattle.cluster_events.specs.Servers.{State}
+use Rattle.cluster_events.specs.Ending.{LacksLast, is_crash}
 use Rattle.cluster_events.specs.Saying.{Says}
 use Rattle.cluster_events.specs.Serving.{IsSteady}
 use Rattle.cluster_events.specs.Settled.{IsSettled}
@@ -23,15 +22,6 @@ use Rattle.service_laws.specs.PlainOf.{plain_of}
 use Rattle.played_runs.specs.Games.{Game}
 use Rattle.played_runs.specs.Kinds.{InTime, Refuses, Waits}
 use Rattle.played_runs.specs.Views.{DiskView, files_told}
-
-abbrev pub is_crash : Line → Bool
-is_crash (line.Crash server) = true
-is_crash _ = false
-
--- none of these messages is a reply to the last of these entries
-abbrev pub LacksLast : List Entry → List Message → Type 0
-LacksLast (Called client number time call ∷ past) messages = (reply : Reply) → Stands (Answer client number reply) messages → ⊥
-LacksLast _ messages = Unit {0}
 
 -- the facts hold of a state, and lines say what led there from another one
 abbrev pub Keeps : {P S W : Type 0} → Game P S W → Setup → (old new : State P) → List Told → Type 0
