@@ -17,7 +17,7 @@ use Rattle.client_agent.specs.declared.marks.ReadyMark.{ReadyMark}
 use Rattle.client_agent.specs.declared.marks.SeenMarks.TheInside.{Inside as MarksInside}
 use Rattle.client_agent.specs.declared.ring.Ring.TheInside.{Inside as RingInside}
 use Rattle.client_agent.specs.declared.waiting.WaitingCallbacks.TheInside.{Inside as WaitingInside}
-use Rattle.client_agent.specs.declared.agent.Agent.TheInside.{Inside}
+use Rattle.client_agent.specs.declared.library.Library.TheInside.{Inside}
 use Rattle.client_agent.specs.Marks.{Marks}
 use Rattle.client_agent.specs.Waiting.{Waiting, none_waits}
 use Rattle.client_agent.specs.Seen.{Seen}

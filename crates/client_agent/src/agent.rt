@@ -1,30 +1,18 @@
 //! The agent of one client.
-ghost use Rattle.std.specs.Prelude.{◌≡◌, ℕ, ◌<◌, List, [], length, IfOk, OnErr};
-ghost use Rattle.calls.specs.declared.reply.Callback.{Callback};
-ghost use Rattle.cluster_facts.specs.Agents.{Agent as ClientAgent, fresh, can_serve, service_of, has_handle, refusal, kept_call, find_living, resent};
+ghost use Rattle.std.specs.Prelude.{◌≡◌, ℕ, ◌<◌, IfOk, OnErr};
+ghost use Rattle.cluster_facts.specs.Agents.{Agent as ClientAgent, fresh, resent};
 ghost use Rattle.client_agent.specs.Seen.{seen_of};
-ghost use Rattle.client_agent.specs.Steps.{IsSent, IsFor, IsReply, IsItem, IsTaken, HasWorkers, IsDispatched};
-ghost use Rattle.client_agent.specs.Inside.{agent_of, lack};
+ghost use Rattle.client_agent.specs.Steps.{IsSent, IsFor, IsTaken, HasWorkers, IsDispatched};
 
-use crate::callbacks::{callback_of_item, callback_of_reply, gives_callback};
-use crate::kept::{
-    Kept, add_requests, calls_of, find_call, forget_call, is_shut, log_after, ntf_after, service_of,
-};
-use crate::living::{
-    Subscription, add_receipts, find_subscription, note_call, note_item, note_reply,
-};
-use crate::marks::SeenMarks;
-use crate::waiting::WaitingCallbacks;
-use crate::{Dispatched, How, MissedWhy, Sent, Taken};
-use ais_values::{Seq, Status, Version, Which, negotiate};
+use crate::library::Library;
+use crate::{Dispatched, How, Sent, Taken};
+use ais_values::Seq;
 use callback_dispatch::Gate;
-use calls::{Ask, Call, Callback, Reply};
+use calls::Ask;
 use std::alloc::{AllocError, Global};
-use std::collections::VecDeque;
 use std::marker::Model;
 use std::sync::Wait;
 use std::thread::Threads;
-use sub_queue::Item;
 use wire::Message;
 
 /// What a client's library keeps: the number of the next call, its handles, the calls whose replies it has not
@@ -33,17 +21,11 @@ use wire::Message;
 ///
 /// It keeps no more than that: at most the 32 calls before the next, one entry for each living subscription, as many
 /// callbacks as its queue has places, and one mark for each name of a stream that it was told of. Of the callbacks
-/// that were handed out it keeps the count. The queue may be emptied by many threads; the agent has both of its ends.
+/// that were handed out it keeps the count. The queue may be emptied by many threads; the agent has both of its ends. What it keeps
+/// stands by itself in memory, so a list of agents is small.
 #[derive(Drop)]
 pub struct Agent {
-    client: u16,
-    next: u32,
-    log_handle: bool,
-    ntf_handle: bool,
-    kept: VecDeque<Kept>,
-    living: VecDeque<Subscription>,
-    callbacks: WaitingCallbacks,
-    marks: SeenMarks,
+    library: Box<Library>,
 }
 
 impl Model for Agent {
@@ -51,50 +33,31 @@ impl Model for Agent {
 
     ghost Value = { Seen };
 
-    ghost use Rattle.client_agent.specs.Inside.{seen_inside, AreOfCalls};
-
-    ghost view = { seen_inside };
-
-    ghost invariant = { AreOfCalls };
-}
-
-/// Whether the service serves a client that asks for this version.
-fn can_serve(service: Which, wanted: Version) -> bool
-    ensures { result ≡ can_serve service wanted }
-{
-    negotiate(service, wanted).is_ok()
+    ghost view = { λ agent. agent.library.value };
 }
 
 impl Agent {
-    /// The agent of a client that has asked for nothing, with a queue of so many callbacks. It takes no memory: that of
-    /// the queue is taken with the first callback.
+    /// The agent of a client that has asked for nothing, with a queue of so many callbacks. The
+    /// memory of the queue is taken with the first callback.
     pub fn new<R>(_rt: &R, alloc: Global, client: u16, callbacks: u32) -> Result<Agent, AllocError>
         ensures { IfOk result (λ agent. agent ≡ seen_of client callbacks fresh) }
     {
-        Ok(Agent {
-            client,
-            next: 1,
-            log_handle: false,
-            ntf_handle: false,
-            kept: VecDeque::new(alloc),
-            living: VecDeque::new(alloc),
-            callbacks: WaitingCallbacks::new(callbacks),
-            marks: SeenMarks::new(alloc),
-        })
+        let library = Box::new(alloc, Library::new(alloc, client, callbacks))?;
+        Ok(Agent { library })
     }
 
     /// The client.
     pub fn client(&self) -> u16
         ensures { result ≡ self.now.client }
     {
-        self.client
+        self.library.client()
     }
 
     /// The number of the next call.
     pub fn next(&self) -> u32
         ensures { result ≡ self.now.next }
     {
-        self.next
+        self.library.next()
     }
 
     /// Asks for a call: the request that is to be posted, under the next number, or a refusal.
@@ -110,24 +73,7 @@ impl Agent {
             IsSent client places ask.now agent sent self.new) }
         ensures err { OnErr result (self.new ≡ self.old) }
     {
-        if let Some(status) = self.refusal(ask) {
-            return Ok(Sent::Refused { status });
-        }
-        self.kept.reserve(1)?;
-        self.living.reserve(1)?;
-        let (call, posted) = calls_of(alloc, ask)?;
-        note_call(&mut self.living, self.next, &call);
-        self.log_handle = log_after(&call, self.log_handle);
-        self.ntf_handle = ntf_after(&call, self.ntf_handle);
-        let number = self.next;
-        self.kept.push_front_reserved(Kept { number, call });
-        self.next = number + 1;
-        let message = Message::Request {
-            client: self.client,
-            seq: number,
-            call: posted,
-        };
-        Ok(Sent::Posted { message })
+        self.library.call(alloc, ask)
     }
 
     /// Takes a reply to this client, or an item for it.
@@ -154,17 +100,7 @@ impl Agent {
             IsTaken client places message.now agent taken self.new) }
         ensures err { OnErr result (self.new ≡ self.old) }
     {
-        match message {
-            Message::Reply { seq, reply, .. } => {
-                let taken = self.take_reply(rt, alloc, *seq, reply)?;
-                Ok(taken)
-            }
-            Message::Item { key, item, .. } => {
-                let taken = self.take_item(rt, alloc, *key, item.get())?;
-                Ok(taken)
-            }
-            _ => unreachable!(),
-        }
+        self.library.receive(rt, alloc, message)
     }
 
     /// What is sent again: the requests of the calls without reply, by number, and the greatest receipt of each
@@ -173,10 +109,7 @@ impl Agent {
         ensures { IfOk result (λ messages. (client places : ℕ) (agent : ClientAgent) →
             self.now ≡ seen_of client places agent → messages ≡ resent client agent) }
     {
-        let mut messages = Vec::new(alloc);
-        add_requests(alloc, self.client, &self.kept, &mut messages)?;
-        add_receipts(self.client, &self.living, &mut messages)?;
-        Ok(Seq::from_vec(messages))
+        self.library.resend(alloc)
     }
 
     /// Hands out callbacks, each under its number: the oldest, or all of them, by so many workers, of which each passes
@@ -197,140 +130,6 @@ impl Agent {
             IsDispatched client places how agent dispatched self.new) }
         ensures err { OnErr result (self.new ≡ self.old) }
     {
-        if !self.log_handle && !self.ntf_handle {
-            let status = Status::BadHandle;
-            return Ok(Dispatched::Refused { status });
-        }
-        let taken = self.callbacks.hand_out(rt, alloc, how, gate)?;
-        Ok(Dispatched::Given { taken })
-    }
-
-    /// Whether the client has a handle of the call's service.
-    fn has_handle(&self, call: &Call) -> bool
-        ensures { result ≡ has_handle (service_of call.now) (agent_of self.now []) }
-    {
-        match service_of(call) {
-            Which::Log => self.log_handle,
-            Which::Ntf => self.ntf_handle,
-        }
-    }
-
-    /// What a call lacks before the window is asked.
-    fn lack(&self, ask: &Ask) -> Option<Status>
-        ensures { result ≡ lack ask.now (agent_of self.now []) }
-    {
-        match ask {
-            Ask::Start { service, version } => {
-                if can_serve(*service, *version) {
-                    None
-                } else {
-                    Some(Status::Version)
-                }
-            }
-            Ask::Plain { call } => {
-                if self.has_handle(call) {
-                    None
-                } else {
-                    Some(Status::BadHandle)
-                }
-            }
-        }
-    }
-
-    /// Why a call is refused, if it is.
-    fn refusal(&self, ask: &Ask) -> Option<Status>
-        ensures { result ≡ refusal ask.now (agent_of self.now []) }
-    {
-        match self.lack(ask) {
-            Some(status) => Some(status),
-            None => {
-                if is_shut(self.next, &self.kept) {
-                    Some(Status::TryAgain)
-                } else {
-                    None
-                }
-            }
-        }
-    }
-
-    /// Takes the reply to the call of this number.
-    fn take_reply<R: Wait>(
-        &mut self,
-        rt: &R,
-        alloc: Global,
-        number: u32,
-        reply: &Reply,
-    ) -> Result<Taken, AllocError>
-        ensures ok { IfOk result (λ taken. (handed : List Callback) →
-            self.old.given ≡ length handed →
-            IsReply self.old.client self.old.places number reply.now (agent_of self.old handed)
-            (kept_call number self.old.kept) taken self.new) }
-        ensures err { OnErr result (self.new ≡ self.old) }
-    {
-        match find_call(&self.kept, number) {
-            None => Ok(Taken::Missed {
-                why: MissedWhy::Answered,
-            }),
-            Some(call) => {
-                let later = self.marks.later(alloc, call, reply)?;
-                if self.callbacks.lacks_place(gives_callback(call, later)) {
-                    let why = MissedWhy::Left;
-                    return Ok(Taken::Missed { why });
-                }
-                let ready = self.marks.prepare(alloc, later)?;
-                let callback = callback_of_reply(alloc, call, reply, later)?;
-                let copy = self.callbacks.put_with_copy(rt, alloc, callback, reply)?;
-                self.marks.put(ready);
-                forget_call(&mut self.kept, number);
-                note_reply(&mut self.living, number, reply);
-                Ok(Taken::Answered {
-                    seq: number,
-                    reply: copy,
-                })
-            }
-        }
-    }
-
-    /// Takes an item of the subscription of this key.
-    fn take_item<R: Wait>(
-        &mut self,
-        rt: &R,
-        alloc: Global,
-        key: u32,
-        item: &Item,
-    ) -> Result<Taken, AllocError>
-        ensures ok { IfOk result (λ taken. (handed : List Callback) →
-            self.old.given ≡ length handed →
-            IsItem self.old.client self.old.places key item.now (agent_of self.old handed)
-            (find_living key self.old.living) taken self.new) }
-        ensures err { OnErr result (self.new ≡ self.old) }
-    {
-        let found = match find_subscription(&self.living, key) {
-            Some(found) => found,
-            None => return Ok(Taken::Missed {
-                why: MissedWhy::Gone,
-            }),
-        };
-        if item.number <= found.taken {
-            let why = MissedWhy::Taken;
-            return Ok(Taken::Missed { why });
-        }
-        if item.number - found.taken > 1 {
-            let why = MissedWhy::Ahead;
-            return Ok(Taken::Missed { why });
-        }
-        if self.callbacks.is_full() {
-            let why = MissedWhy::Left;
-            return Ok(Taken::Missed { why });
-        }
-        let callback = callback_of_item(alloc, found.id, &item.content)?;
-        self.callbacks.put(rt, alloc, callback)?;
-        note_item(&mut self.living, key, item.number);
-        let receipt = Message::Receipt {
-            client: self.client,
-            key,
-            through: item.number,
-        };
-        Ok(Taken::Item { receipt })
+        self.library.dispatch(rt, alloc, how, gate)
     }
 }

@@ -6,6 +6,7 @@ mod agent;
 mod answers;
 mod callbacks;
 mod kept;
+mod library;
 mod living;
 mod marks;
 mod ring;

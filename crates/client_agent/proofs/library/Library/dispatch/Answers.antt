@@ -1,8 +1,8 @@
 use Rattle.std.proofs.Common.{◌≡◌, ◌||◌, true, ◌∙◌, arith}
 use Rattle.client_agent.specs.Inside.{seen_inside}
 use Rattle.client_agent.proofs.Taking.{dispatched}
-use Rattle.client_agent.proofs.agent.Agent.dispatch.Goals as goal
-use Rattle.client_agent.proofs.agent.Agent.dispatch.Goals.{else-not-self-via-then-not-self+else-not-self-2, else-not-self-via-else-not-self}
+use Rattle.client_agent.proofs.library.Library.dispatch.Goals as goal
+use Rattle.client_agent.proofs.library.Library.dispatch.Goals.{else-not-self-via-then-not-self+else-not-self-2, else-not-self-via-else-not-self}
 
 pub returns-clause-ok : goal.returns-clause-ok
 returns-clause-ok g c =

@@ -4,10 +4,10 @@ use Rattle.cluster_facts.specs.Agents.{Living, living_after}
 use Rattle.client_agent.specs.declared.kept.Kept.{Kept}
 use Rattle.client_agent.specs.declared.living.Subscription.{Subscription}
 use Rattle.client_agent.specs.Seen.{Seen}
-use Rattle.client_agent.specs.declared.agent.Agent.TheInside.{Inside}
+use Rattle.client_agent.specs.declared.library.Library.TheInside.{Inside}
 use Rattle.client_agent.specs.Inside.{all_living, calls_kept, seen_inside, AreBelow}
 use Rattle.client_agent.proofs.Subscribed.{AreBelow-call}
-use Rattle.client_agent.proofs.agent.Agent.call.Goals as goal
+use Rattle.client_agent.proofs.library.Library.call.Goals as goal
 
 pub invariant_of-self-2 : goal.invariant_of-self-2
 invariant_of-self-2 c =

@@ -4,7 +4,7 @@ use Rattle.client_agent.specs.Seen.{Seen}
 use Rattle.client_agent.specs.Inside.{agent_of}
 use Rattle.client_agent.proofs.Known.{refuse, refusal-parts}
 use Rattle.client_agent.proofs.Keeping.{is_shut-any}
-use Rattle.client_agent.proofs.agent.Agent.refusal.Goals as goal
+use Rattle.client_agent.proofs.library.Library.refusal.Goals as goal
 
 pub returns-then-is_shut : goal.returns-then-is_shut
 returns-then-is_shut c =

@@ -7,7 +7,7 @@ use Rattle.client_agent.specs.Waiting.{Waiting}
 use Rattle.client_agent.specs.Inside.{living_of, all_living, seen_inside, agent_of, AreBelow}
 use Rattle.client_agent.proofs.Subscribed.{find_living-find, found-living, AreBelow-moved, moved-item}
 use Rattle.client_agent.proofs.Taking.{item_gone, item_before, item_ahead, item_left, item_taken}
-use Rattle.client_agent.proofs.agent.Agent.take_item.Goals as goal
+use Rattle.client_agent.proofs.library.Library.take_item.Goals as goal
 
 pub returns-in-None-clause-ok : goal.returns-in-None-clause-ok
 returns-in-None-clause-ok g c =

@@ -9,7 +9,7 @@ use Rattle.client_agent.specs.Waiting.{Waiting}
 use Rattle.client_agent.specs.Inside.{all_living, later_of, kept_of, with_seen, seen_inside, agent_of, AreBelow}
 use Rattle.client_agent.proofs.Subscribed.{AreBelow-reply}
 use Rattle.client_agent.proofs.Marking.{lacks-later, with_reply, reply_unknown, reply_left, reply_taken}
-use Rattle.client_agent.proofs.agent.Agent.take_reply.Goals as goal
+use Rattle.client_agent.proofs.library.Library.take_reply.Goals as goal
 
 pub returns-in-None-clause-ok : goal.returns-in-None-clause-ok
 returns-in-None-clause-ok g c =

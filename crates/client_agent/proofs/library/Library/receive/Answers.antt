@@ -3,7 +3,7 @@ use Rattle.cluster_facts.specs.Types.{Message}
 use Rattle.cluster_facts.specs.Agents.{Agent, kept_call}
 use Rattle.client_agent.specs.Steps.{IsReply, IsTaken}
 use Rattle.client_agent.proofs.Known.{known}
-use Rattle.client_agent.proofs.agent.Agent.receive.Goals as goal
+use Rattle.client_agent.proofs.library.Library.receive.Goals as goal
 
 pub returns-in_ok-taken-in-Reply-clause-ok : goal.returns-in_ok-taken-in-Reply-clause-ok
 returns-in_ok-taken-in-Reply-clause-ok g c = λ client places agent is.
