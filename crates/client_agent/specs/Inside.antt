@@ -5,6 +5,7 @@ use Rattle.std.specs.Prelude.{length, map, take, drop, reverse}
 use Rattle.indexmap.specs.IndexMap.{spare}
 use Rattle.stream_config.specs.Equality.{name_code, own_name}
 use Rattle.calls.specs.declared.call.Call.{Call}
+use Rattle.calls.specs.declared.call.Call.TheVariants.{NtfSubscribe}
 use Rattle.calls.specs.declared.reply.Callback.{Callback}
 use Rattle.cluster_facts.specs.Types.{Ask, Start, Other, Status, VersionRefused, BadHandle, Mark, StreamName}
 use Rattle.callback_dispatch.specs.Seen.{QueueSeen, FeederSeen, TakerSeen, numbered}
@@ -41,6 +42,11 @@ moved key number subscription = record {
   id = subscription.id;
   taken = if key == subscription.key then number else subscription.taken;
 }
+
+-- the subscription that a call begins has a place, if it begins one
+abbrev pub HasPlaceFor : Call → (count places : ℕ) → Type 0
+HasPlaceFor (NtfSubscribe id filters) count places = count < places
+HasPlaceFor _ count places = ⊤
 
 -- keys fall, all of them below the bound
 abbrev pub AreBelow : ℕ → List Living → Type 0

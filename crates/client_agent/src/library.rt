@@ -11,7 +11,7 @@ use crate::kept::{
     Kept, add_requests, calls_of, find_call, forget_call, is_shut, log_after, ntf_after, service_of,
 };
 use crate::living::{
-    Subscription, add_receipts, find_subscription, note_call, note_item, note_reply,
+    Subscription, add_receipts, find_subscription, make_place, note_call, note_item, note_reply,
 };
 use crate::marks::SeenMarks;
 use crate::waiting::WaitingCallbacks;
@@ -101,8 +101,9 @@ impl Library {
         if let Some(status) = self.refusal(ask) {
             return Ok(Sent::Refused { status });
         }
-        self.kept.reserve(1)?;
-        self.living.reserve(1)?;
+        // By one place alone: calls are wide, and 32 of them at most.
+        self.kept.reserve_exact(1)?;
+        make_place(&mut self.living, ask)?;
         let (call, posted) = calls_of(alloc, ask)?;
         note_call(&mut self.living, self.next, &call);
         self.log_handle = log_after(&call, self.log_handle);

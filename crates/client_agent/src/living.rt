@@ -1,12 +1,12 @@
 //! The subscriptions that live in an agent, the newest in front.
-ghost use Rattle.std.specs.Prelude.{◌≡◌, ◌==◌, ◌<◌, ◌++◌, suc, map, OnOk};
+ghost use Rattle.std.specs.Prelude.{◌≡◌, ◌==◌, ◌++◌, suc, map, OnOk};
 ghost use Rattle.std.specs.List.{find};
 ghost use Rattle.std.specs.VecDeque.{deque_len, deque_capacity};
 ghost use Rattle.client_set.specs.Rising.{without};
-ghost use Rattle.cluster_facts.specs.Agents.{living_after, living_after_reply, greatest_receipt, greatest_receipts};
-ghost use Rattle.client_agent.specs.Inside.{all_living, moved};
+ghost use Rattle.cluster_facts.specs.Agents.{call_of, living_after, living_after_reply, greatest_receipt, greatest_receipts};
+ghost use Rattle.client_agent.specs.Inside.{all_living, moved, HasPlaceFor};
 
-use calls::{Call, Reply};
+use calls::{Ask, Call, Reply};
 use std::alloc::AllocError;
 use std::collections::VecDeque;
 use wire::Message;
@@ -39,9 +39,23 @@ pub fn find_subscription(living: &VecDeque<Subscription>, key: u32) -> Option<Su
     living.iter().copied().find(|it| it.key == key)
 }
 
+/// Makes a place for the subscription that what is asked begins, if it begins one. Else it takes no memory.
+pub fn make_place(living: &mut VecDeque<Subscription>, ask: &Ask) -> Result<(), AllocError>
+    ensures items { living.new.items ≡ living.old.items }
+    ensures ok { OnOk result
+        (HasPlaceFor (call_of ask.now) (deque_len living.new) (deque_capacity living.new)) }
+{
+    match ask {
+        Ask::Plain {
+            call: Call::NtfSubscribe { .. },
+        } => living.reserve(1),
+        _ => Ok(()),
+    }
+}
+
 /// Begins and ends subscriptions as the call of this number is sent.
 pub fn note_call(living: &mut VecDeque<Subscription>, number: u32, call: &Call)
-    requires { deque_len living.old < deque_capacity living.old }
+    requires { HasPlaceFor call.now (deque_len living.old) (deque_capacity living.old) }
     ensures { all_living living.new.items ≡
         living_after number call.now (all_living living.old.items) }
 {

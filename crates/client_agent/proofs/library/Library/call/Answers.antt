@@ -14,7 +14,7 @@ invariant_of-self-2 c =
     let inside = c.self.inside in
     let call = c.in_ok-call.call in
     let Below : List Living → Type 0 = AreBelow (inside.next + 1) in
-    let after = c.note_call.ensures ∙ ap (λ (living : List Subscription). living_after inside.next call (all_living living)) c.in_ok-reserve-2.ensures.items in
+    let after = c.note_call.ensures ∙ ap (λ (living : List Subscription). living_after inside.next call (all_living living)) c.make_place.ensures.items in
     subst Below (sym after) (AreBelow-call inside.next call (all_living inside.living.items) c.self.invariant)
 
 -- both lists that got room are as they were, so the agent is seen as it was
@@ -22,10 +22,10 @@ stands : (inside : Inside) (seen : Seen) (kept : List Kept) (living : List Subsc
 stands inside seen kept living is same_calls same_living =
     (λ i. record (seen_inside inside) { kept = calls_kept (same_calls i); living = all_living (same_living i) }) ∙ is
 
-pub returns-in_err-reserve-2-clause-err : goal.returns-in_err-reserve-2-clause-err
-returns-in_err-reserve-2-clause-err c =
-    OnErr-from c.from_residual-in_err-reserve-2.result (stands c.self.inside c.args.self.now c.reserve.new.self.items c.reserve-2.new.self.items c.self.view_is c.reserve.ensures.items c.reserve-2.ensures.items)
+pub returns-in_err-make_place-clause-err : goal.returns-in_err-make_place-clause-err
+returns-in_err-make_place-clause-err c =
+    OnErr-from c.from_residual-in_err-make_place.result (stands c.self.inside c.args.self.now c.reserve_exact.new.self.items c.make_place.new.living.items c.self.view_is c.reserve_exact.ensures.items c.make_place.ensures.items)
 
 pub returns-in_err-call-clause-err : goal.returns-in_err-call-clause-err
 returns-in_err-call-clause-err c =
-    OnErr-from c.from_residual-in_err-call.result (stands c.self.inside c.args.self.now c.reserve.new.self.items c.reserve-2.new.self.items c.self.view_is c.reserve.ensures.items c.reserve-2.ensures.items)
+    OnErr-from c.from_residual-in_err-call.result (stands c.self.inside c.args.self.now c.reserve_exact.new.self.items c.make_place.new.living.items c.self.view_is c.reserve_exact.ensures.items c.make_place.ensures.items)
