@@ -21,9 +21,9 @@ use Rattle.client_agent.specs.Steps.{IsSent}
 use Rattle.event_text.specs.Texts.{printed, declined_line}
 use Rattle.cluster_clients.specs.Spelled.{AreSpelled, Posts, PostsOrNot}
 use Rattle.cluster_clients.specs.Clients.{seen_all, ShowsAgents, StandsAt, IsAbsent}
-use Rattle.cluster_clients.specs.Asked.{CanCallAt, IsSentAt, HasFitRequest, IsToldSent, place_for, IsPlaced, Asks, MayPost, IsPartlyPlaced}
+use Rattle.cluster_clients.specs.Asked.{CanCallAt, IsSentAt, HasFitRequest, IsToldSent, place_for, Enlists, IsPlaced, Asks, MayPost, IsPartlyPlaced}
 use Rattle.cluster_clients.specs.PartlyDone.{PartlyShows, AsksPartly}
-use Rattle.cluster_clients.proofs.DispatchSteps.{fresh-agent, first-above, others-same, seen-at, set-same, handed-shows}
+use Rattle.cluster_clients.proofs.DispatchSteps.{shown-rise, fresh-agent, first-above, others-same, seen-at, set-same, handed-shows}
 use Rattle.cluster_clients.proofs.DeliverySteps.{found-own, seen-some, agent_for, get-some}
 use Rattle.cluster_events.proofs.Sound.{put-keeps, put-stands}
 
@@ -154,12 +154,12 @@ asks-at callbacks client at asked old_net new_net old new before after (Posted m
       listed = λ other. subst (λ cs. Stands other cs ⊎ (agents other ≡ fresh)) (sym stays) (moved.listed other);
     })
 
-pub asks-first-refused : (callbacks client : ℕ) (asked : Ask) (status : Status) (seen : Seen) (old_net new_net : List (List ℕ)) (old new : List Seen) (before after : List (List ℕ)) → IsAbsent client old → IsSent client callbacks asked fresh (Refused status) seen → new_net ≡ old_net → new ≡ old → after ≡ before ++ declined_line client status ∷ [] → Asks callbacks client asked old_net new_net old new before after
+pub asks-first-refused : (callbacks client : ℕ) (asked : Ask) (status : Status) (seen : Seen) (old_net new_net : List (List ℕ)) (old new : List Seen) (before after : List (List ℕ)) → IsAbsent client old → IsSent client callbacks asked fresh (Refused status) seen → new_net ≡ old_net → Enlists client seen false old new → after ≡ before ++ declined_line client status ∷ [] → Asks callbacks client asked old_net new_net old new before after
 asks-first-refused callbacks client asked status seen old_net new_net old new before after none is net agents lines plain world is_plain spelled shows places =
     let own = (fresh-agent client old world shows none).1 in
-    asks-refused plain client asked status world new_net new before after (ap (refusal asked) own ∙ is.0) (subst (λ n. AreSpelled world.net n) (sym net) spelled) (subst (λ s. ShowsAgents world s) (sym agents) shows) lines
+    asks-refused plain client asked status world new_net new before after (ap (refusal asked) own ∙ is.0) (subst (λ n. AreSpelled world.net n) (sym net) spelled) (subst (λ s. ShowsAgents world s) (sym (agents (shown-rise world old shows))) shows) lines
 
-pub asks-first-sent : (callbacks client : ℕ) (asked : Ask) (message : Message) (seen : Seen) (old_net new_net : List (List ℕ)) (old new : List Seen) (before after : List (List ℕ)) → IsAbsent client old → IsSent client callbacks asked fresh (Posted message) seen → new ≡ insert old (place_for client old) seen → Posts message old_net new_net before after → Asks callbacks client asked old_net new_net old new before after
+pub asks-first-sent : (callbacks client : ℕ) (asked : Ask) (message : Message) (seen : Seen) (old_net new_net : List (List ℕ)) (old new : List Seen) (before after : List (List ℕ)) → IsAbsent client old → IsSent client callbacks asked fresh (Posted message) seen → Enlists client seen true old new → Posts message old_net new_net before after → Asks callbacks client asked old_net new_net old new before after
 asks-first-sent callbacks client asked message seen old_net new_net old new before after none is put_in posts plain world is_plain spelled shows places =
     let at_first = fresh-agent client old world shows none in
     let own = at_first.1 in
@@ -168,7 +168,7 @@ asks-first-sent callbacks client asked message seen old_net new_net old new befo
     let done = posts plain world.net is_plain spelled in
     let is_next : seen ≡ seen_of client world.places next = is.2 ∙ ap (λ p. seen_of client p (after_call (call_of asked) fresh)) (sym places) ∙ ap (λ a. seen_of client world.places (after_call (call_of asked) a)) (sym own) in
     let shown_now : new ≡ seen_all world.places agents (put nat_lt client world.clients) =
-    put_in ∙ ap (λ s. insert old (place_for client old) s) is_next
+    put_in (shown-rise world old shows) ∙ ap (λ s. insert old (place_for client old) s) is_next
     ∙ ap (λ o. insert o (place_for client o) (seen_of client world.places next)) shows.shown
     ∙ inserted client world.places next world.agents world.clients shows.rising at_first.0
     in
@@ -235,7 +235,7 @@ partly-at callbacks client at asked old_net new_net old new (Posted message) fou
       listed = λ other. subst (λ cs. Stands other cs ⊎ (agents other ≡ fresh)) (sym stays) (moved.listed other);
     })
 
-first-shows : (callbacks client : ℕ) (asked : Ask) (plain : Plain) (seen : Seen) (old new : List Seen) (world : World) → IsAbsent client old → ShowsAgents world old → world.places ≡ callbacks → seen ≡ seen_of client callbacks (after_call (call_of asked) fresh) → new ≡ insert old (place_for client old) seen → ShowsAgents (send plain client (call_of asked) world).state new
+first-shows : (callbacks client : ℕ) (asked : Ask) (plain : Plain) (seen : Seen) (old new : List Seen) (world : World) → IsAbsent client old → ShowsAgents world old → world.places ≡ callbacks → seen ≡ seen_of client callbacks (after_call (call_of asked) fresh) → Enlists client seen true old new → ShowsAgents (send plain client (call_of asked) world).state new
 first-shows callbacks client asked plain seen old new world none shows places is put_in =
     let at_first = fresh-agent client old world shows none in
     let own = at_first.1 in
@@ -243,7 +243,7 @@ first-shows callbacks client asked plain seen old new world none shows places is
     let agents = with_agent client next world.agents in
     let is_next : seen ≡ seen_of client world.places next = is ∙ ap (λ p. seen_of client p (after_call (call_of asked) fresh)) (sym places) ∙ ap (λ a. seen_of client world.places (after_call (call_of asked) a)) (sym own) in
     let shown_now : new ≡ seen_all world.places agents (put nat_lt client world.clients) =
-    put_in ∙ ap (λ s. insert old (place_for client old) s) is_next
+    put_in (shown-rise world old shows) ∙ ap (λ s. insert old (place_for client old) s) is_next
     ∙ ap (λ o. insert o (place_for client o) (seen_of client world.places next)) shows.shown
     ∙ inserted client world.places next world.agents world.clients shows.rising at_first.0
     in
@@ -259,12 +259,13 @@ first-shows callbacks client asked plain seen old new world none shows places is
       ];
     }
 
-partly-first-sent : (callbacks client : ℕ) (asked : Ask) (message : Message) (seen : Seen) (old_net new_net : List (List ℕ)) (old new : List Seen) → IsAbsent client old → IsSent client callbacks asked fresh (Posted message) seen → PostsOrNot message old_net new_net → new ≡ insert old (place_for client old) seen → AsksPartly callbacks client asked old_net new_net old new
+partly-first-sent : (callbacks client : ℕ) (asked : Ask) (message : Message) (seen : Seen) (old_net new_net : List (List ℕ)) (old new : List Seen) → IsAbsent client old → IsSent client callbacks asked fresh (Posted message) seen → PostsOrNot message old_net new_net → Enlists client seen true old new → AsksPartly callbacks client asked old_net new_net old new
 partly-first-sent callbacks client asked message seen old_net new_net old new none is may put_in plain world is_plain spelled shows places =
     let own = (fresh-agent client old world shows none).1 in
     partly-sent plain client asked message world new_net new (ap (refusal asked) own ∙ is.0) (is.1 ∙ ap (λ (a : Agent). Request client a.next (call_of asked)) (sym own)) (may plain world.net is_plain spelled) (first-shows callbacks client asked plain seen old new world none shows places is.2 put_in)
 
 pub partly-first : (callbacks client : ℕ) (asked : Ask) (sent : Sent) (seen : Seen) (old_net new_net : List (List ℕ)) (old new : List Seen) → IsAbsent client old → IsSent client callbacks asked fresh sent seen → IsPartlyPlaced client seen sent old_net new_net old new → AsksPartly callbacks client asked old_net new_net old new
 partly-first callbacks client asked sent seen old_net new_net old new none is (inl same) = partly-nothing callbacks client asked old_net new_net old new same.0 same.1
-partly-first callbacks client asked (Refused status) seen old_net new_net old new none is (inr placed) = partly-nothing callbacks client asked old_net new_net old new placed.0 placed.1
+partly-first callbacks client asked (Refused status) seen old_net new_net old new none is (inr placed) =
+    λ plain world is_plain spelled shows places. partly-nothing callbacks client asked old_net new_net old new placed.0 (placed.1 (shown-rise world old shows)) plain world is_plain spelled shows places
 partly-first callbacks client asked (Posted message) seen old_net new_net old new none is (inr placed) = partly-first-sent callbacks client asked message seen old_net new_net old new none is placed.0 placed.1

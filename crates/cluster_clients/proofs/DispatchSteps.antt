@@ -40,7 +40,7 @@ seen-rise : (places : ℕ) (agents : ℕ → Agent) (clients : List ℕ) → IsR
 seen-rise places agents [] rising = tt
 seen-rise places agents (client ∷ clients) rising = (seen-first client places (agents client) agents clients rising.0, seen-rise places agents clients rising.1)
 
-shown-rise : (world : World) (seen : List Seen) → ShowsAgents world seen → AreByClient seen
+pub shown-rise : (world : World) (seen : List Seen) → ShowsAgents world seen → AreByClient seen
 shown-rise world seen shows = subst AreByClient (sym shows.shown) (seen-rise world.places world.agents world.clients shows.rising)
 
 absent-from : (client places start : ℕ) (agents : ℕ → Agent) (clients : List ℕ) → position_from (is_of client) start (seen_all places agents clients) ≡ None → Stands client clients → ⊥

@@ -10,6 +10,7 @@ use Rattle.client_set.specs.Rising.{ComesFirst}
 use Rattle.cluster_facts.proofs.Words.{by_test}
 use Rattle.client_agent.specs.Seen.{Seen}
 use Rattle.cluster_clients.specs.Clients.{AreByClient, place_of, StandsAt, IsCutAt}
+use Rattle.cluster_clients.specs.Asked.{place_for}
 
 abbrev pub is_of : ℕ → Seen → Bool
 is_of client one = one.client == client
@@ -88,3 +89,14 @@ pub none-other : (client place count : ℕ) (seen : List Seen) (one : Seen) → 
 none-other client place count seen one counted within is other rising cut =
     let there : option_map (λ (s : Seen). s.client) (slice_get seen place) ≡ Some one.client = ap (option_map (λ (s : Seen). s.client)) (slice_get_read seen count place one counted within is) in
     sym (position_from-zero (is_of client) seen ∙ none-from client place 0 seen rising cut (λ stands. let same : Some one.client ≡ Some client = sym there ∙ stands in other cc))
+
+-- so many agents from the first on are those of lower clients
+pub cut-front : (client place : ℕ) (seen : List Seen) → place ≤ length seen → IsCutAt client place seen → place ≡ place_for client seen
+cut-front client zero [] within cut = refl
+cut-front client (suc place) [] within cut = absurd (omega arith)
+cut-front client zero (first ∷ seen) within cut =
+    ap (λ b. cond b (1 + place_for client seen) 0) (sym (cut.1 0 first (omega arith) (omega arith)))
+cut-front client (suc place) (first ∷ seen) within cut =
+    let rest = cut-front client place seen (omega arith) (rest-cut client place first seen cut) in
+    let here : suc place ≡ 1 + place_for client seen = omega (arith, rest) in
+    here ∙ ap (λ b. cond b (1 + place_for client seen) 0) (sym (cut.0 0 first (omega arith) (omega arith)))

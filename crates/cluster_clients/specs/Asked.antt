@@ -13,7 +13,7 @@ use Rattle.client_agent.specs.Seen.{Seen, seen_of}
 use Rattle.client_agent.specs.Steps.{IsSent}
 use Rattle.event_text.specs.Texts.{printed, declined_line}
 use Rattle.cluster_clients.specs.Spelled.{AreSpelled, Posts, PostsOrNot}
-use Rattle.cluster_clients.specs.Clients.{ShowsAgents}
+use Rattle.cluster_clients.specs.Clients.{AreByClient, ShowsAgents}
 
 -- the agent numbers its next call from 1, and can number one more
 pub record CanCall (seen : Seen) : Type 0 where
@@ -54,10 +54,15 @@ abbrev pub is_posted : Sent → Bool
 is_posted (Posted message) = true
 is_posted (Refused status) = false
 
+-- an agent joined others that stand by rising client, or did not
+abbrev pub Enlists : ℕ → Seen → (joins : Bool) → List Seen → List Seen → Type 0
+Enlists client agent joins old new =
+    AreByClient old → new ≡ (if joins then insert old (place_for client old) agent else old)
+
 -- the first call of a new agent was told; the agent joined the others where its request was posted
 abbrev pub IsPlaced : ℕ → Seen → Sent → List (List ℕ) → List (List ℕ) → List Seen → List Seen → List (List ℕ) → List (List ℕ) → Type 0
 IsPlaced client agent sent old_net new_net old new before after =
-    IsToldSent client sent old_net new_net before after × (new ≡ (if is_posted sent then insert old (place_for client old) agent else old))
+    IsToldSent client sent old_net new_net before after × Enlists client agent (is_posted sent) old new
 
 -- a client asked: the net and the agents that there are now, and the lines
 abbrev pub Asks : ℕ → ℕ → Ask → List (List ℕ) → List (List ℕ) → List Seen → List Seen → List (List ℕ) → List (List ℕ) → Type 0
@@ -74,4 +79,4 @@ MayPost (Refused status) old new = new ≡ old
 -- the first call of a new agent was not told: nothing was done, or the agent joined the others and its request was posted or not
 abbrev pub IsPartlyPlaced : ℕ → Seen → Sent → List (List ℕ) → List (List ℕ) → List Seen → List Seen → Type 0
 IsPartlyPlaced client agent sent old_net new_net old new =
-    ((new_net ≡ old_net) × (new ≡ old)) ⊎ (MayPost sent old_net new_net × (new ≡ (if is_posted sent then insert old (place_for client old) agent else old)))
+    ((new_net ≡ old_net) × (new ≡ old)) ⊎ (MayPost sent old_net new_net × Enlists client agent (is_posted sent) old new)

@@ -20,7 +20,7 @@ use std::thread::Threads;
 use wire::Message;
 
 /// How many agents are those of lower clients, by halving, where agents stand by rising client.
-fn count_below(agents: &[Agent], client: u16) -> usize
+pub(crate) fn count_below(agents: &[Agent], client: u16) -> usize
     ensures bound { result ≤ length agents.now }
     ensures cut { AreByClient agents.now → IsCutAt client result agents.now }
 {

@@ -1,13 +1,12 @@
 //! Calls that clients ask for.
-ghost use Rattle.std.specs.Prelude.{◌≡◌, ◌≤◌, ◌<◌, length, IsTrue, IfOk, OnOk, OnErr};
-ghost use Rattle.std.specs.List.{insert};
+ghost use Rattle.std.specs.Prelude.{◌≡◌, ◌≤◌, ◌<◌, length, true, IsTrue, IfOk, OnOk, OnErr};
 ghost use Rattle.cluster_facts.specs.Agents.{fresh};
 ghost use Rattle.client_agent.specs.Steps.{IsSent};
 ghost use Rattle.cluster_clients.specs.Clients.{StandsAt, IsAbsent};
-ghost use Rattle.cluster_clients.specs.Asked.{CanCallAt, AllStarted, IsSentAt, HasFitRequest, IsToldSent, place_for, is_posted, IsPlaced, Asks, MayPost, IsPartlyPlaced};
+ghost use Rattle.cluster_clients.specs.Asked.{CanCallAt, AllStarted, IsSentAt, HasFitRequest, IsToldSent, Enlists, is_posted, IsPlaced, Asks, MayPost, IsPartlyPlaced};
 ghost use Rattle.cluster_clients.specs.PartlyDone.{AsksPartly};
 
-use crate::agents::place_of;
+use crate::agents::{count_below, place_of};
 use crate::posting::post;
 use ais_values::Seq;
 use calls::Ask;
@@ -107,23 +106,12 @@ fn can_call(agents: &[Agent], at: usize) -> bool
     agents[at].next() < u32::MAX
 }
 
-/// Where the agent of a client stands among those of others.
-fn place_for(agents: &[Agent], client: u16) -> usize
-    ensures { result ≡ place_for client agents.now }
-{
-    agents
-        .iter()
-        .take_while(|agent| agent.client() < client)
-        .count()
-}
-
-/// Puts an agent among the others, by rising clients. Where memory runs out they stay.
+/// Puts an agent among the others, by rising clients. Its place is found by halving. Where memory runs out they stay.
 fn enlist(alloc: Global, agents: &mut Seq<Agent>, agent: Agent) -> Result<(), AllocError>
-    ensures ok { OnOk result (agents.new ≡ insert agents.old (place_for agent.client agents.old)
-        agent) }
+    ensures ok { OnOk result (Enlists agent.client agent true agents.old agents.new) }
     ensures err { OnErr result (agents.new ≡ agents.old) }
 {
-    let place = place_for(agents.as_slice(), agent.client());
+    let place = count_below(agents.as_slice(), agent.client());
     let mut list = mem::replace(agents, Seq::new(alloc)).into_vec();
     let done = list.insert(place, agent);
     *agents = Seq::from_vec(list);
