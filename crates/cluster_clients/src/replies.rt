@@ -4,35 +4,21 @@ ghost use Rattle.wire_code.specs.Spelling.{IsClient, IsCount};
 ghost use Rattle.cluster_clients.specs.Replies.{reply_front, IsReplyIn, FindsFirst, FindsReply};
 
 use crate::fetching::{Fetched, read_string};
-use calls::Reply;
 use message_net::{Net, front_of};
 use std::alloc::{AllocError, Global};
-use std::mem;
-use wire::{Message, encode};
+use wire::Message;
 
-/// How many bytes of a reply's spelling tell which call it answers.
-const FRONT: usize = 7;
+/// The tag of a reply.
+const REPLY: u8 = 2;
 
 /// How the spelling of a reply to a client's call begins.
-fn reply_front(alloc: Global, client: u16, seq: u32) -> Result<Vec<u8>, AllocError>
-    requires client { IsClient client }
-    requires count { IsCount seq }
-    ensures { IfOk result (λ front. front.items ≡ reply_front client seq) }
+#[tactic(auto, unfolding(wire_code::specs::Spelling::number_text))]
+fn reply_front(client: u16, seq: u32) -> [u8; 7]
+    ensures { result ≡ reply_front client seq }
 {
-    let reply = Message::Reply {
-        client,
-        seq,
-        reply: Reply::Done,
-    };
-    let spelled = encode(alloc, &reply);
-    mem::drop(reply);
-    match spelled {
-        Ok(mut bytes) => {
-            bytes.truncate(FRONT);
-            Ok(bytes)
-        }
-        Err(error) => Err(error),
-    }
+    let client = client.to_be_bytes();
+    let seq = seq.to_be_bytes();
+    [REPLY, client[0], client[1], seq[0], seq[1], seq[2], seq[3]]
 }
 
 /// The message of these bytes, where they begin so and one spells them. A string of more than 4,294,967,294 bytes counts as want of
@@ -82,6 +68,6 @@ pub fn reply_to(
     requires count { IsCount seq }
     ensures { IfOk result (λ found. FindsReply client seq net.now found) }
 {
-    let front = reply_front(alloc, client, seq)?;
-    first_with(alloc, net, front.as_slice())
+    let front = reply_front(client, seq);
+    first_with(alloc, net, &front)
 }
