@@ -22,7 +22,8 @@ use Rattle.mirror.specs.declared.heard.Why.TheVariants.{Old as OldRequest, Ahead
 use Rattle.mirror.specs.declared.heard.Heard.{Heard}
 use Rattle.mirror.specs.Replicas.{ReplicaState}
 use Rattle.mirror.specs.Hearing.{IsRequestHeard, IsReceiptHeard, ignored, repeated}
-use Rattle.mirror.specs.Reacting.{serving, IsAccepted, IsHeardAgain}
+use Rattle.mirror.specs.ByValue.{serving}
+use Rattle.mirror.specs.Reacting.{IsAccepted, IsHeardAgain}
 use Rattle.mirror.proofs.Judging.{call-new, call-ahead, call-old, call-repeat, next-number, reply-under}
 use Rattle.mirror.proofs.ReplicaLaws.{count-is, next-of, new-of}
 use Rattle.service_laws.proofs.ServiceLaws.{new-receipt}

@@ -39,19 +39,19 @@ length-calls_of setup client (Receipted caller key through time ∷ past) = leng
 judged_by : (number count : ℕ) (next above old : Bool) → (number == suc count) ≡ next → nat_lt count number ≡ above → nat_le (number + 32) count ≡ old → judged number count ≡ (if next then New else if above then Ahead else if old then Old else Repeat)
 judged_by number count next above old a b c = λ i. if a i then New else if b i then Ahead else if c i then Old else Repeat
 
-judged-new : (number count : ℕ) → number ≡ count + 1 → judged number count ≡ New
+pub judged-new : (number count : ℕ) → number ≡ count + 1 → judged number count ≡ New
 judged-new number count is =
     judged_by number count true (nat_lt count number) (nat_le (number + 32) count) (grind (arith, nat_tests)) refl refl
 
-judged-ahead : (number count : ℕ) → count + 1 < number → judged number count ≡ Ahead
+pub judged-ahead : (number count : ℕ) → count + 1 < number → judged number count ≡ Ahead
 judged-ahead number count above =
     judged_by number count false true (nat_le (number + 32) count) (grind (arith, nat_tests)) (grind (arith, nat_tests)) refl
 
-judged-old : (number count : ℕ) → 0 < number → number ≤ count - 32 → judged number count ≡ Old
+pub judged-old : (number count : ℕ) → 0 < number → number ≤ count - 32 → judged number count ≡ Old
 judged-old number count some below =
     judged_by number count false false true (grind (arith, nat_tests)) (grind (arith, nat_tests)) (grind (arith, nat_tests))
 
-judged-repeat : (number count : ℕ) → count - 32 < number → number ≤ count → judged number count ≡ Repeat
+pub judged-repeat : (number count : ℕ) → count - 32 < number → number ≤ count → judged number count ≡ Repeat
 judged-repeat number count above within =
     judged_by number count false false false (grind (arith, nat_tests)) (grind (arith, nat_tests)) (grind (arith, nat_tests))
 
@@ -71,7 +71,7 @@ call-old setup client number past some below =
     let long = length-calls_in setup client past in
     judged-old number (length (calls_in client past)) some (omega arith)
 
-taken-within : (number : ℕ) (all : List Reply) (reply : Reply) → taken_under number all ≡ Some reply → number ≤ length all
+pub taken-within : (number : ℕ) (all : List Reply) (reply : Reply) → taken_under number all ≡ Some reply → number ≤ length all
 taken-within number [] reply is = absurd (let e : None ≡ Some reply = is in cc)
 taken-within number (first ∷ before) reply is =
     let P : Bool → Type 0 = λ b. (if b then Some first else taken_under number before) ≡ Some reply → number ≤ suc (length before) in

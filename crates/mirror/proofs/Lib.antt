@@ -1,3 +1,4 @@
+pub mod ByValueLaws
 pub mod HearingLaws
 pub mod Judging
 pub mod PairingLaws

@@ -1,6 +1,6 @@
 -- How many entries a server has applied, and what its service tells of clients and receipts, by the history that it stands for.
 use Rattle.std.proofs.Common.{◌≡◌, ℕ, suc, ◌+◌, List, ◌∷◌, length, refl, ap, sym, ◌∙◌}
-use Rattle.std.specs.Prelude.{Option, Some}
+use Rattle.std.specs.Prelude.{Option, Some, None, IsSome, option_map}
 use Rattle.calls.specs.declared.reply.Reply.{Reply}
 use Rattle.calls.specs.declared.entry.Entry.{Entry}
 use Rattle.calls.specs.declared.saved.Saved.{Saved}
@@ -19,7 +19,7 @@ use Rattle.cluster_facts.specs.Service.{is_new}
 use Rattle.service_laws.specs.PlainOf.{plain_of}
 use Rattle.mirror.specs.declared.heard.Role.{Role}
 use Rattle.mirror.specs.declared.owed.Owed.{Owed}
-use Rattle.mirror.specs.Replicas.{ReplicaState}
+use Rattle.mirror.specs.Replicas.{ReplicaState, number_of}
 
 abbrev pub server_with : Role → Option Saved → Option Owed → ReplicaState
 server_with role service owed = record { role = role; service = service; owed = owed }
@@ -64,3 +64,15 @@ pub number-found : (setup : Setup) (past : List Entry) (entry : Entry) (service 
 number-found setup past entry service saved found is =
     let same : saved ≡ saved_of setup (entry ∷ past) = cc in
     ap (λ (value : Saved). value.number) same ∙ count-is setup (entry ∷ past)
+
+pub some_same : (one other : Saved) → Some one ≡ Some other → one ≡ other
+some_same one other is = cc
+
+-- a server without a number has nothing in hand, where what is in hand is of a service
+pub none-number : (server : ReplicaState) → (IsSome server.owed → IsSome server.service) → number_of server ≡ None → server.owed ≡ None
+none-number server whole none = by server.service server.owed whole none
+  where
+    by : (service : Option Saved) (owed : Option Owed) → (IsSome owed → IsSome service) → option_map (λ (saved : Saved). saved.number) service ≡ None → owed ≡ None
+    by service None whole none = refl
+    by (Some saved) (Some owed) whole none = cc
+    by None (Some owed) whole none = let some = whole refl in cc

@@ -1,3 +1,4 @@
+pub mod ByValue
 pub mod Hearing
 pub mod Inside
 pub mod Pairing

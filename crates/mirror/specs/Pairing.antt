@@ -22,8 +22,10 @@ use Rattle.mirror.specs.declared.heard.Why.TheVariants.{Busy, NotForRole}
 use Rattle.mirror.specs.declared.node.Node.{Node}
 use Rattle.mirror.specs.declared.node.Tie.{Tie}
 use Rattle.mirror.specs.declared.node.Tie.TheVariants.{Apart, Owing, Linked}
+use Rattle.mirror.specs.declared.owed.Owed.{Owed}
 use Rattle.mirror.specs.Replicas.{ReplicaState, started, at_rest, at_work}
 use Rattle.mirror.specs.Hearing.{CanHear, IsHeardAtRest, ignored}
+use Rattle.mirror.specs.ByValue.{IsHeardByValue, serving}
 use Rattle.mirror.specs.Working.{emptied}
 
 -- a server that has no partner and has applied nothing of one
@@ -80,12 +82,12 @@ keeps_by _ kept = false
 abbrev pub keeps_deeds : Node → Bool
 keeps_deeds node = keeps_by node.replica.role node.kept
 
--- the standby becomes active
+-- the standby becomes active, with nothing in hand and without link
 abbrev pub acting : ReplicaState → ReplicaState
-acting server = record server { role = Active }
+acting server = record { role = Active; service = server.service; owed = None }
 
 abbrev pub taken_over : Node → Node
-taken_over node = record node { replica = acting node.replica; kept = None }
+taken_over node = alone (acting node.replica)
 
 -- an accepted entry goes to the linked partner under its number, and is not committed before the partner has it
 abbrev pub mirrors : ℕ → Option Entry → List Message
@@ -112,11 +114,24 @@ IsHeardTied Linked setup past now message old heard new =
 IsHeardTied tie setup past now message old heard new =
     IsHeardAtRest setup past now message heard new.replica × (new ≡ record old { replica = new.replica })
 
--- the active server is busy while an entry is in hand
+-- the same by the value of its service, whatever led to that value
+abbrev pub IsMirroredByValue : Saved → ℤ → Message → Option Entry → Heard → ReplicaState → Option Entry → Type 0
+IsMirroredByValue saved now message before heard server waits =
+    (plain : Heard) × IsHeardByValue saved now message plain server × (heard ≡ mirrored (suc saved.number) plain) × (waits ≡ newest plain.committed before)
+
+abbrev pub IsTiedByValue : Tie → Saved → ℤ → Message → Node → Heard → Node → Type 0
+IsTiedByValue Linked saved now message old heard new =
+    IsMirroredByValue saved now message old.waits heard new.replica new.waits × (new ≡ record old { replica = new.replica; waits = new.waits })
+IsTiedByValue tie saved now message old heard new =
+    IsHeardByValue saved now message heard new.replica × (new ≡ record old { replica = new.replica })
+
+-- the active server is busy while an entry is in hand; said by the history that it stands for, and by each fit value of its service
 abbrev pub IsHeard : Message → ℤ → Node → Heard → Node → Type 0
 IsHeard message now old heard new =
     ((setup : Setup) (past : List Entry) (entry : Entry) → old.replica ≡ at_work setup past entry → (heard ≡ ignored (Busy (suc (length past)))) × (new ≡ old))
     × ((setup : Setup) (past : List Entry) → IsHistory setup past → old.replica ≡ at_rest setup past → IsHeardTied old.tie setup past now message old heard new)
+    × ((saved : Saved) (owed : Owed) → old.replica ≡ serving saved (Some owed) → (heard ≡ ignored (Busy saved.number)) × (new ≡ old))
+    × ((saved : Saved) → IsFit saved → old.replica ≡ serving saved None → IsTiedByValue old.tie saved now message old heard new)
 
 -- the standby applies the entry, keeps its deeds, and tells the active server; what it is then is said by a history and by a value
 abbrev pub IsFollowed : ℕ → Entry → Node → Heard → Node → Type 0

@@ -2,16 +2,19 @@
 ghost use Rattle.std.specs.Prelude.{◌≡◌, ◌≢◌, ◌<◌, List, [], IfOk, OnErr};
 ghost use Rattle.std.specs.Vec.{vec_capacity};
 ghost use Rattle.calls.specs.declared.entry.Entry.{Entry as EntryOf};
+ghost use Rattle.calls.specs.declared.saved.Saved.{Saved as SavedOf};
 ghost use Rattle.wire.specs.declared.message.Message.TheVariants.{Reply as Answer};
 ghost use Rattle.plain_service.specs.Setups.{Setup};
 ghost use Rattle.plain_service.specs.Legal.{IsHistory, CanFollow};
 ghost use Rattle.plain_service.specs.Values.{StandsFor};
+ghost use Rattle.plain_service.specs.Fitness.{IsFit};
 ghost use Rattle.service_core.specs.Applying.{CanAcceptIn, CanApply, next_in, is_new_in};
 ghost use Rattle.service_laws.specs.PlainOf.{plain_of};
 ghost use Rattle.cluster_facts.specs.History.{judged_call};
 ghost use Rattle.cluster_facts.specs.Service.{is_new};
 ghost use Rattle.mirror.specs.Hearing.{CanHear, IsHeardAtRest, IsRequestHeard, IsReceiptHeard, ignored, accepted_alone, repeated};
-ghost use Rattle.mirror.specs.Reacting.{serving, replies_for, IsAccepted, IsHeardAgain};
+ghost use Rattle.mirror.specs.ByValue.{serving, replies_for, IsAcceptedAt, judged_in, IsRequestByValue, IsReceiptByValue, IsHeardByValue};
+ghost use Rattle.mirror.specs.Reacting.{IsAccepted, IsHeardAgain, IsAgainByValue};
 
 use crate::owed::Owed;
 use crate::{Heard, Outcome, Role, Why};
@@ -116,6 +119,8 @@ fn accept(service: &mut Service, alloc: Global, entry: Entry) -> Result<Reaction
     ensures ok { IfOk result (λ reaction. (setup : Setup) (past : List EntryOf) →
         IsHistory setup past → StandsFor setup past service.old → CanFollow setup entry past →
         IsAccepted setup past entry reaction.heard (serving service.new reaction.owed)) }
+    ensures value { IfOk result (λ reaction. (saved : SavedOf) → service.old ≡ saved →
+        IsAcceptedAt saved entry reaction.heard (serving service.new reaction.owed)) }
     ensures err { OnErr result (service.new ≡ service.old) }
 {
     let to_net = match Vec::with_capacity(alloc, 1) {
@@ -146,9 +151,12 @@ fn accept(service: &mut Service, alloc: Global, entry: Entry) -> Result<Reaction
 fn hear_again(service: &Service, alloc: Global, client: u16, seq: u32) -> Result<Heard, AllocError>
     requires number { 0 < seq }
     requires other { seq ≢ next_in service.now client }
-    ensures { IfOk result (λ heard. (setup : Setup) (past : List EntryOf) →
+    ensures history { IfOk result (λ heard. (setup : Setup) (past : List EntryOf) →
         IsHistory setup past → StandsFor setup past service.now →
         IsHeardAgain setup past client seq (judged_call past client seq) heard) }
+    ensures value { IfOk result (λ heard. (saved : SavedOf) → IsFit saved →
+        service.now ≡ saved →
+        IsAgainByValue saved client seq (judged_in saved client seq) heard) }
 {
     if service.next(client) < seq {
         return Ok(ignore(alloc, Why::Ahead));
@@ -174,6 +182,9 @@ fn hear_request(
         IsHistory setup past → StandsFor setup past service.old →
         IsRequestHeard setup past client seq call.now now (judged_call past client seq)
         reaction.heard (serving service.new reaction.owed)) }
+    ensures value { IfOk result (λ reaction. (saved : SavedOf) → IsFit saved →
+        service.old ≡ saved → IsRequestByValue saved client seq call.now now
+        (judged_in saved client seq) reaction.heard (serving service.new reaction.owed)) }
     ensures err { OnErr result (service.new ≡ service.old) }
 {
     if seq == service.next(client) {
@@ -204,6 +215,9 @@ fn hear_receipt(
         IsReceiptHeard setup past client key through now
         (is_new (plain_of setup) past client key through)
         reaction.heard (serving service.new reaction.owed)) }
+    ensures value { IfOk result (λ reaction. (saved : SavedOf) → IsFit saved →
+        service.old ≡ saved → IsReceiptByValue saved client key through now
+        (is_new_in saved client key through) reaction.heard (serving service.new reaction.owed)) }
     ensures err { OnErr result (service.new ≡ service.old) }
 {
     if service.is_new(client, key, through) {
@@ -231,6 +245,9 @@ pub(crate) fn hear(
         IsHistory setup past → StandsFor setup past service.old →
         IsHeardAtRest setup past now message.now
         reaction.heard (serving service.new reaction.owed)) }
+    ensures value { IfOk result (λ reaction. (saved : SavedOf) → IsFit saved →
+        service.old ≡ saved →
+        IsHeardByValue saved now message.now reaction.heard (serving service.new reaction.owed)) }
     ensures err { OnErr result (service.new ≡ service.old) }
 {
     match message {

@@ -13,6 +13,7 @@ ghost use Rattle.mirror.specs.declared.heard.Role.TheVariants as role;
 ghost use Rattle.mirror.specs.declared.heard.Outcome.TheVariants.{Changed, Joined, Confirmed};
 ghost use Rattle.mirror.specs.Replicas.{HasService, HasRoom, down, started, number_in_hand, at_rest};
 ghost use Rattle.mirror.specs.Hearing.{CanHear};
+ghost use Rattle.mirror.specs.ByValue.{items_pushed};
 ghost use Rattle.mirror.specs.Working.{deeds_in, replies_in, worked};
 ghost use Rattle.mirror.specs.Pairing.{alone, joining, sent, IsJoinBegun, parted, worked_out, with_peer, deeds_kept, keeps_deeds, taken_over, IsHeard, IsFollowed, IsReceived, CanApplyIn, CanReceive, Admits};
 
@@ -130,9 +131,11 @@ impl Node {
         self.replica.has_room()
     }
 
-    /// The number of the entry in hand: the first that was ever accepted has number 1.
+    /// The number of the entry in hand: the first that was ever accepted has number 1. `None` comes exactly where nothing is in
+    /// hand.
     pub fn in_hand(&self) -> Option<u64>
-        ensures { result ≡ number_in_hand self.now.replica }
+        ensures number { result ≡ number_in_hand self.now.replica }
+        ensures none { result ≡ None → self.now.replica.owed ≡ None }
     {
         self.replica.in_hand()
     }
@@ -152,9 +155,22 @@ impl Node {
         drop(before);
     }
 
+    // Becomes active, without link and with nothing in hand.
+    fn lead(&mut self, alloc: Global)
+        ensures { self.new ≡ taken_over self.old }
+    {
+        self.replica.act();
+        let waiting = self.waits.take();
+        drop(waiting);
+        self.tie = Tie::Apart;
+        self.promised = Seq::new(alloc);
+        self.kept = None;
+    }
+
     /// A partner joins the active server. With nothing in hand it gets the value of the service at once and is linked;
     /// else both come with the work that empties the hand. `Err` comes only for want of memory, and nothing changes then.
     pub fn begin_join(&mut self, alloc: Global) -> Result<Heard, AllocError>
+        requires role { self.old.replica.role ≡ role.Active }
         ensures ok { IfOk result (λ heard.
             IsJoinBegun (is_some self.old.replica.owed) self.old heard self.new) }
         ensures err { OnErr result (self.new ≡ self.old) }
@@ -173,6 +189,7 @@ impl Node {
     /// The partner of the active server went down: there is no link, nothing is promised, and an entry that waits is
     /// committed and ready.
     pub fn peer_down(&mut self, alloc: Global) -> Heard
+        requires role { self.old.replica.role ≡ role.Active }
         ensures heard { result ≡ sent [] self.old.waits Changed }
         ensures now { self.new ≡ parted self.old }
     {
@@ -253,8 +270,7 @@ impl Node {
     {
         match perform_kept(disk, &self.kept) {
             Ok(()) => {
-                self.replica.act();
-                self.kept = None;
+                self.lead(alloc);
                 Ok(send(alloc, Seq::new(alloc), None, Outcome::Changed))
             }
             Err(DiskAnswer::Memory) => Err(DiskAnswer::Memory),
@@ -274,8 +290,10 @@ impl Node {
     pub fn push(&self, alloc: Global) -> Result<Seq<Message>, AllocError>
         requires role { self.now.replica.role ≡ role.Active }
         requires idle { self.now.replica.owed ≡ None }
-        ensures { IfOk result (λ messages. (setup : Setup) (past : List EntryOf) →
+        ensures history { IfOk result (λ messages. (setup : Setup) (past : List EntryOf) →
             self.now.replica ≡ at_rest setup past → messages ≡ (plain_of setup).held past) }
+        ensures value { IfOk result (λ messages.
+            messages ≡ items_pushed self.now.replica.service) }
     {
         self.replica.push(alloc)
     }
@@ -435,6 +453,7 @@ impl Node {
     /// client's next is to be posted again; a request before these is ignored as old, one behind the next as ahead, and a
     /// receipt that is not new as done. An accepted entry is committed at once, and ready; but where a partner is linked
     /// it goes to the partner and waits, and the partner's answer makes it ready.
+    /// All this is so by each history that the service stands for, and by each fit value of the service, whatever led to it.
     ///
     /// The standby applies a mirrored entry, keeps its deeds and answers its number; it is committed with that. A server
     /// that joins is standby with the value, and answers how many entries it has. Where a message is ignored nothing

@@ -1,6 +1,7 @@
 //! What a server of a pair does on its parts.
-ghost use Rattle.std.specs.Prelude.{◌≡◌, ◌↔◌, IsTrue, suc, List, [], ◌∷◌, None, length, IfOk, OnErr};
+ghost use Rattle.std.specs.Prelude.{◌≡◌, ◌↔◌, IsTrue, suc, List, [], ◌∷◌, Some, None, length, IfOk, OnErr};
 ghost use Rattle.calls.specs.declared.entry.Entry.{Entry as EntryOf};
+ghost use Rattle.calls.specs.declared.saved.Saved.{Saved as SavedOf};
 ghost use Rattle.wire.specs.declared.message.Message.TheVariants.{Snapshot};
 ghost use Rattle.plain_service.specs.Setups.{Setup};
 ghost use Rattle.plain_service.specs.Legal.{IsHistory, CanFollow};
@@ -8,12 +9,14 @@ ghost use Rattle.plain_service.specs.Fitness.{IsFit};
 ghost use Rattle.plain_service.specs.Storing.{deeds_of};
 ghost use Rattle.plain_service.specs.Values.{StandsFor};
 ghost use Rattle.mirror.specs.declared.heard.Role.TheVariants as role;
+ghost use Rattle.mirror.specs.declared.owed.Owed.{Owed as OwedOf};
 ghost use Rattle.service_core.specs.Applying.{CanApply, CanAcceptIn};
 ghost use Rattle.service_core.specs.Valuing.{value_after, deeds_by_value};
 ghost use Rattle.mirror.specs.declared.heard.Why.TheVariants.{Busy};
 ghost use Rattle.mirror.specs.Replicas.{HasRoom, at_rest, at_work};
 ghost use Rattle.mirror.specs.Hearing.{CanHear, ignored};
-ghost use Rattle.mirror.specs.Pairing.{sent, with_peer, tied_after, mirrors, newest, IsMirrored};
+ghost use Rattle.mirror.specs.Pairing.{sent, with_peer, tied_after, mirrors, newest, IsMirrored, IsMirroredByValue};
+ghost use Rattle.mirror.specs.ByValue.{serving};
 ghost use Rattle.mirror.specs.Preparing.{entry_by, held_back};
 
 use crate::node::Tie;
@@ -216,6 +219,12 @@ pub(crate) fn hear_linked(
     ensures rest { IfOk result (λ heard. (setup : Setup) (past : List EntryOf) →
         IsHistory setup past → replica.old ≡ at_rest setup past →
         IsMirrored setup past now message.now waits.old heard replica.new waits.new) }
+    ensures held { IfOk result (λ heard. (saved : SavedOf) (owed : OwedOf) →
+        replica.old ≡ serving saved (Some owed) → (heard ≡ ignored (Busy saved.number))
+        × (replica.new ≡ replica.old) × (waits.new ≡ waits.old)) }
+    ensures value { IfOk result (λ heard. (saved : SavedOf) → IsFit saved →
+        replica.old ≡ serving saved None →
+        IsMirroredByValue saved now message.now waits.old heard replica.new waits.new) }
     ensures replica { OnErr result (replica.new ≡ replica.old) }
     ensures waits { OnErr result (waits.new ≡ waits.old) }
 {

@@ -5,15 +5,18 @@ ghost use Rattle.disk_model.specs.DeviceCalls.{Performs};
 ghost use Rattle.disk_model.specs.declared.answers.DiskAnswer.{DiskAnswer};
 ghost use Rattle.stream_layout.specs.Deeds.{calls_of_all};
 ghost use Rattle.calls.specs.declared.entry.Entry.{Entry as EntryOf};
+ghost use Rattle.calls.specs.declared.saved.Saved.{Saved as SavedOf};
+ghost use Rattle.service_core.specs.Valuing.{items_held};
 ghost use Rattle.plain_service.specs.Setups.{Setup};
 ghost use Rattle.plain_service.specs.Legal.{IsHistory};
+ghost use Rattle.plain_service.specs.Fitness.{IsFit};
 ghost use Rattle.plain_service.specs.Values.{StandsFor};
 ghost use Rattle.plain_service.specs.Items.{items_of};
 ghost use Rattle.service_laws.specs.PlainOf.{item_message, plain_of};
 ghost use Rattle.mirror.specs.declared.heard.Why.TheVariants.{Busy};
 ghost use Rattle.mirror.specs.Hearing.{CanHear, IsHeardAtRest, ignored};
 ghost use Rattle.mirror.specs.Working.{deeds_in, replies_in, worked};
-ghost use Rattle.mirror.specs.Reacting.{serving};
+ghost use Rattle.mirror.specs.ByValue.{serving, IsHeardByValue};
 
 use crate::hearing::{hear, ignore};
 use crate::owed::Owed;
@@ -43,6 +46,9 @@ pub(crate) fn hear_or_ignore(
         (setup : Setup) (past : List EntryOf) → IsHistory setup past →
         StandsFor setup past service.old →
         IsHeardAtRest setup past now message.now heard (serving service.new owed.new)) }
+    ensures value { IfOk result (λ heard. owed.old ≡ None →
+        (saved : SavedOf) → IsFit saved → service.old ≡ saved →
+        IsHeardByValue saved now message.now heard (serving service.new owed.new)) }
     ensures service { OnErr result (service.new ≡ service.old) }
     ensures owed { OnErr result (owed.new ≡ owed.old) }
 {
@@ -107,8 +113,10 @@ fn bring_all(alloc: Global, items: Seq<Held>) -> Result<Seq<Message>, AllocError
 
 /// The messages that bring all items without receipt.
 pub(crate) fn push_items(service: &Service, alloc: Global) -> Result<Seq<Message>, AllocError>
-    ensures { IfOk result (λ messages. (setup : Setup) (past : List EntryOf) →
+    ensures history { IfOk result (λ messages. (setup : Setup) (past : List EntryOf) →
         StandsFor setup past service.now → messages ≡ (plain_of setup).held past) }
+    ensures value { IfOk result (λ messages. messages
+        ≡ map item_message (items_held service.now)) }
 {
     let items = service.items(alloc)?;
     bring_all(alloc, items)

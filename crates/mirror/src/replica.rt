@@ -1,5 +1,5 @@
 //! The replica of the service that a server of the cluster has, and its role.
-ghost use Rattle.std.specs.Prelude.{◌≡◌, ◌≢◌, ◌↔◌, IsTrue, ℕ, suc, List, [], ◌∷◌, length, is_some, IsSome, IfOk, OnErr, IsErrOf};
+ghost use Rattle.std.specs.Prelude.{◌≡◌, ◌≢◌, ◌↔◌, IsTrue, suc, List, [], ◌∷◌, Some, None, length, is_some, IsSome, IfOk, OnErr, IsErrOf};
 ghost use Rattle.ais_values.specs.Causes.{RoseExactlyOn};
 ghost use Rattle.disk_model.specs.DeviceCalls.{Performs};
 ghost use Rattle.disk_model.specs.declared.answers.DiskAnswer.{DiskAnswer};
@@ -8,12 +8,15 @@ ghost use Rattle.calls.specs.declared.entry.Entry.{Entry as EntryOf};
 ghost use Rattle.calls.specs.declared.saved.Saved.{Saved as SavedOf};
 ghost use Rattle.plain_service.specs.Setups.{Setup};
 ghost use Rattle.plain_service.specs.Legal.{IsHistory, CanFollow};
+ghost use Rattle.plain_service.specs.Fitness.{IsFit};
 ghost use Rattle.plain_service.specs.Values.{saved_of};
 ghost use Rattle.service_laws.specs.PlainOf.{plain_of};
 ghost use Rattle.mirror.specs.declared.heard.Role.TheVariants.{Active, Standby};
+ghost use Rattle.mirror.specs.declared.owed.Owed.{Owed as OwedOf};
 ghost use Rattle.mirror.specs.declared.heard.Why.TheVariants.{Busy, NotForRole};
 ghost use Rattle.mirror.specs.Replicas.{HasService, HasRoom, down, started, number_of, number_in_hand, at_rest, at_work};
 ghost use Rattle.mirror.specs.Hearing.{CanHear, IsHeardAtRest, ignored};
+ghost use Rattle.mirror.specs.ByValue.{serving, IsHeardByValue, items_pushed};
 ghost use Rattle.mirror.specs.Working.{deeds_in, replies_in, worked, emptied};
 ghost use Rattle.mirror.specs.Pairing.{joining, snapshots, acting, CanApplyIn, IsNextEntry};
 ghost use Rattle.mirror.specs.Preparing.{number_next, HasApplied, HasAppliedTo};
@@ -50,9 +53,11 @@ impl Model for Replica {
 
     ghost Value = { ReplicaState };
 
-    ghost use Rattle.mirror.specs.Inside.{server_of};
+    ghost use Rattle.mirror.specs.Inside.{server_of, IsOfService};
 
     ghost view = { server_of };
+
+    ghost invariant = { IsOfService };
 }
 
 impl Replica {
@@ -117,14 +122,15 @@ impl Replica {
         }
     }
 
-    /// The number of the entry in hand: the first that was ever accepted has number 1.
+    /// The number of the entry in hand: the first that was ever accepted has number 1. `None` where nothing is in hand.
     pub(crate) fn in_hand(&self) -> Option<u64>
-        ensures { result ≡ number_in_hand self.now }
+        ensures number { result ≡ number_in_hand self.now }
+        ensures none { result ≡ None → self.now.owed ≡ None }
     {
-        if self.owed.is_none() {
-            return None;
+        match &self.owed {
+            None => None,
+            Some(_) => self.number(),
         }
-        self.number()
     }
 
     /// Whether an entry is in hand that is ready to work.
@@ -159,6 +165,12 @@ impl Replica {
         ensures rest { IfOk result (λ heard. (setup : Setup) (past : List EntryOf) →
             IsHistory setup past → self.old ≡ at_rest setup past →
             IsHeardAtRest setup past now message.now heard self.new) }
+        ensures held { IfOk result (λ heard. (saved : SavedOf) (owed : OwedOf) →
+            self.old ≡ serving saved (Some owed) →
+            (heard ≡ ignored (Busy saved.number)) × (self.new ≡ self.old)) }
+        ensures value { IfOk result (λ heard. (saved : SavedOf) → IsFit saved →
+            self.old ≡ serving saved None →
+            IsHeardByValue saved now message.now heard self.new) }
         ensures err { OnErr result (self.new ≡ self.old) }
     {
         let role = self.role;
@@ -233,11 +245,13 @@ impl Replica {
         }
     }
 
-    /// It is the active one from now on.
+    /// It is the active one from now on, with nothing in hand.
     pub(crate) fn act(&mut self)
         ensures { self.new ≡ acting self.old }
     {
         self.role = Role::Active;
+        let owed = self.owed.take();
+        drop(owed);
     }
 
     // Goes down; what it had is let go.
@@ -297,8 +311,9 @@ impl Replica {
     pub(crate) fn push(&self, alloc: Global) -> Result<Seq<Message>, AllocError>
         requires role { self.now.role ≡ Active }
         requires idle { self.now.owed ≡ None }
-        ensures { IfOk result (λ messages. (setup : Setup) (past : List EntryOf) →
+        ensures history { IfOk result (λ messages. (setup : Setup) (past : List EntryOf) →
             self.now ≡ at_rest setup past → messages ≡ (plain_of setup).held past) }
+        ensures value { IfOk result (λ messages. messages ≡ items_pushed self.now.service) }
     {
         match &self.service {
             None => Ok(Seq::new(alloc)),

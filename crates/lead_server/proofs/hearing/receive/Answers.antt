@@ -56,5 +56,5 @@ returns-in_default-clause-ok c =
     let now = to_z w64 (of_z w64 a.now) in
     let not = not-own a.message.now c.in_default.not-Request c.in_default.not-Receipt in
     IfOk-weaker again.result _ _
-    (λ heard is. subst (λ (at : ℤ). IsHeard a.message.now at a.active.now heard (record a.active.now { replica = node })) (to_z-of_z w64 a.now c.ranges.now) (other-heard a.message.now now a.active.now heard node not is.0 is.1))
-    (both-ok again.result _ _ again.ensures.busy again.ensures.rest)
+    (λ heard is. subst (λ (at : ℤ). IsHeard a.message.now at a.active.now heard (record a.active.now { replica = node })) (to_z-of_z w64 a.now c.ranges.now) (other-heard a.message.now now a.active.now heard node not is.0 is.1.0 is.1.1.0 is.1.1.1))
+    (both-ok again.result _ _ again.ensures.busy (both-ok again.result _ _ again.ensures.rest (both-ok again.result _ _ again.ensures.held again.ensures.value)))
