@@ -7,7 +7,7 @@ use Rattle.cluster_facts.specs.World.{empty_world}
 use Rattle.cluster_events.specs.Servers.{State}
 use Rattle.group_cluster.specs.Seats as defined
 use Rattle.group_cluster.specs.Seats.{Out, Peers}
-use Rattle.mirror.specs.declared.node.Node.{Node}
+use Rattle.mirror.specs.declared.state.NodeState.{NodeState as Node}
 use Rattle.mirror.specs.Replicas.{down}
 use Rattle.mirror.specs.Pairing.{alone}
 use Rattle.cluster_rounds.specs.declared.cluster.Cluster.{Cluster}

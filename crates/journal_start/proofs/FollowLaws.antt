@@ -9,7 +9,7 @@ use Rattle.wire.specs.declared.message.Message.TheVariants as message
 use Rattle.service_core.specs.Applying.{CanApply}
 use Rattle.mirror.specs.declared.heard.Role.{Role}
 use Rattle.mirror.specs.declared.heard.Role.TheVariants as role
-use Rattle.mirror.specs.declared.node.Node.{Node}
+use Rattle.mirror.specs.declared.state.NodeState.{NodeState as Node}
 use Rattle.mirror.specs.Replicas.{HasRoom}
 use Rattle.mirror.specs.Pairing.{Admits, CanReceive}
 use Rattle.journal_found.specs.Found.{CanCome, Follower}

@@ -10,7 +10,7 @@ use Rattle.wire.specs.declared.message.Message.TheVariants as message
 use Rattle.wire.specs.MessageSpelling.{message_text, MessageFits}
 use Rattle.wire.specs.Messages.{Spells}
 use Rattle.service_core.specs.Valuing.{value_after}
-use Rattle.mirror.specs.declared.node.Node.{Node}
+use Rattle.mirror.specs.declared.state.NodeState.{NodeState as Node}
 use Rattle.journal_frames.specs.Frames.{frame, framed, IsShort, AreShort}
 use Rattle.journal_frames.specs.Reading.{IsFramed}
 use Rattle.journal_frames.proofs.Frames.{framed-push, length-body, same-frame, short-push}

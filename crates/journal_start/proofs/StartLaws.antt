@@ -12,7 +12,7 @@ use Rattle.journal_start.specs.declared.replaying.Replayed.{Replayed}
 use Rattle.journal_start.specs.Replays.{ReadWhole}
 use Rattle.disk_model.specs.DeviceCalls.{all_applied}
 use Rattle.stream_layout.specs.Deeds.{calls_of_all}
-use Rattle.mirror.specs.declared.node.Node.{Node}
+use Rattle.mirror.specs.declared.state.NodeState.{NodeState as Node}
 use Rattle.mirror.specs.declared.heard.Role.TheVariants.{Standby}
 use Rattle.mirror.specs.Pairing.{deeds_kept, taken_over}
 use Rattle.journal_frames.proofs.Keeping.{keeps-same}

@@ -4,7 +4,7 @@ use Rattle.calls.specs.declared.entry.Entry.{Entry}
 use Rattle.wire.specs.declared.message.Message.{Message}
 use Rattle.wire.specs.declared.message.Message.TheVariants.{Mirror, Snapshot}
 use Rattle.wire.specs.Messages.{Spells}
-use Rattle.mirror.specs.declared.node.Node.{Node}
+use Rattle.mirror.specs.declared.state.NodeState.{NodeState as Node}
 use Rattle.mirror.specs.declared.heard.Role.TheVariants.{Standby}
 use Rattle.mirror.specs.Replicas.{started}
 use Rattle.mirror.specs.Pairing.{alone, joining, Admits}

@@ -8,7 +8,7 @@ use Rattle.wire.specs.MessageSpelling.{MessageInRange}
 use Rattle.cluster_facts.specs.Types.{Entry}
 use Rattle.cluster_clients.specs.Posted.{PostsSome}
 use Rattle.mirror.specs.declared.heard.Heard.{Heard}
-use Rattle.mirror.specs.declared.node.Node.{Node}
+use Rattle.mirror.specs.declared.state.NodeState.{NodeState as Node}
 use Rattle.mirror.specs.Replicas.{ReplicaState, HasRoom, at_rest}
 use Rattle.mirror.specs.Pairing.{IsHeard, IsReceived}
 use Rattle.lead_server.specs.Told.{IsTold}

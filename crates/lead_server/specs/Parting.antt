@@ -2,7 +2,7 @@
 use Rattle.std.specs.Prelude.{ℕ, nat_le, if◌then◌else◌, Option, Some, None, List, [], ◌∷◌}
 use Rattle.cluster_facts.specs.Types.{Entry}
 use Rattle.event_text.specs.Texts.{entry_line}
-use Rattle.mirror.specs.declared.node.Node.{Node}
+use Rattle.mirror.specs.declared.state.NodeState.{NodeState as Node}
 use Rattle.mirror.specs.Replicas.{number_in_hand}
 
 -- the entry in hand, with its number, where it waits and is not in a history of so many

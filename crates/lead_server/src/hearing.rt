@@ -1,10 +1,8 @@
 //! What reaches the active server, and what it pushes.
 ghost use Rattle.std.specs.Prelude.{◌≡◌, None, ℤ, IfOk, OnOk, OnErr};
-ghost use Rattle.wire.specs.declared.message.Message.{Message as MessageOf};
 ghost use Rattle.mirror.specs.declared.heard.Role.TheVariants.{Active};
-ghost use Rattle.mirror.specs.Replicas.{HasRoom};
 ghost use Rattle.mirror.specs.Hearing.{CanHear};
-ghost use Rattle.mirror.specs.Pairing.{IsHeard, CanReceive};
+ghost use Rattle.mirror.specs.Pairing.{CanReceive};
 ghost use Rattle.cluster_clients.specs.Posted.{PostsAll, PostsSome};
 ghost use Rattle.lead_server.specs.Heard.{AnswersInRange, HoldsInRange, Hears, HearsPartly, IsConfirmed, IsHeldBy, PushesPartly};
 
@@ -13,30 +11,10 @@ use ais_values::Seq;
 use calls::History;
 use cluster_clients::post_all;
 use message_net::Net;
-use mirror::{Heard, Node};
+use mirror::Node;
 use std::alloc::{AllocError, Global};
 use std::mem;
 use wire::Message;
-
-/// The active server hears a message of the net. On an error nothing changes.
-fn receive(
-    active: &mut Node,
-    alloc: Global,
-    message: &Message,
-    now: i64,
-) -> Result<Heard, AllocError>
-    requires hear { CanHear message.now now }
-    requires few { HasRoom active.old.replica.service }
-    requires role { active.old.replica.role ≡ Active }
-    ensures ok { IfOk result (λ heard. IsHeard message.now now active.old heard active.new) }
-    ensures err { OnErr result (active.new ≡ active.old) }
-{
-    match message {
-        Message::Request { .. } => active.receive(alloc, message, now),
-        Message::Receipt { .. } => active.receive(alloc, message, now),
-        _ => active.replica.receive(alloc, message, now),
-    }
-}
 
 /// The active server hears a message of this place in the net. The answer to it is posted, its line is put where it was ignored, and an entry
 /// that waits for nobody is committed. What goes to the servers beside it comes back. Where 4,000,000,000 entries were accepted it answers as
@@ -64,7 +42,7 @@ pub fn hear(
         return Err(AllocError);
     }
     history.reserve()?;
-    let heard = receive(active, alloc, message, now)?;
+    let heard = active.hear(alloc, message, now)?;
     tell_heard(alloc, net, history, lines, place, heard)
 }
 

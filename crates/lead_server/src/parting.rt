@@ -19,7 +19,7 @@ pub fn put_waiting(
 {
     match active.in_hand() {
         None => Ok(false),
-        Some(number) => match &active.waits {
+        Some(number) => match active.waiting() {
             None => Ok(false),
             Some(entry) => {
                 if number <= entries {

@@ -18,26 +18,19 @@ use Rattle.client_window.specs.Judgement.{taken_under, forgotten, IsJudged}
 use Rattle.client_window.specs.Windows.{Kept, window_of, window_of_parts, HasRepliesBefore}
 use Rattle.client_window.proofs.Keeping.{window_of-some}
 use Rattle.plain_service.specs.Fitness.{IsFit, IsFitWindow}
-use Rattle.service_core.specs.declared.effect.Effect.{Effect}
 use Rattle.service_core.specs.Applying.{next_in, is_new_in}
-use Rattle.service_core.specs.Valuing.{Applies, window_in}
+use Rattle.service_core.specs.Valuing.{window_in}
 use Rattle.cluster_facts.specs.History.{Judged, New, Repeat, Old, Ahead, judged}
 use Rattle.cluster_facts.proofs.Words.{by_test}
 use Rattle.mirror.specs.declared.heard.Why.TheVariants.{Old as OldRequest, Ahead as AheadRequest, Done}
 use Rattle.mirror.specs.declared.heard.Heard.{Heard}
 use Rattle.mirror.specs.Replicas.{ReplicaState}
-use Rattle.mirror.specs.Hearing.{ignored, accepted_alone, repeated}
-use Rattle.mirror.specs.ByValue.{serving, replies_for, IsAcceptedAt, judged_in, reply_kept, IsRequestByValue, IsReceiptByValue, IsHeardByValue}
+use Rattle.mirror.specs.Hearing.{ignored, repeated}
+use Rattle.mirror.specs.ByValue.{serving, IsAcceptedAt, judged_in, reply_kept, IsRequestByValue, IsReceiptByValue, IsHeardByValue}
 use Rattle.mirror.specs.Pairing.{mirrors, mirrored, newest, IsMirroredByValue}
 use Rattle.mirror.specs.Preparing.{entry_by, held_back, number_next}
 use Rattle.mirror.specs.Reacting.{IsAgainByValue}
 use Rattle.mirror.proofs.Judging.{judged-new, judged-ahead, judged-old, judged-repeat, taken-within}
-
--- an entry was applied to the value of a service
-pub accepted-at : (entry : Entry) (before after saved : Saved) (effect : Effect) (heard : Heard) (to_net : List Message) → Applies entry before after effect → before ≡ saved → heard ≡ accepted_alone entry → to_net ≡ replies_for entry effect.reply → IsAcceptedAt saved entry heard (serving after (Some (record { deeds = effect.deeds; to_net = to_net })))
-accepted-at entry before after saved effect heard to_net applies same is posted =
-    subst (λ (it : Saved). IsAcceptedAt it entry heard (serving after (Some (record { deeds = effect.deeds; to_net = to_net })))) same
-    (is, λ i. serving (applies.value i) (Some (record { deeds = applies.deeds i; to_net = (posted ∙ ap (replies_for entry) applies.reply) i })))
 
 -- Each window of a fit value is that of some replies.
 

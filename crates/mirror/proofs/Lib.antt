@@ -1,4 +1,5 @@
 pub mod ByValueLaws
+pub mod HeardLaws
 pub mod HearingLaws
 pub mod Judging
 pub mod PairingLaws

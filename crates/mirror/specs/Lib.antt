@@ -1,6 +1,7 @@
 pub mod ByValue
 pub mod Hearing
 pub mod Inside
+pub mod InsideNode
 pub mod Pairing
 pub mod Preparing
 pub mod Reacting

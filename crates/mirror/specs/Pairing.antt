@@ -19,7 +19,7 @@ use Rattle.mirror.specs.declared.heard.Outcome.TheVariants.{Applied, Confirmed, 
 use Rattle.mirror.specs.declared.heard.Role.{Role}
 use Rattle.mirror.specs.declared.heard.Role.TheVariants.{Active, Standby, Joining}
 use Rattle.mirror.specs.declared.heard.Why.TheVariants.{Busy, NotForRole}
-use Rattle.mirror.specs.declared.node.Node.{Node}
+use Rattle.mirror.specs.declared.state.NodeState.{NodeState}
 use Rattle.mirror.specs.declared.node.Tie.{Tie}
 use Rattle.mirror.specs.declared.node.Tie.TheVariants.{Apart, Owing, Linked}
 use Rattle.mirror.specs.declared.owed.Owed.{Owed}
@@ -29,7 +29,7 @@ use Rattle.mirror.specs.ByValue.{IsHeardByValue, serving}
 use Rattle.mirror.specs.Working.{emptied}
 
 -- a server that has no partner and has applied nothing of one
-abbrev pub alone : ReplicaState → Node
+abbrev pub alone : ReplicaState → NodeState
 alone server = record { replica = server; waits = None; tie = Apart; promised = []; kept = None }
 
 -- a server that waits for the value of the service
@@ -46,15 +46,19 @@ snapshots None = []
 snapshots (Some saved) = Snapshot saved ∷ []
 
 -- a partner joins: it gets the value at once where nothing is in hand, and else once the entry in hand is worked
-abbrev pub IsJoinBegun : Bool → Node → Heard → Node → Type 0
+abbrev pub IsJoinBegun : Bool → NodeState → Heard → NodeState → Type 0
 IsJoinBegun false old heard new =
     (heard ≡ sent (snapshots old.replica.service) None Changed) × (new ≡ record old { tie = Linked; promised = [] })
 IsJoinBegun true old heard new =
     (heard ≡ sent [] None Changed) × (new ≡ record old { tie = Owing; promised = snapshots old.replica.service })
 
 -- the partner went down: an entry that waits is ready
-abbrev pub parted : Node → Node
+abbrev pub parted : NodeState → NodeState
 parted node = record node { waits = None; tie = Apart; promised = [] }
+
+-- the partner has the entry in hand, which waits no longer
+abbrev pub confirmed : NodeState → NodeState
+confirmed node = record node { waits = None }
 
 -- the entry in hand was worked: a partner that joins is linked from then on
 abbrev pub tied_after : Tie → Tie
@@ -62,7 +66,7 @@ tied_after Apart = Apart
 tied_after Owing = Linked
 tied_after Linked = Linked
 
-abbrev pub worked_out : Node → Node
+abbrev pub worked_out : NodeState → NodeState
 worked_out node = record node { replica = emptied node.replica; tie = tied_after node.tie; promised = [] }
 
 -- what worked, with the messages for a partner that joins
@@ -79,14 +83,14 @@ abbrev pub keeps_by : Role → Option (List Deed) → Bool
 keeps_by Standby kept = is_some kept
 keeps_by _ kept = false
 
-abbrev pub keeps_deeds : Node → Bool
+abbrev pub keeps_deeds : NodeState → Bool
 keeps_deeds node = keeps_by node.replica.role node.kept
 
 -- the standby becomes active, with nothing in hand and without link
 abbrev pub acting : ReplicaState → ReplicaState
 acting server = record { role = Active; service = server.service; owed = None }
 
-abbrev pub taken_over : Node → Node
+abbrev pub taken_over : NodeState → NodeState
 taken_over node = alone (acting node.replica)
 
 -- an accepted entry goes to the linked partner under its number, and is not committed before the partner has it
@@ -108,7 +112,7 @@ IsMirrored setup past now message before heard server waits =
     (plain : Heard) × IsHeardAtRest setup past now message plain server × (heard ≡ mirrored (suc (length past)) plain) × (waits ≡ newest plain.committed before)
 
 -- with nothing in hand, by what ties the server to its partner
-abbrev pub IsHeardTied : Tie → Setup → List Entry → ℤ → Message → Node → Heard → Node → Type 0
+abbrev pub IsHeardTied : Tie → Setup → List Entry → ℤ → Message → NodeState → Heard → NodeState → Type 0
 IsHeardTied Linked setup past now message old heard new =
     IsMirrored setup past now message old.waits heard new.replica new.waits × (new ≡ record old { replica = new.replica; waits = new.waits })
 IsHeardTied tie setup past now message old heard new =
@@ -119,14 +123,14 @@ abbrev pub IsMirroredByValue : Saved → ℤ → Message → Option Entry → He
 IsMirroredByValue saved now message before heard server waits =
     (plain : Heard) × IsHeardByValue saved now message plain server × (heard ≡ mirrored (suc saved.number) plain) × (waits ≡ newest plain.committed before)
 
-abbrev pub IsTiedByValue : Tie → Saved → ℤ → Message → Node → Heard → Node → Type 0
+abbrev pub IsTiedByValue : Tie → Saved → ℤ → Message → NodeState → Heard → NodeState → Type 0
 IsTiedByValue Linked saved now message old heard new =
     IsMirroredByValue saved now message old.waits heard new.replica new.waits × (new ≡ record old { replica = new.replica; waits = new.waits })
 IsTiedByValue tie saved now message old heard new =
     IsHeardByValue saved now message heard new.replica × (new ≡ record old { replica = new.replica })
 
 -- the active server is busy while an entry is in hand; said by the history that it stands for, and by each fit value of its service
-abbrev pub IsHeard : Message → ℤ → Node → Heard → Node → Type 0
+abbrev pub IsHeard : Message → ℤ → NodeState → Heard → NodeState → Type 0
 IsHeard message now old heard new =
     ((setup : Setup) (past : List Entry) (entry : Entry) → old.replica ≡ at_work setup past entry → (heard ≡ ignored (Busy (suc (length past)))) × (new ≡ old))
     × ((setup : Setup) (past : List Entry) → IsHistory setup past → old.replica ≡ at_rest setup past → IsHeardTied old.tie setup past now message old heard new)
@@ -134,7 +138,7 @@ IsHeard message now old heard new =
     × ((saved : Saved) → IsFit saved → old.replica ≡ serving saved None → IsTiedByValue old.tie saved now message old heard new)
 
 -- the standby applies the entry, keeps its deeds, and tells the active server; what it is then is said by a history and by a value
-abbrev pub IsFollowed : ℕ → Entry → Node → Heard → Node → Type 0
+abbrev pub IsFollowed : ℕ → Entry → NodeState → Heard → NodeState → Type 0
 IsFollowed number entry old heard new =
     (heard ≡ sent (MirrorAck number ∷ []) (Some entry) Applied)
     × ((setup : Setup) (past : List Entry) → IsHistory setup past → CanFollow setup entry past → old.replica ≡ started Standby (saved_of setup past) →
@@ -143,10 +147,10 @@ IsFollowed number entry old heard new =
     → new ≡ record old { replica = started Standby (value_after entry saved); kept = Some (deeds_by_value entry saved) })
 
 -- what becomes of a message, by the server's role; one for another role changes nothing
-abbrev pub IsReceived : Role → Message → ℤ → Node → Heard → Node → Type 0
+abbrev pub IsReceived : Role → Message → ℤ → NodeState → Heard → NodeState → Type 0
 IsReceived Active (Request client number call) now old heard new = IsHeard (Request client number call) now old heard new
 IsReceived Active (Receipt client key through) now old heard new = IsHeard (Receipt client key through) now old heard new
-IsReceived Active (MirrorAck number) now old heard new = (heard ≡ sent [] None Confirmed) × (new ≡ record old { waits = None })
+IsReceived Active (MirrorAck number) now old heard new = (heard ≡ sent [] None Confirmed) × (new ≡ confirmed old)
 IsReceived Active (JoinAck number) now old heard new = (heard ≡ sent [] None Joined) × (new ≡ old)
 IsReceived Standby (Mirror number entry) now old heard new = IsFollowed number entry old heard new
 IsReceived Joining (Snapshot saved) now old heard new =
@@ -159,7 +163,7 @@ CanApplyIn entry None = Unit {0}
 CanApplyIn entry (Some saved) = CanApply entry saved
 
 -- what comes from the partner: an entry that can be applied, a value that is fit
-abbrev pub CanReceive : Message → ℤ → Node → Type 0
+abbrev pub CanReceive : Message → ℤ → NodeState → Type 0
 CanReceive (Mirror number entry) now old = CanApplyIn entry old.replica.service
 CanReceive (Snapshot saved) now old = IsFit saved
 CanReceive message now old = CanHear message now
@@ -170,7 +174,7 @@ IsNextEntry number entry None = ⊥
 IsNextEntry number entry (Some saved) = (number ≡ suc saved.number) × CanApply entry saved
 
 -- what a server can be told by a journal: a fit value while it joins, and then the next entry
-abbrev pub Admits : Message → Node → Type 0
+abbrev pub Admits : Message → NodeState → Type 0
 Admits (Snapshot saved) node = (node.replica.role ≡ Joining) × IsFit saved
 Admits (Mirror number entry) node = (node.replica.role ≡ Standby) × IsNextEntry number entry node.replica.service
 Admits _ node = ⊥

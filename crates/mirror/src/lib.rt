@@ -8,6 +8,7 @@ mod owed;
 mod pairing;
 mod parts;
 mod replica;
+mod state;
 
 pub use heard::{Heard, Outcome, Role, Why};
 pub use node::Node;

@@ -1,5 +1,5 @@
 //! A server of a pair: one is active, and the other follows it and takes over where it goes down.
-ghost use Rattle.std.specs.Prelude.{◌≡◌, ◌↔◌, IsTrue, IsSome, Some, None, List, [], ◌∷◌, is_some, IfOk, OnErr, IsErrOf};
+ghost use Rattle.std.specs.Prelude.{◌≡◌, ◌↔◌, IsTrue, IsSome, Some, None, List, [], ◌∷◌, is_some, option_copied, IfOk, OnErr, IsErrOf};
 ghost use Rattle.ais_values.specs.Causes.{RoseExactlyOn};
 ghost use Rattle.disk_model.specs.DeviceCalls.{Performs};
 ghost use Rattle.disk_model.specs.declared.answers.DiskAnswer.{DiskAnswer};
@@ -10,26 +10,25 @@ ghost use Rattle.plain_service.specs.Fitness.{IsFit};
 ghost use Rattle.service_laws.specs.PlainOf.{plain_of};
 ghost use Rattle.wire.specs.declared.message.Message.TheVariants.{JoinAck};
 ghost use Rattle.mirror.specs.declared.heard.Role.TheVariants as role;
-ghost use Rattle.mirror.specs.declared.heard.Outcome.TheVariants.{Changed, Joined, Confirmed};
+ghost use Rattle.mirror.specs.declared.heard.Outcome.TheVariants.{Changed, Joined};
 ghost use Rattle.mirror.specs.Replicas.{HasService, HasRoom, down, started, number_in_hand, at_rest};
 ghost use Rattle.mirror.specs.Hearing.{CanHear};
 ghost use Rattle.mirror.specs.ByValue.{items_pushed};
 ghost use Rattle.mirror.specs.Working.{deeds_in, replies_in, worked};
-ghost use Rattle.mirror.specs.Pairing.{alone, joining, sent, IsJoinBegun, parted, worked_out, with_peer, deeds_kept, keeps_deeds, taken_over, IsHeard, IsFollowed, IsReceived, CanApplyIn, CanReceive, Admits};
+ghost use Rattle.mirror.specs.Pairing.{alone, joining, sent, IsJoinBegun, parted, worked_out, with_peer, deeds_kept, keeps_deeds, taken_over, confirmed, IsHeard, IsReceived, IsNextEntry, CanReceive, Admits};
 
 use crate::hearing::ignore;
-use crate::pairing::{hear_linked, link, one, restored, send, send_also};
-use crate::replica::Replica;
+use crate::pairing::{one, restored, send};
+use crate::state::NodeState;
 use crate::{Heard, Outcome, Role, Why};
-use ais_values::{Duplicate, Seq};
+use ais_values::Seq;
 use calls::{Entry, Saved};
 use disk_model::{DiskAnswer, SharedDisk};
 use saved_fit::is_fit;
 use service_core::Service;
 use std::alloc::{AllocError, Global};
+use std::marker::Model;
 use std::mem::replace;
-use stream_files::perform;
-use stream_layout::Deed;
 use wire::Message;
 
 /// What ties the active server to its partner.
@@ -43,74 +42,77 @@ pub enum Tie {
     Linked,
 }
 
+/// What a server has.
+#[derive(Drop)]
+enum Server {
+    /// Nothing: it is down.
+    Down,
+    /// Nothing: it waits for the value of the service.
+    Joining,
+    /// All that one with a service has.
+    Serving { state: Box<NodeState> },
+}
+
 /// A server of a pair: its replica of the service; the entry in hand while it waits until the partner has it; what ties it to
 /// its partner; the messages that the partner is promised; and the deeds of the last entry that it applied as standby, where it
-/// applied one since it started or joined.
+/// applied one since it started or joined. All this stands by itself in memory, so a server is small where it is moved.
 #[derive(Drop)]
 pub struct Node {
-    pub replica: Replica,
-    pub waits: Option<Entry>,
-    pub tie: Tie,
-    pub promised: Seq<Message>,
-    pub kept: Option<Seq<Deed>>,
+    server: Server,
 }
 
-/// A server with this replica and without partner.
-fn alone(alloc: Global, replica: Replica) -> Node
-    ensures { result ≡ alone replica }
-{
-    Node {
-        replica,
-        waits: None,
-        tie: Tie::Apart,
-        promised: Seq::new(alloc),
-        kept: None,
-    }
-}
+impl Model for Node {
+    ghost use Rattle.mirror.specs.declared.state.NodeState.{NodeState};
 
-// Does the deeds that are kept, if any are.
-fn perform_kept<D: SharedDisk>(disk: &mut D, kept: &Option<Seq<Deed>>) -> Result<(), DiskAnswer>
-    ensures performs { Performs (calls_of_all (deeds_kept kept.now)) result (D.seen disk.old).files
-        (D.seen disk.new).files (D.seen disk.old).tally (D.seen disk.new).tally }
-    ensures cause { RoseExactlyOn (D.seen disk.old).faults (D.seen disk.new).faults result
-        DiskAnswer.Failed }
-    ensures stop { RoseExactlyOn (D.seen disk.old).stops (D.seen disk.new).stops result
-        DiskAnswer.Stopped }
-{
-    match kept {
-        Some(deeds) => perform(disk, deeds),
-        None => Ok(()),
-    }
+    ghost Value = { NodeState };
+
+    ghost use Rattle.mirror.specs.InsideNode.{state_of};
+
+    ghost view = { state_of };
 }
 
 impl Node {
-    /// A server that begins with a service, as the active one or as standby, without link and with nothing in hand.
-    pub fn start(alloc: Global, role: Role, service: Service) -> Node
+    /// A server that begins with a service, as the active one or as standby, without link and with nothing in hand. `Err` comes only
+    /// for want of memory.
+    pub fn start(alloc: Global, role: Role, service: Service) -> Result<Node, AllocError>
         requires { HasService role }
-        ensures { result ≡ alone (started role service) }
+        ensures { IfOk result (λ node. node ≡ alone (started role service)) }
     {
-        alone(alloc, Replica::start(role, service))
+        let state = Box::new(alloc, NodeState::start(alloc, role, service))?;
+        Ok(Node {
+            server: Server::Serving { state },
+        })
     }
 
     /// A server that waits for the value of the service.
     pub fn joining(alloc: Global) -> Node
         ensures { result ≡ alone joining }
     {
-        alone(alloc, Replica::joining())
+        let _ = alloc;
+        Node {
+            server: Server::Joining,
+        }
     }
 
     /// A server that is down.
     pub fn down(alloc: Global) -> Node
         ensures { result ≡ alone down }
     {
-        alone(alloc, Replica::down())
+        let _ = alloc;
+        Node {
+            server: Server::Down,
+        }
     }
 
     /// The server's role.
     pub fn role(&self) -> Role
         ensures { result ≡ self.now.replica.role }
     {
-        self.replica.role()
+        match &self.server {
+            Server::Down => Role::Down,
+            Server::Joining => Role::Joining,
+            Server::Serving { state } => state.role(),
+        }
     }
 
     /// Whether the server is a standby that has applied an entry since it started or received the value of the service.
@@ -118,9 +120,10 @@ impl Node {
     pub fn keeps(&self) -> bool
         ensures { result ≡ keeps_deeds self.now }
     {
-        match self.role() {
-            Role::Standby => self.kept.is_some(),
-            _ => false,
+        match &self.server {
+            Server::Down => false,
+            Server::Joining => false,
+            Server::Serving { state } => state.keeps(),
         }
     }
 
@@ -128,7 +131,11 @@ impl Node {
     pub fn has_room(&self) -> bool
         ensures { IsTrue result ↔ HasRoom self.now.replica.service }
     {
-        self.replica.has_room()
+        match &self.server {
+            Server::Down => true,
+            Server::Joining => true,
+            Server::Serving { state } => state.has_room(),
+        }
     }
 
     /// The number of the entry in hand: the first that was ever accepted has number 1. `None` comes exactly where nothing is in
@@ -137,34 +144,45 @@ impl Node {
         ensures number { result ≡ number_in_hand self.now.replica }
         ensures none { result ≡ None → self.now.replica.owed ≡ None }
     {
-        self.replica.in_hand()
+        match &self.server {
+            Server::Down => None,
+            Server::Joining => None,
+            Server::Serving { state } => state.in_hand(),
+        }
     }
 
     /// Whether an entry is in hand that is ready to work.
     pub fn ready(&self) -> bool
         ensures { IsTrue result ↔ (IsSome self.now.replica.owed × (self.now.waits ≡ None)) }
     {
-        self.replica.ready() && self.waits.is_none()
+        match &self.server {
+            Server::Down => false,
+            Server::Joining => false,
+            Server::Serving { state } => state.ready(),
+        }
     }
 
-    // Goes down; what it had is let go.
-    fn go_down(&mut self, alloc: Global)
-        ensures { self.new ≡ alone down }
+    /// The entry in hand that waits until the partner has it.
+    pub fn waiting(&self) -> Option<&Entry>
+        ensures { option_copied result ≡ self.now.waits }
     {
-        let before = replace(self, Node::down(alloc));
-        drop(before);
+        match &self.server {
+            Server::Down => None,
+            Server::Joining => None,
+            Server::Serving { state } => state.waiting(),
+        }
     }
 
-    // Becomes active, without link and with nothing in hand.
-    fn lead(&mut self, alloc: Global)
-        ensures { self.new ≡ taken_over self.old }
+    /// The entry in hand waits no longer: it is ready. Answers with it, if it waited.
+    pub fn take_waiting(&mut self) -> Option<Entry>
+        ensures entry { result ≡ self.old.waits }
+        ensures now { self.new ≡ confirmed self.old }
     {
-        self.replica.act();
-        let waiting = self.waits.take();
-        drop(waiting);
-        self.tie = Tie::Apart;
-        self.promised = Seq::new(alloc);
-        self.kept = None;
+        match &mut self.server {
+            Server::Down => None,
+            Server::Joining => None,
+            Server::Serving { state } => state.take_waiting(),
+        }
     }
 
     /// A partner joins the active server. With nothing in hand it gets the value of the service at once and is linked;
@@ -175,15 +193,11 @@ impl Node {
             IsJoinBegun (is_some self.old.replica.owed) self.old heard self.new) }
         ensures err { OnErr result (self.new ≡ self.old) }
     {
-        let snapshot = self.replica.snapshot(alloc)?;
-        if self.replica.ready() {
-            self.promised = snapshot;
-            self.tie = Tie::Owing;
-            return Ok(send(alloc, Seq::new(alloc), None, Outcome::Changed));
+        match &mut self.server {
+            Server::Down => unreachable!(),
+            Server::Joining => unreachable!(),
+            Server::Serving { state } => state.begin_join(alloc),
         }
-        self.promised = Seq::new(alloc);
-        self.tie = Tie::Linked;
-        Ok(send(alloc, snapshot, None, Outcome::Changed))
     }
 
     /// The partner of the active server went down: there is no link, nothing is promised, and an entry that waits is
@@ -193,10 +207,11 @@ impl Node {
         ensures heard { result ≡ sent [] self.old.waits Changed }
         ensures now { self.new ≡ parted self.old }
     {
-        self.promised = Seq::new(alloc);
-        self.tie = Tie::Apart;
-        let committed = self.waits.take();
-        send(alloc, Seq::new(alloc), committed, Outcome::Changed)
+        match &mut self.server {
+            Server::Down => unreachable!(),
+            Server::Joining => unreachable!(),
+            Server::Serving { state } => state.peer_down(alloc),
+        }
     }
 
     /// Does the deeds of the entry in hand, which is ready, in order, and then asks for the reply to be posted, if there
@@ -224,21 +239,10 @@ impl Node {
         ensures stop { RoseExactlyOn (D.seen disk.old).stops (D.seen disk.new).stops result
             DiskAnswer.Stopped }
     {
-        match self.replica.work(alloc, disk) {
-            Ok(heard) => {
-                self.tie = link(self.tie);
-                let promised = replace(&mut self.promised, Seq::new(alloc));
-                Ok(send_also(heard, promised))
-            }
-            Err(DiskAnswer::Memory) => Err(DiskAnswer::Memory),
-            Err(DiskAnswer::Failed) => {
-                self.go_down(alloc);
-                Err(DiskAnswer::Failed)
-            }
-            Err(DiskAnswer::Stopped) => {
-                self.go_down(alloc);
-                Err(DiskAnswer::Stopped)
-            }
+        match &mut self.server {
+            Server::Down => unreachable!(),
+            Server::Joining => unreachable!(),
+            Server::Serving { state } => state.work(alloc, disk),
         }
     }
 
@@ -268,20 +272,10 @@ impl Node {
         ensures stop { RoseExactlyOn (D.seen disk.old).stops (D.seen disk.new).stops result
             DiskAnswer.Stopped }
     {
-        match perform_kept(disk, &self.kept) {
-            Ok(()) => {
-                self.lead(alloc);
-                Ok(send(alloc, Seq::new(alloc), None, Outcome::Changed))
-            }
-            Err(DiskAnswer::Memory) => Err(DiskAnswer::Memory),
-            Err(DiskAnswer::Failed) => {
-                self.go_down(alloc);
-                Err(DiskAnswer::Failed)
-            }
-            Err(DiskAnswer::Stopped) => {
-                self.go_down(alloc);
-                Err(DiskAnswer::Stopped)
-            }
+        match &mut self.server {
+            Server::Down => unreachable!(),
+            Server::Joining => unreachable!(),
+            Server::Serving { state } => state.takeover(alloc, disk),
         }
     }
 
@@ -295,40 +289,28 @@ impl Node {
         ensures value { IfOk result (λ messages.
             messages ≡ items_pushed self.now.replica.service) }
     {
-        self.replica.push(alloc)
+        match &self.server {
+            Server::Down => unreachable!(),
+            Server::Joining => unreachable!(),
+            Server::Serving { state } => state.push(alloc),
+        }
     }
 
-    // The active server hears a request or a receipt. On an error nothing changes.
-    fn hear(&mut self, alloc: Global, message: &Message, now: i64) -> Result<Heard, AllocError>
+    /// The active server hears a message of the net, as `receive` says of requests and receipts. Any other one is ignored: as busy while
+    /// an entry is in hand, and else as not for its role. Fewer than 4,000,000,000 entries were accepted. `Err` comes only for want of
+    /// memory, and nothing changes then.
+    pub fn hear(&mut self, alloc: Global, message: &Message, now: i64) -> Result<Heard, AllocError>
         requires hear { CanHear message.now now }
         requires few { HasRoom self.old.replica.service }
         requires role { self.old.replica.role ≡ role.Active }
         ensures ok { IfOk result (λ heard. IsHeard message.now now self.old heard self.new) }
         ensures err { OnErr result (self.new ≡ self.old) }
     {
-        match self.tie {
-            Tie::Linked => hear_linked(&mut self.replica, &mut self.waits, alloc, message, now),
-            _ => self.replica.receive(alloc, message, now),
+        match &mut self.server {
+            Server::Down => unreachable!(),
+            Server::Joining => unreachable!(),
+            Server::Serving { state } => state.hear(alloc, message, now),
         }
-    }
-
-    // The standby applies an entry and keeps its deeds. On an error nothing changes.
-    fn follow(&mut self, alloc: Global, number: u64, entry: &Entry) -> Result<Heard, AllocError>
-        requires { CanApplyIn entry.now self.old.replica.service }
-        ensures ok { IfOk result (λ heard. IsFollowed number entry.now self.old heard self.new) }
-        ensures err { OnErr result (self.new ≡ self.old) }
-    {
-        let to_peer = one(alloc, Message::MirrorAck { number })?;
-        let committed = entry.copy(alloc)?;
-        let deeds = match self.replica.apply(alloc, entry) {
-            Ok(deeds) => deeds,
-            Err(error) => {
-                drop(committed);
-                return Err(error);
-            }
-        };
-        self.kept = Some(deeds);
-        Ok(send(alloc, to_peer, Some(committed), Outcome::Applied))
     }
 
     // A server that joins gets the value of the service. On an error nothing changes.
@@ -342,8 +324,8 @@ impl Node {
         let number = saved.number;
         let to_peer = one(alloc, Message::JoinAck { number })?;
         let service = restored(alloc, saved)?;
-        let before = replace(self, Node::start(alloc, Role::Standby, service));
-        drop(before);
+        let node = Node::start(alloc, Role::Standby, service)?;
+        drop(replace(self, node));
         Ok(send(alloc, to_peer, None, Outcome::Joined))
     }
 
@@ -361,16 +343,10 @@ impl Node {
             IsReceived role.Active message.now now self.old heard self.new) }
         ensures err { OnErr result (self.new ≡ self.old) }
     {
-        match message {
-            Message::Request { .. } => self.hear(alloc, message, now),
-            Message::Receipt { .. } => self.hear(alloc, message, now),
-            Message::MirrorAck { .. } => {
-                let confirmed = self.waits.take();
-                drop(confirmed);
-                Ok(send(alloc, Seq::new(alloc), None, Outcome::Confirmed))
-            }
-            Message::JoinAck { .. } => { Ok(send(alloc, Seq::new(alloc), None, Outcome::Joined)) }
-            _ => Ok(ignore(alloc, Why::NotForRole { role: Role::Active })),
+        match &mut self.server {
+            Server::Down => unreachable!(),
+            Server::Joining => unreachable!(),
+            Server::Serving { state } => state.receive_active(alloc, message, now),
         }
     }
 
@@ -381,20 +357,16 @@ impl Node {
         message: &Message,
         now: i64,
     ) -> Result<Heard, AllocError>
-        requires { CanReceive message.now now self.old }
+        requires receive { CanReceive message.now now self.old }
+        requires role { self.old.replica.role ≡ role.Standby }
         ensures ok { IfOk result (λ heard.
             IsReceived role.Standby message.now now self.old heard self.new) }
         ensures err { OnErr result (self.new ≡ self.old) }
     {
-        let _ = now;
-        match message {
-            Message::Mirror { number, entry } => self.follow(alloc, *number, entry),
-            _ => Ok(ignore(
-                alloc,
-                Why::NotForRole {
-                    role: Role::Standby,
-                },
-            )),
+        match &mut self.server {
+            Server::Down => unreachable!(),
+            Server::Joining => unreachable!(),
+            Server::Serving { state } => state.receive_standby(alloc, message, now),
         }
     }
 
@@ -422,6 +394,17 @@ impl Node {
         }
     }
 
+    // Whether an entry of this number is the next one, and can be applied.
+    fn follows(&self, number: u64, entry: &Entry) -> bool
+        ensures { IsTrue result ↔ IsNextEntry number entry.now self.now.replica.service }
+    {
+        match &self.server {
+            Server::Down => false,
+            Server::Joining => false,
+            Server::Serving { state } => state.follows(number, entry),
+        }
+    }
+
     /// Whether the server can receive what a journal or the active server tells it: it is joining and the message is a fit value
     /// of the service, or it is standby and the message is the entry of the next number, which can be applied. It takes no
     /// memory.
@@ -430,11 +413,9 @@ impl Node {
     {
         let _ = alloc;
         match message {
-            Message::Snapshot { saved } => {
-                Ok(self.replica.role() == Role::Joining && is_fit(saved))
-            }
+            Message::Snapshot { saved } => { Ok(self.role() == Role::Joining && is_fit(saved)) }
             Message::Mirror { number, entry } => {
-                Ok(self.replica.role() == Role::Standby && self.replica.follows(*number, entry))
+                Ok(self.role() == Role::Standby && self.follows(*number, entry))
             }
             _ => Ok(false),
         }
@@ -470,7 +451,7 @@ impl Node {
             IsReceived self.old.replica.role message.now now self.old heard self.new) }
         ensures err { OnErr result (self.new ≡ self.old) }
     {
-        match self.replica.role() {
+        match self.role() {
             Role::Active => self.receive_active(alloc, message, now),
             Role::Standby => self.receive_standby(alloc, message, now),
             Role::Joining => self.receive_joining(alloc, message, now),

@@ -12,14 +12,14 @@ pub tell_heard-requires-clause-range : goal.tell_heard-requires-clause-range
 tell_heard-requires-clause-range c =
     let a = c.args in
     let heard = c.in_ok-heard.heard in
-    let H : ℤ → Type 0 = λ now. IsHeard a.message.now now a.active.now heard c.receive.new.active in
-    c.requires.range heard c.receive.new.active (subst H (to_z-of_z w64 a.now c.ranges.now) c.in_ok-heard.ensures.ok)
+    let H : ℤ → Type 0 = λ now. IsHeard a.message.now now a.active.now heard c.hear.new.self in
+    c.requires.range heard c.hear.new.self (subst H (to_z-of_z w64 a.now c.ranges.now) c.in_ok-heard.ensures.ok)
 
 pub returns-clause-ok : goal.returns-clause-ok
 returns-clause-ok c =
     let a = c.args in
     let heard = c.in_ok-heard.heard in
-    let H : ℤ → Type 0 = λ now. IsHeard a.message.now now a.active.now heard c.receive.new.active in
+    let H : ℤ → Type 0 = λ now. IsHeard a.message.now now a.active.now heard c.hear.new.self in
     let T : List Entry → Type 0 = λ entries. IsTold a.place heard a.net.now c.tell_heard.new.net entries c.tell_heard.new.history.entries a.lines.now.items c.tell_heard.new.lines.items in
     IfOk-weaker c.tell_heard.result _ _
     (λ mirrored both. record {
@@ -35,7 +35,7 @@ pub returns-clause-err : goal.returns-clause-err
 returns-clause-err c =
     let a = c.args in
     let heard = c.in_ok-heard.heard in
-    let H : ℤ → Type 0 = λ now. IsHeard a.message.now now a.active.now heard c.receive.new.active in
+    let H : ℤ → Type 0 = λ now. IsHeard a.message.now now a.active.now heard c.hear.new.self in
     on_err_weaker c.tell_heard.result
     (λ both. record {
       history = ap (λ (h : Pushed). h.entries) both.1 ∙ c.in_ok-reserve.ensures.entries;
