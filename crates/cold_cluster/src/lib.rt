@@ -13,6 +13,7 @@ ghost use Rattle.cluster_events.specs.Serving.{IsServing, IsCarried, AreStepped,
 ghost use Rattle.cold_cluster.specs.Cold.{Alone, cold, cold_begun, IsCold};
 ghost use Rattle.cold_cluster.specs.Falling.{armed_alone, fallen, Restarts};
 ghost use Rattle.cold_cluster.specs.Laws.{Keeps};
+ghost use Rattle.cold_cluster.specs.Promises.{ColdEndKeeps, ColdEndLacks, ColdKeepsPromises, ColdSettleEnds, ColdSettleSettles, ColdStaysUp};
 
 /// They serve, pay for each step by what is left to do, and say what happened; each step of theirs does.
 pub fn law_of_cold()
@@ -39,4 +40,22 @@ pub fn law_of_restarts()
     ensures arms { (plain : Plain) → IsPlain plain
         → (armed beside : Option ℕ) (state : State Alone) → IsSteady plain IsCold state
         → Keeps plain state (armed_alone armed beside state) }
+{}
+
+/// Wherever a disk stops and however often the server crashes and comes back: at the end of each line of a run there is one history, legal
+/// and printed; each reply line is the service's, each call has one at most; callbacks are handed out in order, each once. Where no disk is
+/// armed `settle` comes to its end, and only `crash` takes the server down. After a `settle` that came to its end every call is answered and
+/// no item is held, but for those whose client's callback queue is full.
+pub fn law_of_runs()
+    ensures promises { ColdKeepsPromises }
+    ensures ends { ColdSettleEnds }
+    ensures settled { ColdSettleSettles }
+    ensures stays { ColdStaysUp }
+{}
+
+/// Where a fault of a disk ends a run, history, replies and callbacks are as at the end of a line, and no reply is posted to a call whose work
+/// failed.
+pub fn law_of_ends()
+    ensures promises { ColdEndKeeps }
+    ensures lacks { ColdEndLacks }
 {}
