@@ -5,3 +5,4 @@ pub mod LineSpelled
 pub mod OwnLines
 mod ShowSteps
 mod WildLines
+pub mod StopSteps

@@ -16,6 +16,7 @@ use Rattle.cluster_clients.specs.Looks.{Looks}
 use Rattle.cluster_events.specs.Lines.{is_ignored}
 use Rattle.cluster_events.specs.Outcomes.{Outcome}
 use Rattle.cluster_events.specs.Servers.{State}
+use Rattle.cluster_events.specs.Devices.{EndBy}
 use Rattle.cluster_events.proofs.Promised.{Says-printed}
 use Rattle.cluster_rounds.specs.declared.cluster.Cluster.{Cluster}
 use Rattle.cluster_rounds.specs.Kits.{IsKit, Kit, device_by}
@@ -24,12 +25,12 @@ use Rattle.cluster_rounds.specs.Worlds.{HasStateOn, IsGood, Shows, any_state}
 use Rattle.cluster_rounds.specs.Broken.{Broken, BreaksAlone}
 use Rattle.cluster_rounds.proofs.BrokenSteps.{left-between, whole-broken}
 use Rattle.cluster_rounds.proofs.UnaskedSteps.{unasked-same}
-use Rattle.cluster_rounds.specs.Rounds.{EndOver, EndsSettle}
+use Rattle.cluster_rounds.specs.Rounds.{EndsSettle}
 use Rattle.cluster_rounds.specs.Came.{ComesOff, Ended}
 use Rattle.cluster_rounds.specs.Counted.{Counted}
 use Rattle.cluster_rounds.specs.Seen.{IsRead}
 use Rattle.cluster_rounds.proofs.BrokenClients.{same-breaks}
-use Rattle.cluster_lines.specs.Playing.{BreaksOff, EndsLine, FaultLeaves, LineEnded, ShowFails}
+use Rattle.cluster_lines.specs.Playing.{BreaksOff, EndsLine, FaultLeaves, LineEnded, SharesIn, ShowFails}
 use Rattle.cluster_lines.specs.Following.{IsScript}
 use Rattle.cluster_lines.specs.Answers.{EndsAs}
 
@@ -80,14 +81,14 @@ module _ {Peers Group : Type 0} (kit : Kit Peers Group) (laws : IsKit kit) (scri
   ends-broken (Ok x) (Err f) next old new before after held same breaks = elim same [ ]
   ends-broken (Err e) (Ok y) next old new before after held same breaks = elim same [ ]
   ends-broken (Err e) (Err f) next old new before after held same breaks =
-      subst (λ answer. (BreaksOff kit script) answer next old new before after held held) (sym same) (λ setup state good shows count. (breaks held setup state good shows, laws.lacks_same setup state held))
+      subst (λ answer. (BreaksOff kit script) answer next old new before after held held) (sym same) (λ setup state good shows count. (breaks held setup state good shows, laws.lacks_same setup state new.servers held))
 
   -- **an event that ended is its line's end, with its lines on messages without effect left out**
-  pub ended-line : (next : Line) (Ends : (EndOver kit)) (setup : Setup) (state : State Peers) (new : Cluster Group) (before after : List (List ℕ)) (held left : kit.Seen) → ((fails : ℕ → ℕ) (end : Outcome (State Peers)) → Ends setup fails state end → (EndsLine kit script) next setup fails state (record { state = end.state; told = without is_ignored end.told })) → ((happened : ℕ → ℕ) (end : Outcome (State Peers)) → kit.Faults setup happened state end held left → script.Faults next setup happened state (record { state = end.state; told = without is_ignored end.told }) held left) → (Ended kit) setup state (Ends setup) new before after held left → (LineEnded kit script) setup state next new before after held left
+  pub ended-line : (next : Line) (Ends : Setup → EndBy Peers) (setup : Setup) (state : State Peers) (new : Cluster Group) (before after : List (List ℕ)) (held left : kit.Seen) → ((fails : ℕ → ℕ) (end : Outcome (State Peers)) → Ends setup fails state end → (EndsLine kit script) next setup fails state (record { state = end.state; told = without is_ignored end.told })) → ((happened : ℕ → ℕ) (end : Outcome (State Peers)) → kit.Faults setup happened state end held left → script.Faults next setup happened state (record { state = end.state; told = without is_ignored end.told }) held left) → (Ended kit) setup state (Ends setup) new before after held left → (LineEnded kit script) setup state next new before after held left
   ended-line next Ends setup state new before after held left as_line as_fault ended = record {
     happened = ended.happened;
     end = record { state = ended.end.state; told = without is_ignored ended.end.told };
-    ends = record { later = ended.ends.later; is = λ fails agrees. as_line fails ended.end (ended.ends.is fails agrees) };
+    ends = as_line ended.happened ended.end (ended.ends.is ended.happened (λ number above within. refl));
     faults = as_fault ended.happened ended.end ended.faults;
     good = ended.good;
     says = Says-printed (plain_of setup) state.world ended.end.state.world ended.end.told ended.says;
@@ -101,24 +102,20 @@ module _ {Peers Group : Type 0} (kit : Kit Peers Group) (laws : IsKit kit) (scri
     files = ended.files;
   }
 
-  settle-off : (answer : DiskAnswer) (old new : Cluster Group) (before after : List (List ℕ)) (held left : kit.Seen) → (ComesOff kit) any_state (EndsSettle kit) answer old new before after held left → (BreaksOff kit script) answer line.Settle old new before after held left
-  settle-off Memory old new before after held left off = λ setup state good shows count. off setup state good shows count tt
-  settle-off Stopped old new before after held left off = λ setup state good shows count. off setup state good shows count tt
-  settle-off Failed old new before after held left off = λ setup state good shows count.
-      ended-line line.Settle (EndsSettle kit) setup state new before after held left
-      (λ fails end ends. follows.settles (plain_of setup) (device_by setup fails) state end ends) (λ happened end faults. follows.settle_faults setup happened state end held left faults) (off setup state good shows count tt)
-
-  pub settle-broken : {T : Type 0} (r : Result T DiskAnswer) (next : Line) (old new : Cluster Group) (before after : List (List ℕ)) (held left : kit.Seen) → next ≡ line.Settle → IfErr r (λ answer. (ComesOff kit) any_state (EndsSettle kit) answer old new before after held left) → IfErr r (λ answer. (BreaksOff kit script) answer next old new before after held left)
-  settle-broken (Ok x) next old new before after held left is breaks = tt
-  settle-broken (Err answer) next old new before after held left is breaks =
-      subst (λ n. (BreaksOff kit script) answer n old new before after held left) (sym is) (settle-off answer old new before after held left breaks)
+  -- `settle` that broke off by no stop
+  pub settle-broken : (answer : DiskAnswer) (old new : Cluster Group) (before after : List (List ℕ)) (held left : kit.Seen) → (SharesIn kit script) line.Settle old → (answer ≡ Stopped → ⊥) → (ComesOff kit) any_state (EndsSettle kit) answer old new before after held left → (BreaksOff kit script) answer line.Settle old new before after held left
+  settle-broken Memory old new before after held left shared never off = λ setup state good shows count. off setup state good shows count tt
+  settle-broken Stopped old new before after held left shared never off = absurd (never refl)
+  settle-broken Failed old new before after held left shared never off = λ setup state good shows count.
+      ended-line line.Settle (EndsSettle kit Failed) setup state new before after held left
+      (λ fails end ends. follows.settles (plain_of setup) (device_by setup fails) state end (shared setup state good shows) ends) (λ happened end faults. follows.settle_faults setup happened state end held left faults) (off setup state good shows count tt)
 
   -- files were to be shown
-  read-lacks : (one two beside : DiskSeen) → IsRead one two → two.faults ≡ one.faults → (setup : Setup) (state : State Peers) (world : Cluster Group) → (IsGood kit) setup state → (Shows kit) setup state world → (Broken kit) setup state (kit.see one beside) (kit.see two beside) world × kit.Lacks setup state (kit.see one beside) (kit.see two beside)
+  read-lacks : (one two beside : DiskSeen) → IsRead one two → two.faults ≡ one.faults → (setup : Setup) (state : State Peers) (world : Cluster Group) → (IsGood kit) setup state → (Shows kit) setup state world → (Broken kit) setup state (kit.see one beside) (kit.see two beside) world × kit.Lacks setup state world.servers (kit.see one beside) (kit.see two beside)
   read-lacks one two beside read faults setup state world good shows =
       let nothing = unasked-same (plain_of setup) state.world in
       let left : kit.Tells setup state (kit.see one beside) → kit.Between setup (committed state.world.core) (kit.see one beside) (kit.see two beside) = λ tells. (left-between kit laws) setup state (kit.see one beside) (kit.see two beside) good (laws.read_left setup state one two beside read tells) in
-      ((whole-broken kit laws) setup state state [] (kit.see one beside) (kit.see two beside) world good.steady.sound nothing shows.net shows.agents shows.history shows.now left, laws.read_lacks setup state one two beside read faults)
+      ((whole-broken kit laws) setup state state [] (kit.see one beside) (kit.see two beside) world good.steady.sound nothing shows.net shows.agents shows.history shows.now left, laws.read_lacks setup state world.servers one two beside read faults)
 
   pub show-broken : {T : Type 0} (r : Result T DiskAnswer) (next : Line) (old : Cluster Group) (before after : List (List ℕ)) (one two beside : DiskSeen) → (FaultLeaves kit script) next old old before before (kit.see one beside) (kit.see two beside) → IsRead one two → RoseExactlyOn one.faults two.faults r Failed → (IsErrOf r Failed → after ≡ before) → (IsErrOf r Stopped → ⊥) → IfErr r (λ answer. (BreaksOff kit script) answer next old old before after (kit.see one beside) (kit.see two beside))
   show-broken (Ok x) next old before after one two beside leaves read cause stays never = tt

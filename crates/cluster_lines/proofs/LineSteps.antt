@@ -9,15 +9,19 @@ use Rattle.ais_values.proofs.Basics.{true_from_T}
 use Rattle.disk_model.specs.Disk.{Files}
 use Rattle.disk_model.specs.Seen.{DiskSeen}
 use Rattle.disk_model.specs.declared.answers.DiskAnswer.{DiskAnswer}
+use Rattle.disk_model.specs.declared.answers.DiskAnswer.TheVariants.{Stopped}
 use Rattle.disk_model.specs.declared.tally.Tally.{Tally}
 use Rattle.script_lines.specs.declared.line.Line.{Line}
 use Rattle.script_lines.specs.declared.line.Line.TheVariants as line
 use Rattle.plain_service.specs.Setups.{Setup, IsMoment}
+use Rattle.plain_service.specs.Storing.{files_of}
 use Rattle.service_laws.specs.PlainOf.{plain_of}
 use Rattle.cluster_facts.specs.Types.{Ask, Message}
+use Rattle.cluster_facts.specs.Lists.{without}
 use Rattle.cluster_facts.specs.History.{Hand, Empty, Waiting, Applied, Ready}
 use Rattle.cluster_facts.specs.World.{posting_at}
 use Rattle.cluster_events.specs.declared.lines.Standing.{Standing}
+use Rattle.cluster_events.specs.Lines.{is_ignored}
 use Rattle.cluster_events.specs.Outcomes.{Outcome}
 use Rattle.cluster_events.specs.Servers.{State, in_world}
 use Rattle.cluster_events.specs.ClientEvents.{set_time, inject}
@@ -33,17 +37,17 @@ use Rattle.cluster_rounds.specs.Kits.{IsKit, Kit, calm_servers, device_by}
 use Rattle.cluster_rounds.specs.Scripts.{Script}
 use Rattle.cluster_rounds.specs.Worlds.{Event, Shows, IsGood, HasState, HasStateOf, HasStateOn, IsIdle, Does, Happened, pushed, Pushes, any_state}
 use Rattle.cluster_rounds.specs.Broken.{BreaksAlone, BreaksAloneIf}
-use Rattle.cluster_rounds.specs.Rounds.{EventOver}
+use Rattle.cluster_rounds.specs.Rounds.{EndsSettle, EventOver}
 use Rattle.cluster_rounds.specs.Resting.Rests.{begun, moved}
 use Rattle.cluster_rounds.specs.Seen.{IsRead, TellsFiles}
-use Rattle.cluster_rounds.specs.Came.{Comes}
+use Rattle.cluster_rounds.specs.Came.{Comes, ComesOff}
 use Rattle.cluster_rounds.specs.Settling.{DoesSettle}
 use Rattle.cluster_rounds.specs.Delivered.{asked_by, dispatched_by, resent_by, Delivers, Injects}
 use Rattle.cluster_rounds.proofs.KitSteps.{line-kept}
-use Rattle.cluster_lines.specs.Shelves.{shelf_of}
-use Rattle.cluster_lines.specs.Lines.{CanPlay, IsOwn, is_own}
+use Rattle.cluster_lines.specs.Shelves.{shelf_at, shelf_of}
+use Rattle.cluster_lines.specs.Lines.{CanPlay, IsOwn, is_own, shows_files}
 use Rattle.cluster_lines.specs.Showing.{StandsAs, refused, servers_listed}
-use Rattle.cluster_lines.specs.Playing.{LooksBy, Plays}
+use Rattle.cluster_lines.specs.Playing.{LooksBy, Plays, SharesIn}
 use Rattle.cluster_lines.specs.Following.{IsInHand, IsScript}
 use Rattle.cluster_lines.specs.Answers.{EndsAs}
 use Rattle.cluster_lines.specs.Steps.{PlaysAlone, ShowsOn, deliver_at, file_shown, files_listed}
@@ -68,6 +72,11 @@ looks-alone line.Files held done tally no_list no_file = absurd (no_list refl)
 looks-alone (line.Cat name) held done tally no_list no_file = absurd (no_file name refl)
 looks-alone line.Settle held done tally no_list no_file = tt
 looks-alone _ held done tally no_list no_file = λ shared. refl
+
+pub shows-none : (next : Line) → (next ≡ line.Files → ⊥) → ((name : List ℕ) → next ≡ line.Cat name → ⊥) → shows_files next ≡ false
+shows-none line.Files no_list no_file = absurd (no_list refl)
+shows-none (line.Cat name) no_list no_file = absurd (no_file name refl)
+shows-none _ no_list no_file = refl
 
 pub looks-own : (next : Line) (held : Option Files) (done : Bool) (old new : Tally) → is_own next ≡ true → LooksBy next held done old new
 looks-own line.Files held done old new own = cc
@@ -166,6 +175,12 @@ module _ {Peers Group : Type 0} (kit : Kit Peers Group) (laws : IsKit kit) where
       let done = does has.setup has.state has.good has.shows has.count in
       record { setup = has.setup; state = done.outcome.state; good = done.is.1; shows = done.is.0; count = done.count; so = tt }
 
+  -- `settle` that ended by a stop of the disk
+  pub halt-stands : (old new : Cluster Group) (before after : List (List ℕ)) (held left : kit.Seen) → (HasStateOn kit) any_state old held → (ComesOff kit) any_state (EndsSettle kit) Stopped old new before after held left → (HasStateOn kit) any_state new left
+  halt-stands old new before after held left has halts =
+      let halted = halts has.setup has.state has.good has.shows has.count tt in
+      record { setup = has.setup; state = halted.end.state; good = halted.good; shows = halted.shows; count = halted.count; so = tt }
+
   pub came-stands : (event : (EventOver kit)) (old new : Cluster Group) (before after : List (List ℕ)) (loud : Bool) (held left : kit.Seen) → (HasStateOn kit) any_state old held → (Comes kit) any_state event old new before after loud held left → (HasStateOn kit) any_state new left
   came-stands event old new before after loud held left has comes =
       let came = comes has.setup has.state has.good has.shows has.count tt in
@@ -242,9 +257,9 @@ module _ {Peers Group : Type 0} (kit : Kit Peers Group) (laws : IsKit kit) where
 module _ {Peers Group : Type 0} (kit : Kit Peers Group) (laws : IsKit kit) (script : Script Peers kit.Seen) (follows : IsScript kit script) where
   -- A push, by whether an entry is in hand.
 
-  known : (old : Cluster Group) (standing : Standing) → (StandsAs kit) old standing → (setup : Setup) (state : State Peers) → (IsGood kit) setup state → (Shows kit) setup state old → IsInHand standing.in_hand state.world.core.hand
-  known old standing stands setup state good shows =
-      subst (λ (s : Standing). IsInHand s.in_hand state.world.core.hand) (sym (stands setup state good shows)) (follows.in_hand (plain_of setup) (device_by setup (λ number. 0)) state)
+  known : (old : Cluster Group) (standing : Standing) → (SharesIn kit script) line.Push old → (StandsAs kit) old standing → (setup : Setup) (state : State Peers) → (IsGood kit) setup state → (Shows kit) setup state old → IsInHand standing.in_hand state.world.core.hand
+  known old standing shared stands setup state good shows =
+      subst (λ (s : Standing). IsInHand s.in_hand state.world.core.hand) (sym (stands setup state good shows)) (follows.in_hand (plain_of setup) (device_by setup (λ number. 0)) state (shared setup state good shows))
 
   push-busy-by : (setup : Setup) (state : State Peers) (hand : Hand) → (hand ≡ Empty → ⊥) → push_by (plain_of setup) (calm_servers kit setup) hand state ≡ refuse (calm_servers kit setup) line.Push state
   push-busy-by setup state Empty busy = absurd (busy refl)
@@ -252,45 +267,45 @@ module _ {Peers Group : Type 0} (kit : Kit Peers Group) (laws : IsKit kit) (scri
   push-busy-by setup state (Applied entry) busy = refl
   push-busy-by setup state (Ready entry) busy = refl
 
-  pub pushes-busy : (old : Cluster Group) (standing : Standing) (before after : List (List ℕ)) → (StandsAs kit) old standing → true ≡ is_some standing.in_hand → (Does kit) ((refused kit) line.Push) old old before after → (Does kit) (pushed kit) old old before after
-  pushes-busy old standing before after stands some refuses setup state good shows =
+  pub pushes-busy : (old : Cluster Group) (standing : Standing) (before after : List (List ℕ)) → (SharesIn kit script) line.Push old → (StandsAs kit) old standing → true ≡ is_some standing.in_hand → (Does kit) ((refused kit) line.Push) old old before after → (Does kit) (pushed kit) old old before after
+  pushes-busy old standing before after shared stands some refuses setup state good shows =
       let hand = state.world.core.hand in
       let H : Outcome (State Peers) → Type 0 = λ outcome. (Happened kit) setup outcome old before after in
-      subst H (sym (push-busy-by setup state hand (busy-by standing.in_hand hand some (known old standing stands setup state good shows)))) (refuses setup state good shows)
+      subst H (sym (push-busy-by setup state hand (busy-by standing.in_hand hand some (known old standing shared stands setup state good shows)))) (refuses setup state good shows)
 
   -- nothing is in hand where none has a number
-  idle-known : (old : Cluster Group) (standing : Standing) → (StandsAs kit) old standing → false ≡ is_some standing.in_hand → (setup : Setup) (state : State Peers) → (IsGood kit) setup state → (Shows kit) setup state old → IsIdle state
-  idle-known old standing stands none setup state good shows =
-      idle-by standing.in_hand state.world.core.hand none (known old standing stands setup state good shows)
+  idle-known : (old : Cluster Group) (standing : Standing) → (SharesIn kit script) line.Push old → (StandsAs kit) old standing → false ≡ is_some standing.in_hand → (setup : Setup) (state : State Peers) → (IsGood kit) setup state → (Shows kit) setup state old → IsIdle state
+  idle-known old standing shared stands none setup state good shows =
+      idle-by standing.in_hand state.world.core.hand none (known old standing shared stands setup state good shows)
 
-  pub stands-idle : (old : Cluster Group) (standing : Standing) → (StandsAs kit) old standing → false ≡ is_some standing.in_hand → (HasState kit) old → (HasStateOf kit) IsIdle old
-  stands-idle old standing stands none has = record {
+  pub stands-idle : (old : Cluster Group) (standing : Standing) → (SharesIn kit script) line.Push old → (StandsAs kit) old standing → false ≡ is_some standing.in_hand → (HasState kit) old → (HasStateOf kit) IsIdle old
+  stands-idle old standing shared stands none has = record {
     setup = has.setup;
     state = has.state;
     good = has.good;
     shows = has.shows;
-    so = idle-known old standing stands none has.setup has.state has.good has.shows;
+    so = idle-known old standing shared stands none has.setup has.state has.good has.shows;
   }
 
-  pub pushes-does : (items : List Message) (old new : Cluster Group) (standing : Standing) (before after : List (List ℕ)) → (StandsAs kit) old standing → false ≡ is_some standing.in_hand → (Pushes kit) items old new before after → (Does kit) (pushed kit) old new before after
-  pushes-does items old new standing before after stands none pushes setup state good shows =
-      (pushes setup state good shows (idle-known old standing stands none setup state good shows)).0
+  pub pushes-does : (items : List Message) (old new : Cluster Group) (standing : Standing) (before after : List (List ℕ)) → (SharesIn kit script) line.Push old → (StandsAs kit) old standing → false ≡ is_some standing.in_hand → (Pushes kit) items old new before after → (Does kit) (pushed kit) old new before after
+  pushes-does items old new standing before after shared stands none pushes setup state good shows =
+      (pushes setup state good shows (idle-known old standing shared stands none setup state good shows)).0
 
-  pub idle-breaks : (old new : Cluster Group) (standing : Standing) → (StandsAs kit) old standing → false ≡ is_some standing.in_hand → (BreaksAloneIf kit) IsIdle old new → (BreaksAlone kit) old new
-  idle-breaks old new standing stands none breaks held setup state good shows =
-      breaks held setup state good shows (idle-known old standing stands none setup state good shows)
+  pub idle-breaks : (old new : Cluster Group) (standing : Standing) → (SharesIn kit script) line.Push old → (StandsAs kit) old standing → false ≡ is_some standing.in_hand → (BreaksAloneIf kit) IsIdle old new → (BreaksAlone kit) old new
+  idle-breaks old new standing shared stands none breaks held setup state good shows =
+      breaks held setup state good shows (idle-known old standing shared stands none setup state good shows)
 
   -- **where the disk is left alone its files are those of the history, as they were**
-  pub plays-alone : (next : Line) (old new : Cluster Group) (before after : List (List ℕ)) (held : kit.Seen) → is_own next ≡ false → (PlaysAlone kit) next old new before after → (Plays kit script) next old new before after held held
-  plays-alone next old new before after held shared plays setup state good shows count tells =
+  pub plays-alone : (next : Line) (old new : Cluster Group) (before after : List (List ℕ)) (held : kit.Seen) → is_own next ≡ false → shows_files next ≡ false → (SharesIn kit script) next old → (PlaysAlone kit) next old new before after → (Plays kit script) next old new before after held held
+  plays-alone next old new before after held unasked unshown shared plays setup state good shows count tells =
       let done = plays setup state good shows in
       record {
         shelf = shelf_of setup;
         shelf_is = own-shelf setup (kit.files held);
         happened = λ number. 0;
         outcome = done.outcome;
-        leads = follows.shares (plain_of setup) (shelf_of setup) (device_by setup (λ number. 0)) next state done.outcome (done.happens (shelf_of setup));
-        uses = follows.unused next setup state done.outcome held shared done.rests;
+        leads = follows.shares (plain_of setup) (shelf_of setup) (device_by setup (λ number. 0)) next state done.outcome held unasked (shared setup state good shows) (done.armed held count) (done.happens (shelf_of setup));
+        uses = follows.unused next setup state done.outcome held unasked unshown done.rests;
         is = done.is;
         count = done.armed held count;
         files = laws.left_same setup done.outcome.state held (done.tells held tells);
@@ -319,47 +334,76 @@ module _ {Peers Group : Type 0} (kit : Kit Peers Group) (laws : IsKit kit) (scri
         files = came.played.files tells;
       }
 
-  pub plays-settle : (old new : Cluster Group) (before after : List (List ℕ)) (held left : kit.Seen) → (DoesSettle kit) old new before after held left → (Plays kit script) line.Settle old new before after held left
-  plays-settle old new before after held left does setup state good shows count tells =
+  pub plays-settle : (old new : Cluster Group) (before after : List (List ℕ)) (held left : kit.Seen) → (SharesIn kit script) line.Settle old → (DoesSettle kit) old new before after held left → (Plays kit script) line.Settle old new before after held left
+  plays-settle old new before after held left shared does setup state good shows count tells =
       let done = does setup state good shows count in
       record {
         shelf = shelf_of setup;
         shelf_is = own-shelf setup (kit.files held);
         happened = done.happened;
         outcome = done.outcome;
-        leads = follows.shares (plain_of setup) (shelf_of setup) (device_by setup done.happened) line.Settle state done.outcome done.settles;
+        leads = follows.shares (plain_of setup) (shelf_of setup) (device_by setup done.happened) line.Settle state done.outcome left refl (shared setup state good shows) done.count done.settles;
         uses = follows.settled setup done.happened state done.outcome held left done.uses;
         is = done.is;
         count = done.count;
         files = done.files tells;
       }
 
+  pub plays-halt : (old new : Cluster Group) (before after : List (List ℕ)) (held left : kit.Seen) → (SharesIn kit script) line.Settle old → (ComesOff kit) any_state (EndsSettle kit) Stopped old new before after held left → (Plays kit script) line.Settle old new before after held left
+  plays-halt old new before after held left shared halts setup state good shows count tells =
+      let halted = halts setup state good shows count tt in
+      let outcome : Outcome (State Peers) = record { state = halted.end.state; told = without is_ignored halted.end.told } in
+      record {
+        shelf = shelf_of setup;
+        shelf_is = own-shelf setup (kit.files held);
+        happened = halted.happened;
+        outcome = outcome;
+        leads = follows.halts (plain_of setup) (shelf_of setup) (device_by setup halted.happened) state halted.end (shared setup state good shows) (halted.ends.is halted.happened (λ number above within. refl));
+        uses = follows.settled setup halted.happened state outcome held left (laws.used_printed setup halted.happened state halted.end held left halted.uses);
+        is = (halted.shows, halted.good, halted.lines);
+        count = halted.count;
+        files = halted.files tells;
+      }
+
   -- The lines `files` and `cat`.
 
-  plays-shown : (next : Line) (event : Setup → Shelf → State Peers → Outcome (State Peers)) (old : Cluster Group) (before after : List (List ℕ)) (one two beside : DiskSeen) → is_own next ≡ false → (next ≡ line.Settle → ⊥) → ((setup : Setup) (shelf : Shelf) (state : State Peers) → Happens (plain_of setup) shelf (calm_servers kit setup) next state (event setup shelf state)) → ((setup : Setup) (shelf : Shelf) (state : State Peers) → (Keeps kit laws) setup state (event setup shelf state)) → LooksBy next one.files true one.tally two.tally → IsRead one two → two.faults ≡ one.faults → (ShowsOn kit) event old before after one.files → (Plays kit script) next old old before after (kit.see one beside) (kit.see two beside)
-  plays-shown next event old before after one two beside shared unsettled happens keeps looks read faults does setup state good shows count tells =
+  -- where a disk tells its files, and they are those of the history, what is shown of them is shown of the history's
+  own-shown : (event : Setup → Shelf → State Peers → Outcome (State Peers)) (setup : Setup) (state : State Peers) (new : Cluster Group) (before after : List (List ℕ)) (held : Option Files) → event setup (shelf_at (files_of setup state.world.core.answered)) state ≡ event setup (shelf_of setup) state → TellsFiles setup state held
+      → (shelf : Shelf) × IfSome held (λ files. shelf ≡ shelf_at files) × (Happened kit) setup (event setup shelf state) new before after
+      → (shelf : Shelf) × IfSome held (λ _. shelf ≡ shelf_of setup) × (Happened kit) setup (event setup shelf state) new before after
+  own-shown event setup state new before after None reads tells shown = shown
+  own-shown event setup state new before after (Some files) reads tells shown =
+      let H : Outcome (State Peers) → Type 0 = λ outcome. (Happened kit) setup outcome new before after in
+      let same = ap (λ (shelf : Shelf). event setup shelf state) shown.1 ∙ ap (λ (f : Files). event setup (shelf_at f) state) tells ∙ reads in
+      (shelf_of setup, refl, subst H same shown.2)
+
+  plays-shown : (next : Line) (event : Setup → Shelf → State Peers → Outcome (State Peers)) (old : Cluster Group) (before after : List (List ℕ)) (one two beside : DiskSeen) → is_own next ≡ false → shows_files next ≡ true → ((setup : Setup) (shelf : Shelf) (state : State Peers) → Happens (plain_of setup) shelf (calm_servers kit setup) next state (event setup shelf state)) → ((setup : Setup) (state : State Peers) → event setup (shelf_at (files_of setup state.world.core.answered)) state ≡ event setup (shelf_of setup) state) → ((setup : Setup) (shelf : Shelf) (state : State Peers) → (Keeps kit laws) setup state (event setup shelf state)) → (SharesIn kit script) next old → LooksBy next one.files true one.tally two.tally → IsRead one two → two.faults ≡ one.faults → (ShowsOn kit) event old before after one.files → (Plays kit script) next old old before after (kit.see one beside) (kit.see two beside)
+  plays-shown next event old before after one two beside unasked shown happens reads keeps shared looks read faults does setup state good shows count tells =
       let T : Option Files → Type 0 = λ held. TellsFiles setup state held in
       let files = laws.shown one beside in
-      let done = does setup state good shows (subst T files (laws.told setup state (kit.see one beside) tells)) in
+      let shares = shared setup state good shows in
+      let told = subst T files (follows.told setup next state (kit.see one beside) shown shares tells) in
+      let done = own-shown event setup state old before after one.files (reads setup state) told (does setup state good shows) in
       let kept = keeps setup done.0 state in
       let last = (event setup done.0 state).state in
+      let armed = kept.armed (kit.see one beside) count in
       record {
         shelf = done.0;
         shelf_is = subst (λ (held : Option Files). IfSome held (λ _. done.0 ≡ shelf_of setup)) (sym files) done.1;
         happened = λ number. 0;
         outcome = event setup done.0 state;
-        leads = follows.shares (plain_of setup) done.0 (device_by setup (λ number. 0)) next state (event setup done.0 state) (happens setup done.0 state);
-        uses = follows.read next setup state (event setup done.0 state) one two beside looks shared unsettled read faults kept.rests;
+        leads = follows.shares (plain_of setup) done.0 (device_by setup (λ number. 0)) next state (event setup done.0 state) (kit.see one beside) unasked shares armed (happens setup done.0 state);
+        uses = follows.read next setup state (event setup done.0 state) one two beside looks unasked shown read faults kept.rests;
         is = done.2;
-        count = laws.read_armed last.peers one two beside read (kept.armed (kit.see one beside) count);
+        count = laws.read_armed last.peers one two beside read armed;
         files = laws.read_left setup last one two beside read (kept.tells (kit.see one beside) tells);
       }
 
-  pub plays-files : (old : Cluster Group) (before after : List (List ℕ)) (one two beside : DiskSeen) → LooksBy line.Files one.files true one.tally two.tally → IsRead one two → two.faults ≡ one.faults → (ShowsOn kit) (files_listed kit) old before after one.files → (Plays kit script) line.Files old old before after (kit.see one beside) (kit.see two beside)
-  plays-files old before after one two beside = plays-shown line.Files (files_listed kit) old before after one two beside refl (λ is. cc) (λ setup shelf state. refl) (λ setup shelf state. (stays-put kit laws) setup state _ refl refl)
+  pub plays-files : (old : Cluster Group) (before after : List (List ℕ)) (one two beside : DiskSeen) → (SharesIn kit script) line.Files old → LooksBy line.Files one.files true one.tally two.tally → IsRead one two → two.faults ≡ one.faults → (ShowsOn kit) (files_listed kit) old before after one.files → (Plays kit script) line.Files old old before after (kit.see one beside) (kit.see two beside)
+  plays-files old before after one two beside = plays-shown line.Files (files_listed kit) old before after one two beside refl refl (λ setup shelf state. refl) (λ setup state. refl) (λ setup shelf state. (stays-put kit laws) setup state _ refl refl)
 
-  pub plays-cat : (name : List ℕ) (old : Cluster Group) (before after : List (List ℕ)) (one two beside : DiskSeen) → LooksBy (line.Cat name) one.files true one.tally two.tally → IsRead one two → two.faults ≡ one.faults → (ShowsOn kit) ((file_shown kit) name) old before after one.files → (Plays kit script) (line.Cat name) old old before after (kit.see one beside) (kit.see two beside)
-  plays-cat name old before after one two beside = plays-shown (line.Cat name) ((file_shown kit) name) old before after one two beside refl (λ is. cc) (λ setup shelf state. refl) (λ setup shelf state. (shows-keep kit laws) setup name shelf state)
+  pub plays-cat : (name : List ℕ) (old : Cluster Group) (before after : List (List ℕ)) (one two beside : DiskSeen) → (SharesIn kit script) (line.Cat name) old → LooksBy (line.Cat name) one.files true one.tally two.tally → IsRead one two → two.faults ≡ one.faults → (ShowsOn kit) ((file_shown kit) name) old before after one.files → (Plays kit script) (line.Cat name) old old before after (kit.see one beside) (kit.see two beside)
+  plays-cat name old before after one two beside = plays-shown (line.Cat name) ((file_shown kit) name) old before after one two beside refl refl (λ setup shelf state. refl) (λ setup state. refl) (λ setup shelf state. (shows-keep kit laws) setup name shelf state)
 
   -- One line for another.
 

@@ -7,7 +7,6 @@ use Rattle.disk_model.specs.Disk.{Files}
 use Rattle.script_lines.specs.declared.line.Line.{Line}
 use Rattle.script_lines.specs.declared.line.Line.TheVariants as line
 use Rattle.plain_service.specs.Setups.{Setup}
-use Rattle.plain_service.specs.Storing.{files_of}
 use Rattle.cluster_events.specs.declared.lines.Standing.{Standing}
 use Rattle.cluster_events.specs.Lines.{Told, Listed, Shown}
 use Rattle.cluster_events.specs.Servers.{State}
@@ -17,7 +16,7 @@ use Rattle.cluster_clients.specs.Files.{sizes_of, listed_lines, ListsFiles, byte
 use Rattle.cluster_rounds.specs.declared.cluster.Cluster.{Cluster}
 use Rattle.cluster_rounds.specs.Kits.{Kit, calm_servers}
 use Rattle.cluster_rounds.specs.Worlds.{Shows, IsGood, Happened, Does}
-use Rattle.cluster_lines.specs.Shelves.{shelf_of}
+use Rattle.cluster_lines.specs.Shelves.{shelf_at}
 use Rattle.cluster_lines.specs.Showing.{StandsAs, refused}
 use Rattle.cluster_lines.specs.Steps.{TellsRead, ShowsOn, file_shown, files_listed}
 
@@ -43,19 +42,17 @@ module _ {Peers Group : Type 0} (kit : Kit Peers Group) where
 
   -- **the files are listed**
   pub files-shown : (world : Cluster Group) (before after lines : List (List ℕ)) (held : Option Files) → ListsFiles held lines → after ≡ before ++ lines → (ShowsOn kit) (files_listed kit) world before after held
-  files-shown world before after lines None lists is setup state good shows tells =
+  files-shown world before after lines None lists is setup state good shows =
       (shelf_with lists.listed None, tt, (shows, good, is ∙ ap (λ l. before ++ l) (lists.shown ∙ sym (printed-listed lists.listed []))))
-  files-shown world before after lines (Some held) lists is setup state good shows tells =
-      let standing : Files = files_of setup state.world.core.answered in
-      let same : lists.listed ≡ sizes_of standing (files.keys standing) = lists.told ∙ ap (λ f. sizes_of f (files.keys f)) tells in (
-        shelf_of setup,
-        refl,
-        (
-          shows,
-          good,
-          is ∙ ap (λ l. before ++ l) (lists.shown ∙ ap listed_lines same ∙ sym (printed-listed (sizes_of standing (files.keys standing)) [])),
-        ),
-      )
+  files-shown world before after lines (Some held) lists is setup state good shows = (
+    shelf_at held,
+    refl,
+    (
+      shows,
+      good,
+      is ∙ ap (λ l. before ++ l) (lists.shown ∙ ap listed_lines lists.told ∙ sym (printed-listed (sizes_of held (files.keys held)) [])),
+    ),
+  )
 
   -- what is told of the bytes that were read is what is shown of their lines
   tells-by : (setup : Setup) (name : List ℕ) (read : Option (List ℕ)) (world : Cluster Group) (before after : List (List ℕ)) → (TellsRead kit) (line.Cat name) read world before after → (state : State Peers) → (IsGood kit) setup state → (Shows kit) setup state world → (Happened kit) setup (show_by (calm_servers kit setup) name (option_map file_text_lines read) state) world before after
@@ -65,15 +62,14 @@ module _ {Peers Group : Type 0} (kit : Kit Peers Group) where
 
   -- **a file is shown, or the line is refused**
   pub file-shown : (next : Line) (name : List ℕ) (read : Option (List ℕ)) (world : Cluster Group) (before after : List (List ℕ)) (held : Option Files) → next ≡ line.Cat name → IfSome held (λ f. read ≡ bytes_of f name) → (TellsRead kit) next read world before after → (ShowsOn kit) ((file_shown kit) name) world before after held
-  file-shown next name read world before after None is told tells setup state good shows none = (
+  file-shown next name read world before after None is told tells setup state good shows = (
     shelf_with [] (option_map file_text_lines read),
     tt,
     tells-by setup name read world before after (subst (λ l. (TellsRead kit) l read world before after) is tells) state good shows,
   )
-  file-shown next name read world before after (Some held) is told tells setup state good shows own =
-      let same : read ≡ bytes_of (files_of setup state.world.core.answered) name = told ∙ ap (λ f. bytes_of f name) own in (
-        shelf_of setup,
-        refl,
-        subst (λ r. (Happened kit) setup (show_by (calm_servers kit setup) name (option_map file_text_lines r) state) world before after) same
-            (tells-by setup name read world before after (subst (λ l. (TellsRead kit) l read world before after) is tells) state good shows),
-      )
+  file-shown next name read world before after (Some held) is told tells setup state good shows = (
+    shelf_at held,
+    refl,
+    subst (λ r. (Happened kit) setup (show_by (calm_servers kit setup) name (option_map file_text_lines r) state) world before after) told
+        (tells-by setup name read world before after (subst (λ l. (TellsRead kit) l read world before after) is tells) state good shows),
+  )

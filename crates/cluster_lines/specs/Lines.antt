@@ -28,6 +28,12 @@ is_own line.Disarm = true
 is_own (line.Restart server) = true
 is_own _ = false
 
+-- the lines that show files of the disk
+abbrev pub shows_files : Line → Bool
+shows_files line.Files = true
+shows_files (line.Cat name) = true
+shows_files _ = false
+
 abbrev pub IsOwn : {P V : Type 0} → Script P V → Line → Type 0
 IsOwn script line.Mirror = Unit {0}
 IsOwn script line.Ack = Unit {0}

@@ -1,5 +1,5 @@
 -- Words of public clauses: what each line of a script does to a cluster, over any servers, and what it leaves where it breaks off.
-use Rattle.std.specs.Prelude.{◌≡◌, ℕ, Bool, false, Option, IfSome, List, ◌++◌}
+use Rattle.std.specs.Prelude.{◌≡◌, ℕ, Bool, false, Option, IfSome, List}
 use Rattle.disk_model.specs.Disk.{Files}
 use Rattle.disk_model.specs.Seen.{DiskSeen}
 use Rattle.disk_model.specs.declared.answers.DiskAnswer.{DiskAnswer}
@@ -9,21 +9,18 @@ use Rattle.script_lines.specs.declared.line.Line.{Line}
 use Rattle.script_lines.specs.declared.line.Line.TheVariants as line
 use Rattle.plain_service.specs.Setups.{Setup}
 use Rattle.service_laws.specs.PlainOf.{plain_of}
-use Rattle.cluster_facts.specs.History.{committed}
 use Rattle.cluster_events.specs.Outcomes.{Outcome}
 use Rattle.cluster_events.specs.Servers.{State}
-use Rattle.cluster_events.specs.Saying.{Says}
-use Rattle.cluster_events.specs.Devices.{EndBy, EndsOver}
+use Rattle.cluster_events.specs.Devices.{EndBy}
 use Rattle.cluster_events.specs.Running.{Shelf}
 use Rattle.event_text.specs.Texts.{printed}
-use Rattle.cluster_clients.specs.Clients.{ShowsAgents}
 use Rattle.cluster_clients.specs.Looks.{FileCalls, ListCalls, Looks}
-use Rattle.cluster_clients.specs.Spelled.{AreSpelled}
 use Rattle.cluster_rounds.specs.declared.cluster.Cluster.{Cluster}
 use Rattle.cluster_rounds.specs.Kits.{Kit, device_by}
 use Rattle.cluster_rounds.specs.Scripts.{Script}
 use Rattle.cluster_rounds.specs.Worlds.{Happened, IsGood, Shows}
 use Rattle.cluster_rounds.specs.Broken.{Broken}
+use Rattle.cluster_rounds.specs.Came.{EndedBy}
 use Rattle.cluster_rounds.specs.Seen.{IsRead}
 use Rattle.cluster_lines.specs.Lines.{is_own}
 use Rattle.cluster_lines.specs.Shelves.{shelf_of}
@@ -58,28 +55,20 @@ module _ {Peers Group : Type 0} (kit : Kit Peers Group) (script : Script Peers k
       (setup : Setup) (state : State Peers) → IsGood kit setup state → Shows kit setup state old → kit.Armed state.peers held
       → kit.Tells setup state held → Played setup state next new before after held left
 
+  -- the line is shared in each good state that the cluster stands for
+  abbrev pub SharesIn : Line → Cluster Group → Type 0
+  SharesIn next world = (setup : Setup) (state : State Peers) → IsGood kit setup state → Shows kit setup state world → script.Shares next state
+
   -- where the event of a line ends, by the works that fail
   abbrev pub EndsLine : Line → Setup → EndBy Peers
   EndsLine next setup fails state end = script.Ends (plain_of setup) (device_by setup fails) next state end
 
-  -- The disk had a fault as an entry was worked, and the line ended by it: what the servers are left as, and what holds of the state
-  -- in which it ended. What the disks hold is between that of the history committed without its last entry and that of the history.
-  pub record LineEnded (setup : Setup) (state : State Peers) (next : Line) (new : Cluster Group) (before after : List (List ℕ))
-      (held left : kit.Seen) : Type 0 where
-    pub happened : ℕ → ℕ
-    pub end : Outcome (State Peers)
-    pub ends : EndsOver (EndsLine next setup) happened state end
-    pub faults : script.Faults next setup happened state end held left
-    pub good : IsGood kit setup end.state
-    pub says : Says (plain_of setup) state.world end.state.world end.told
-    pub fell : kit.Fell setup end.state new.servers left
-    pub net : AreSpelled end.state.world.net new.net
-    pub agents : ShowsAgents end.state.world new.agents
-    pub history : new.history.entries ≡ committed end.state.world.core
-    pub now : new.now ≡ end.state.world.now
-    pub callbacks : new.callbacks ≡ end.state.world.places
-    pub lines : after ≡ before ++ printed end.told
-    pub files : kit.Tells setup state held → kit.Between setup (committed end.state.world.core) held left
+  -- the line ended by a fault of the disk, by the works that failed
+  abbrev pub LineEnded :
+      Setup → State Peers → Line → Cluster Group → List (List ℕ) → List (List ℕ) → kit.Seen → kit.Seen → Type 0
+  LineEnded setup state next new before after held left =
+      EndedBy kit setup state (λ happened end. EndsLine next setup happened state end)
+      (λ happened end. script.Faults next setup happened state end held left) printed new before after held left
 
   -- the first disk had a fault as its files were to be shown: it was only read
   pub record ShowFails (held left : kit.Seen) : Type 0 where
@@ -103,7 +92,7 @@ module _ {Peers Group : Type 0} (kit : Kit Peers Group) (script : Script Peers k
   abbrev pub BreaksOff : DiskAnswer → Line → Cluster Group → Cluster Group → List (List ℕ) → List (List ℕ) → kit.Seen → kit.Seen → Type 0
   BreaksOff Memory next old new before after held left =
       (setup : Setup) (state : State Peers) → IsGood kit setup state → Shows kit setup state old → kit.Armed state.peers held
-      → Broken kit setup state held left new × kit.Lacks setup state held left
+      → Broken kit setup state held left new × kit.Lacks setup state new.servers held left
   BreaksOff Failed next old new before after held left = FaultLeaves next old new before after held left
   BreaksOff Stopped next old new before after held left =
       (setup : Setup) (state : State Peers) → IsGood kit setup state → Shows kit setup state old → kit.Armed state.peers held → ⊥

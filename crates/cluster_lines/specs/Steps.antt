@@ -12,8 +12,8 @@ use Rattle.event_text.specs.Texts.{file_text_lines, shown_lines}
 use Rattle.cluster_rounds.specs.declared.cluster.Cluster.{Cluster}
 use Rattle.cluster_rounds.specs.Kits.{Kit, calm_servers}
 use Rattle.cluster_rounds.specs.Resting.{Rests}
-use Rattle.cluster_rounds.specs.Worlds.{Does, Event, Happened, IsGood, Shows, TellsFiles}
-use Rattle.cluster_lines.specs.Shelves.{shelf_of}
+use Rattle.cluster_rounds.specs.Worlds.{Does, Event, Happened, IsGood, Shows}
+use Rattle.cluster_lines.specs.Shelves.{shelf_at}
 use Rattle.cluster_lines.specs.Showing.{refused}
 
 module _ {Peers Group : Type 0} (kit : Kit Peers Group) where
@@ -41,12 +41,11 @@ module _ {Peers Group : Type 0} (kit : Kit Peers Group) where
   abbrev pub file_shown : List ℕ → Setup → Shelf → State Peers → Outcome (State Peers)
   file_shown name setup shelf state = show_file shelf (calm_servers kit setup) name state
 
-  -- something was shown of the files that stand after a history. A disk that tells its files shows those of the history; one that
-  -- does not may show any
+  -- something was shown of files: of those that the disk tells, or of any where it tells none
   abbrev pub ShowsOn : (Setup → Shelf → State Peers → Outcome (State Peers)) → Cluster Group → List (List ℕ) → List (List ℕ) → Option Files → Type 0
   ShowsOn event world before after held =
-      (setup : Setup) (state : State Peers) → IsGood kit setup state → Shows kit setup state world → TellsFiles setup state held → (shelf : Shelf)
-      × IfSome held (λ _. shelf ≡ shelf_of setup) × Happened kit setup (event setup shelf state) world before after
+      (setup : Setup) (state : State Peers) → IsGood kit setup state → Shows kit setup state world → (shelf : Shelf)
+      × IfSome held (λ files. shelf ≡ shelf_at files) × Happened kit setup (event setup shelf state) world before after
 
   -- what is told of the bytes that were read of a file
   abbrev pub TellsRead : Line → Option (List ℕ) → Cluster Group → List (List ℕ) → List (List ℕ) → Type 0

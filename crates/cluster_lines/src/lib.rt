@@ -7,4 +7,4 @@ mod showing;
 
 pub use playing::{as_answer, play};
 pub use scripted::Scripted;
-pub use showing::put_refusal;
+pub use showing::{put_refusal, show_file, show_files};

@@ -1,14 +1,14 @@
 //! What each line of a script does to a cluster.
 ghost use Rattle.std.specs.Prelude.{◌≡◌, false, OnOk, OnErr, IfErr};
 ghost use Rattle.std.specs.Result.{is_ok};
-ghost use Rattle.script_lines.specs.declared.line.Line.TheVariants.{Deliver, Push, Inject};
+ghost use Rattle.script_lines.specs.declared.line.Line.TheVariants.{Deliver, Push, Inject, Settle};
 ghost use Rattle.cluster_rounds.specs.Counted.{Counted};
 ghost use Rattle.cluster_rounds.specs.Wild.{StandsOf, StandsOn, KeepsWild, GoesWild, always};
 ghost use Rattle.cluster_rounds.specs.Worlds.{HasStateOn, Does, any_state, pushed};
 ghost use Rattle.cluster_rounds.specs.Broken.{BreaksAlone};
 ghost use Rattle.cluster_lines.specs.Lines.{IsInRange, CanPlay, is_own};
-ghost use Rattle.cluster_lines.specs.Playing.{Plays, BreaksOff, LooksBy};
-ghost use Rattle.cluster_lines.specs.Answers.{EndsAs};
+ghost use Rattle.cluster_lines.specs.Playing.{Plays, BreaksOff, LooksBy, SharesIn};
+ghost use Rattle.cluster_lines.specs.Answers.{DoneAtStop, EndsAs};
 ghost use Rattle.cluster_lines.specs.Steps.{deliver_at, PlaysAlone};
 
 use crate::Scripted;
@@ -60,6 +60,7 @@ fn push_line<S: Scripted>(
 ) -> Result<(), AllocError>
     requires state { StandsOf S.kit any_state always world.old }
     requires line { line.now ≡ Push }
+    requires shares { SharesIn S.kit S.script Push world.old }
     ensures ok { OnOk result (Does S.kit (pushed S.kit) world.old world.new lines.old.items
         lines.new.items) }
     ensures err { OnErr result (BreaksAlone S.kit world.old world.new) }
@@ -114,6 +115,7 @@ fn play_alone<R: Threads + Wait + Sync, S: Scripted, G: Gate>(
     requires state { StandsOf S.kit any_state always world.old }
     requires range { IsInRange line.now }
     requires can { CanPlay S.script world.old.now line.now }
+    requires shares { SharesIn S.kit S.script line.now world.old }
     ensures ok { OnOk result (PlaysAlone S.kit line.now world.old world.new lines.old.items
         lines.new.items) }
     ensures err { OnErr result (BreaksAlone S.kit world.old world.new) }
@@ -166,6 +168,50 @@ fn is_own(line: &Line) -> bool
     )
 }
 
+/// An end by a stop of the disk is none.
+fn done_at_stop(done: Result<(), DiskAnswer>) -> Result<(), DiskAnswer>
+    ensures { DoneAtStop done result }
+{
+    match done {
+        Ok(()) => Ok(()),
+        Err(answer) => match answer {
+            DiskAnswer::Stopped => Ok(()),
+            DiskAnswer::Memory => Err(DiskAnswer::Memory),
+            DiskAnswer::Failed => Err(DiskAnswer::Failed),
+        },
+    }
+}
+
+/// `settle`. Where no server goes on behind a stop of the disk the line ends there, and is done.
+fn settle_line<R: Wait, S: Scripted, D: SharedDisk, J: SharedDisk>(
+    rt: &R,
+    alloc: Global,
+    world: &mut Cluster<S>,
+    lines: &mut Vec<Seq<u8>>,
+    disk: &mut D,
+    beside: &mut J,
+) -> Result<(), DiskAnswer>
+    requires state { StandsOn S.kit any_state always world.old
+        (S.kit.see (D.seen disk.old) (J.seen beside.old)) }
+    requires shares { SharesIn S.kit S.script Settle world.old }
+    ensures ok { OnOk result (Plays S.kit S.script Settle world.old world.new lines.old.items
+        lines.new.items (S.kit.see (D.seen disk.old) (J.seen beside.old))
+        (S.kit.see (D.seen disk.new) (J.seen beside.new))) }
+    ensures stands { HasStateOn S.kit any_state world.old
+        (S.kit.see (D.seen disk.old) (J.seen beside.old)) → OnOk result (HasStateOn S.kit any_state
+        world.new (S.kit.see (D.seen disk.new) (J.seen beside.new))) }
+    ensures broken { IfErr result (λ answer. BreaksOff S.kit S.script answer Settle world.old
+        world.new lines.old.items lines.new.items (S.kit.see (D.seen disk.old) (J.seen beside.old))
+        (S.kit.see (D.seen disk.new) (J.seen beside.new))) }
+    ensures wild { GoesWild S.kit always result world.old world.new
+        (S.kit.see (D.seen disk.old) (J.seen beside.old))
+        (S.kit.see (D.seen disk.new) (J.seen beside.new)) }
+    ensures counts { Counted S.kit (S.kit.see (D.seen disk.old) (J.seen beside.old))
+        (S.kit.see (D.seen disk.new) (J.seen beside.new)) result }
+{
+    done_at_stop(settle(rt, alloc, world, lines, disk, beside))
+}
+
 /// What a line does that is not the servers' own.
 fn play_shared<R: Threads + Wait + Sync, S: Scripted, D: SharedDisk, J: SharedDisk, G: Gate>(
     rt: &R,
@@ -181,6 +227,7 @@ fn play_shared<R: Threads + Wait + Sync, S: Scripted, D: SharedDisk, J: SharedDi
         (S.kit.see (D.seen disk.old) (J.seen beside.old)) }
     requires range { IsInRange line.now }
     requires can { CanPlay S.script world.old.now line.now }
+    requires shares { SharesIn S.kit S.script line.now world.old }
     requires shared { is_own line.now ≡ false }
     ensures ok { OnOk result (Plays S.kit S.script line.now world.old world.new lines.old.items
         lines.new.items (S.kit.see (D.seen disk.old) (J.seen beside.old))
@@ -200,7 +247,7 @@ fn play_shared<R: Threads + Wait + Sync, S: Scripted, D: SharedDisk, J: SharedDi
         (D.seen disk.new).tally }
 {
     match line {
-        Line::Settle => settle(rt, alloc, world, lines, disk, beside),
+        Line::Settle => settle_line(rt, alloc, world, lines, disk, beside),
         Line::Files => show_files(alloc, world, lines, disk),
         Line::Cat { name } => show_file(alloc, world, lines, disk, line, name),
         _ => as_answer(play_alone(rt, alloc, world, lines, line, gate)),
@@ -213,8 +260,9 @@ fn play_shared<R: Threads + Wait + Sync, S: Scripted, D: SharedDisk, J: SharedDi
 /// leaves all as it was then. Any other ended at an entry that was worked, and its lines are those of all that was done until then.
 /// `files` asks the disk once for the names and once for the length of each, `cat` once for the length and once for the bytes where
 /// there are any; another line that is not the servers' own, and not `settle`, asks it nothing.
-/// `Memory` comes where memory ran out; some of the line was done. `Stopped` never comes where the cluster stands for a history.
-/// Where it may stand for none nothing is said of what servers answer; behind a line that was done it can go on.
+/// `Memory` comes where memory ran out; some of the line was done. `Stopped` never comes where the cluster stands for a history: a
+/// line in which no server goes on behind a stop of the disk ends there, and is done. Where it may stand for none nothing is said of
+/// what servers answer; behind a line that was done it can go on.
 pub fn play<R: Threads + Wait + Sync, S: Scripted, D: SharedDisk, J: SharedDisk, G: Gate>(
     rt: &R,
     alloc: Global,
@@ -229,6 +277,7 @@ pub fn play<R: Threads + Wait + Sync, S: Scripted, D: SharedDisk, J: SharedDisk,
         (S.kit.see (D.seen disk.old) (J.seen beside.old)) }
     requires range { IsInRange line.now }
     requires can { CanPlay S.script world.old.now line.now }
+    requires shares { SharesIn S.kit S.script line.now world.old }
     ensures ok { OnOk result (Plays S.kit S.script line.now world.old world.new lines.old.items
         lines.new.items (S.kit.see (D.seen disk.old) (J.seen beside.old))
         (S.kit.see (D.seen disk.new) (J.seen beside.new))) }

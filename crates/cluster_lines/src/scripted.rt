@@ -5,7 +5,7 @@ ghost use Rattle.cluster_rounds.specs.Wild.{StandsOn, GoesWild, always};
 ghost use Rattle.cluster_rounds.specs.Worlds.{HasStateOn, any_state};
 ghost use Rattle.cluster_lines.specs.Lines.{IsInRange, IsOwn};
 ghost use Rattle.cluster_lines.specs.Showing.{StandsAs};
-ghost use Rattle.cluster_lines.specs.Playing.{Plays, BreaksOff};
+ghost use Rattle.cluster_lines.specs.Playing.{Plays, BreaksOff, SharesIn};
 ghost use Rattle.cluster_lines.specs.Following.{IsScript};
 
 use ais_values::Seq;
@@ -38,6 +38,7 @@ pub trait Scripted: Serving {
             (Self.kit.see (D.seen disk.old) (J.seen beside.old)) }
         requires range { IsInRange line.now }
         requires own { IsOwn Self.script line.now }
+        requires shares { SharesIn Self.kit Self.script line.now world.old }
         ensures ok { OnOk result (Plays Self.kit Self.script line.now world.old world.new
             lines.old.items lines.new.items (Self.kit.see (D.seen disk.old) (J.seen beside.old))
             (Self.kit.see (D.seen disk.new) (J.seen beside.new))) }

@@ -65,7 +65,7 @@ pub(crate) fn show_servers<S: Scripted>(
 }
 
 /// Adds the lines of all files with their lengths. `Failed` comes exactly where the disk's count of faults rose.
-pub(crate) fn show_files<S: Scripted, D: SharedDisk>(
+pub fn show_files<S: Scripted, D: SharedDisk>(
     alloc: Global,
     world: &Cluster<S>,
     lines: &mut Vec<Seq<u8>>,
@@ -112,7 +112,7 @@ fn tell_read<S: Scripted>(
 
 /// Adds the lines of the file that a `cat` line names. Where there is no file of that name, the line is refused. `Failed` comes
 /// exactly where the disk's count of faults rose.
-pub(crate) fn show_file<S: Scripted, D: SharedDisk>(
+pub fn show_file<S: Scripted, D: SharedDisk>(
     alloc: Global,
     world: &Cluster<S>,
     lines: &mut Vec<Seq<u8>>,

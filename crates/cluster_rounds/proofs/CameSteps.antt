@@ -121,7 +121,7 @@ module _ {Peers Group : Type 0} (kit : Kit Peers Group) (laws : IsKit kit) where
 
   -- an event without a disk lacks memory
   pub alone-off : (P : State Peers → Type 0) (Ends : (EndOver kit)) (old new : Cluster Group) (before after : List (List ℕ)) (disk : kit.Seen) → (BreaksAloneIf kit) P old new → (ComesOff kit) P Ends Memory old new before after disk disk
-  alone-off P Ends old new before after disk breaks setup state good shows counted so = (breaks disk setup state good shows so, laws.lacks_same setup state disk)
+  alone-off P Ends old new before after disk breaks setup state good shows counted so = (breaks disk setup state good shows so, laws.lacks_same setup state new.servers disk)
 
   -- what is played alone, and then memory runs out
   pub plays-lack : (P Q : State Peers → Type 0) (event : (Event kit)) (old middle new : Cluster Group) (before between : List (List ℕ)) (loud : Bool) → Leads P Q event → (Plays kit) P event old middle before between loud → (BreaksAloneIf kit) Q middle new → (BreaksAloneIf kit) P old new
@@ -134,15 +134,16 @@ module _ {Peers Group : Type 0} (kit : Kit Peers Group) (laws : IsKit kit) where
   -- what follows an event ends, and so both
   abbrev pub EndsBy : (P : State Peers → Type 0) → (EventOver kit) → (Inner Outer : (EndOver kit)) → Type 0
   EndsBy P first Inner Outer =
-      (setup : Setup) (fails : ℕ → ℕ) (state : State Peers) → (IsGood kit) setup state → P state → (stop : Outcome (State Peers))
-      → Inner setup fails (first setup fails state).state stop → Outer setup fails state (behind (first setup fails state) stop)
+      (answer : DiskAnswer) (setup : Setup) (fails : ℕ → ℕ) (state : State Peers) → (IsGood kit) setup state → P state
+      → (stop : Outcome (State Peers)) → Inner answer setup fails (first setup fails state).state stop
+      → Outer answer setup fails state (behind (first setup fails state) stop)
 
   lacks-after : (P Q : State Peers → Type 0) (Inner Outer : (EndOver kit)) (first : (EventOver kit)) (old middle new : Cluster Group) (before between after : List (List ℕ)) (a : Bool) (held told left : kit.Seen) → LeadsBy P Q first → (Comes kit) P first old middle before between a held told → (ComesOff kit) Q Inner Memory middle new between after told left → (ComesOff kit) P Outer Memory old new before after held left
   lacks-after P Q Inner Outer first old middle new before between after a held told left leads comes breaks setup state good shows counted so =
       let came = comes setup state good shows counted so in
       let next = came-leads P Q first setup state middle before between a held told leads good so came in
       let broken = breaks setup came.outcome.state came.played.good came.played.shows came.count next.0 in
-      ((happened-broken kit laws) setup state came.outcome.state came.outcome.told held told left new next.1 came.played.files broken.0, laws.lacks_behind setup came.happened state came.outcome held told left came.uses broken.1)
+      ((happened-broken kit laws) setup state came.outcome.state came.outcome.told held told left new next.1 came.played.files broken.0, laws.lacks_behind setup came.happened state came.outcome new.servers held told left came.uses broken.1)
 
   ended-after : (P Q : State Peers → Type 0) (Inner Outer : (EndOver kit)) (first : (EventOver kit)) (old middle new : Cluster Group) (before between after : List (List ℕ)) (a : Bool) (held told left : kit.Seen) → EndsBy P first Inner Outer → LeadsBy P Q first → (Comes kit) P first old middle before between a held told → (ComesOff kit) Q Inner Failed middle new between after told left → (ComesOff kit) P Outer Failed old new before after held left
   ended-after P Q Inner Outer first old middle new before between after a held told left stops leads comes ends setup state good shows counted so =
@@ -152,7 +153,7 @@ module _ {Peers Group : Type 0} (kit : Kit Peers Group) (laws : IsKit kit) where
       record {
         happened = spliced (answered_in came.outcome.state) came.happened ended.happened;
         end = behind came.outcome ended.end;
-        ends = ends-behind (first setup) (Inner setup) (Outer setup) came.happened ended.happened state came.outcome ended.end (λ fails stop. stops setup fails state good so stop) came.comes ended.ends;
+        ends = ends-behind (first setup) (Inner Failed setup) (Outer Failed setup) came.happened ended.happened state came.outcome ended.end (λ fails stop. stops Failed setup fails state good so stop) came.comes ended.ends;
         faults = laws.faults_behind setup came.happened ended.happened state came.outcome ended.end held told left came.uses ended.faults;
         good = ended.good;
         says = Says-both (plain_of setup) state.world came.outcome.state.world ended.end.state.world came.outcome.told ended.end.told next.1.says ended.says;
@@ -169,13 +170,34 @@ module _ {Peers Group : Type 0} (kit : Kit Peers Group) (laws : IsKit kit) where
         files = (files-after kit laws) setup state came.outcome.state (committed ended.end.state.world.core) held told left came.played.files ended.files;
       }
 
+  halted-after : (P Q : State Peers → Type 0) (Inner Outer : (EndOver kit)) (first : (EventOver kit)) (old middle new : Cluster Group) (before between after : List (List ℕ)) (a : Bool) (held told left : kit.Seen) → EndsBy P first Inner Outer → LeadsBy P Q first → (Comes kit) P first old middle before between a held told → (ComesOff kit) Q Inner Stopped middle new between after told left → (ComesOff kit) P Outer Stopped old new before after held left
+  halted-after P Q Inner Outer first old middle new before between after a held told left stops leads comes halts setup state good shows counted so =
+      let came = comes setup state good shows counted so in
+      let next = came-leads P Q first setup state middle before between a held told leads good so came in
+      let halted = halts setup came.outcome.state came.played.good came.played.shows came.count next.0 in
+      record {
+        happened = spliced (answered_in came.outcome.state) came.happened halted.happened;
+        end = behind came.outcome halted.end;
+        ends = ends-behind (first setup) (Inner Stopped setup) (Outer Stopped setup) came.happened halted.happened state came.outcome halted.end (λ fails stop. stops Stopped setup fails state good so stop) came.comes halted.ends;
+        uses = laws.used_both setup came.happened halted.happened state came.outcome halted.end held told left came.uses halted.uses;
+        good = halted.good;
+        says = Says-both (plain_of setup) state.world came.outcome.state.world halted.end.state.world came.outcome.told halted.end.told next.1.says halted.says;
+        shows = halted.shows;
+        count = halted.count;
+        lines =
+            halted.lines ∙ ap (λ l. l ++ kept_lines halted.end.told) came.played.lines
+            ∙ append_assoc before (kept_lines came.outcome.told) (kept_lines halted.end.told)
+            ∙ ap (λ l. before ++ l) (sym (kept-append halted.end.told came.outcome.told));
+        files = λ tells.
+            let leaves = came.played.files tells in
+            laws.left_both setup came.outcome.state halted.end.state held told left leaves (halted.files (laws.left_told setup came.outcome.state held told leaves));
+      }
+
   pub off-after : (P Q : State Peers → Type 0) (Inner Outer : (EndOver kit)) (first : (EventOver kit)) (answer : DiskAnswer) (old middle new : Cluster Group) (before between after : List (List ℕ)) (a : Bool) (held told left : kit.Seen) → EndsBy P first Inner Outer → LeadsBy P Q first → (Comes kit) P first old middle before between a held told → (ComesOff kit) Q Inner answer middle new between after told left → (ComesOff kit) P Outer answer old new before after held left
   off-after P Q Inner Outer first Memory old middle new before between after a held told left stops =
       lacks-after P Q Inner Outer first old middle new before between after a held told left
-  off-after P Q Inner Outer first Stopped old middle new before between after a held told left stops = λ leads comes off setup state good shows counted so.
-      let came = comes setup state good shows counted so in
-      let next = came-leads P Q first setup state middle before between a held told leads good so came in
-      off setup came.outcome.state came.played.good came.played.shows came.count next.0
+  off-after P Q Inner Outer first Stopped old middle new before between after a held told left stops =
+      halted-after P Q Inner Outer first old middle new before between after a held told left stops
   off-after P Q Inner Outer first Failed old middle new before between after a held told left stops =
       ended-after P Q Inner Outer first old middle new before between after a held told left stops
 
@@ -187,17 +209,31 @@ module _ {Peers Group : Type 0} (kit : Kit Peers Group) (laws : IsKit kit) where
   -- what ends in one sense ends in another, from all states of the cluster
   abbrev pub EndsAs : (Inner Outer : (EndOver kit)) → Cluster Group → Type 0
   EndsAs Inner Outer world =
-      (setup : Setup) (fails : ℕ → ℕ) (state : State Peers) → (Shows kit) setup state world → (stop : Outcome (State Peers)) → Inner setup fails state stop → Outer setup fails state stop
+      (answer : DiskAnswer) (setup : Setup) (fails : ℕ → ℕ) (state : State Peers) → (Shows kit) setup state world → (stop : Outcome (State Peers))
+      → Inner answer setup fails state stop → Outer answer setup fails state stop
 
   pub off-as : (P Q : State Peers → Type 0) (Inner Outer : (EndOver kit)) (answer : DiskAnswer) (old new : Cluster Group) (before after : List (List ℕ)) (held left : kit.Seen) → EndsAs Inner Outer old → Follows P Q old → (ComesOff kit) Q Inner answer old new before after held left → (ComesOff kit) P Outer answer old new before after held left
   off-as P Q Inner Outer Memory old new before after held left as_outer follows breaks setup state good shows counted so = breaks setup state good shows counted (follows setup state good shows so)
-  off-as P Q Inner Outer Stopped old new before after held left as_outer follows breaks setup state good shows counted so = breaks setup state good shows counted (follows setup state good shows so)
+  off-as P Q Inner Outer Stopped old new before after held left as_outer follows halts setup state good shows counted so =
+      let halted = halts setup state good shows counted (follows setup state good shows so) in
+      record {
+        happened = halted.happened;
+        end = halted.end;
+        ends = record { later = halted.ends.later; is = λ fails agrees. as_outer Stopped setup fails state shows halted.end (halted.ends.is fails agrees) };
+        uses = halted.uses;
+        good = halted.good;
+        says = halted.says;
+        shows = halted.shows;
+        count = halted.count;
+        lines = halted.lines;
+        files = halted.files;
+      }
   off-as P Q Inner Outer Failed old new before after held left as_outer follows ends setup state good shows counted so =
       let ended = ends setup state good shows counted (follows setup state good shows so) in
       record {
         happened = ended.happened;
         end = ended.end;
-        ends = record { later = ended.ends.later; is = λ fails agrees. as_outer setup fails state shows ended.end (ended.ends.is fails agrees) };
+        ends = record { later = ended.ends.later; is = λ fails agrees. as_outer Failed setup fails state shows ended.end (ended.ends.is fails agrees) };
         faults = ended.faults;
         good = ended.good;
         says = ended.says;

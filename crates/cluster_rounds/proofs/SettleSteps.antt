@@ -111,10 +111,39 @@ module _ {Peers Group : Type 0} (kit : Kit Peers Group) (laws : IsKit kit) where
   settling-off Memory old now new before between after held told left settles off setup state good shows counted so =
       let so_far = settles setup state good shows counted in
       let broken = off setup so_far.state so_far.good so_far.shows so_far.count tt in
-      ((happened-broken kit laws) setup state so_far.state so_far.told held told left new (settling-says setup state now before between held told good so_far) so_far.files broken.0, laws.lacks_behind setup so_far.happened state (record { state = so_far.state; told = so_far.told }) held told left so_far.uses broken.1)
+      ((happened-broken kit laws) setup state so_far.state so_far.told held told left new (settling-says setup state now before between held told good so_far) so_far.files broken.0, laws.lacks_behind setup so_far.happened state (record { state = so_far.state; told = so_far.told }) new.servers held told left so_far.uses broken.1)
   settling-off Stopped old now new before between after held told left settles off setup state good shows counted so =
       let so_far = settles setup state good shows counted in
-      off setup so_far.state so_far.good so_far.shows so_far.count tt
+      let halted = off setup so_far.state so_far.good so_far.shows so_far.count tt in
+      let early = so_far.later in
+      let late = halted.ends.later in
+      record {
+        happened = spliced (answered_in so_far.state) so_far.happened halted.happened;
+        end = behind (record { state = so_far.state; told = so_far.told }) halted.end;
+        ends = record {
+          later = omega arith;
+          is = λ fails agrees. record {
+            between = so_far.state;
+            lines = so_far.told;
+            rounds = so_far.rounds fails (agrees-first (answered_in state) (answered_in so_far.state) (suc (answered_in halted.end.state)) so_far.happened halted.happened fails (omega arith) agrees);
+            last = halted.end;
+            ends = halted.ends.is fails (agrees-second (answered_in state) (answered_in so_far.state) (suc (answered_in halted.end.state)) so_far.happened halted.happened fails early agrees);
+            is = refl;
+          };
+        };
+        uses = laws.used_both setup so_far.happened halted.happened state (record { state = so_far.state; told = so_far.told }) halted.end held told left so_far.uses halted.uses;
+        good = halted.good;
+        says = Says-both (plain_of setup) state.world so_far.state.world halted.end.state.world so_far.told halted.end.told (settling-says setup state now before between held told good so_far).says halted.says;
+        shows = halted.shows;
+        count = halted.count;
+        lines =
+            halted.lines ∙ ap (λ l. l ++ kept_lines halted.end.told) so_far.lines
+            ∙ append_assoc before (kept_lines so_far.told) (kept_lines halted.end.told)
+            ∙ ap (λ l. before ++ l) (sym (kept-append halted.end.told so_far.told));
+        files = λ tells.
+            let leaves = so_far.files tells in
+            laws.left_both setup so_far.state halted.end.state held told left leaves (halted.files (laws.left_told setup so_far.state held told leaves));
+      }
   settling-off Failed old now new before between after held told left settles off setup state good shows counted so =
       let so_far = settles setup state good shows counted in
       let ended = off setup so_far.state so_far.good so_far.shows so_far.count tt in

@@ -200,7 +200,7 @@ module _ {Peers Group : Type 0} (kit : Kit Peers Group) (laws : IsKit kit) where
   -- a drain ends in the next step
   pub steps-off : (steps : ℕ) (answer : DiskAnswer) (old now new : Cluster Group) (before between after : List (List ℕ)) (a : Bool) (held told left : kit.Seen) → steps < kit.steps → (Comes kit) any_state ((advances_by kit) steps) old now before between a held told → (ComesOff kit) any_state (EndsStep kit) answer now new between after told left → (ComesOff kit) any_state (EndsDrain kit) answer old new before after held left
   steps-off steps answer old now new before between after a held told left within comes off =
-      let ends : (EndsBy kit laws) any_state ((advances_by kit) steps) (EndsStep kit) (EndsDrain kit) = λ setup fails state good so stop inner.
+      let ends : (EndsBy kit laws) any_state ((advances_by kit) steps) (EndsStep kit) (EndsDrain kit) = λ answer setup fails state good so stop inner.
       let all : (servers_at kit setup fails).steps ≡ kit.steps = laws.steps (plain_of setup) (device_by setup fails) in
       record { steps = steps; within = omega arith; ends = record { last = stop; ends = inner; is = refl } }
       in
@@ -235,8 +235,8 @@ module _ {Peers Group : Type 0} (kit : Kit Peers Group) (laws : IsKit kit) where
       (on-after kit laws) (StandsIn message) (StandsIn message) (drain_by kit) one two first second b held left (drain-keeps message) has (λ setup state good shows counted so. drains setup state good shows counted tt)
 
   turn-ends : (message : Message) → (EndsBy kit laws) (StandsIn message) (λ setup fails. (heard_so kit) message setup) (EndsDrain kit) ((EndsTurn kit) message)
-  turn-ends message setup fails state good so stop inner =
-      let E : Outcome (State Peers) → Type 0 = λ o. EndsBehind o (DrainEnds (servers_at kit setup fails) (kit.EndsAtWork (device_by setup fails))) (behind ((heard_so kit) message setup state) stop) in
+  turn-ends message answer setup fails state good so stop inner =
+      let E : Outcome (State Peers) → Type 0 = λ o. EndsBehind o (DrainEnds (servers_at kit setup fails) (EndsStep kit answer setup fails)) (behind ((heard_so kit) message setup state) stop) in
       let own : E ((heard_so kit) message setup state) = record { last = stop; ends = inner; is = refl } in
       subst E (heard-alike message setup fails state) own
 
@@ -262,16 +262,16 @@ module _ {Peers Group : Type 0} (kit : Kit Peers Group) (laws : IsKit kit) where
   loop-begins P event world lines disk setup state good shows counted so = steps-begin world lines disk setup state good shows counted tt
 
   pub turns-end : (messages : List Message) (index : ℕ) (message : Message) → index < length messages → message ≡ get_or messages index message → (EndsBy kit laws) (IsIdleWithAll messages) ((turns_by kit) (take index messages)) ((EndsTurn kit) message) ((EndsTurns kit) messages)
-  turns-end messages index message below is setup fails state good so stop inner =
+  turns-end messages index message below is answer setup fails state good so stop inner =
       let plain = plain_of setup in
       let servers = servers_at kit setup fails in
-      each-ends (turn plain servers) (TurnEnds plain servers (kit.EndsAtWork (device_by setup fails))) messages index message state stop below is inner
+      each-ends (turn plain servers) (TurnEnds plain servers (EndsStep kit answer setup fails)) messages index message state stop below is inner
 
   pub clients-end : (clients : List ℕ) (index client : ℕ) → index < length clients → client ≡ get_or clients index client → (EndsBy kit laws) IsIdle ((clients_by kit) (take index clients)) ((EndsClient kit) client) ((EndsClients kit) clients)
-  clients-end clients index client below is setup fails state good so stop inner =
+  clients-end clients index client below is answer setup fails state good so stop inner =
       let plain = plain_of setup in
       let servers = servers_at kit setup fails in
-      each-ends (client_turns plain servers) (ClientEnds plain servers (kit.EndsAtWork (device_by setup fails))) clients index client state stop below is inner
+      each-ends (client_turns plain servers) (ClientEnds plain servers (EndsStep kit answer setup fails)) clients index client state stop below is inner
 
   -- A client's messages.
 
@@ -294,7 +294,7 @@ module _ {Peers Group : Type 0} (kit : Kit Peers Group) (laws : IsKit kit) where
   pub client-off : (client : ℕ) (messages : List Message) (answer : DiskAnswer) (old new : Cluster Group) (before after : List (List ℕ)) (held left : kit.Seen) → AreResent client messages old → (ComesOff kit) (IsIdleWithAll messages) ((EndsTurns kit) messages) answer old new before after held left → (ComesOff kit) IsIdle ((EndsClient kit) client) answer old new before after held left
   client-off client messages answer old new before after held left are off =
       (off-as kit laws) IsIdle (IsIdleWithAll messages) ((EndsTurns kit) messages) ((EndsClient kit) client) answer old new before after held left
-      (λ setup fails state shows stop ends. subst (λ (l : List Message). (EndsTurns kit) l setup fails state stop) (are setup state shows) ends)
+      (λ answer setup fails state shows stop ends. subst (λ (l : List Message). (EndsTurns kit) l answer setup fails state stop) (are setup state shows) ends)
       (client-follows client messages old are) off
 
   -- a client without an agent sends nothing again
@@ -316,7 +316,7 @@ module _ {Peers Group : Type 0} (kit : Kit Peers Group) (laws : IsKit kit) where
   pub each-off : (clients : List ℕ) (answer : DiskAnswer) (old new : Cluster Group) (before after : List (List ℕ)) (held left : kit.Seen) → AreClients clients old → (ComesOff kit) IsIdle ((EndsClients kit) clients) answer old new before after held left → (ComesOff kit) IsIdle (EndsEach kit) answer old new before after held left
   each-off clients answer old new before after held left are off =
       (off-as kit laws) IsIdle IsIdle ((EndsClients kit) clients) (EndsEach kit) answer old new before after held left
-      (λ setup fails state shows stop ends. subst (λ (l : List ℕ). (EndsClients kit) l setup fails state stop) (are setup state shows) ends)
+      (λ answer setup fails state shows stop ends. subst (λ (l : List ℕ). (EndsClients kit) l answer setup fails state stop) (are setup state shows) ends)
       (λ setup state good shows idle. idle) off
 
   -- A round.
@@ -355,11 +355,11 @@ module _ {Peers Group : Type 0} (kit : Kit Peers Group) (laws : IsKit kit) where
 
   pub round-start-off : (answer : DiskAnswer) (old new : Cluster Group) (before after : List (List ℕ)) (held left : kit.Seen) → (ComesOff kit) any_state (EndsDrain kit) answer old new before after held left → (ComesOff kit) any_state (EndsRound kit) answer old new before after held left
   round-start-off answer old new before after held left off =
-      (off-as kit laws) any_state any_state (EndsDrain kit) (EndsRound kit) answer old new before after held left (λ setup fails state shows stop ends. inl ends) (λ setup state good shows so. so) off
+      (off-as kit laws) any_state any_state (EndsDrain kit) (EndsRound kit) answer old new before after held left (λ answer setup fails state shows stop ends. inl ends) (λ setup state good shows so. so) off
 
   pub round-turn-off : (answer : DiskAnswer) (old one new : Cluster Group) (before first after : List (List ℕ)) (a : Bool) (held told left : kit.Seen) → (Comes kit) any_state (drain_by kit) old one before first a held told → (ComesOff kit) IsIdle (EndsEach kit) answer one new first after told left → (ComesOff kit) any_state (EndsRound kit) answer old new before after held left
   round-turn-off answer old one new before first after a held told left drains off =
-      (off-after kit laws) any_state IsIdle (EndsEach kit) (EndsRound kit) (drain_by kit) answer old one new before first after a held told left (λ setup fails state good so stop inner. inr (record { last = stop; ends = inner; is = refl })) drain-leads drains off
+      (off-after kit laws) any_state IsIdle (EndsEach kit) (EndsRound kit) (drain_by kit) answer old one new before first after a held told left (λ answer setup fails state good so stop inner. inr (record { last = stop; ends = inner; is = refl })) drain-leads drains off
 
   pub round-push-lacks : (old one two new : Cluster Group) (before first second after : List (List ℕ)) (a b : Bool) (held told left : kit.Seen) → (Comes kit) any_state (drain_by kit) old one before first a held told → (Comes kit) IsIdle (each_by kit) one two first second b told left → (BreaksAloneIf kit) IsIdle two new → (ComesOff kit) any_state (EndsRound kit) Memory old new before after held left
   round-push-lacks old one two new before first second after a b held told left drains turns breaks =

@@ -5,6 +5,7 @@ use Rattle.disk_model.specs.declared.answers.DiskAnswer.TheVariants.{Memory, Fai
 use Rattle.plain_service.specs.Setups.{Setup}
 use Rattle.service_laws.specs.PlainOf.{plain_of}
 use Rattle.cluster_facts.specs.History.{committed}
+use Rattle.cluster_events.specs.Lines.{Told}
 use Rattle.cluster_events.specs.Outcomes.{Outcome}
 use Rattle.cluster_events.specs.Servers.{State, advance}
 use Rattle.cluster_events.specs.Saying.{Says}
@@ -36,14 +37,15 @@ module _ {Peers Group : Type 0} (kit : Kit Peers Group) where
       (setup : Setup) (state : State Peers) → IsGood kit setup state → Shows kit setup state old → kit.Armed state.peers held → P state
       → Came setup state (event setup) new before after loud held left
 
-  -- The disk had a fault as an entry was worked, and the event ended by it: what the servers are left as, and what holds of the state
-  -- in which it ended. What the disks hold is between that of the history committed without its last entry and that of the history.
-  pub record Ended (setup : Setup) (state : State Peers) (Ends : EndBy Peers) (new : Cluster Group) (before after : List (List ℕ))
-      (held left : kit.Seen) : Type 0 where
+  -- The disk had a fault as an entry was worked, and an event ended by it, or a line: what the servers are left as, and what holds of the
+  -- state in which it ended. What the disks hold is between that of the history committed without its last entry and that of the history.
+  -- By the works that failed it ends so, and the disks counted so; its lines are those that are shown of what it told.
+  pub record EndedBy (setup : Setup) (state : State Peers) (Ends Faulted : (ℕ → ℕ) → Outcome (State Peers) → Type 0)
+      (shown : List Told → List (List ℕ)) (new : Cluster Group) (before after : List (List ℕ)) (held left : kit.Seen) : Type 0 where
     pub happened : ℕ → ℕ
     pub end : Outcome (State Peers)
-    pub ends : EndsOver Ends happened state end
-    pub faults : kit.Faults setup happened state end held left
+    pub ends : Ends happened end
+    pub faults : Faulted happened end
     pub good : IsGood kit setup end.state
     pub says : Says (plain_of setup) state.world end.state.world end.told
     pub fell : kit.Fell setup end.state new.servers left
@@ -52,22 +54,43 @@ module _ {Peers Group : Type 0} (kit : Kit Peers Group) where
     pub history : new.history.entries ≡ committed end.state.world.core
     pub now : new.now ≡ end.state.world.now
     pub callbacks : new.callbacks ≡ end.state.world.places
-    pub lines : after ≡ before ++ kept_lines end.told
+    pub lines : after ≡ before ++ shown end.told
     pub files : kit.Tells setup state held → kit.Between setup (committed end.state.world.core) held left
 
-  -- what an event left of a state, by the answer with which it broke off: no event ends as the disk stops
+  -- an event ended so, over each device that agrees with what happened; lines on messages without effect are left out
+  abbrev pub Ended :
+      Setup → State Peers → EndBy Peers → Cluster Group → List (List ℕ) → List (List ℕ) → kit.Seen → kit.Seen → Type 0
+  Ended setup state Ends new before after held left =
+      EndedBy setup state (λ happened end. EndsOver Ends happened state end) (λ happened end. kit.Faults setup happened state end held left)
+      kept_lines new before after held left
+
+  -- the disk stopped, and an event ended by it: the cluster goes on from the state in which it ended
+  pub record Halted (setup : Setup) (state : State Peers) (Ends : EndBy Peers) (new : Cluster Group) (before after : List (List ℕ))
+      (held left : kit.Seen) : Type 0 where
+    pub happened : ℕ → ℕ
+    pub end : Outcome (State Peers)
+    pub ends : EndsOver Ends happened state end
+    pub uses : kit.Uses setup happened state end held left
+    pub good : IsGood kit setup end.state
+    pub says : Says (plain_of setup) state.world end.state.world end.told
+    pub shows : Shows kit setup end.state new
+    pub count : kit.Armed end.state.peers left
+    pub lines : after ≡ before ++ kept_lines end.told
+    pub files : kit.Tells setup state held → kit.Leaves setup end.state held left
+
+  -- what an event left of a state, by the answer with which it broke off
   abbrev pub LeavesOff :
       Setup → State Peers → EndBy Peers → DiskAnswer → Cluster Group → List (List ℕ) → List (List ℕ) → kit.Seen → kit.Seen → Type 0
   LeavesOff setup state Ends Memory new before after held left =
-      Broken kit setup state held left new × kit.Lacks setup state held left
+      Broken kit setup state held left new × kit.Lacks setup state new.servers held left
   LeavesOff setup state Ends Failed new before after held left = Ended setup state Ends new before after held left
-  LeavesOff setup state Ends Stopped new before after held left = ⊥
+  LeavesOff setup state Ends Stopped new before after held left = Halted setup state Ends new before after held left
 
   abbrev pub ComesOff :
       (State Peers → Type 0) → EndOver kit → DiskAnswer → Cluster Group → Cluster Group → List (List ℕ) → List (List ℕ) → kit.Seen → kit.Seen → Type 0
   ComesOff P Ends answer old new before after held left =
       (setup : Setup) (state : State Peers) → IsGood kit setup state → Shows kit setup state old → kit.Armed state.peers held → P state
-      → LeavesOff setup state (Ends setup) answer new before after held left
+      → LeavesOff setup state (Ends answer setup) answer new before after held left
 
   -- the servers made a step, which is loud where the history grew; or they have none to make, and nothing changed
   abbrev pub Advances : Bool → Cluster Group → Cluster Group → List (List ℕ) → List (List ℕ) → kit.Seen → kit.Seen → Type 0

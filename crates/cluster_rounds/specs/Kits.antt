@@ -3,6 +3,7 @@ use Rattle.std.specs.Prelude.{◌≡◌, ℕ, ◌≤◌, Option, List, length}
 use Rattle.ais_values.specs.Causes.{Rose}
 use Rattle.disk_model.specs.Disk.{Files}
 use Rattle.disk_model.specs.Seen.{DiskSeen}
+use Rattle.disk_model.specs.declared.answers.DiskAnswer.{DiskAnswer}
 use Rattle.stream_layout.specs.Deeds.{calls_of_all}
 use Rattle.plain_service.specs.Setups.{Setup, CanBegin}
 use Rattle.plain_service.specs.Storing.{deeds_of}
@@ -20,7 +21,7 @@ use Rattle.cluster_events.specs.Devices.{Device, answered_in, spliced}
 use Rattle.cluster_events.specs.Ending.{EndAt}
 use Rattle.cluster_rounds.specs.Measured.{IsMeasured}
 use Rattle.cluster_rounds.specs.Resting.{Rests}
-use Rattle.cluster_rounds.specs.Seen.{IsRead, TellsFiles}
+use Rattle.cluster_rounds.specs.Seen.{IsRead}
 use Rattle.cluster_rounds.specs.PartlyDone.{SaysUnasked}
 
 -- servers that keep P beside the world of the definitions, and that are S in the code
@@ -44,14 +45,15 @@ pub record Kit (P S : Type 0) : Type 1 where
   pub Tells : Setup → State P → Seen → Type 0
   pub Leaves : Setup → State P → Seen → Seen → Type 0
   pub Between : Setup → List Entry → Seen → Seen → Type 0
-  -- where an event ends as an entry is to be worked, by the device, and what servers of the code and the disks are then
-  pub EndsAtWork : Device → EndAt P
+  -- where a step of servers ends by the disks, by the answer and the device: by a fault that no server survives, or by a stop behind
+  -- which none goes on. What servers of the code and the disks are behind such a fault
+  pub EndsAt : DiskAnswer → Plain → Device → EndAt P
   pub Fell : Setup → State P → S → Seen → Type 0
   -- what the disks counted as an event came from a state to an outcome, by the works that failed; as it ended there by a fault; and as
-  -- memory was wanting
+  -- memory was wanting, with what servers of the code are then
   pub Uses : Setup → (ℕ → ℕ) → State P → Outcome (State P) → Seen → Seen → Type 0
   pub Faults : Setup → (ℕ → ℕ) → State P → Outcome (State P) → Seen → Seen → Type 0
-  pub Lacks : Setup → State P → Seen → Seen → Type 0
+  pub Lacks : Setup → State P → S → Seen → Seen → Type 0
   -- how the disks' counts may go on any disks where an event is done, and where one ends by a fault
   pub Outlives : Seen → Seen → Type 0
   pub Rises : Seen → Seen → Type 0
@@ -92,15 +94,14 @@ pub record IsKit {P S : Type 0} (kit : Kit P S) : Type 0 where
       → AreInRange (accepted state.world.core) → kit.Leaves setup state held left → kit.Between setup (committed state.world.core) held left
   pub between_behind : (setup : Setup) (middle : State P) (past : List Entry) (held told left : kit.Seen)
       → kit.Leaves setup middle held told → kit.Between setup past told left → kit.Between setup past held left
-  -- the files that lines show are those of the first disk, and of the history where the disks tell what they hold
+  -- the files that lines show are those of the first disk
   pub shown : (one beside : DiskSeen) → kit.files (kit.see one beside) ≡ one.files
-  pub told : (setup : Setup) (state : State P) (seen : kit.Seen) → kit.Tells setup state seen → TellsFiles setup state (kit.files seen)
   -- a first disk that was only read
   pub read_armed : (peers : P) (one two beside : DiskSeen) → IsRead one two → kit.Armed peers (kit.see one beside) → kit.Armed peers (kit.see two beside)
   pub read_left : (setup : Setup) (state : State P) (one two beside : DiskSeen) → IsRead one two
       → kit.Tells setup state (kit.see one beside) → kit.Leaves setup state (kit.see one beside) (kit.see two beside)
-  pub read_lacks : (setup : Setup) (state : State P) (one two beside : DiskSeen) → IsRead one two → two.faults ≡ one.faults
-      → kit.Lacks setup state (kit.see one beside) (kit.see two beside)
+  pub read_lacks : (setup : Setup) (state : State P) (servers : S) (one two beside : DiskSeen) → IsRead one two → two.faults ≡ one.faults
+      → kit.Lacks setup state servers (kit.see one beside) (kit.see two beside)
   pub read_outlives : (one two beside : DiskSeen) → IsRead one two → two.faults ≡ one.faults → kit.Outlives (kit.see one beside) (kit.see two beside)
   pub read_rises : (one two beside : DiskSeen) → IsRead one two → one.faults ≤ two.faults → Rose one.faults two.faults
       → kit.Rises (kit.see one beside) (kit.see two beside)
@@ -118,9 +119,9 @@ pub record IsKit {P S : Type 0} (kit : Kit P S) : Type 0 where
   pub faults_behind : (setup : Setup) (one two : ℕ → ℕ) (state : State P) (first end : Outcome (State P)) (held told left : kit.Seen)
       → kit.Uses setup one state first held told → kit.Faults setup two first.state end told left
       → kit.Faults setup (spliced (answered_in first.state) one two) state (behind first end) held left
-  pub lacks_same : (setup : Setup) (state : State P) (seen : kit.Seen) → kit.Lacks setup state seen seen
-  pub lacks_behind : (setup : Setup) (happened : ℕ → ℕ) (state : State P) (first : Outcome (State P)) (held told left : kit.Seen)
-      → kit.Uses setup happened state first held told → kit.Lacks setup first.state told left → kit.Lacks setup state held left
+  pub lacks_same : (setup : Setup) (state : State P) (servers : S) (seen : kit.Seen) → kit.Lacks setup state servers seen seen
+  pub lacks_behind : (setup : Setup) (happened : ℕ → ℕ) (state : State P) (first : Outcome (State P)) (servers : S) (held told left : kit.Seen)
+      → kit.Uses setup happened state first held told → kit.Lacks setup first.state servers told left → kit.Lacks setup state servers held left
   -- on any disks the counts may stand, and go on
   pub stands : (seen : kit.Seen) → kit.Outlives seen seen
   pub further : (one two three : kit.Seen) → kit.Outlives one two → kit.Outlives two three → kit.Outlives one three

@@ -1,6 +1,7 @@
 -- Words of bodies, and of public clauses: what the events of a round of `settle` come to. Lines on messages without effect are left out.
 use Rattle.std.specs.Prelude.{◌≡◌, ℕ, Bool, List, ◌++◌}
 use Rattle.std.specs.List.{AllByRecursion}
+use Rattle.disk_model.specs.declared.answers.DiskAnswer.{DiskAnswer}
 use Rattle.plain_service.specs.Setups.{Setup}
 use Rattle.service_laws.specs.PlainOf.{plain_of}
 use Rattle.cluster_facts.specs.Types.{Message, Delivery}
@@ -12,7 +13,7 @@ use Rattle.cluster_events.specs.Servers.{State, in_world, advances, drain}
 use Rattle.cluster_events.specs.Events.{reply_at, hear}
 use Rattle.cluster_events.specs.Settling.{take_answer_by, take_answer, turn, client_turns, take_pushed, push_round, round, is_loud}
 use Rattle.cluster_events.specs.Devices.{EventBy, EndBy}
-use Rattle.cluster_events.specs.Ending.{EndAt, StepEnds, DrainEnds, TurnEnds, TurnsEnd, ClientEnds, ClientsEnd, RoundEnds, SettleEnds}
+use Rattle.cluster_events.specs.Ending.{DrainEnds, TurnEnds, TurnsEnd, ClientEnds, ClientsEnd, RoundEnds, SettleEnds}
 use Rattle.cluster_rounds.specs.declared.cluster.Cluster.{Cluster}
 use Rattle.cluster_clients.specs.Taken.{kept_lines, taken_as}
 use Rattle.cluster_rounds.specs.Kits.{Kit, calm_servers, device_by, servers_at}
@@ -105,38 +106,41 @@ module _ {Peers Group : Type 0} (kit : Kit Peers Group) where
   abbrev pub round_by : EventOver
   round_by setup fails state = round (plain_of setup) (servers_at kit setup fails) state
 
-  -- Where these end by a fault of the disk.
+  -- Where these end by the disks: by a fault that no server survives, or by a stop behind which none goes on.
 
   abbrev pub EndOver : Type 1
-  EndOver = Setup → EndBy Peers
-
-  abbrev at_work : Setup → (ℕ → ℕ) → EndAt Peers
-  at_work setup fails = kit.EndsAtWork (device_by setup fails)
+  EndOver = DiskAnswer → Setup → EndBy Peers
 
   abbrev pub EndsStep : EndOver
-  EndsStep setup fails state end = StepEnds (servers_at kit setup fails) (at_work setup fails) state end
+  EndsStep answer setup fails = kit.EndsAt answer (plain_of setup) (device_by setup fails)
 
   abbrev pub EndsDrain : EndOver
-  EndsDrain setup fails state end = DrainEnds (servers_at kit setup fails) (at_work setup fails) state end
+  EndsDrain answer setup fails state end = DrainEnds (servers_at kit setup fails) (EndsStep answer setup fails) state end
 
   abbrev pub EndsTurn : Message → EndOver
-  EndsTurn message setup fails state end = TurnEnds (plain_of setup) (servers_at kit setup fails) (at_work setup fails) message state end
+  EndsTurn message answer setup fails state end =
+      TurnEnds (plain_of setup) (servers_at kit setup fails) (EndsStep answer setup fails) message state end
 
   abbrev pub EndsTurns : List Message → EndOver
-  EndsTurns messages setup fails state end = TurnsEnd (plain_of setup) (servers_at kit setup fails) (at_work setup fails) messages state end
+  EndsTurns messages answer setup fails state end =
+      TurnsEnd (plain_of setup) (servers_at kit setup fails) (EndsStep answer setup fails) messages state end
 
   abbrev pub EndsClient : ℕ → EndOver
-  EndsClient client setup fails state end = ClientEnds (plain_of setup) (servers_at kit setup fails) (at_work setup fails) client state end
+  EndsClient client answer setup fails state end =
+      ClientEnds (plain_of setup) (servers_at kit setup fails) (EndsStep answer setup fails) client state end
 
   abbrev pub EndsClients : List ℕ → EndOver
-  EndsClients clients setup fails state end = ClientsEnd (plain_of setup) (servers_at kit setup fails) (at_work setup fails) clients state end
+  EndsClients clients answer setup fails state end =
+      ClientsEnd (plain_of setup) (servers_at kit setup fails) (EndsStep answer setup fails) clients state end
 
   -- in the turns of a client of the state
   abbrev pub EndsEach : EndOver
-  EndsEach setup fails state end = EndsClients state.world.clients setup fails state end
+  EndsEach answer setup fails state end = EndsClients state.world.clients answer setup fails state end
 
   abbrev pub EndsRound : EndOver
-  EndsRound setup fails state end = RoundEnds (plain_of setup) (servers_at kit setup fails) (at_work setup fails) state end
+  EndsRound answer setup fails state end =
+      RoundEnds (plain_of setup) (servers_at kit setup fails) (EndsStep answer setup fails) state end
 
   abbrev pub EndsSettle : EndOver
-  EndsSettle setup fails state end = SettleEnds (plain_of setup) (servers_at kit setup fails) (at_work setup fails) state end
+  EndsSettle answer setup fails state end =
+      SettleEnds (plain_of setup) (servers_at kit setup fails) (EndsStep answer setup fails) state end

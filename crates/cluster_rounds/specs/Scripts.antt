@@ -13,6 +13,8 @@ use Rattle.cluster_events.specs.Running.{Shelf}
 pub record Script (P V : Type 0) : Type 1 where
   -- what a line leads to and prints, over files that are shown so, by the device
   pub Leads : Plain → Shelf → Device → Line → State P → Outcome (State P) → Type 0
+  -- in which states a line is played as over any servers
+  pub Shares : Line → State P → Type 0
   -- where the event of a line ends by a fault of the disk, by the device
   pub Ends : Plain → Device → Line → EndAt P
   -- which lines on failing servers can be played

@@ -62,8 +62,8 @@ pub trait Serving {
     /// Makes one step of a drain: a message between servers is delivered, or the entry in hand is worked. Answers whether there was
     /// one to make. What the servers keep tells of the disk's armed count, before and after.
     ///
-    /// `Failed` comes where the disk had a fault that no server survives; its count of faults rose then. `Memory` comes where memory
-    /// ran out. `Stopped` never comes: servers that are not armed meet no stop, and of those that are another one takes over.
+    /// `Failed` comes where the disk had a fault that no server survives; its count of faults rose then. `Stopped` comes where no
+    /// server goes on behind a stop of the disk, and the cluster can go on. `Memory` comes where memory ran out.
     fn advance<D: SharedDisk, J: SharedDisk>(
         alloc: Global,
         world: &mut Cluster<Self>,

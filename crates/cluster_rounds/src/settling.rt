@@ -17,8 +17,9 @@ use std::sync::Wait;
 /// Plays rounds up to the first that is not loud, and adds the lines of all of them, but for those on messages without effect.
 ///
 /// `Failed` comes where the disk had a fault that no server survives: its count of faults rose, and the lines are those of all that
-/// was done until then. `Memory` comes where memory ran out, or the greatest `u64` of rounds were played and all of them were loud;
-/// some of it was done. `Stopped` never comes of servers that stand for a history: they answer for a disk that stops.
+/// was done until then. `Stopped` comes where no server goes on behind a stop of the disk: the lines are those of all that was done
+/// until then, and the cluster can go on. `Memory` comes where memory ran out, or the greatest `u64` of rounds were played and all of
+/// them were loud; some of it was done.
 pub fn settle<R: Wait, S: Serving, D: SharedDisk, J: SharedDisk>(
     rt: &R,
     alloc: Global,

@@ -7,6 +7,7 @@ pub play_own-requires : goal.play_own-requires
 play_own-requires g c = record {
   state = c.requires.state;
   range = c.requires.range;
+  shares = c.requires.shares;
   own = owns g.S.Serving.script c.args.world.now.now c.args.line.now (sym c.if-is_own.ensures) c.requires.can;
 }
 

@@ -1,7 +1,9 @@
 use Rattle.std.proofs.Common.{ℤ, sym, subst}
 use Rattle.std.proofs.lemmas.Result.{on_ok_weaker}
+use Rattle.script_lines.specs.declared.line.Line.{Line}
 use Rattle.script_lines.specs.declared.line.Line.TheVariants as line
 use Rattle.cluster_lines.specs.Lines.{IsInRange, CanPlay}
+use Rattle.cluster_lines.specs.Playing.{SharesIn}
 use Rattle.cluster_lines.specs.Steps.{PlaysAlone}
 use Rattle.cluster_clients.proofs.DispatchSteps.{on-err}
 use Rattle.cluster_lines.proofs.LineSteps.{moment-same, plays-as, plays-time, plays-log, plays-ntf, plays-deliver, plays-resend, plays-push, plays-one, plays-all, plays-servers}
@@ -21,7 +23,11 @@ pub deliver_line-requires : goal.deliver_line-requires
 deliver_line-requires g c = record { state = c.requires.state; line = c.in-Deliver.is }
 
 pub push_line-requires : goal.push_line-requires
-push_line-requires g c = record { state = c.requires.state; line = c.in-Push.is }
+push_line-requires g c = record {
+  state = c.requires.state;
+  line = c.in-Push.is;
+  shares = subst (λ (next : Line). (SharesIn g.S.Serving.kit g.S.Serving.script) next c.args.world.now) c.in-Push.is c.requires.shares;
+}
 
 pub inject_line-requires : goal.inject_line-requires
 inject_line-requires g c = c.in-Inject.is

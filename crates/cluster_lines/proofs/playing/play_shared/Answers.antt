@@ -1,14 +1,14 @@
 use Rattle.std.proofs.Common.{◌≡◌, Bool, true, sym, subst}
 use Rattle.std.specs.Result.{is_ok}
-use Rattle.std.proofs.lemmas.Result.{on_ok_weaker}
+use Rattle.std.specs.Prelude.{OnOk, IfErr}
 use Rattle.script_lines.specs.declared.line.Line.{Line}
 use Rattle.script_lines.specs.declared.line.Line.TheVariants as line
 use Rattle.cluster_clients.specs.Looks.{FileCalls, ListCalls}
 use Rattle.cluster_rounds.specs.Worlds.{any_state}
 use Rattle.cluster_rounds.proofs.ArmedSteps.{state-told}
-use Rattle.cluster_lines.specs.Playing.{LooksBy, Plays}
-use Rattle.cluster_lines.proofs.LineBroken.{cat-broken, ends-broken, ends-counts, files-broken, looked-read, read-stands, settle-broken, shown-counts, shown-ok}
-use Rattle.cluster_lines.proofs.LineSteps.{alone-stands, ends-ok, looks-alone, played-as, plays-alone, plays-cat, plays-files, plays-settle, settle-stands}
+use Rattle.cluster_lines.specs.Playing.{BreaksOff, LooksBy, Plays, SharesIn}
+use Rattle.cluster_lines.proofs.LineBroken.{cat-broken, ends-broken, ends-counts, files-broken, looked-read, read-stands, shown-counts, shown-ok}
+use Rattle.cluster_lines.proofs.LineSteps.{alone-stands, ends-ok, looks-alone, played-as, plays-alone, plays-cat, plays-files, shows-none}
 use Rattle.cluster_rounds.specs.Wild.{always}
 use Rattle.cluster_rounds.proofs.WildSteps.{asks-of, on-ok, wild-same}
 use Rattle.cluster_lines.proofs.WildLines.{ends-wild, shown-wild}
@@ -27,42 +27,42 @@ play_alone-requires-clause-state g c κs within =
 pub play_alone-requires-clause-range : goal.play_alone-requires-clause-range
 play_alone-requires-clause-range g c κs within = c.requires.range
 
+pub play_alone-requires-clause-shares : goal.play_alone-requires-clause-shares
+play_alone-requires-clause-shares g c κs within = c.requires.shares
+
 pub play_alone-requires-clause-can : goal.play_alone-requires-clause-can
 play_alone-requires-clause-can g c κs within = c.requires.can
 
 -- `settle`
 
+pub settle_line-requires : goal.settle_line-requires
+settle_line-requires g c = record { state = c.requires.state; shares = subst (λ (next : Line). (SharesIn g.S.Serving.kit g.S.Serving.script) next c.args.world.now) c.in-Settle.is c.requires.shares }
+
 pub returns-in-Settle-clause-ok : goal.returns-in-Settle-clause-ok
 returns-in-Settle-clause-ok g c =
     let old = c.args.world.now in
-    let new = c.settle.new.world in
+    let new = c.settle_line.new.world in
     let before = c.args.lines.now.items in
-    let after = c.settle.new.lines.items in
+    let after = c.settle_line.new.lines.items in
     let held = g.S.Serving.kit.see (g.D.SharedDisk.seen c.args.disk.now) (g.J.SharedDisk.seen c.args.beside.now) in
-    let left = g.S.Serving.kit.see (g.D.SharedDisk.seen c.settle.new.disk) (g.J.SharedDisk.seen c.settle.new.beside) in
-    on_ok_weaker c.settle.result (λ does. (played-as g.S.Serving.kit g.met.S.Serving.laws g.S.Serving.script g.met.S.Scripted.follows) line.Settle c.args.line.now old new before after held left c.in-Settle.is ((plays-settle g.S.Serving.kit g.met.S.Serving.laws g.S.Serving.script g.met.S.Scripted.follows) old new before after held left does)) c.settle.ensures.ok
-
-pub returns-in-Settle-clause-stands : goal.returns-in-Settle-clause-stands
-returns-in-Settle-clause-stands g c =
-    let held = g.S.Serving.kit.see (g.D.SharedDisk.seen c.args.disk.now) (g.J.SharedDisk.seen c.args.beside.now) in
-    let left = g.S.Serving.kit.see (g.D.SharedDisk.seen c.settle.new.disk) (g.J.SharedDisk.seen c.settle.new.beside) in
-    λ has. on_ok_weaker c.settle.result (λ does. (settle-stands g.S.Serving.kit g.met.S.Serving.laws) c.args.world.now c.settle.new.world c.args.lines.now.items c.settle.new.lines.items held left has does) c.settle.ensures.ok
+    let left = g.S.Serving.kit.see (g.D.SharedDisk.seen c.settle_line.new.disk) (g.J.SharedDisk.seen c.settle_line.new.beside) in
+    let P : Line → Type 0 = λ next. OnOk c.settle_line.result ((Plays g.S.Serving.kit g.S.Serving.script) next old new before after held left) in
+    subst P (sym c.in-Settle.is) c.settle_line.ensures.ok
 
 pub returns-in-Settle-clause-broken : goal.returns-in-Settle-clause-broken
 returns-in-Settle-clause-broken g c =
+    let old = c.args.world.now in
+    let new = c.settle_line.new.world in
+    let before = c.args.lines.now.items in
+    let after = c.settle_line.new.lines.items in
     let held = g.S.Serving.kit.see (g.D.SharedDisk.seen c.args.disk.now) (g.J.SharedDisk.seen c.args.beside.now) in
-    let left = g.S.Serving.kit.see (g.D.SharedDisk.seen c.settle.new.disk) (g.J.SharedDisk.seen c.settle.new.beside) in
-    (settle-broken g.S.Serving.kit g.met.S.Serving.laws g.S.Serving.script g.met.S.Scripted.follows) c.settle.result c.args.line.now c.args.world.now c.settle.new.world c.args.lines.now.items c.settle.new.lines.items held left c.in-Settle.is c.settle.ensures.err
-
-pub returns-in-Settle-clause-counts : goal.returns-in-Settle-clause-counts
-returns-in-Settle-clause-counts g c = c.settle.ensures.counts
-
-pub returns-in-Settle-clause-wild : goal.returns-in-Settle-clause-wild
-returns-in-Settle-clause-wild g c = c.settle.ensures.wild
+    let left = g.S.Serving.kit.see (g.D.SharedDisk.seen c.settle_line.new.disk) (g.J.SharedDisk.seen c.settle_line.new.beside) in
+    let B : Line → Type 0 = λ next. IfErr c.settle_line.result (λ answer. (BreaksOff g.S.Serving.kit g.S.Serving.script) answer next old new before after held left) in
+    subst B (sym c.in-Settle.is) c.settle_line.ensures.broken
 
 pub returns-in-Settle-clause-looks : goal.returns-in-Settle-clause-looks
 returns-in-Settle-clause-looks g c =
-    subst (λ (next : Line). LooksBy next (g.D.SharedDisk.seen c.args.disk.now).files (is_ok c.settle.result) (g.D.SharedDisk.seen c.args.disk.now).tally (g.D.SharedDisk.seen c.settle.new.disk).tally) (sym c.in-Settle.is) tt
+    subst (λ (next : Line). LooksBy next (g.D.SharedDisk.seen c.args.disk.now).files (is_ok c.settle_line.result) (g.D.SharedDisk.seen c.args.disk.now).tally (g.D.SharedDisk.seen c.settle_line.new.disk).tally) (sym c.in-Settle.is) tt
 
 -- `files`
 
@@ -77,7 +77,7 @@ returns-in-Files-clause-ok g c =
     let read = looked-read one two (ListCalls one.files) (is_ok c.show_files.result) c.show_files.ensures.same c.show_files.ensures.stops c.show_files.ensures.looks in
     let looks : is_ok c.show_files.result ≡ true → LooksBy line.Files one.files true one.tally two.tally = λ done. subst (λ (b : Bool). LooksBy line.Files one.files b one.tally two.tally) done c.show_files.ensures.looks in
     (shown-ok g.S.Serving.kit g.met.S.Serving.laws) {P = (Plays g.S.Serving.kit g.S.Serving.script) c.args.line.now old old before after (g.S.Serving.kit.see one beside) (g.S.Serving.kit.see two beside)} c.show_files.result one two c.show_files.ensures.cause
-    (λ done faults shows. (played-as g.S.Serving.kit g.met.S.Serving.laws g.S.Serving.script g.met.S.Scripted.follows) line.Files c.args.line.now old old before after (g.S.Serving.kit.see one beside) (g.S.Serving.kit.see two beside) c.in-Files.is ((plays-files g.S.Serving.kit g.met.S.Serving.laws g.S.Serving.script g.met.S.Scripted.follows) old before after one two beside (looks done) read faults shows)) c.show_files.ensures.ok
+    (λ done faults shows. (played-as g.S.Serving.kit g.met.S.Serving.laws g.S.Serving.script g.met.S.Scripted.follows) line.Files c.args.line.now old old before after (g.S.Serving.kit.see one beside) (g.S.Serving.kit.see two beside) c.in-Files.is ((plays-files g.S.Serving.kit g.met.S.Serving.laws g.S.Serving.script g.met.S.Scripted.follows) old before after one two beside (subst (λ (next : Line). (SharesIn g.S.Serving.kit g.S.Serving.script) next old) c.in-Files.is c.requires.shares) (looks done) read faults shows)) c.show_files.ensures.ok
 
 pub returns-in-Files-clause-stands : goal.returns-in-Files-clause-stands
 returns-in-Files-clause-stands g c =
@@ -137,7 +137,7 @@ returns-in-Cat-clause-ok g c =
     let read = looked-read one two (FileCalls c.in-Cat.name one.files) (is_ok c.show_file.result) c.show_file.ensures.same c.show_file.ensures.stops c.show_file.ensures.looks in
     let looks : is_ok c.show_file.result ≡ true → LooksBy (line.Cat c.in-Cat.name) one.files true one.tally two.tally = λ done. subst (λ (b : Bool). LooksBy (line.Cat c.in-Cat.name) one.files b one.tally two.tally) done c.show_file.ensures.looks in
     (shown-ok g.S.Serving.kit g.met.S.Serving.laws) {P = (Plays g.S.Serving.kit g.S.Serving.script) c.args.line.now old old before after (g.S.Serving.kit.see one beside) (g.S.Serving.kit.see two beside)} c.show_file.result one two c.show_file.ensures.cause
-    (λ done faults shows. (played-as g.S.Serving.kit g.met.S.Serving.laws g.S.Serving.script g.met.S.Scripted.follows) (line.Cat c.in-Cat.name) c.args.line.now old old before after (g.S.Serving.kit.see one beside) (g.S.Serving.kit.see two beside) c.in-Cat.is ((plays-cat g.S.Serving.kit g.met.S.Serving.laws g.S.Serving.script g.met.S.Scripted.follows) c.in-Cat.name old before after one two beside (looks done) read faults shows)) c.show_file.ensures.ok
+    (λ done faults shows. (played-as g.S.Serving.kit g.met.S.Serving.laws g.S.Serving.script g.met.S.Scripted.follows) (line.Cat c.in-Cat.name) c.args.line.now old old before after (g.S.Serving.kit.see one beside) (g.S.Serving.kit.see two beside) c.in-Cat.is ((plays-cat g.S.Serving.kit g.met.S.Serving.laws g.S.Serving.script g.met.S.Scripted.follows) c.in-Cat.name old before after one two beside (subst (λ (next : Line). (SharesIn g.S.Serving.kit g.S.Serving.script) next old) c.in-Cat.is c.requires.shares) (looks done) read faults shows)) c.show_file.ensures.ok
 
 pub returns-in-Cat-clause-stands : goal.returns-in-Cat-clause-stands
 returns-in-Cat-clause-stands g c =
@@ -197,7 +197,7 @@ returns-in_default-clause-ok g c =
     let before = c.args.lines.now.items in
     let after = c.play_alone.new.lines.items in
     let held = g.S.Serving.kit.see (g.D.SharedDisk.seen c.args.disk.now) (g.J.SharedDisk.seen c.args.beside.now) in
-    ends-ok c.play_alone.result c.as_answer.result c.as_answer.ensures (λ plays. (plays-alone g.S.Serving.kit g.met.S.Serving.laws g.S.Serving.script g.met.S.Scripted.follows) c.args.line.now old new before after held c.requires.shared plays) c.play_alone.ensures.ok
+    ends-ok c.play_alone.result c.as_answer.result c.as_answer.ensures (λ plays. (plays-alone g.S.Serving.kit g.met.S.Serving.laws g.S.Serving.script g.met.S.Scripted.follows) c.args.line.now old new before after held c.requires.shared (shows-none c.args.line.now c.in_default.not-Files c.in_default.not-Cat) c.requires.shares plays) c.play_alone.ensures.ok
 
 pub returns-in_default-clause-stands : goal.returns-in_default-clause-stands
 returns-in_default-clause-stands g c =
